@@ -13,7 +13,8 @@ module _ (X : Type 0) (f : X → List ℕ) where
   length-pages (x ∷ xs) whole = omega (arith, length-append (f x) (flat_map f xs), length-pages xs whole.1, whole.0)
 
   -- the byte at a place is that of its page
-  pub page_get : (xs : List X) (p o : ℕ) (e : X) → AllByRecursion (λ x. length (f x) ≡ 1024) xs → o < 1024 → p < length xs → get_or (flat_map f xs) (1024 * p + o) 0 ≡ get_or (f (get_or xs p e)) o 0
+  pub page_get : (xs : List X) (p o : ℕ) (e : X) → AllByRecursion (λ x. length (f x) ≡ 1024) xs → o < 1024 → p < length xs →
+      get_or (flat_map f xs) (1024 * p + o) 0 ≡ get_or (f (get_or xs p e)) o 0
   page_get [] p o e whole small within = absurd (omega arith)
   page_get (x ∷ xs) zero o e whole small within =
       let here : 1024 * 0 + o ≡ o = omega arith in
@@ -24,7 +25,8 @@ module _ (X : Type 0) (f : X → List ℕ) where
       ∙ page_get xs p o e whole.1 small (omega arith)
 
   -- setting a byte sets one of its page
-  pub page_set : (xs : List X) (p o b : ℕ) (e y : X) → AllByRecursion (λ x. length (f x) ≡ 1024) xs → o < 1024 → p < length xs → f y ≡ set (f (get_or xs p e)) o b → flat_map f (set xs p y) ≡ set (flat_map f xs) (1024 * p + o) b
+  pub page_set : (xs : List X) (p o b : ℕ) (e y : X) → AllByRecursion (λ x. length (f x) ≡ 1024) xs → o < 1024 → p < length xs →
+      f y ≡ set (f (get_or xs p e)) o b → flat_map f (set xs p y) ≡ set (flat_map f xs) (1024 * p + o) b
   page_set [] p o b e y whole small within is = absurd (omega arith)
   page_set (x ∷ xs) zero o b e y whole small within is =
       let here : 1024 * 0 + o ≡ o = omega arith in
@@ -38,24 +40,29 @@ module _ (X : Type 0) (f : X → List ℕ) where
       ∙ sym (set-append_right (f x) (flat_map f xs) 1024 (1024 * suc p + o) b whole.0 (omega arith))
 
   -- a page that is set stays whole
-  pub whole_set : (xs : List X) (p : ℕ) (y : X) → AllByRecursion (λ x. length (f x) ≡ 1024) xs → length (f y) ≡ 1024 → AllByRecursion (λ x. length (f x) ≡ 1024) (set xs p y)
+  pub whole_set : (xs : List X) (p : ℕ) (y : X) → AllByRecursion (λ x. length (f x) ≡ 1024) xs → length (f y) ≡ 1024 →
+      AllByRecursion (λ x. length (f x) ≡ 1024) (set xs p y)
   whole_set [] p y whole new = tt
   whole_set (x ∷ xs) zero y whole new = (new, whole.1)
   whole_set (x ∷ xs) (suc p) y whole new = (whole.0, whole_set xs p y whole.1 new)
 
-  pub whole_get : (xs : List X) (p : ℕ) (e : X) → AllByRecursion (λ x. length (f x) ≡ 1024) xs → p < length xs → length (f (get_or xs p e)) ≡ 1024
+  pub whole_get : (xs : List X) (p : ℕ) (e : X) → AllByRecursion (λ x. length (f x) ≡ 1024) xs → p < length xs →
+      length (f (get_or xs p e)) ≡ 1024
   whole_get [] p e whole within = absurd (omega arith)
   whole_get (x ∷ xs) zero e whole within = whole.0
   whole_get (x ∷ xs) (suc p) e whole within = whole_get xs p e whole.1 (omega arith)
 
   -- a page behind the others
-  pub whole_push : (xs : List X) (y : X) → AllByRecursion (λ x. length (f x) ≡ 1024) xs → length (f y) ≡ 1024 → AllByRecursion (λ x. length (f x) ≡ 1024) (xs ++ y ∷ [])
+  pub whole_push : (xs : List X) (y : X) → AllByRecursion (λ x. length (f x) ≡ 1024) xs → length (f y) ≡ 1024 →
+      AllByRecursion (λ x. length (f x) ≡ 1024) (xs ++ y ∷ [])
   whole_push [] y whole new = (new, tt)
   whole_push (x ∷ xs) y whole new = (whole.0, whole_push xs y whole.1 new)
 
-  pub take_push : (xs : List X) (y : X) (n : ℕ) → AllByRecursion (λ x. length (f x) ≡ 1024) xs → n ≤ 1024 * length xs → take n (flat_map f (xs ++ y ∷ [])) ≡ take n (flat_map f xs)
+  pub take_push : (xs : List X) (y : X) (n : ℕ) → AllByRecursion (λ x. length (f x) ≡ 1024) xs → n ≤ 1024 * length xs →
+      take n (flat_map f (xs ++ y ∷ [])) ≡ take n (flat_map f xs)
   take_push xs y n whole within =
-      ap (take n) (flat_map-append f xs (y ∷ [])) ∙ take-append-le n (flat_map f xs) (flat_map f (y ∷ [])) (omega (arith, length-pages xs whole))
+      ap (take n) (flat_map-append f xs (y ∷ []))
+      ∙ take-append-le n (flat_map f xs) (flat_map f (y ∷ [])) (omega (arith, length-pages xs whole))
 
 -- the first bytes, of which one is set
 pub take_set : (n i b : ℕ) (xs : List ℕ) → take n (set xs i b) ≡ set (take n xs) i b
@@ -65,5 +72,6 @@ take_set (suc n) zero b (x ∷ xs) = refl
 take_set (suc n) (suc i) b (x ∷ xs) = ap (λ ys. x ∷ ys) (take_set n i b xs)
 
 -- the first bytes of pages that were written through a slice
-pub take_written : (n : ℕ) (pages : Vec (Box (List ℕ))) (new : List (Box (List ℕ))) → length new ≡ pages.len → take n (page_bytes (with_items pages new).items) ≡ take n (page_bytes new)
+pub take_written : (n : ℕ) (pages : Vec (Box (List ℕ))) (new : List (Box (List ℕ))) → length new ≡ pages.len →
+    take n (page_bytes (with_items pages new).items) ≡ take n (page_bytes new)
 take_written n pages new same = ap (λ ps. take n (page_bytes ps)) (with_items_is pages new same)

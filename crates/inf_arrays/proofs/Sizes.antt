@@ -48,7 +48,8 @@ laters_more xs a ys =
     omega (arith, all_laters_joined xs (more_entries ys a ∷ []), all_laters_joined xs (a ∷ []), laters_of_joined a.kind a.entries ys)
 
 -- one more, without entries
-pub size_opened : (xs : List Listed) (k : ArrayKind) → arrays_size (xs ++ record { kind = k; entries = [] } ∷ []) ≡ arrays_size xs + count_size k
+pub size_opened : (xs : List Listed) (k : ArrayKind) →
+    arrays_size (xs ++ record { kind = k; entries = [] } ∷ []) ≡ arrays_size xs + count_size k
 size_opened xs kind.Bytes = omega (arith, size_joined xs (record { kind = kind.Bytes; entries = [] } ∷ []))
 size_opened xs kind.Words = omega (arith, size_joined xs (record { kind = kind.Words; entries = [] } ∷ []))
 size_opened xs kind.String = omega (arith, size_joined xs (record { kind = kind.String; entries = [] } ∷ []))
@@ -66,7 +67,8 @@ laters_opened xs k = omega (arith, all_laters_joined xs (record { kind = k; entr
 -- what holds of arrays of which one was opened
 pub opened_stands : (closed : List Listed) (k : ArrayKind) (size later limit n : ℕ)
     → size ≡ arrays_size (closed ++ []) → later ≡ arrays_laters (closed ++ []) → later ≤ size → size + n ≤ limit → n ≡ count_size k
-    → (size + n ≡ arrays_size (closed ++ record { kind = k; entries = [] } ∷ [])) × (later ≡ arrays_laters (closed ++ record { kind = k; entries = [] } ∷ []))
+    → (size + n ≡ arrays_size (closed ++ record { kind = k; entries = [] } ∷ [])) ×
+    (later ≡ arrays_laters (closed ++ record { kind = k; entries = [] } ∷ []))
     × (later ≤ size + n) × (size + n ≤ limit)
 opened_stands closed k size later limit n of_size of_later less room is = (
   omega (arith, of_size, is, size_opened closed k, ap arrays_size (append-nil closed)),
@@ -78,7 +80,8 @@ opened_stands closed k size later limit n of_size of_later less room is = (
 -- what holds of arrays of which the last has more entries
 pub grown_stands : (closed : List Listed) (a : Listed) (ys : List Value) (size later limit e l : ℕ)
     → size ≡ arrays_size (closed ++ a ∷ []) → later ≡ arrays_laters (closed ++ a ∷ []) → later ≤ size
-    → size + entry_size a.kind * length ys ≤ limit → e ≡ entry_size a.kind * length ys → l ≡ laters_of a.kind ys → l ≤ entry_size a.kind * length ys
+    → size + entry_size a.kind * length ys ≤ limit → e ≡ entry_size a.kind * length ys → l ≡ laters_of a.kind ys → l ≤ entry_size a.kind *
+    length ys
     → (size + e ≡ arrays_size (closed ++ more_entries ys a ∷ [])) × (later + l ≡ arrays_laters (closed ++ more_entries ys a ∷ []))
     × (later + l ≤ size + e) × (size + e ≤ limit)
 grown_stands closed a ys size later limit e l of_size of_later less room is_e is_l few = (
@@ -91,7 +94,8 @@ grown_stands closed a ys size later limit e l of_size of_later less room is_e is
 -- cells of joined lists
 pub cells_joined : (xs ys : List Listed) → arrays_cells (xs ++ ys) ≡ arrays_cells xs ++ arrays_cells ys
 cells_joined [] ys = refl
-cells_joined (x ∷ xs) ys = ap (λ cs. array_cells x ++ cs) (cells_joined xs ys) ∙ sym (append_assoc (array_cells x) (arrays_cells xs) (arrays_cells ys))
+cells_joined (x ∷ xs) ys =
+    ap (λ cs. array_cells x ++ cs) (cells_joined xs ys) ∙ sym (append_assoc (array_cells x) (arrays_cells xs) (arrays_cells ys))
 
 -- bytes of cells
 bytes_joined : (xs ys : List Cell) → length (bytes_of (xs ++ ys)) ≡ length (bytes_of xs) + length (bytes_of ys)
@@ -128,7 +132,8 @@ pub later_of_values : (vs : List Value) → later_count (values_cells vs) ≡ la
 later_of_values [] = refl
 later_of_values (v ∷ vs) = omega (arith, later_joined (value_cells v) (values_cells vs), later_of_value v, later_of_values vs)
 
-array_bytes : (k : ArrayKind) (vs : List Value) → length (bytes_of (array_cells (record { kind = k; entries = vs }))) ≡ array_size (record { kind = k; entries = vs })
+array_bytes : (k : ArrayKind) (vs : List Value) →
+    length (bytes_of (array_cells (record { kind = k; entries = vs }))) ≡ array_size (record { kind = k; entries = vs })
 array_bytes kind.Bytes vs = omega (arith, bytes_of_bytes vs)
 array_bytes kind.Words vs = omega (arith, bytes_of_values vs)
 array_bytes kind.String vs = omega (arith, bytes_of_bytes vs)
@@ -157,7 +162,8 @@ zeros_known (suc n) = omega (arith, zeros_known n)
 
 pub globals_later : (vs : List Value) → later_count (globals_cells vs) ≡ laters vs
 globals_later vs =
-    later_of_values (all_globals vs) ∙ omega (arith, laters_joined vs (replicate (240 - length vs) (value.Known 0)), zeros_known (240 - length vs))
+    later_of_values (all_globals vs)
+    ∙ omega (arith, laters_joined vs (replicate (240 - length vs) (value.Known 0)), zeros_known (240 - length vs))
 
 pub globals_size : (vs : List Value) → length vs ≤ 235 → length (bytes_of (globals_cells vs)) ≡ 480
 globals_size vs few =

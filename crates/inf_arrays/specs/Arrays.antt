@@ -38,7 +38,8 @@ more_entries values array = record { kind = array.kind; entries = array.entries 
 
 -- the open one has more entries
 abbrev pub with_entries : List Value → AllArrays → AllArrays
-with_entries values arrays = record { closed = arrays.closed; open_one = option_map (more_entries values) arrays.open_one; limit = arrays.limit }
+with_entries values arrays =
+    record { closed = arrays.closed; open_one = option_map (more_entries values) arrays.open_one; limit = arrays.limit }
 
 -- the characters of a text
 abbrev pub characters : List ℕ → List Value

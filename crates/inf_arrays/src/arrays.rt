@@ -79,7 +79,8 @@ impl Model for Arrays {
 
     ghost view = { λ a. seen a };
 
-    ghost invariant = { λ a. (a.size ≡ arrays_size (all_of (seen a))) × (a.later ≡ arrays_laters (all_of (seen a))) × (a.later ≤ a.size) × (a.size ≤ a.limit) };
+    ghost invariant = { λ a. (a.size ≡ arrays_size (all_of (seen a))) × (a.later ≡ arrays_laters (all_of (seen a))) × (a.later ≤ a.size) ×
+        (a.size ≤ a.limit) };
 }
 
 /// The cells of an array, behind others.

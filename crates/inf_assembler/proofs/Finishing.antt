@@ -20,7 +20,8 @@ pub none_of : {A : Type 0} (o : Option A) → ((x : A) → o ≡ Some x → ⊥)
 none_of None h = refl
 none_of (Some x) h = absurd (h x refl)
 
-length-fixup : (place : ℕ) (what : Special) (cells : List Cell) → length (fixup_at place what) + fixup_count cells ≡ fixup_count (Of what ∷ cells)
+length-fixup : (place : ℕ) (what : Special) (cells : List Cell) →
+    length (fixup_at place what) + fixup_count cells ≡ fixup_count (Of what ∷ cells)
 length-fixup place (Marks label) cells = omega arith
 length-fixup place (Branches branch) cells = omega arith
 length-fixup place (Jumps label) cells = omega arith
@@ -37,52 +38,72 @@ length-fixups long old new ((Of what) ∷ cells) =
 module _ (start : ℕ) (contents : Contents) (kept : List Kept) (is : kept ≡ kept_from (start + 1) contents.cells) where
   pub long_is : (long : List (Option ℕ)) → ((n : ℕ) → found long n ≡ kept_place nowhere 0 kept n) → found long ≡ long_places start contents
   long_is long h =
-      fun_ext (λ n. h n ∙ ap (λ ks. kept_place nowhere 0 ks n) is ∙ place_bridge nowhere 0 (start + 1) (start + 1) contents.cells n (omega arith) ∙ long_bridge (start + 1) (start + 1) contents.cells n refl)
+      fun_ext (λ n. h n ∙ ap (λ ks. kept_place nowhere 0 ks n) is ∙ place_bridge nowhere 0 (start + 1) (start + 1) contents.cells n
+      (omega arith) ∙ long_bridge (start + 1) (start + 1) contents.cells n refl)
 
-  pub places_is : (long table : List (Option ℕ)) → found long ≡ long_places start contents → ((n : ℕ) → found table n ≡ kept_place (found long) 0 kept n) → found table ≡ places start contents
+  pub places_is : (long table : List (Option ℕ)) → found long ≡ long_places start contents →
+      ((n : ℕ) → found table n ≡ kept_place (found long) 0 kept n) → found table ≡ places start contents
   places_is long table e h =
       fun_ext (λ n. h n ∙ ap (λ f. kept_place f 0 kept n) e ∙ ap (λ ks. kept_place (long_places start contents) 0 ks n) is
       ∙ place_bridge (long_places start contents) 0 (start + 1) (start + 1) contents.cells n (omega arith))
 
-  pub missing_is : (long : List (Option ℕ)) → found long ≡ long_places start contents → kept_missing (found long) kept ≡ missing (long_places start contents) contents.cells
-  missing_is long e = ap (λ f. kept_missing f kept) e ∙ ap (kept_missing (long_places start contents)) is ∙ missing_bridge (long_places start contents) (start + 1) contents.cells
+  pub missing_is : (long : List (Option ℕ)) → found long ≡ long_places start contents →
+      kept_missing (found long) kept ≡ missing (long_places start contents) contents.cells
+  missing_is long e =
+      ap (λ f. kept_missing f kept) e ∙ ap (kept_missing (long_places start contents)) is
+      ∙ missing_bridge (long_places start contents) (start + 1) contents.cells
 
   pub twice_is : kept_twice [] kept ≡ twice_behind [] contents.cells
   twice_is = ap (kept_twice []) is ∙ twice_bridge [] [] contents.cells (start + 1) (λ n. refl)
 
-  pub fixups_is : (long : List (Option ℕ)) → found long ≡ long_places start contents → kept_fixups (found long) 0 kept ≡ routine_fixups start contents
-  fixups_is long e = ap (λ f. kept_fixups f 0 kept) e ∙ ap (kept_fixups (long_places start contents) 0) is ∙ fixups_bridge (long_places start contents) 0 (start + 1) (start + 1) contents.cells (omega arith)
+  pub fixups_is : (long : List (Option ℕ)) → found long ≡ long_places start contents →
+      kept_fixups (found long) 0 kept ≡ routine_fixups start contents
+  fixups_is long e =
+      ap (λ f. kept_fixups f 0 kept) e ∙ ap (kept_fixups (long_places start contents) 0) is
+      ∙ fixups_bridge (long_places start contents) 0 (start + 1) (start + 1) contents.cells (omega arith)
 
-  pub order_is : (bytes front : List ℕ) → start ≡ length front → bytes ≡ front ++ contents.locals ∷ long_bytes contents.cells → AreInOrder (start + 1) kept (length bytes)
+  pub order_is : (bytes front : List ℕ) → start ≡ length front → bytes ≡ front ++ contents.locals ∷ long_bytes contents.cells →
+      AreInOrder (start + 1) kept (length bytes)
   order_is bytes front at e =
-      let order = order_kept (start + 1) (start + 1) (length bytes) contents.cells (omega arith) (omega (arith, at, ap length e, length-append front (contents.locals ∷ long_bytes contents.cells))) in
+      let order = order_kept (start + 1) (start + 1) (length bytes) contents.cells (omega arith)
+      (omega (arith, at, ap length e, length-append front (contents.locals ∷ long_bytes contents.cells))) in
       let P : List Kept → Type 0 = λ ks. AreInOrder (start + 1) ks (length bytes) in
       rw is order
 
-  pub squeezed_is : (long table : List (Option ℕ)) (bytes front : List ℕ) → found long ≡ long_places start contents → found table ≡ places start contents → start ≡ length front → bytes ≡ front ++ contents.locals ∷ long_bytes contents.cells
-      → squeezed (found long) (found table) (start + 1) (start + 1) kept bytes ≡ with_some (λ rest. (front ++ contents.locals ∷ []) ++ rest) (body_bytes start contents)
+  pub squeezed_is : (long table : List (Option ℕ)) (bytes front : List ℕ) → found long ≡ long_places start contents →
+      found table ≡ places start contents → start ≡ length front → bytes ≡ front ++ contents.locals ∷ long_bytes contents.cells
+      → squeezed (found long) (found table) (start + 1) (start + 1) kept bytes ≡ with_some (λ rest. (front ++ contents.locals ∷ []) ++ rest)
+      (body_bytes start contents)
   squeezed_is long table bytes front e f at g =
       let head = front ++ contents.locals ∷ [] in
       let long_head : start + 1 ≡ length head = omega (arith, at, length-append front (contents.locals ∷ [])) in
       ap (λ h. squeezed h (found table) (start + 1) (start + 1) kept bytes) e
       ∙ ap (λ h. squeezed (long_places start contents) h (start + 1) (start + 1) kept bytes) f
       ∙ ap (λ ks. squeezed (long_places start contents) (places start contents) (start + 1) (start + 1) ks bytes) is
-      ∙ ap (squeezed (long_places start contents) (places start contents) (start + 1) (start + 1) (kept_from (start + 1) contents.cells)) (g ∙ sym (append_assoc front (contents.locals ∷ []) (long_bytes contents.cells)))
+      ∙ ap (squeezed (long_places start contents) (places start contents) (start + 1) (start + 1) (kept_from (start + 1) contents.cells))
+      (g ∙ sym (append_assoc front (contents.locals ∷ []) (long_bytes contents.cells)))
       ∙ squeezed_bridge (long_places start contents) (places start contents) contents.cells head (start + 1) long_head
 
 -- what is wrong first
 module _ (start : ℕ) (kind : RoutineKind) (contents : Contents) (limits : Limits) (refs : Fixups) where
-  pub fault_missing : (label : Label) → missing (long_places start contents) contents.cells ≡ Some label → fault_of start kind contents limits refs ≡ Some (close_fault.LabelMissing label)
+  pub fault_missing : (label : Label) → missing (long_places start contents) contents.cells ≡ Some label →
+      fault_of start kind contents limits refs ≡ Some (close_fault.LabelMissing label)
   fault_missing label e =
-      ap (missing_fault (twice_fault (body_fault (full_fault start kind contents limits refs) (body_bytes start contents)) (twice_behind [] contents.cells))) e
+      ap (missing_fault (twice_fault (body_fault (full_fault start kind contents limits refs) (body_bytes start contents))
+      (twice_behind [] contents.cells))) e
 
-  fault_none : missing (long_places start contents) contents.cells ≡ None → fault_of start kind contents limits refs ≡ twice_fault (body_fault (full_fault start kind contents limits refs) (body_bytes start contents)) (twice_behind [] contents.cells)
-  fault_none e = ap (missing_fault (twice_fault (body_fault (full_fault start kind contents limits refs) (body_bytes start contents)) (twice_behind [] contents.cells))) e
+  fault_none : missing (long_places start contents) contents.cells ≡ None → fault_of start kind contents limits refs ≡ twice_fault
+      (body_fault (full_fault start kind contents limits refs) (body_bytes start contents)) (twice_behind [] contents.cells)
+  fault_none e = ap (missing_fault (twice_fault (body_fault (full_fault start kind contents limits refs) (body_bytes start contents))
+      (twice_behind [] contents.cells))) e
 
-  pub fault_twice : (label : Label) → missing (long_places start contents) contents.cells ≡ None → twice_behind [] contents.cells ≡ Some label → fault_of start kind contents limits refs ≡ Some (close_fault.LabelTwice label)
-  fault_twice label e f = fault_none e ∙ ap (twice_fault (body_fault (full_fault start kind contents limits refs) (body_bytes start contents))) f
+  pub fault_twice : (label : Label) → missing (long_places start contents) contents.cells ≡ None →
+      twice_behind [] contents.cells ≡ Some label → fault_of start kind contents limits refs ≡ Some (close_fault.LabelTwice label)
+  fault_twice label e f =
+      fault_none e ∙ ap (twice_fault (body_fault (full_fault start kind contents limits refs) (body_bytes start contents))) f
 
-  pub fault_body : missing (long_places start contents) contents.cells ≡ None → twice_behind [] contents.cells ≡ None → fault_of start kind contents limits refs ≡ body_fault (full_fault start kind contents limits refs) (body_bytes start contents)
+  pub fault_body : missing (long_places start contents) contents.cells ≡ None → twice_behind [] contents.cells ≡ None →
+      fault_of start kind contents limits refs ≡ body_fault (full_fault start kind contents limits refs) (body_bytes start contents)
   fault_body e f = fault_none e ∙ ap (twice_fault (body_fault (full_fault start kind contents limits refs) (body_bytes start contents))) f
 
 -- none or some behind something that may be none

@@ -7,7 +7,8 @@ use Rattle.inf_assembler.specs.Routines.{State, Contents, Moment, Were, contents
 use Rattle.inf_opcode.proofs.Growing.{length-special, long-append, kept-append}
 use Rattle.inf_opcode.proofs.Counting.{length-long, labels-append, fixups-append}
 
-decoded : (cells : List Cell) (mid : List ℕ) (place : ℕ) → cells_of place (kept_from (place + length mid) cells) (mid ++ long_bytes cells) ≡ plain mid ++ cells
+decoded : (cells : List Cell) (mid : List ℕ) (place : ℕ) →
+    cells_of place (kept_from (place + length mid) cells) (mid ++ long_bytes cells) ≡ plain mid ++ cells
 decoded [] mid place = map-append Plain mid []
 decoded ((Plain byte) ∷ cells) mid place =
     let more : place + length mid + 1 ≡ place + length (mid ++ byte ∷ []) = omega (arith, length-append mid (byte ∷ [])) in
@@ -25,26 +26,31 @@ decoded ((Of what) ∷ cells) mid place =
     let behind : next - place ≡ n + special_size what = omega arith in
     let zeroth : next + 0 ≡ next = omega arith in
     ap (λ k. plain (take k bytes) ++ Of what ∷ cells_of next (kept_from next cells) (drop (next - place) bytes)) front
-    ∙ ap (λ xs. plain xs ++ Of what ∷ cells_of next (kept_from next cells) (drop (next - place) bytes)) (take_at mid (special ++ long_bytes cells) n refl)
+    ∙ ap (λ xs. plain xs ++ Of what ∷ cells_of next (kept_from next cells) (drop (next - place) bytes))
+    (take_at mid (special ++ long_bytes cells) n refl)
     ∙ ap (λ xs. plain mid ++ Of what ∷ cells_of next (kept_from next cells) xs)
     (ap (λ k. drop k bytes) behind ∙ ap (drop (n + special_size what)) (sym (append_assoc mid special (long_bytes cells)))
-    ∙ drop_at (mid ++ special) (long_bytes cells) (n + special_size what) (length-append mid special ∙ ap (λ k. n + k) (length-special what)))
+    ∙ drop_at (mid ++ special) (long_bytes cells) (n + special_size what)
+    (length-append mid special ∙ ap (λ k. n + k) (length-special what)))
     ∙ ap (λ k. plain mid ++ Of what ∷ cells_of next (kept_from k cells) (long_bytes cells)) (sym zeroth)
     ∙ ap (λ cs. plain mid ++ Of what ∷ cs) (decoded cells [] next)
 
 -- what a routine has is what is told of it
-pub told_front : {state : State} {bytes front : List ℕ} {contents : Contents} → Stands state bytes front contents → take state.start bytes ≡ front
+pub told_front : {state : State} {bytes front : List ℕ} {contents : Contents} → Stands state bytes front contents →
+    take state.start bytes ≡ front
 told_front {state = state} {bytes = bytes} {front = front} {contents = contents} stands =
     ap (take state.start) stands.bytes ∙ take_at front (contents.locals ∷ long_bytes contents.cells) state.start (sym stands.start)
 
-pub told : {state : State} {bytes front : List ℕ} {contents : Contents} → Stands state bytes front contents → contents_of state bytes ≡ contents
+pub told : {state : State} {bytes front : List ℕ} {contents : Contents} → Stands state bytes front contents →
+    contents_of state bytes ≡ contents
 told {state = state} {bytes = bytes} {front = front} {contents = contents} stands =
     let long = long_bytes contents.cells in
     let locals : get_or bytes state.start 0 ≡ contents.locals =
     ap (λ xs. get_or xs state.start 0) stands.bytes ∙ get_or_at front contents.locals long 0 state.start (sym stands.start) in
     let behind : drop (state.start + 1) bytes ≡ long =
     ap (drop (state.start + 1)) (stands.bytes ∙ sym (append_assoc front (contents.locals ∷ []) long))
-    ∙ drop_at (front ++ contents.locals ∷ []) long (state.start + 1) (length-append front (contents.locals ∷ []) ∙ ap (λ k. k + 1) (sym stands.start)) in
+    ∙ drop_at (front ++ contents.locals ∷ []) long (state.start + 1)
+    (length-append front (contents.locals ∷ []) ∙ ap (λ k. k + 1) (sym stands.start)) in
     let first : length front + 1 ≡ state.start + 1 + 0 = omega (arith, stands.start) in
     let cells : cells_of (state.start + 1) state.kept (drop (state.start + 1) bytes) ≡ contents.cells =
     ap (λ ks. cells_of (state.start + 1) ks (drop (state.start + 1) bytes)) (stands.kept ∙ ap (λ k. kept_from k contents.cells) first)
@@ -56,7 +62,8 @@ told {state = state} {bytes = bytes} {front = front} {contents = contents} stand
     ∙ ap (make contents.locals contents.cells) stands.is_final
 
 -- a routine that stands holds its items
-pub holds : (contents : Contents) (old new : State) (old_bytes new_bytes front : List ℕ) → Stands new new_bytes front contents → new.start ≡ old.start → take old.start old_bytes ≡ front → new.limits ≡ old.limits → Holds contents old old_bytes new new_bytes
+pub holds : (contents : Contents) (old new : State) (old_bytes new_bytes front : List ℕ) → Stands new new_bytes front contents →
+    new.start ≡ old.start → take old.start old_bytes ≡ front → new.limits ≡ old.limits → Holds contents old old_bytes new new_bytes
 holds contents old new old_bytes new_bytes front stands start before limits =
     let is = told stands in
     let same = told_front stands in
@@ -70,18 +77,22 @@ holds contents old new old_bytes new_bytes front stands start before limits =
     }
 
 -- more cells are written
-pub stands_more : (old new : State) (bytes new_bytes front : List ℕ) (contents : Contents) (cells : List Cell) (is_final : Bool) → Stands old bytes front contents → Grew bytes old.kept cells new_bytes new.kept
-    → new.start ≡ old.start → new.labels ≡ old.labels + label_count cells → new.fixups ≡ old.fixups + fixup_count cells → new.is_final ≡ is_final → Stands new new_bytes front (with_cells cells is_final contents)
+pub stands_more : (old new : State) (bytes new_bytes front : List ℕ) (contents : Contents) (cells : List Cell) (is_final : Bool) →
+    Stands old bytes front contents → Grew bytes old.kept cells new_bytes new.kept
+    → new.start ≡ old.start → new.labels ≡ old.labels + label_count cells → new.fixups ≡ old.fixups + fixup_count cells → new.is_final ≡
+    is_final → Stands new new_bytes front (with_cells cells is_final contents)
 stands_more old new bytes new_bytes front contents cells is_final stands grew start labels fixups final =
     let long = long_bytes contents.cells in
-    let place : length bytes ≡ length front + 1 + length long = omega (arith, ap length stands.bytes, length-append front (contents.locals ∷ long)) in
+    let place : length bytes ≡ length front + 1 + length long =
+    omega (arith, ap length stands.bytes, length-append front (contents.locals ∷ long)) in
     record {
       start = start ∙ stands.start;
       bytes =
           grew.bytes ∙ ap (λ xs. xs ++ long_bytes cells) stands.bytes ∙ append_assoc front (contents.locals ∷ long) (long_bytes cells)
           ∙ ap (λ xs. front ++ contents.locals ∷ xs) (sym (long-append contents.cells cells));
       kept =
-          grew.kept ∙ ap (λ ks. ks ++ kept_from (length bytes) cells) stands.kept ∙ ap (λ k. kept_from (length front + 1) contents.cells ++ kept_from k cells) place
+          grew.kept ∙ ap (λ ks. ks ++ kept_from (length bytes) cells) stands.kept
+          ∙ ap (λ k. kept_from (length front + 1) contents.cells ++ kept_from k cells) place
           ∙ sym (kept-append (length front + 1) contents.cells cells);
       labels = omega (arith, labels, stands.labels, labels-append contents.cells cells);
       fixups = omega (arith, fixups, stands.fixups, fixups-append contents.cells cells);
@@ -95,29 +106,46 @@ kept_length p q ((Plain byte) ∷ cells) = kept_length (p + 1) (q + 1) cells
 kept_length p q ((Of what) ∷ cells) = omega (arith, kept_length (p + special_size what) (q + special_size what) cells)
 
 -- the place of a moment lies within
-pub back_within : (state : State) (bytes front : List ℕ) (now earlier : Contents) (at : Moment) → Stands state bytes front now → Were earlier at now → state.start + at.len ≤ length bytes
+pub back_within : (state : State) (bytes front : List ℕ) (now earlier : Contents) (at : Moment) → Stands state bytes front now →
+    Were earlier at now → state.start + at.len ≤ length bytes
 back_within state bytes front now earlier at stands were =
-    omega (arith, stands.start, ap length stands.bytes, length-append front (now.locals ∷ long_bytes now.cells), ap (λ (m : Moment). m.len) were.moment, ap (λ cs. length (long_bytes cs)) were.cells, length-long earlier.cells were.added)
+    omega (
+      arith,
+      stands.start,
+      ap length stands.bytes,
+      length-append front (now.locals ∷ long_bytes now.cells),
+      ap (λ (m : Moment). m.len)
+          were.moment,
+      ap (λ cs. length (long_bytes cs)) were.cells,
+      length-long earlier.cells were.added,
+    )
 
 -- the items of a moment stand where the rest is cut
-pub back_stands : (state new : State) (bytes new_bytes front : List ℕ) (now earlier : Contents) (at : Moment) (place end : ℕ) → Stands state bytes front now → Were earlier at now
-    → place ≡ state.start + at.len → end ≡ length bytes → new_bytes ≡ take place bytes ++ drop (place + (end - place)) bytes → new.kept ≡ take at.kept state.kept
-    → new.start ≡ state.start → new.labels ≡ at.labels → new.fixups ≡ at.fixups → new.is_final ≡ at.is_final → Stands new new_bytes front earlier
+pub back_stands : (state new : State) (bytes new_bytes front : List ℕ) (now earlier : Contents) (at : Moment) (place end : ℕ) →
+    Stands state bytes front now → Were earlier at now
+    → place ≡ state.start + at.len → end ≡ length bytes → new_bytes ≡ take place bytes ++ drop (place + (end - place)) bytes → new.kept ≡
+    take at.kept state.kept
+    → new.start ≡ state.start → new.labels ≡ at.labels → new.fixups ≡ at.fixups → new.is_final ≡ at.is_final → Stands new new_bytes front
+    earlier
 back_stands state new bytes new_bytes front now earlier at place end stands were place_is end_is cut kept start labels fixups final =
     let long = long_bytes earlier.cells in
     let head = front ++ earlier.locals ∷ long in
     let all : bytes ≡ head ++ long_bytes were.added =
     stands.bytes ∙ ap (λ l. front ++ l ∷ long_bytes now.cells) were.locals ∙ ap (λ cs. front ++ earlier.locals ∷ long_bytes cs) were.cells
-    ∙ ap (λ xs. front ++ earlier.locals ∷ xs) (long-append earlier.cells were.added) ∙ sym (append_assoc front (earlier.locals ∷ long) (long_bytes were.added)) in
-    let first : length head ≡ place = omega (arith, length-append front (earlier.locals ∷ long), stands.start, ap (λ (m : Moment). m.len) were.moment, place_is) in
+    ∙ ap (λ xs. front ++ earlier.locals ∷ xs) (long-append earlier.cells were.added)
+    ∙ sym (append_assoc front (earlier.locals ∷ long) (long_bytes were.added)) in
+    let first : length head ≡ place =
+    omega (arith, length-append front (earlier.locals ∷ long), stands.start, ap (λ (m : Moment). m.len) were.moment, place_is) in
     let p = length front + 1 in
     let kept_all : state.kept ≡ kept_from p earlier.cells ++ kept_from (p + length long) were.added =
     stands.kept ∙ ap (kept_from p) were.cells ∙ kept-append p earlier.cells were.added in
-    let count : length (kept_from p earlier.cells) ≡ at.kept = kept_length p 0 earlier.cells ∙ sym (ap (λ (m : Moment). m.kept) were.moment) in
+    let count : length (kept_from p earlier.cells) ≡ at.kept =
+    kept_length p 0 earlier.cells ∙ sym (ap (λ (m : Moment). m.kept) were.moment) in
     record {
       start = start ∙ stands.start;
       bytes =
-          cut ∙ ap (λ xs. take place xs ++ drop (place + (end - place)) bytes) all ∙ ap (λ xs. xs ++ drop (place + (end - place)) bytes) (take_at head (long_bytes were.added) place first)
+          cut ∙ ap (λ xs. take place xs ++ drop (place + (end - place)) bytes) all
+          ∙ ap (λ xs. xs ++ drop (place + (end - place)) bytes) (take_at head (long_bytes were.added) place first)
           ∙ ap (λ xs. head ++ xs) (drop_all (place + (end - place)) bytes (omega (arith, end_is))) ∙ append-nil head;
       kept = kept ∙ ap (take at.kept) kept_all ∙ take_at (kept_from p earlier.cells) (kept_from (p + length long) were.added) at.kept count;
       labels = labels ∙ ap (λ (m : Moment). m.labels) were.moment;

@@ -32,7 +32,8 @@ length-branch true sense offset = refl
 length-branch false sense offset = refl
 
 -- the bytes are as many as the size says
-pub closed_size : (long places : Places) (old new : ℕ) (what : Special) (bytes : List ℕ) → closed_special long places old new what ≡ Some bytes → length bytes ≡ size_at long old what
+pub closed_size : (long places : Places) (old new : ℕ) (what : Special) (bytes : List ℕ) →
+    closed_special long places old new what ≡ Some bytes → length bytes ≡ size_at long old what
 closed_size long places old new (Marks label) bytes e = let same : bytes ≡ [] = cc in ap length same
 closed_size long places old new (Branches branch) bytes e =
     let short = is_short_to long old branch.target in
@@ -56,12 +57,14 @@ size_le long old (Refers target) = omega arith
 pub squeezed_step : (long places : Places) (from to i : ℕ) (kept : List Kept) (d : Kept) (xs added : List ℕ) → i < length kept
     → closed_special long places (get_or kept i d).place (to + ((get_or kept i d).place - from)) (get_or kept i d).what ≡ Some added
     → squeezed long places from to (drop i kept) xs
-    ≡ squeezed long places ((get_or kept i d).place + special_size (get_or kept i d).what) (to + ((get_or kept i d).place - from) + length added) (drop (i + 1) kept)
+    ≡ squeezed long places ((get_or kept i d).place + special_size (get_or kept i d).what)
+    (to + ((get_or kept i d).place - from) + length added) (drop (i + 1) kept)
     (placed_bytes to from ((get_or kept i d).place - from) added xs)
 squeezed_step long places from to i kept d xs added within is =
     let entry = get_or kept i d in
     let next : List ℕ → Option (List ℕ) =
-    λ bytes. squeezed long places (entry.place + special_size entry.what) (to + (entry.place - from) + length bytes) (drop (i + 1) kept) (placed_bytes to from (entry.place - from) bytes xs) in
+    λ bytes. squeezed long places (entry.place + special_size entry.what) (to + (entry.place - from) + length bytes) (drop (i + 1) kept)
+    (placed_bytes to from (entry.place - from) bytes xs) in
     ap (λ ks. squeezed long places from to ks xs) (drop_more kept i d within) ∙ ap (with_bytes next) is
 
 -- what is kept behind other things
@@ -80,17 +83,21 @@ first_of-cond : (b : Bool) (x : ℕ) (y z : Option ℕ) → cond b (Some x) (fir
 first_of-cond true x y z = refl
 first_of-cond false x y z = refl
 
-pub kept_place-push : (saved : ℕ) (before : List Kept) (entry : Kept) (n : ℕ) → kept_place nowhere saved (before ++ entry ∷ []) n ≡ first_of (kept_place nowhere saved before n) (cond (marks n entry.what) (Some (entry.place - saved)) None)
+pub kept_place-push : (saved : ℕ) (before : List Kept) (entry : Kept) (n : ℕ) → kept_place nowhere saved (before ++ entry ∷ []) n ≡ first_of
+    (kept_place nowhere saved before n) (cond (marks n entry.what) (Some (entry.place - saved)) None)
 kept_place-push saved [] entry n = refl
 kept_place-push saved (first ∷ before) entry n =
     let next : saved + special_saving nowhere first.place first.what ≡ saved = omega (arith, saving_nowhere first.place first.what) in
     ap (λ o. cond (marks n first.what) (Some (first.place - saved)) o)
     (ap (λ s. kept_place nowhere s (before ++ entry ∷ []) n) next ∙ kept_place-push saved before entry n
     ∙ ap (λ s. first_of (kept_place nowhere s before n) (cond (marks n entry.what) (Some (entry.place - saved)) None)) (sym next))
-    ∙ first_of-cond (marks n first.what) (first.place - saved) (kept_place nowhere (saved + special_saving nowhere first.place first.what) before n) (cond (marks n entry.what) (Some (entry.place - saved)) None)
+    ∙ first_of-cond (marks n first.what) (first.place - saved)
+    (kept_place nowhere (saved + special_saving nowhere first.place first.what) before n)
+    (cond (marks n entry.what) (Some (entry.place - saved)) None)
 
 -- a label that is marked for the first time, and what marks none
-pub again_new : (before : List Kept) (label : Label) → is_some (kept_place nowhere 0 before label.number) ≡ false → kept_again before (Marks label) ≡ None
+pub again_new : (before : List Kept) (label : Label) → is_some (kept_place nowhere 0 before label.number) ≡ false →
+    kept_again before (Marks label) ≡ None
 again_new before label new = ap (λ b. cond b (Some label) None) new
 
 pub again_other : (before : List Kept) (what : Special) → ((label : Label) → what ≡ Marks label → ⊥) → kept_again before what ≡ None
@@ -105,7 +112,8 @@ marks_other n (Branches branch) other = refl
 marks_other n (Jumps label) other = refl
 marks_other n (Refers target) other = refl
 
-pub twice_step : (i : ℕ) (kept : List Kept) (d : Kept) → i < length kept → kept_again (take i kept) (get_or kept i d).what ≡ None → kept_twice (take (i + 1) kept) (drop (i + 1) kept) ≡ kept_twice (take i kept) (drop i kept)
+pub twice_step : (i : ℕ) (kept : List Kept) (d : Kept) → i < length kept → kept_again (take i kept) (get_or kept i d).what ≡ None →
+    kept_twice (take (i + 1) kept) (drop (i + 1) kept) ≡ kept_twice (take i kept) (drop i kept)
 twice_step i kept d within new =
     ap (λ ks. kept_twice ks (drop (i + 1) kept)) (take_more kept i d within)
     ∙ ap (λ o. first_of o (kept_twice (take i kept ++ get_or kept i d ∷ []) (drop (i + 1) kept))) (sym new)
@@ -117,7 +125,8 @@ first_of-none (Some x) = refl
 
 -- the fixups from one thing on
 pub fixups_step : (long : Places) (saved i : ℕ) (kept : List Kept) (d : Kept) → i < length kept
-    → kept_fixups long saved (drop i kept) ≡ fixup_at ((get_or kept i d).place - saved) (get_or kept i d).what ++ kept_fixups long (saved + saving long (get_or kept i d)) (drop (i + 1) kept)
+    → kept_fixups long saved (drop i kept) ≡ fixup_at ((get_or kept i d).place - saved) (get_or kept i d).what ++ kept_fixups long
+    (saved + saving long (get_or kept i d)) (drop (i + 1) kept)
 fixups_step long saved i kept d within = ap (kept_fixups long saved) (drop_more kept i d within)
 
 pub fixup_other : (place : ℕ) (what : Special) → ((target : Target) → what ≡ Refers target → ⊥) → fixup_at place what ≡ []

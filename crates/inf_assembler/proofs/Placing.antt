@@ -5,10 +5,13 @@ use Rattle.inf_area.specs.Moves.{moved}
 use Rattle.inf_assembler.specs.Closing.{placed_bytes}
 
 -- one more byte is written behind a front
-pub written_more : (start i byte : ℕ) (added xs ys : List ℕ) → ys ≡ take start xs ++ take i added ++ drop (start + i) xs → i < length added → start + i < length xs → byte ≡ get_or added i 0 → set ys (start + i) byte ≡ take start xs ++ take (i + 1) added ++ drop (start + (i + 1)) xs
+pub written_more : (start i byte : ℕ) (added xs ys : List ℕ) → ys ≡ take start xs ++ take i added ++ drop (start + i) xs →
+    i < length added → start + i < length xs → byte ≡ get_or added i 0 →
+    set ys (start + i) byte ≡ take start xs ++ take (i + 1) added ++ drop (start + (i + 1)) xs
 written_more start i byte added xs ys e within room is =
     let front = take start xs ++ take i added in
-    let long : length front ≡ start + i = omega (arith, length-append (take start xs) (take i added), length-take start xs, length-take i added) in
+    let long : length front ≡ start + i =
+    omega (arith, length-append (take start xs) (take i added), length-take start xs, length-take i added) in
     let zeroth : start + i - (start + i) ≡ 0 = omega arith in
     let next : start + i + 1 ≡ start + (i + 1) = omega arith in
     ap (λ zs. set zs (start + i) byte) e
@@ -28,63 +31,74 @@ length-front to from n xs before within =
 -- nothing is written yet
 pub written_none : (start i : ℕ) (added xs : List ℕ) → i ≡ 0 → xs ≡ take start xs ++ take i added ++ drop (start + i) xs
 written_none start i added xs none =
-    sym (take-append-drop start xs) ∙ ap (λ k. take start xs ++ drop k xs) (omega arith) ∙ ap (λ zs. zs ++ drop (start + 0) xs) (sym (append-nil (take start xs)))
+    sym (take-append-drop start xs) ∙ ap (λ k. take start xs ++ drop k xs) (omega arith)
+    ∙ ap (λ zs. zs ++ drop (start + 0) xs) (sym (append-nil (take start xs)))
     ∙ ap (λ k. take start xs ++ take k added ++ drop (start + k) xs) (sym none)
 
 -- bytes are moved, and others are written behind them
-pub placed_is : (to from n : ℕ) (added xs : List ℕ) → to ≤ from → from + n ≤ length xs → take (to + n) (moved to from n xs) ++ added ++ drop (to + n + length added) (moved to from n xs) ≡ placed_bytes to from n added xs
+pub placed_is : (to from n : ℕ) (added xs : List ℕ) → to ≤ from → from + n ≤ length xs →
+    take (to + n) (moved to from n xs) ++ added ++ drop (to + n + length added) (moved to from n xs) ≡ placed_bytes to from n added xs
 placed_is to from n added xs before within =
     let front = take to xs ++ take n (drop from xs) in
     let long = length-front to from n xs before within in
     let behind : drop (to + n + length added) (moved to from n xs) ≡ drop (to + n + length added) xs =
-    sym (drop-drop (length added) (to + n) (moved to from n xs)) ∙ ap (drop (length added)) (drop_at front (drop (to + n) xs) (to + n) long) ∙ drop-drop (length added) (to + n) xs in
+    sym (drop-drop (length added) (to + n) (moved to from n xs)) ∙ ap (drop (length added)) (drop_at front (drop (to + n) xs) (to + n) long)
+    ∙ drop-drop (length added) (to + n) xs in
     ap (λ zs. zs ++ added ++ drop (to + n + length added) (moved to from n xs)) (take_at front (drop (to + n) xs) (to + n) long)
     ∙ ap (λ zs. front ++ added ++ zs) behind
 
 -- the parts of what is placed
-module _ (to from n : ℕ) (added xs : List ℕ) (before : to ≤ from) (within : from + n ≤ length xs) (room : to + n + length added ≤ length xs) where
-  length-placed_front : length (take to xs ++ take n (drop from xs) ++ added) ≡ to + n + length added
-  length-placed_front = omega (arith, length-front to from n xs before within, length-append (take to xs ++ take n (drop from xs)) added)
+module _ (to from n : ℕ) (added xs : List ℕ) (before : to ≤ from) (within : from + n ≤ length xs) (room : to + n + length added ≤ length xs)
+  where
+    length-placed_front : length (take to xs ++ take n (drop from xs) ++ added) ≡ to + n + length added
+    length-placed_front = omega (arith, length-front to from n xs before within, length-append (take to xs ++ take n (drop from xs)) added)
 
-  pub length-placed : length (placed_bytes to from n added xs) ≡ length xs
-  length-placed =
-      length-append (take to xs ++ take n (drop from xs) ++ added) (drop (to + n + length added) xs) ∙ omega (arith, length-placed_front, length-drop (to + n + length added) xs)
+    pub length-placed : length (placed_bytes to from n added xs) ≡ length xs
+    length-placed =
+        length-append (take to xs ++ take n (drop from xs) ++ added) (drop (to + n + length added) xs)
+        ∙ omega (arith, length-placed_front, length-drop (to + n + length added) xs)
 
-  -- what stands before stays
-  pub take-placed : (start : ℕ) → start ≤ to → take start (placed_bytes to from n added xs) ≡ take start xs
-  take-placed start behind =
-      let rest = drop (to + n + length added) xs in
-      let long : length (take to xs) ≡ to = omega (arith, length-take to xs) in
-      ap (take start) (append_assoc (take to xs ++ take n (drop from xs)) added rest ∙ append_assoc (take to xs) (take n (drop from xs)) (added ++ rest))
-      ∙ take-append-le start (take to xs) (take n (drop from xs) ++ (added ++ rest)) (omega (arith, long))
-      ∙ take-take start to xs behind
+    -- what stands before stays
+    pub take-placed : (start : ℕ) → start ≤ to → take start (placed_bytes to from n added xs) ≡ take start xs
+    take-placed start behind =
+        let rest = drop (to + n + length added) xs in
+        let long : length (take to xs) ≡ to = omega (arith, length-take to xs) in
+        ap (take start) (append_assoc (take to xs ++ take n (drop from xs)) added rest ∙ append_assoc (take to xs) (take n (drop from xs))
+        (added ++ rest))
+        ∙ take-append-le start (take to xs) (take n (drop from xs) ++ (added ++ rest)) (omega (arith, long))
+        ∙ take-take start to xs behind
 
-  -- the front of it
-  pub take-placed_all : take (to + n + length added) (placed_bytes to from n added xs) ≡ take to xs ++ take n (drop from xs) ++ added
-  take-placed_all = take_at (take to xs ++ take n (drop from xs) ++ added) (drop (to + n + length added) xs) (to + n + length added) length-placed_front
+    -- the front of it
+    pub take-placed_all : take (to + n + length added) (placed_bytes to from n added xs) ≡ take to xs ++ take n (drop from xs) ++ added
+    take-placed_all =
+        take_at (take to xs ++ take n (drop from xs) ++ added) (drop (to + n + length added) xs) (to + n + length added) length-placed_front
 
-  -- what stands behind stays
-  pub drop-placed : (place : ℕ) → to + n + length added ≤ place → drop place (placed_bytes to from n added xs) ≡ drop place xs
-  drop-placed place behind =
-      let here = to + n + length added in
-      let more = place - here in
-      let sum : here + more ≡ place = omega arith in
-      ap (λ k. drop k (placed_bytes to from n added xs)) (sym sum)
-      ∙ sym (drop-drop more here (placed_bytes to from n added xs))
-      ∙ ap (drop more) (drop_at (take to xs ++ take n (drop from xs) ++ added) (drop here xs) here length-placed_front)
-      ∙ drop-drop more here xs ∙ ap (λ k. drop k xs) sum
+    -- what stands behind stays
+    pub drop-placed : (place : ℕ) → to + n + length added ≤ place → drop place (placed_bytes to from n added xs) ≡ drop place xs
+    drop-placed place behind =
+        let here = to + n + length added in
+        let more = place - here in
+        let sum : here + more ≡ place = omega arith in
+        ap (λ k. drop k (placed_bytes to from n added xs)) (sym sum)
+        ∙ sym (drop-drop more here (placed_bytes to from n added xs))
+        ∙ ap (drop more) (drop_at (take to xs ++ take n (drop from xs) ++ added) (drop here xs) here length-placed_front)
+        ∙ drop-drop more here xs ∙ ap (λ k. drop k xs) sum
 
 -- the rest is moved, and the end is cut
-pub cut_rest : (to from n gap : ℕ) (xs : List ℕ) → to ≤ from → from + n ≡ length xs → to + gap ≡ from → take (to + n) (placed_bytes to from n [] xs) ++ drop (to + n + gap) (placed_bytes to from n [] xs) ≡ take to xs ++ drop from xs
+pub cut_rest : (to from n gap : ℕ) (xs : List ℕ) → to ≤ from → from + n ≡ length xs → to + gap ≡ from →
+    take (to + n) (placed_bytes to from n [] xs) ++ drop (to + n + gap) (placed_bytes to from n [] xs) ≡ take to xs ++ drop from xs
 cut_rest to from n gap xs before whole is =
     let placed = placed_bytes to from n [] xs in
     let front : take (to + n) placed ≡ take to xs ++ drop from xs =
-    ap (λ k. take k placed) (omega arith) ∙ take-placed_all to from n [] xs before (omega arith) (omega arith) ∙ append-nil (take to xs ++ take n (drop from xs))
+    ap (λ k. take k placed) (omega arith) ∙ take-placed_all to from n [] xs before (omega arith) (omega arith)
+    ∙ append-nil (take to xs ++ take n (drop from xs))
     ∙ ap (λ zs. take to xs ++ zs) (take_all n (drop from xs) (omega (arith, length-drop from xs))) in
     ap (λ zs. zs ++ drop (to + n + gap) placed) front
-    ∙ ap (λ zs. (take to xs ++ drop from xs) ++ zs) (drop_all (to + n + gap) placed (omega (arith, length-placed to from n [] xs before (omega arith) (omega arith))))
+    ∙ ap (λ zs. (take to xs ++ drop from xs) ++ zs)
+    (drop_all (to + n + gap) placed (omega (arith, length-placed to from n [] xs before (omega arith) (omega arith))))
     ∙ append-nil (take to xs ++ drop from xs)
 
 pub length-moved : (to from n : ℕ) (xs : List ℕ) → to ≤ from → from + n ≤ length xs → length (moved to from n xs) ≡ length xs
 length-moved to from n xs before within =
-    length-append (take to xs ++ take n (drop from xs)) (drop (to + n) xs) ∙ omega (arith, length-front to from n xs before within, length-drop (to + n) xs)
+    length-append (take to xs ++ take n (drop from xs)) (drop (to + n) xs)
+    ∙ omega (arith, length-front to from n xs before within, length-drop (to + n) xs)

@@ -74,7 +74,8 @@ abbrev pub squeezed : Places → Places → ℕ → ℕ → List Kept → List �
 squeezed long places from to [] bytes = Some (take to bytes ++ drop from bytes)
 squeezed long places from to (entry ∷ others) bytes =
     with_bytes
-    (λ added. squeezed long places (entry.place + special_size entry.what) (to + (entry.place - from) + length added) others (placed_bytes to from (entry.place - from) added bytes))
+    (λ added. squeezed long places (entry.place + special_size entry.what) (to + (entry.place - from) + length added) others
+    (placed_bytes to from (entry.place - from) added bytes))
     (closed_special long places entry.place (to + (entry.place - from)) entry.what)
 
 -- that what is kept stands in order from a place on, up to an end

@@ -45,7 +45,8 @@ size_at long place (Branches branch) = if is_short_to long place branch.target t
 size_at long place (Jumps label) = 2
 size_at long place (Refers target) = 2
 
--- The place of a label, in cells that stand from a place on and with all branches long from another: the sum of the sizes before its first mark.
+-- The place of a label, in cells that stand from a place on and with all branches long from another: the sum of the sizes before its first
+-- mark.
 abbrev pub place_from : Places → ℕ → ℕ → List Cell → Places
 place_from long old new [] number = None
 place_from long old new ((Plain byte) ∷ cells) number = place_from long (old + 1) (new + 1) cells number
@@ -53,7 +54,8 @@ place_from long old new ((Of what) ∷ cells) number =
     if marks number what then Some new
     else place_from long (old + special_size what) (new + size_at long old what) cells number
 
--- An offset to a place, from behind the branch or jump, as a number of so many values: 2 stands for the place itself (sections 4.7.2 and 15, jump).
+-- An offset to a place, from behind the branch or jump, as a number of so many values: 2 stands for the place itself (sections 4.7.2 and
+-- 15, jump).
 -- None where it does not fit.
 abbrev pub offset_to : ℕ → ℕ → Option ℕ → Option ℕ
 offset_to half end None = None
@@ -97,7 +99,8 @@ closed_bytes long places old new [] = Some []
 closed_bytes long places old new ((Plain byte) ∷ cells) =
     with_some (λ rest. byte ∷ rest) (closed_bytes long places (old + 1) (new + 1) cells)
 closed_bytes long places old new ((Of what) ∷ cells) =
-    joined (closed_special long places old new what) (closed_bytes long places (old + special_size what) (new + size_at long old what) cells)
+    joined (closed_special long places old new what)
+    (closed_bytes long places (old + special_size what) (new + size_at long old what) cells)
 
 -- its references with their places
 abbrev pub fixup_at : ℕ → Special → List Fixup

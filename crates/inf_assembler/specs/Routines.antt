@@ -17,7 +17,8 @@ use Rattle.inf_assembler.specs.declared.routines.Limit.TheVariants.{Labels, Code
 use Rattle.inf_opcode.specs.Cells.{Cell, long_bytes, label_count, fixup_count, kept_from, cells_of}
 use Rattle.inf_assembler.specs.Places.{Places, long_place, place_from, closed_bytes, closed_fixups, missing, twice_behind}
 
--- what an open routine keeps: where it starts, what stands in its bytes, how many labels, branches and jumps and how many references these are,
+-- what an open routine keeps: where it starts, what stands in its bytes, how many labels, branches and jumps and how many references these
+-- are,
 -- whether control never runs past its last item, and the limits
 pub record State : Type 0 where
   pub start : ℕ
@@ -36,7 +37,11 @@ pub record Contents : Type 0 where
 -- those that an open routine and the bytes of its area tell
 abbrev pub contents_of : State → List ℕ → Contents
 contents_of state bytes =
-    record { locals = slice_index bytes state.start; cells = cells_of (state.start + 1) state.kept (drop (state.start + 1) bytes); is_final = state.is_final }
+    record {
+      locals = slice_index bytes state.start;
+      cells = cells_of (state.start + 1) state.kept (drop (state.start + 1) bytes);
+      is_final = state.is_final;
+    }
 
 -- that an open routine has these items, and stands behind these bytes
 pub record Stands (state : State) (area front : List ℕ) (contents : Contents) : Type 0 where
@@ -47,7 +52,8 @@ pub record Stands (state : State) (area front : List ℕ) (contents : Contents) 
   pub fixups : state.fixups ≡ fixup_count contents.cells
   pub is_final : state.is_final ≡ contents.is_final
 
--- That the bytes of the area end with those of the routine, every branch long and what is known later zero, and that it keeps what stands in them.
+-- That the bytes of the area end with those of the routine, every branch long and what is known later zero, and that it keeps what stands
+-- in them.
 abbrev pub IsOpen : State → List ℕ → Type 0
 IsOpen state bytes = Stands state bytes (take state.start bytes) (contents_of state bytes)
 
@@ -93,7 +99,13 @@ pub record Moment : Type 0 where
 
 abbrev pub moment_of : Contents → Moment
 moment_of contents =
-    record { len = 1 + length (long_bytes contents.cells); kept = length (kept_from 0 contents.cells); labels = label_count contents.cells; fixups = fixup_count contents.cells; is_final = contents.is_final }
+    record {
+      len = 1 + length (long_bytes contents.cells);
+      kept = length (kept_from 0 contents.cells);
+      labels = label_count contents.cells;
+      fixups = fixup_count contents.cells;
+      is_final = contents.is_final;
+    }
 
 -- that the first of a routine's items were all at a moment
 pub record Were (earlier : Contents) (at : Moment) (now : Contents) : Type 0 where
@@ -140,7 +152,8 @@ end_fault is_final limits len refs fixups =
     if nat_lt refs.limit (length refs.list + fixups) then Some (close_fault.Full Refs) else None
 
 abbrev pub full_fault : ℕ → RoutineKind → Contents → Limits → Fixups → List ℕ → Option CloseFault
-full_fault start kind contents limits refs body = end_fault contents.is_final limits (start + 1 + length body) refs (fixup_count contents.cells)
+full_fault start kind contents limits refs body =
+    end_fault contents.is_final limits (start + 1 + length body) refs (fixup_count contents.cells)
 
 abbrev pub body_fault : (List ℕ → Option CloseFault) → Option (List ℕ) → Option CloseFault
 body_fault next None = Some close_fault.TooFar
@@ -161,14 +174,16 @@ fault_of start kind contents limits refs =
     (missing (long_places start contents) contents.cells)
 
 -- what is written of a routine that is closed
-pub record Finished (kind : RoutineKind) (place : ℕ) (contents : Contents) (old_bytes : List ℕ) (old_refs : Fixups) (new_bytes : List ℕ) (new_refs : Fixups) : Type 0 where
+pub record Finished (kind : RoutineKind) (place : ℕ) (contents : Contents) (old_bytes : List ℕ) (old_refs : Fixups) (new_bytes : List ℕ)
+    (new_refs : Fixups) : Type 0 where
   pub body : List ℕ
   pub is : body_bytes place contents ≡ Some body
   pub bytes : new_bytes ≡ take place old_bytes ++ contents.locals ∷ body ++ closing kind contents
   pub fixups : new_refs ≡ with_fixups (old_refs.list ++ routine_fixups place contents) old_refs
 
 -- what a routine has become
-pub record Closes (kind : RoutineKind) (place : ℕ) (contents : Contents) (old_bytes : List ℕ) (old_refs : Fixups) (closed : Closed) (new_bytes : List ℕ) (new_refs : Fixups) : Type 0 where
+pub record Closes (kind : RoutineKind) (place : ℕ) (contents : Contents) (old_bytes : List ℕ) (old_refs : Fixups) (closed : Closed)
+    (new_bytes : List ℕ) (new_refs : Fixups) : Type 0 where
   pub body : List ℕ
   pub is : body_bytes place contents ≡ Some body
   pub bytes : new_bytes ≡ take place old_bytes ++ contents.locals ∷ body ++ closing kind contents

@@ -129,7 +129,14 @@ impl Model for Mark {
 
     ghost view = { λ mark. record { len = mark.len; kept = mark.kept; labels = mark.labels; fixups = mark.fixups; is_final = mark.is_final } };
 
-    ghost inverse = { λ moment. record { len = moment.len; kept = moment.kept; labels = moment.labels; fixups = moment.fixups; is_final = moment.is_final } };
+    ghost inverse = { λ moment. record {
+      len = moment.len;
+      kept = moment.kept;
+      labels = moment.labels;
+      fixups = moment.fixups;
+      is_final =
+          moment.is_final;
+    } };
 }
 
 /// An open routine. Its bytes stand at the end of the area, with every branch in two bytes, and zeros
@@ -154,7 +161,14 @@ impl Model for Routine {
 
     ghost Value = { State };
 
-    ghost view = { λ routine. record { start = routine.start; kept = routine.kept.items; labels = routine.labels; fixups = routine.fixups; is_final = routine.is_final; limits = routine.limits } };
+    ghost view = { λ routine. record {
+      start = routine.start;
+      kept = routine.kept.items;
+      labels = routine.labels;
+      fixups = routine.fixups;
+      is_final = routine.is_final;
+      limits = routine.limits;
+    } };
 
     ghost invariant = { λ routine. routine.start + 1 < 2 ^ 64 };
 }
@@ -186,8 +200,10 @@ impl Routine {
         limits: Limits,
     ) -> Result<Routine, GrowFault>
         requires { locals ≤ 15 }
-        ensures ok { IfOk result (λ routine. Stands routine (A.bytes area.new) (A.bytes area.old) (fresh locals) × (routine.limits ≡ limits)) }
-        ensures open_now { IfOk result (λ routine. (contents_of routine (A.bytes area.new) ≡ fresh locals) × IsOpen routine (A.bytes area.new)) }
+        ensures ok { IfOk result (λ routine. Stands routine (A.bytes area.new) (A.bytes area.old) (fresh locals) ×
+            (routine.limits ≡ limits)) }
+        ensures open_now { IfOk result (λ routine. (contents_of routine (A.bytes area.new) ≡ fresh locals) × IsOpen routine
+            (A.bytes area.new)) }
         ensures err { OnErr result (A.bytes area.new ≡ A.bytes area.old) }
         ensures fault { let full = if nat_lt limits.code (length (A.bytes area.old) + 1) then Some Code else None in
             MatchResult result (λ _. full ≡ None) (λ fault. fault ≡ refusal full) }
@@ -433,7 +449,8 @@ impl Routine {
         ensures ok { OnOk result (A.bytes area.new ≡ A.bytes area.old ++ closing_bytes kind self.now.is_final) }
         ensures err { OnErr result (A.bytes area.new ≡ A.bytes area.old) }
         ensures fault { let full = is_full self.now.is_final self.now.limits.code (length (A.bytes area.old)) in
-            MatchResult result (λ _. full ≡ false) (λ fault. (fault ≡ close_fault.Memory) ⊎ ((full ≡ true) × (fault ≡ close_fault.Full Code))) }
+            MatchResult result (λ _. full ≡ false)
+            (λ fault. (fault ≡ close_fault.Memory) ⊎ ((full ≡ true) × (fault ≡ close_fault.Full Code))) }
     {
         if self.is_final {
             return Ok(());

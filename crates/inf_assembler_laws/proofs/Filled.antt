@@ -18,7 +18,8 @@ use Rattle.inf_assembler_laws.specs.Filling.{known_special, known_cells, filled}
 use Rattle.inf_assembler_laws.proofs.Parts.{joined_of, some_same}
 
 -- a word over two bytes in the middle
-with_word-seam : (front back : List ℕ) (high low number : ℕ) → with_word (front ++ high ∷ low ∷ back) (length front) number ≡ front ++ (word number ++ back)
+with_word-seam : (front back : List ℕ) (high low number : ℕ) →
+    with_word (front ++ high ∷ low ∷ back) (length front) number ≡ front ++ (word number ++ back)
 with_word-seam front back high low number =
     let top = number / 256 in
     let end = number % 256 in
@@ -28,21 +29,26 @@ with_word-seam front back high low number =
     ∙ ap (λ n. front ++ set (top ∷ low ∷ back) n end) one
 
 -- The places of labels stay.
-long_known : (number_of : Target → ℕ) (old : ℕ) (cells : List Cell) (label : ℕ) → long_place old (known_cells number_of cells) label ≡ long_place old cells label
+long_known : (number_of : Target → ℕ) (old : ℕ) (cells : List Cell) (label : ℕ) →
+    long_place old (known_cells number_of cells) label ≡ long_place old cells label
 long_known number_of old [] label = refl
 long_known number_of old ((Plain byte) ∷ cells) label = long_known number_of (old + 1) cells label
-long_known number_of old ((Of (Marks other)) ∷ cells) label = ap (λ o. cond (marks label (Marks other)) (Some old) o) (long_known number_of (old + 0) cells label)
+long_known number_of old ((Of (Marks other)) ∷ cells) label =
+    ap (λ o. cond (marks label (Marks other)) (Some old) o) (long_known number_of (old + 0) cells label)
 long_known number_of old ((Of (Branches branch)) ∷ cells) label = long_known number_of (old + 2) cells label
 long_known number_of old ((Of (Jumps other)) ∷ cells) label = long_known number_of (old + 2) cells label
 long_known number_of old ((Of (Refers target)) ∷ cells) label =
     let two : old + 1 + 1 ≡ old + 2 = omega arith in
     ap (λ n. long_place n (known_cells number_of cells) label) two ∙ long_known number_of (old + 2) cells label
 
-place_known : (number_of : Target → ℕ) (long : Places) (old new : ℕ) (cells : List Cell) (label : ℕ) → place_from long old new (known_cells number_of cells) label ≡ place_from long old new cells label
+place_known : (number_of : Target → ℕ) (long : Places) (old new : ℕ) (cells : List Cell) (label : ℕ) →
+    place_from long old new (known_cells number_of cells) label ≡ place_from long old new cells label
 place_known number_of long old new [] label = refl
 place_known number_of long old new ((Plain byte) ∷ cells) label = place_known number_of long (old + 1) (new + 1) cells label
-place_known number_of long old new ((Of (Marks other)) ∷ cells) label = ap (λ o. cond (marks label (Marks other)) (Some new) o) (place_known number_of long (old + 0) (new + 0) cells label)
-place_known number_of long old new ((Of (Branches branch)) ∷ cells) label = place_known number_of long (old + 2) (new + size_at long old (Branches branch)) cells label
+place_known number_of long old new ((Of (Marks other)) ∷ cells) label =
+    ap (λ o. cond (marks label (Marks other)) (Some new) o) (place_known number_of long (old + 0) (new + 0) cells label)
+place_known number_of long old new ((Of (Branches branch)) ∷ cells) label =
+    place_known number_of long (old + 2) (new + size_at long old (Branches branch)) cells label
 place_known number_of long old new ((Of (Jumps other)) ∷ cells) label = place_known number_of long (old + 2) (new + 2) cells label
 place_known number_of long old new ((Of (Refers target)) ∷ cells) label =
     let two : old + 1 + 1 ≡ old + 2 = omega arith in
@@ -52,14 +58,16 @@ place_known number_of long old new ((Of (Refers target)) ∷ cells) label =
     ∙ place_known number_of long (old + 2) (new + 2) cells label
 
 -- what the bytes of cells become
-pub record Numbered (number_of : Target → ℕ) (long places : Places) (old new : ℕ) (cells : List Cell) (front bytes rest : List ℕ) : Type 0 where
-  pub numbered : List ℕ
-  pub is : closed_bytes long places old new (known_cells number_of cells) ≡ Some numbered
-  pub fills : filled number_of (closed_fixups long old new cells) (front ++ (bytes ++ rest)) ≡ front ++ (numbered ++ rest)
+pub record Numbered (number_of : Target → ℕ) (long places : Places) (old new : ℕ) (cells : List Cell) (front bytes rest : List ℕ) : Type 0
+  where
+    pub numbered : List ℕ
+    pub is : closed_bytes long places old new (known_cells number_of cells) ≡ Some numbered
+    pub fills : filled number_of (closed_fixups long old new cells) (front ++ (bytes ++ rest)) ≡ front ++ (numbered ++ rest)
 
 -- one byte or more before what the bytes become
 module _ (number_of : Target → ℕ) (long places : Places) where
-  kept_before : (old new : ℕ) (what : Special) (cells : List Cell) (front here back bytes rest : List ℕ) → known_special number_of what ≡ Of what ∷ [] → fixup_at new what ≡ []
+  kept_before : (old new : ℕ) (what : Special) (cells : List Cell) (front here back bytes rest : List ℕ) →
+      known_special number_of what ≡ Of what ∷ [] → fixup_at new what ≡ []
       → closed_special long places old new what ≡ Some here → bytes ≡ here ++ back
       → Numbered number_of long places (old + special_size what) (new + size_at long old what) cells (front ++ here) back rest
       → Numbered number_of long places old new (Of what ∷ cells) front bytes rest
@@ -70,7 +78,8 @@ module _ (number_of : Target → ℕ) (long places : Places) where
         numbered = here ++ next.numbered;
         is =
             ap (λ k. closed_bytes long places old new (k ++ known_cells number_of cells)) same
-            ∙ ap (λ o. joined o (closed_bytes long places (old + special_size what) (new + size_at long old what) (known_cells number_of cells))) is
+            ∙ ap (λ o. joined o (closed_bytes long places (old + special_size what) (new + size_at long old what)
+            (known_cells number_of cells))) is
             ∙ ap (joined (Some here)) next.is;
         fills =
             ap (λ hs. filled number_of (hs ++ fixups) (front ++ (bytes ++ rest))) none
@@ -78,7 +87,8 @@ module _ (number_of : Target → ℕ) (long places : Places) where
             ∙ ap (filled number_of fixups) (regroup back) ∙ next.fills ∙ sym (regroup next.numbered);
       }
 
-  pub numbered : (old new : ℕ) (cells : List Cell) (front bytes rest : List ℕ) → new ≡ length front → closed_bytes long places old new cells ≡ Some bytes → Numbered number_of long places old new cells front bytes rest
+  pub numbered : (old new : ℕ) (cells : List Cell) (front bytes rest : List ℕ) → new ≡ length front →
+      closed_bytes long places old new cells ≡ Some bytes → Numbered number_of long places old new cells front bytes rest
   numbered old new [] front bytes rest at e =
       let same : bytes ≡ [] = some_same bytes [] (sym e) in
       record { numbered = []; is = refl; fills = ap (λ b. front ++ (b ++ rest)) same }
@@ -92,29 +102,36 @@ module _ (number_of : Target → ℕ) (long places : Places) where
         is = ap (with_some (λ others. byte ∷ others)) next.is;
         fills =
             ap (λ b. filled number_of fixups (front ++ (b ++ rest))) made.2
-            ∙ ap (filled number_of fixups) (sym (append_assoc front one (made.0 ++ rest))) ∙ next.fills ∙ append_assoc front one (next.numbered ++ rest);
+            ∙ ap (filled number_of fixups) (sym (append_assoc front one (made.0 ++ rest))) ∙ next.fills
+            ∙ append_assoc front one (next.numbered ++ rest);
       }
   numbered old new ((Of (Marks label)) ∷ cells) front bytes rest at e =
       let made = joined_of (Some []) (closed_bytes long places (old + 0) (new + 0) cells) bytes e in
       let here = closed_size long places old new (Marks label) made.front made.is_front in
       kept_before old new (Marks label) cells front made.front made.back bytes rest refl refl made.is_front made.whole
-      (numbered (old + 0) (new + 0) cells (front ++ made.front) made.back rest (omega (arith, at, length-append front made.front, here)) made.is_back)
+      (numbered (old + 0) (new + 0) cells (front ++ made.front) made.back rest (omega (arith, at, length-append front made.front, here))
+      made.is_back)
   numbered old new ((Of (Branches branch)) ∷ cells) front bytes rest at e =
       let size = size_at long old (Branches branch) in
-      let made = joined_of (closed_special long places old new (Branches branch)) (closed_bytes long places (old + 2) (new + size) cells) bytes e in
+      let made =
+      joined_of (closed_special long places old new (Branches branch)) (closed_bytes long places (old + 2) (new + size) cells) bytes e in
       let here = closed_size long places old new (Branches branch) made.front made.is_front in
       kept_before old new (Branches branch) cells front made.front made.back bytes rest refl refl made.is_front made.whole
-      (numbered (old + 2) (new + size) cells (front ++ made.front) made.back rest (omega (arith, at, length-append front made.front, here)) made.is_back)
+      (numbered (old + 2) (new + size) cells (front ++ made.front) made.back rest (omega (arith, at, length-append front made.front, here))
+      made.is_back)
   numbered old new ((Of (Jumps label)) ∷ cells) front bytes rest at e =
-      let made = joined_of (closed_special long places old new (Jumps label)) (closed_bytes long places (old + 2) (new + 2) cells) bytes e in
+      let made =
+      joined_of (closed_special long places old new (Jumps label)) (closed_bytes long places (old + 2) (new + 2) cells) bytes e in
       let here = closed_size long places old new (Jumps label) made.front made.is_front in
       kept_before old new (Jumps label) cells front made.front made.back bytes rest refl refl made.is_front made.whole
-      (numbered (old + 2) (new + 2) cells (front ++ made.front) made.back rest (omega (arith, at, length-append front made.front, here)) made.is_back)
+      (numbered (old + 2) (new + 2) cells (front ++ made.front) made.back rest (omega (arith, at, length-append front made.front, here))
+      made.is_back)
   numbered old new ((Of (Refers target)) ∷ cells) front bytes rest at e =
       let made = joined_of (Some (0 ∷ 0 ∷ [])) (closed_bytes long places (old + 2) (new + 2) cells) bytes e in
       let zeros : made.front ≡ 0 ∷ 0 ∷ [] = some_same made.front (0 ∷ 0 ∷ []) (sym made.is_front) in
       let number = number_of target in
-      let next = numbered (old + 2) (new + 2) cells (front ++ word number) made.back rest (omega (arith, at, length-append front (word number))) made.is_back in
+      let next = numbered (old + 2) (new + 2) cells (front ++ word number) made.back rest
+      (omega (arith, at, length-append front (word number))) made.is_back in
       let fixups = closed_fixups long (old + 2) (new + 2) cells in
       let fixup : Fixup = record { area = Code; place = new; target = target } in
       let two : old + 1 + 1 ≡ old + 2 = omega arith in
@@ -122,8 +139,12 @@ module _ (number_of : Target → ℕ) (long places : Places) where
       record {
         numbered = word number ++ next.numbered;
         is =
-            ap (λ n. with_some (λ others. (number / 256) ∷ others) (with_some (λ others. (number % 256) ∷ others) (closed_bytes long places n (new + 1 + 1) (known_cells number_of cells)))) two
-            ∙ ap (λ n. with_some (λ others. (number / 256) ∷ others) (with_some (λ others. (number % 256) ∷ others) (closed_bytes long places (old + 2) n (known_cells number_of cells)))) new_two
+            ap (λ n. with_some (λ others. (number / 256) ∷ others)
+            (with_some (λ others. (number % 256) ∷ others) (closed_bytes long places n (new + 1 + 1) (known_cells number_of cells))))
+            two
+            ∙ ap (λ n. with_some (λ others. (number / 256) ∷ others)
+            (with_some (λ others. (number % 256) ∷ others) (closed_bytes long places (old + 2) n (known_cells number_of cells))))
+            new_two
             ∙ ap (λ o. with_some (λ others. (number / 256) ∷ others) (with_some (λ others. (number % 256) ∷ others) o)) next.is;
         fills =
             ap (λ b. filled number_of (fixup ∷ fixups) (front ++ (b ++ rest))) (made.whole ∙ ap (λ f. f ++ made.back) zeros)
@@ -134,8 +155,10 @@ module _ (number_of : Target → ℕ) (long places : Places) where
       }
 
 -- the tables of the routine with its numbers
-pub tables_known : (number_of : Target → ℕ) (place : ℕ) (cells : List Cell) → long_place place (known_cells number_of cells) ≡ long_place place cells
+pub tables_known : (number_of : Target → ℕ) (place : ℕ) (cells : List Cell) →
+    long_place place (known_cells number_of cells) ≡ long_place place cells
 tables_known number_of place cells = fun_ext (λ label. long_known number_of place cells label)
 
-pub places_known : (number_of : Target → ℕ) (long : Places) (place : ℕ) (cells : List Cell) → place_from long place place (known_cells number_of cells) ≡ place_from long place place cells
+pub places_known : (number_of : Target → ℕ) (long : Places) (place : ℕ) (cells : List Cell) →
+    place_from long place place (known_cells number_of cells) ≡ place_from long place place cells
 places_known number_of long place cells = fun_ext (λ label. place_known number_of long place place cells label)

@@ -21,7 +21,8 @@ pub record Near (half end place offset : ℕ) : Type 0 where
 
 pub near_of : (half end place offset : ℕ) → offset_to half end (Some place) ≡ Some offset → Near half end place offset
 near_of half end place offset e =
-    let made = cond_some (leb end (place + 2 + half) && ltb (place + 2) (end + half)) ((place + 2 + 2 * half - end) % (2 * half)) offset e in
+    let made =
+    cond_some (leb end (place + 2 + half) && ltb (place + 2) (end + half)) ((place + 2 + 2 * half - end) % (2 * half)) offset e in
     let both = both_parts (leb end (place + 2 + half)) (ltb (place + 2) (end + half)) made.0 in
     record { low = grind (arith, nat_tests, both.0); high = grind (arith, nat_tests, both.1); is = made.1 }
 
@@ -76,21 +77,26 @@ forward end place offset near ahead = omega (arith, near.is, near.high)
 backward : (end place offset : ℕ) → Near 8192 end place offset → place + 2 < end → 2 ≤ offset
 backward end place offset near behind = omega (arith, near.is, near.low)
 
-short_forward : (branch end place long offset : ℕ) → Near 8192 end place offset → end ≤ place → place + (branch + 2) ≤ long + end → long ≤ branch + 63 → offset < 64
+short_forward : (branch end place long offset : ℕ) → Near 8192 end place offset → end ≤ place → place + (branch + 2) ≤ long + end →
+    long ≤ branch + 63 → offset < 64
 short_forward branch end place long offset near ahead shrunk close = omega (arith, near.is, near.high)
 
 -- The offset of a short branch is below 64. The branch stands at a long place, and its label before it or behind its end.
-pub short_clear : (long_before before branch end place long offset : ℕ) → Near 8192 end place offset → long_before ≤ branch → (branch + 2 ≤ long) × (long ≤ branch + 63)
+pub short_clear : (long_before before branch end place long offset : ℕ) → Near 8192 end place offset → long_before ≤ branch →
+    (branch + 2 ≤ long) × (long ≤ branch + 63)
     → ((place ≤ before) × (long ≤ long_before)) ⊎ ((end ≤ place) × (branch + 2 ≤ long) × (place + (branch + 2) ≤ long + end)) → offset < 64
 short_clear long_before before branch end place long offset near from ahead (inl sides) = absurd (omega (arith, ahead.0, sides.1))
-short_clear long_before before branch end place long offset near from ahead (inr sides) = short_forward branch end place long offset near sides.0 sides.2 ahead.1
+short_clear long_before before branch end place long offset near from ahead (inr sides) =
+    short_forward branch end place long offset near sides.0 sides.2 ahead.1
 
 -- The offset of a branch is no 0 or 1, which return, where a byte or more stands between its label and itself.
-pub offset_clear : (short : Bool) (long_before before branch end place long offset : ℕ) → Near 8192 end place offset → long_before ≤ branch → (short ≡ false → before + 2 < end)
+pub offset_clear : (short : Bool) (long_before before branch end place long offset : ℕ) → Near 8192 end place offset →
+    long_before ≤ branch → (short ≡ false → before + 2 < end)
     → (short ≡ true → (branch + 2 ≤ long) × (long ≤ branch + 63))
     → ((place ≤ before) × (long ≤ long_before)) ⊎ ((end ≤ place) × (branch + 2 ≤ long) × (place + (branch + 2) ≤ long + end))
     → 2 ≤ offset
-offset_clear true long_before before branch end place long offset near from apart ahead (inl sides) = let n = ahead refl in absurd (omega (arith, n.0, sides.1))
+offset_clear true long_before before branch end place long offset near from apart ahead (inl sides) =
+    let n = ahead refl in absurd (omega (arith, n.0, sides.1))
 offset_clear false long_before before branch end place long offset near from apart ahead (inl sides) =
     let less = apart refl in backward end place offset near (omega (arith, less, sides.0))
 offset_clear short long_before before branch end place long offset near from apart ahead (inr sides) = forward end place offset near sides.0

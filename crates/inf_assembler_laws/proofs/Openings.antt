@@ -22,7 +22,8 @@ type_code-three (Variable number) = omega arith
 type_code-three (Later target) = omega arith
 type_code-three (Offset label) = omega arith
 
-opening-zero : (opcode : Opcode) (number : ℕ) (rest : List ℕ) → opcode_at Zero number ≡ Some opcode → has_place Zero number ≡ true → opening_at ((176 + number) ∷ rest) ≡ opening opcode [] rest
+opening-zero : (opcode : Opcode) (number : ℕ) (rest : List ℕ) → opcode_at Zero number ≡ Some opcode → has_place Zero number ≡ true →
+    opening_at ((176 + number) ∷ rest) ≡ opening opcode [] rest
 opening-zero opcode number rest found place =
     let both = both_parts (ltb number 16) (not (eqb number 14)) place in
     let fits : number < 16 = grind (arith, nat_tests, both.0) in
@@ -31,7 +32,8 @@ opening-zero opcode number rest found place =
     ap (λ form. opening_by form (176 + number) rest) (form_of-zero number fits other)
     ∙ ap (λ n. typed (opcode_at Zero n) [] rest) again ∙ ap (λ o. typed o [] rest) found
 
-opening-one : (opcode : Opcode) (number : ℕ) (operand : Operand) (rest : List ℕ) → opcode_at One number ≡ Some opcode → has_place One number ≡ true → opening_at ((128 + 16 * type_code operand + number) ∷ rest) ≡ opening opcode (operand ∷ []) rest
+opening-one : (opcode : Opcode) (number : ℕ) (operand : Operand) (rest : List ℕ) → opcode_at One number ≡ Some opcode →
+    has_place One number ≡ true → opening_at ((128 + 16 * type_code operand + number) ∷ rest) ≡ opening opcode (operand ∷ []) rest
 opening-one opcode number operand rest found place =
     let type = type_code operand in
     let first = 128 + 16 * type + number in
@@ -55,7 +57,9 @@ bit_small : (b : Bool) → cond b 1 0 < 2
 bit_small true = omega arith
 bit_small false = omega arith
 
-opening-long : (opcode : Opcode) (number : ℕ) (a b : Operand) (rest : List ℕ) → opcode_at Two number ≡ Some opcode → number < 32 → is_byte a ≡ true → is_byte b ≡ true → opening_at ((64 * cond (is_variable a) 1 0 + 32 * cond (is_variable b) 1 0 + number) ∷ rest) ≡ opening opcode (a ∷ b ∷ []) rest
+opening-long : (opcode : Opcode) (number : ℕ) (a b : Operand) (rest : List ℕ) → opcode_at Two number ≡ Some opcode → number < 32 →
+    is_byte a ≡ true → is_byte b ≡ true →
+    opening_at ((64 * cond (is_variable a) 1 0 + 32 * cond (is_variable b) 1 0 + number) ∷ rest) ≡ opening opcode (a ∷ b ∷ []) rest
 opening-long opcode number a b rest found fits byte_a byte_b =
     let u = cond (is_variable a) 1 0 in
     let v = cond (is_variable b) 1 0 in
@@ -71,7 +75,10 @@ opening-long opcode number a b rest found fits byte_a byte_b =
     ∙ ap (λ t. typed (opcode_at Two number) (type_code a ∷ t ∷ []) rest) type_b
     ∙ ap (λ o. typed o (type_code a ∷ type_code b ∷ []) rest) found
 
-opening-two : (opcode : Opcode) (number most : ℕ) (operands : List Operand) (rest : List ℕ) → opcode_at Two number ≡ Some opcode → (row_of opcode).most ≡ most → number < 32 → length operands ≤ most → most ≤ 8 → (is_short : Bool) → is_long operands ≡ is_short → opening_at (cond is_short ((64 * variable_bit operands 0 + 32 * variable_bit operands 1 + number) ∷ []) ((192 + number) ∷ types_bytes most operands) ++ rest) ≡ opening opcode operands rest
+opening-two : (opcode : Opcode) (number most : ℕ) (operands : List Operand) (rest : List ℕ) → opcode_at Two number ≡ Some opcode →
+    (row_of opcode).most ≡ most → number < 32 → length operands ≤ most → most ≤ 8 → (is_short : Bool) → is_long operands ≡ is_short →
+    opening_at (cond is_short ((64 * variable_bit operands 0 + 32 * variable_bit operands 1 + number) ∷ [])
+    ((192 + number) ∷ types_bytes most operands) ++ rest) ≡ opening opcode operands rest
 opening-two opcode number most [] rest found most_is fits few at_most true e = cc
 opening-two opcode number most (a ∷ []) rest found most_is fits few at_most true e = cc
 opening-two opcode number most (a ∷ b ∷ []) rest found most_is fits few at_most true e =
@@ -81,17 +88,22 @@ opening-two opcode number most operands rest found most_is fits few at_most fals
     let bytes = types_bytes most operands ++ rest in
     let again : (192 + number) % 32 ≡ number = omega arith in
     ap (λ form. opening_by form (192 + number) bytes) (form_of-two number fits)
-    ∙ ap (λ n. untyped (opcode_at Two n) bytes) again ∙ untyped-found (opcode_at Two number) opcode most operands rest found most_is few at_most
+    ∙ ap (λ n. untyped (opcode_at Two n) bytes) again
+    ∙ untyped-found (opcode_at Two number) opcode most operands rest found most_is few at_most
 
 -- the opening, by the count
-pub opening_at-heading : (count : OperandCount) (opcode : Opcode) (number least most : ℕ) (operands : List Operand) (rest : List ℕ) → opcode_at count number ≡ Some opcode → (row_of opcode).most ≡ most → has_place count number ≡ true → has_room count least most ≡ true → least ≤ length operands → length operands ≤ most → opening_at (heading_by count number (types_bytes most operands) operands ++ rest) ≡ opening opcode operands rest
+pub opening_at-heading : (count : OperandCount) (opcode : Opcode) (number least most : ℕ) (operands : List Operand) (rest : List ℕ) →
+    opcode_at count number ≡ Some opcode → (row_of opcode).most ≡ most → has_place count number ≡ true → has_room count least most ≡ true →
+    least ≤ length operands → length operands ≤ most →
+    opening_at (heading_by count number (types_bytes most operands) operands ++ rest) ≡ opening opcode operands rest
 opening_at-heading Zero opcode number least most [] rest found most_is place room enough few = opening-zero opcode number rest found place
 opening_at-heading Zero opcode number least most (a ∷ others) rest found most_is place room enough few =
     let none : most ≡ 0 = grind (arith, nat_tests, room) in absurd (omega arith)
 opening_at-heading One opcode number least most [] rest found most_is place room enough few =
     let both = both_parts (eqb least 1) (eqb most 1) room in
     let one : least ≡ 1 = grind (arith, nat_tests, both.0) in absurd (omega arith)
-opening_at-heading One opcode number least most (a ∷ []) rest found most_is place room enough few = opening-one opcode number a rest found place
+opening_at-heading One opcode number least most (a ∷ []) rest found most_is place room enough few =
+    opening-one opcode number a rest found place
 opening_at-heading One opcode number least most (a ∷ b ∷ others) rest found most_is place room enough few =
     let both = both_parts (eqb least 1) (eqb most 1) room in
     let one : most ≡ 1 = grind (arith, nat_tests, both.1) in absurd (omega arith)
@@ -106,7 +118,8 @@ opening_at-heading Several opcode number least most operands rest found most_is 
     let at_most : most ≤ 8 = grind (arith, nat_tests, room) in
     let again : (224 + number) % 32 ≡ number = omega arith in
     ap (λ form. opening_by form (224 + number) bytes) (form_of-several number fits)
-    ∙ ap (λ n. untyped (opcode_at Several n) bytes) again ∙ untyped-found (opcode_at Several number) opcode most operands rest found most_is few at_most
+    ∙ ap (λ n. untyped (opcode_at Several n) bytes) again
+    ∙ untyped-found (opcode_at Several number) opcode most operands rest found most_is few at_most
 opening_at-heading Extended opcode number least most operands rest found most_is place room enough few =
     let at_most : most ≤ 8 = grind (arith, nat_tests, room) in
     untyped-found (opcode_at Extended number) opcode most operands rest found most_is few at_most

@@ -40,7 +40,8 @@ pub record Split (long places : Places) (old new : ℕ) (xs ys : List Cell) (byt
   pub whole : bytes ≡ front ++ back
   pub size : length front ≡ cells_size long old xs
 
-pub split : (long places : Places) (old new : ℕ) (xs ys : List Cell) (bytes : List ℕ) → closed_bytes long places old new (xs ++ ys) ≡ Some bytes → Split long places old new xs ys bytes
+pub split : (long places : Places) (old new : ℕ) (xs ys : List Cell) (bytes : List ℕ) →
+    closed_bytes long places old new (xs ++ ys) ≡ Some bytes → Split long places old new xs ys bytes
 split long places old new [] ys bytes e =
     let f : old + 0 ≡ old = omega arith in
     let g : new + 0 ≡ new = omega arith in
@@ -61,22 +62,30 @@ split long places old new ((Plain byte) ∷ xs) ys bytes e =
       front = byte ∷ s.front;
       back = s.back;
       is_front = ap (with_some (λ rest. byte ∷ rest)) s.is_front;
-      is_back = ap (λ n. closed_bytes long places n (new + length (byte ∷ s.front)) ys) f ∙ ap (λ n. closed_bytes long places (old + 1 + long_size xs) n ys) g ∙ s.is_back;
+      is_back =
+          ap (λ n. closed_bytes long places n (new + length (byte ∷ s.front)) ys) f
+          ∙ ap (λ n. closed_bytes long places (old + 1 + long_size xs) n ys) g ∙ s.is_back;
       whole = made.2 ∙ ap (λ rest. byte ∷ rest) s.whole;
       size = omega (arith, s.size);
     }
 split long places old new ((Of what) ∷ xs) ys bytes e =
     let next = old + special_size what in
-    let made = joined_of (closed_special long places old new what) (closed_bytes long places next (new + size_at long old what) (xs ++ ys)) bytes e in
+    let made =
+    joined_of (closed_special long places old new what) (closed_bytes long places next (new + size_at long old what) (xs ++ ys)) bytes e in
     let s = split long places next (new + size_at long old what) xs ys made.back made.is_back in
     let here = closed_size long places old new what made.front made.is_front in
     let f : old + long_size (Of what ∷ xs) ≡ next + long_size xs = omega (arith, long_size-of what xs) in
-    let g : new + length (made.front ++ s.front) ≡ new + size_at long old what + length s.front = omega (arith, here, length-append made.front s.front) in
+    let g : new + length (made.front ++ s.front) ≡ new + size_at long old what + length s.front =
+    omega (arith, here, length-append made.front s.front) in
     record {
       front = made.front ++ s.front;
       back = s.back;
-      is_front = ap (λ o. joined o (closed_bytes long places next (new + size_at long old what) xs)) made.is_front ∙ ap (joined (Some made.front)) s.is_front;
-      is_back = ap (λ n. closed_bytes long places n (new + length (made.front ++ s.front)) ys) f ∙ ap (λ n. closed_bytes long places (next + long_size xs) n ys) g ∙ s.is_back;
+      is_front =
+          ap (λ o. joined o (closed_bytes long places next (new + size_at long old what) xs)) made.is_front
+          ∙ ap (joined (Some made.front)) s.is_front;
+      is_back =
+          ap (λ n. closed_bytes long places n (new + length (made.front ++ s.front)) ys) f
+          ∙ ap (λ n. closed_bytes long places (next + long_size xs) n ys) g ∙ s.is_back;
       whole = made.whole ∙ ap (λ rest. made.front ++ rest) s.whole ∙ sym (append_assoc made.front s.front s.back);
       size = omega (arith, length-append made.front s.front, here, s.size);
     }
@@ -128,8 +137,10 @@ two_bytes : (number : ℕ) → 256 * (number / 256) + number % 256 ≡ number
 two_bytes number = omega arith
 
 -- an operand
-operand_read : (long places : Places) (old new total : ℕ) (jumps : Bool) (operand : Operand) (bytes rest : List ℕ) → Suits jumps operand → closed_bytes long places old new (operand_cells operand) ≡ Some bytes
-    → total ≡ new + length bytes + length rest → operand_at total jumps (type_code operand) (bytes ++ rest) ≡ Some (given places operand, rest)
+operand_read : (long places : Places) (old new total : ℕ) (jumps : Bool) (operand : Operand) (bytes rest : List ℕ) → Suits jumps operand →
+    closed_bytes long places old new (operand_cells operand) ≡ Some bytes
+    → total ≡ new + length bytes + length rest → operand_at total jumps (type_code operand) (bytes ++ rest) ≡ Some
+    (given places operand, rest)
 operand_read long places old new total jumps (Large number) bytes rest suits e t =
     let same : bytes ≡ word number = some_same bytes (word number) (sym e) in
     ap (λ b. operand_at total jumps 0 (b ++ rest)) same
@@ -157,29 +168,35 @@ operand_read long places old new total jumps (Offset label) bytes rest suits e t
     ∙ ap (λ n. Some (Place (place_by 32768 n number), rest)) end
     ∙ ap (λ n. Some (Place n, rest)) (jump_by (places label.number) (new + 2) number offset.1)
 
-pub operands_read : (long places : Places) (old new total : ℕ) (jumps : Bool) (operands : List Operand) (bytes rest : List ℕ) → AllSuit jumps operands
+pub operands_read : (long places : Places) (old new total : ℕ) (jumps : Bool) (operands : List Operand) (bytes rest : List ℕ) →
+    AllSuit jumps operands
     → closed_bytes long places old new (flat_map operand_cells operands) ≡ Some bytes → total ≡ new + length bytes + length rest
     → operands_at total jumps (map type_code operands) (bytes ++ rest) ≡ Some (map (given places) operands, rest)
-operands_read long places old new total jumps [] bytes rest suit e t = let same : bytes ≡ [] = some_same bytes [] (sym e) in ap (λ b. operands_at total jumps [] (b ++ rest)) same
+operands_read long places old new total jumps [] bytes rest suit e t =
+    let same : bytes ≡ [] = some_same bytes [] (sym e) in ap (λ b. operands_at total jumps [] (b ++ rest)) same
 operands_read long places old new total jumps (operand ∷ others) bytes rest suit e t =
     let s = split long places old new (operand_cells operand) (flat_map operand_cells others) bytes e in
     let behind = s.back ++ rest in
     let length_all : length bytes ≡ length s.front + length s.back = ap length s.whole ∙ length-append s.front s.back in
     let length_behind : length behind ≡ length s.back + length rest = length-append s.back rest in
     let types = map type_code others in
-    let next : Given × List ℕ → Option (List Given × List ℕ) = λ first. operands_at total jumps types first.1 >>= λ more. Some (first.0 ∷ more.0, more.1) in
+    let next : Given × List ℕ → Option (List Given × List ℕ) =
+    λ first. operands_at total jumps types first.1 >>= λ more. Some (first.0 ∷ more.0, more.1) in
     ap (λ b. operands_at total jumps (type_code operand ∷ types) (b ++ rest)) s.whole
     ∙ ap (operands_at total jumps (type_code operand ∷ types)) (append_assoc s.front s.back rest)
-    ∙ ap (λ read. read >>= next) (operand_read long places old new total jumps operand s.front behind suit.0 s.is_front (omega (arith, t, length_all, length_behind)))
+    ∙ ap (λ read. read >>= next) (operand_read long places old new total jumps operand s.front behind suit.0 s.is_front
+    (omega (arith, t, length_all, length_behind)))
     ∙ ap (λ read. read >>= λ more. Some (given places operand ∷ more.0, more.1))
-    (operands_read long places (old + long_size (operand_cells operand)) (new + length s.front) total jumps others s.back rest suit.1 s.is_back (omega (arith, t, length_all)))
+    (operands_read long places (old + long_size (operand_cells operand)) (new + length s.front) total jumps others s.back rest suit.1
+    s.is_back (omega (arith, t, length_all)))
 
 -- a store variable
 abbrev pub store_bytes : Option ℕ → List ℕ
 store_bytes None = []
 store_bytes (Some number) = number ∷ []
 
-pub closed-store : (long places : Places) (old new : ℕ) (store : Option ℕ) → closed_bytes long places old new (store_cells store) ≡ Some (store_bytes store)
+pub closed-store : (long places : Places) (old new : ℕ) (store : Option ℕ) →
+    closed_bytes long places old new (store_cells store) ≡ Some (store_bytes store)
 closed-store long places old new None = refl
 closed-store long places old new (Some number) = refl
 
@@ -188,7 +205,8 @@ store_read None rest = refl
 store_read (Some number) rest = refl
 
 -- a branch
-branch_bytes_read : (short sense : Bool) (offset end total : ℕ) (rest : List ℕ) → (short ≡ true → offset < 64) → offset < 16384 → total - length rest ≡ end
+branch_bytes_read : (short sense : Bool) (offset end total : ℕ) (rest : List ℕ) → (short ≡ true → offset < 64) → offset < 16384 →
+    total - length rest ≡ end
     → branch_at total true (branch_bytes short sense offset ++ rest) ≡ Some (Some (record { sense = sense; aim = aim_at end offset }), rest)
 branch_bytes_read true true offset end total rest small fits e =
     let less = small refl in
@@ -223,19 +241,24 @@ pub record IsClear (long places : Places) (old new : ℕ) (target : Destination)
   pub small : is_short_to long old target ≡ true → offset < 64
 
 abbrev pub Clear : Places → Places → ℕ → ℕ → Destination → Type 0
-Clear long places old new (To label) = (offset : ℕ) → offset_to 8192 (new + (cond (is_short_to long old (To label)) 1 2)) (places label.number) ≡ Some offset → IsClear long places old new (To label) offset
+Clear long places old new (To label) = (offset : ℕ) → offset_to 8192 (new + (cond (is_short_to long old (To label)) 1 2))
+    (places label.number) ≡ Some offset → IsClear long places old new (To label) offset
 Clear long places old new ReturnFalse = Unit {0}
 Clear long places old new ReturnTrue = Unit {0}
 
-aim_by : (place : Option ℕ) (end offset : ℕ) → offset_to 8192 end place ≡ Some offset → 2 ≤ offset → (offset < 16384) × (aim_at end offset ≡ GoesTo (place_in place))
+aim_by : (place : Option ℕ) (end offset : ℕ) → offset_to 8192 end place ≡ Some offset → 2 ≤ offset →
+    (offset < 16384) × (aim_at end offset ≡ GoesTo (place_in place))
 aim_by None end offset e large = cc
 aim_by (Some place) end offset e large =
     let near = near_of 8192 end place offset e in
     (branch_below end place offset near, aim_from end offset large ∙ ap GoesTo (branch_place end place offset near))
 
-target_read : (long places : Places) (old new total : ℕ) (sense : Bool) (target : Destination) (offset : ℕ) (rest : List ℕ) → Clear long places old new target
-    → branch_offset places (new + (cond (is_short_to long old target) 1 2)) target ≡ Some offset → total - length rest ≡ new + (cond (is_short_to long old target) 1 2)
-    → branch_at total true (branch_bytes (is_short_to long old target) sense offset ++ rest) ≡ Some (Some (record { sense = sense; aim = aim_of places target }), rest)
+target_read : (long places : Places) (old new total : ℕ) (sense : Bool) (target : Destination) (offset : ℕ) (rest : List ℕ) →
+    Clear long places old new target
+    → branch_offset places (new + (cond (is_short_to long old target) 1 2)) target ≡ Some offset → total - length rest ≡ new +
+    (cond (is_short_to long old target) 1 2)
+    → branch_at total true (branch_bytes (is_short_to long old target) sense offset ++ rest) ≡ Some
+    (Some (record { sense = sense; aim = aim_of places target }), rest)
 target_read long places old new total sense (To label) offset rest clear e t =
     let short = is_short_to long old (To label) in
     let end = new + (cond short 1 2) in
@@ -256,7 +279,8 @@ length-branch : (short sense : Bool) (offset : ℕ) → length (branch_bytes sho
 length-branch true sense offset = refl
 length-branch false sense offset = refl
 
-pub branch_read : (long places : Places) (old new total : ℕ) (branch : Branch) (bytes rest : List ℕ) → Clear long places old new branch.target
+pub branch_read : (long places : Places) (old new total : ℕ) (branch : Branch) (bytes rest : List ℕ) →
+    Clear long places old new branch.target
     → closed_bytes long places old new (Of (Branches branch) ∷ []) ≡ Some bytes → total ≡ new + length bytes + length rest
     → branch_at total true (bytes ++ rest) ≡ Some (Some (aimed places branch), rest)
 branch_read long places old new total branch bytes rest clear e t =
@@ -265,7 +289,9 @@ branch_read long places old new total branch bytes rest clear e t =
     let made = joined_of (with_some (branch_bytes short branch.sense) (branch_offset places end branch.target)) (Some []) bytes e in
     let offset = with_some_of (branch_bytes short branch.sense) (branch_offset places end branch.target) made.front made.is_front in
     let none : made.back ≡ [] = some_same made.back [] (sym made.is_back) in
-    let same : bytes ≡ branch_bytes short branch.sense offset.0 = made.whole ∙ ap (λ b. made.front ++ b) none ∙ append-nil made.front ∙ offset.2 in
+    let same : bytes ≡ branch_bytes short branch.sense offset.0 =
+    made.whole ∙ ap (λ b. made.front ++ b) none ∙ append-nil made.front ∙ offset.2 in
     let size : length bytes ≡ cond short 1 2 = ap length same ∙ length-branch short branch.sense offset.0 in
     let behind : total - length rest ≡ end = omega (arith, t, size) in
-    ap (λ b. branch_at total true (b ++ rest)) same ∙ target_read long places old new total branch.sense branch.target offset.0 rest clear offset.1 behind
+    ap (λ b. branch_at total true (b ++ rest)) same
+    ∙ target_read long places old new total branch.sense branch.target offset.0 rest clear offset.1 behind

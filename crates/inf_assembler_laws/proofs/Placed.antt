@@ -23,7 +23,8 @@ long_size-of what cells = length-append (special_bytes what) (long_bytes cells) 
 pub long_size-append : (xs ys : List Cell) → long_size (xs ++ ys) ≡ long_size xs + long_size ys
 long_size-append xs ys = ap length (long-append xs ys) ∙ length-append (long_bytes xs) (long_bytes ys)
 
-pub cells_size-append : (long : Places) (old : ℕ) (xs ys : List Cell) → cells_size long old (xs ++ ys) ≡ cells_size long old xs + cells_size long (old + long_size xs) ys
+pub cells_size-append : (long : Places) (old : ℕ) (xs ys : List Cell) →
+    cells_size long old (xs ++ ys) ≡ cells_size long old xs + cells_size long (old + long_size xs) ys
 cells_size-append long old [] ys = let e : old ≡ old + 0 = omega arith in omega (arith, ap (λ n. cells_size long n ys) e)
 cells_size-append long old ((Plain byte) ∷ xs) ys =
     let e : old + 1 + long_size xs ≡ old + long_size (Plain byte ∷ xs) = omega arith in
@@ -47,7 +48,15 @@ found_cond : (b : Bool) (o p : Option ℕ) (old new place more size long_rest re
     → Found (cond b (Some old) p) old new place (old + (more + long_rest)) (new + (size + rest))
 found_cond true o p old new place more size long_rest rest small e next =
     let same : new ≡ place = cc in
-    record { long = old; is = refl; long_from = omega arith; from = omega arith; long_to = omega arith; to = omega arith; near = omega arith }
+    record {
+      long = old;
+      is = refl;
+      long_from = omega arith;
+      from = omega arith;
+      long_to = omega arith;
+      to = omega arith;
+      near = omega arith;
+    }
 found_cond false o p old new place more size long_rest rest small e next =
     let f = next e in
     record {
@@ -77,7 +86,8 @@ found_in long old new ((Plain byte) ∷ cells) label place e =
 found_in long old new ((Of what) ∷ cells) label place e =
     let more = special_size what in
     let size = size_at long old what in
-    let f = found_cond (marks label what) (place_from long (old + more) (new + size) cells label) (long_place (old + more) cells label) old new place more size (long_size cells) (cells_size long (old + more) cells) (size_le long old what) e
+    let f = found_cond (marks label what) (place_from long (old + more) (new + size) cells label) (long_place (old + more) cells label) old
+    new place more size (long_size cells) (cells_size long (old + more) cells) (size_le long old what) e
     (λ next. found_in long (old + more) (new + size) cells label place next) in
     record {
       long = f.long;
@@ -94,13 +104,15 @@ no_later_cond : (b : Bool) (o p : Option ℕ) (old new : ℕ) → new ≤ old �
 no_later_cond true o p old new before next = before
 no_later_cond false o p old new before next = next
 
-pub no_later : (long : Places) (old new : ℕ) (cells : List Cell) (label : ℕ) → new ≤ old → NoLater (place_from long old new cells label) (long_place old cells label)
+pub no_later : (long : Places) (old new : ℕ) (cells : List Cell) (label : ℕ) → new ≤ old →
+    NoLater (place_from long old new cells label) (long_place old cells label)
 no_later long old new [] label before = tt
 no_later long old new ((Plain byte) ∷ cells) label before = no_later long (old + 1) (new + 1) cells label (omega arith)
 no_later long old new ((Of what) ∷ cells) label before =
     let more = special_size what in
     let size = size_at long old what in
-    no_later_cond (marks label what) (place_from long (old + more) (new + size) cells label) (long_place (old + more) cells label) old new before
+    no_later_cond (marks label what) (place_from long (old + more) (new + size) cells label) (long_place (old + more) cells label) old new
+    before
     (no_later long (old + more) (new + size) cells label (omega (arith, size_le long old what)))
 
 none_of_later : (o p : Option ℕ) → NoLater o p → o ≡ None → p ≡ None
@@ -114,7 +126,8 @@ first_of-cond true x y z = refl
 first_of-cond false x y z = refl
 
 pub place_split : (long : Places) (old new : ℕ) (xs ys : List Cell) (label : ℕ)
-    → place_from long old new (xs ++ ys) label ≡ first_of (place_from long old new xs label) (place_from long (old + long_size xs) (new + cells_size long old xs) ys label)
+    → place_from long old new (xs ++ ys) label ≡ first_of (place_from long old new xs label)
+    (place_from long (old + long_size xs) (new + cells_size long old xs) ys label)
 place_split long old new [] ys label =
     let e : old ≡ old + 0 = omega arith in
     let f : new ≡ new + 0 = omega arith in
@@ -136,9 +149,11 @@ place_split long old new ((Of what) ∷ xs) ys label =
     (place_split long (old + more) (new + size) xs ys label
     ∙ ap (λ n. first_of front (place_from long n (new + size + cells_size long (old + more) xs) ys label)) e
     ∙ ap (λ n. first_of front (place_from long (old + long_size (Of what ∷ xs)) n ys label)) f)
-    ∙ first_of-cond (marks label what) new front (place_from long (old + long_size (Of what ∷ xs)) (new + cells_size long old (Of what ∷ xs)) ys label)
+    ∙ first_of-cond (marks label what) new front (place_from long (old + long_size (Of what ∷ xs))
+    (new + cells_size long old (Of what ∷ xs)) ys label)
 
-pub long_split : (old : ℕ) (xs ys : List Cell) (label : ℕ) → long_place old (xs ++ ys) label ≡ first_of (long_place old xs label) (long_place (old + long_size xs) ys label)
+pub long_split : (old : ℕ) (xs ys : List Cell) (label : ℕ) →
+    long_place old (xs ++ ys) label ≡ first_of (long_place old xs label) (long_place (old + long_size xs) ys label)
 long_split old [] ys label = let e : old ≡ old + 0 = omega arith in ap (λ n. long_place n ys label) e
 long_split old ((Plain byte) ∷ xs) ys label =
     let e : old + 1 + long_size xs ≡ old + long_size (Plain byte ∷ xs) = omega arith in
@@ -164,7 +179,8 @@ place_unmarked : (long : Places) (old new : ℕ) (xs : List Cell) (label : ℕ) 
 place_unmarked long old new [] label plain = refl
 place_unmarked long old new ((Plain byte) ∷ xs) label plain = place_unmarked long (old + 1) (new + 1) xs label plain
 place_unmarked long old new ((Of (Marks other)) ∷ xs) label plain = absurd plain
-place_unmarked long old new ((Of (Branches branch)) ∷ xs) label plain = place_unmarked long (old + 2) (new + size_at long old (Branches branch)) xs label plain
+place_unmarked long old new ((Of (Branches branch)) ∷ xs) label plain =
+    place_unmarked long (old + 2) (new + size_at long old (Branches branch)) xs label plain
 place_unmarked long old new ((Of (Jumps other)) ∷ xs) label plain = place_unmarked long (old + 2) (new + 2) xs label plain
 place_unmarked long old new ((Of (Refers target)) ∷ xs) label plain = place_unmarked long (old + 2) (new + 2) xs label plain
 
@@ -195,11 +211,13 @@ module _ (long : Places) (start : ℕ) (front gap back : List Cell) (label place
   abbrev new_behind : ℕ
   new_behind = new_middle + cells_size long middle gap
 
-  beside_by : (o : Option ℕ) → place_from long start start front label ≡ o → place_from long start start (front ++ (gap ++ back)) label ≡ Some place
+  beside_by : (o : Option ℕ) → place_from long start start front label ≡ o →
+      place_from long start start (front ++ (gap ++ back)) label ≡ Some place
       → Beside (long_place start (front ++ (gap ++ back)) label) middle new_middle behind new_behind place
   beside_by (Some found) is e =
       let here = place_split long start start front (gap ++ back) label in
-      let same : found ≡ place = let whole = sym (ap (λ o. first_of o (place_from long middle new_middle (gap ++ back) label)) is) ∙ sym here ∙ e in cc in
+      let same : found ≡ place =
+      let whole = sym (ap (λ o. first_of o (place_from long middle new_middle (gap ++ back) label)) is) ∙ sym here ∙ e in cc in
       let f = found_in long start start front label place (is ∙ ap Some same) in
       record {
         long = f.long;
@@ -207,17 +225,24 @@ module _ (long : Places) (start : ℕ) (front gap back : List Cell) (label place
         side = inl (f.to, f.long_to);
       }
   beside_by None is e =
-      let here = place_split long start start front (gap ++ back) label ∙ ap (λ o. first_of o (place_from long middle new_middle (gap ++ back) label)) is in
-      let next = place_split long middle new_middle gap back label ∙ ap (λ o. first_of o (place_from long behind new_behind back label)) (place_unmarked long middle new_middle gap label plain) in
+      let here =
+      place_split long start start front (gap ++ back) label
+      ∙ ap (λ o. first_of o (place_from long middle new_middle (gap ++ back) label)) is in
+      let next =
+      place_split long middle new_middle gap back label
+      ∙ ap (λ o. first_of o (place_from long behind new_behind back label)) (place_unmarked long middle new_middle gap label plain) in
       let f = found_in long behind new_behind back label place (sym next ∙ sym here ∙ e) in
-      let none = none_of_later (place_from long start start front label) (long_place start front label) (no_later long start start front label (omega arith)) is in
+      let none = none_of_later (place_from long start start front label) (long_place start front label)
+      (no_later long start start front label (omega arith)) is in
       record {
         long = f.long;
         is =
             long_split start front (gap ++ back) label ∙ ap (λ o. first_of o (long_place middle (gap ++ back) label)) none
-            ∙ long_split middle gap back label ∙ ap (λ o. first_of o (long_place behind back label)) (long_unmarked middle gap label plain) ∙ f.is;
+            ∙ long_split middle gap back label ∙ ap (λ o. first_of o (long_place behind back label)) (long_unmarked middle gap label plain)
+            ∙ f.is;
         side = inr (f.from, f.long_from, f.near);
       }
 
-  pub beside : place_from long start start (front ++ (gap ++ back)) label ≡ Some place → Beside (long_place start (front ++ (gap ++ back)) label) middle new_middle behind new_behind place
+  pub beside : place_from long start start (front ++ (gap ++ back)) label ≡ Some place →
+      Beside (long_place start (front ++ (gap ++ back)) label) middle new_middle behind new_behind place
   beside e = beside_by (place_from long start start front label) refl e

@@ -51,7 +51,8 @@ words_at-text (high ∷ low ∷ next ∷ others) rest marked =
     let more : leb 128 high ≡ false = grind (arith, nat_tests, both.0) in
     rw (more, words_at-text (next ∷ others) rest both.1)
 
-pub text_at-bytes : (has_text : Bool) (text rest : List ℕ) → fits_text has_text text ≡ true → text_at has_text (text ++ rest) ≡ Some (text, rest)
+pub text_at-bytes : (has_text : Bool) (text rest : List ℕ) → fits_text has_text text ≡ true →
+    text_at has_text (text ++ rest) ≡ Some (text, rest)
 text_at-bytes true text rest fits = words_at-text text rest fits
 text_at-bytes false [] rest fits = refl
 text_at-bytes false (byte ∷ others) rest fits = cc
@@ -93,19 +94,23 @@ slot_of-small : (found : Option Operand) → slot_of found < 4
 slot_of-small None = omega arith
 slot_of-small (Some operand) = type_code-small operand
 
-types_in-byte : (operands : List Operand) (k : ℕ) → types_in (types_byte operands k) ≡ type_slot operands k ∷ type_slot operands (k + 1) ∷ type_slot operands (k + 2) ∷ type_slot operands (k + 3) ∷ []
+types_in-byte : (operands : List Operand) (k : ℕ) → types_in (types_byte operands k) ≡ type_slot operands k ∷ type_slot operands (k + 1) ∷
+    type_slot operands (k + 2) ∷ type_slot operands (k + 3) ∷ []
 types_in-byte operands k =
     types_in-four (type_slot operands k) (type_slot operands (k + 1)) (type_slot operands (k + 2)) (type_slot operands (k + 3))
-    (slot_of-small (slice_get operands k)) (slot_of-small (slice_get operands (k + 1))) (slot_of-small (slice_get operands (k + 2))) (slot_of-small (slice_get operands (k + 3)))
+    (slot_of-small (slice_get operands k)) (slot_of-small (slice_get operands (k + 1))) (slot_of-small (slice_get operands (k + 2)))
+    (slot_of-small (slice_get operands (k + 3)))
 
-four_slots : (operands : List Operand) → type_slot operands 0 ∷ type_slot operands 1 ∷ type_slot operands 2 ∷ type_slot operands 3 ∷ [] ≡ slots 4 operands
+four_slots : (operands : List Operand) →
+    type_slot operands 0 ∷ type_slot operands 1 ∷ type_slot operands 2 ∷ type_slot operands 3 ∷ [] ≡ slots 4 operands
 four_slots [] = refl
 four_slots (a ∷ []) = refl
 four_slots (a ∷ b ∷ []) = refl
 four_slots (a ∷ b ∷ c ∷ []) = refl
 four_slots (a ∷ b ∷ c ∷ d ∷ others) = refl
 
-eight_slots : (operands : List Operand) → type_slot operands 0 ∷ type_slot operands 1 ∷ type_slot operands 2 ∷ type_slot operands 3 ∷ type_slot operands 4 ∷ type_slot operands 5 ∷ type_slot operands 6 ∷ type_slot operands 7 ∷ [] ≡ slots 8 operands
+eight_slots : (operands : List Operand) → type_slot operands 0 ∷ type_slot operands 1 ∷ type_slot operands 2 ∷ type_slot operands 3 ∷
+    type_slot operands 4 ∷ type_slot operands 5 ∷ type_slot operands 6 ∷ type_slot operands 7 ∷ [] ≡ slots 8 operands
 eight_slots [] = refl
 eight_slots (a ∷ []) = refl
 eight_slots (a ∷ b ∷ []) = refl
@@ -117,7 +122,9 @@ eight_slots (a ∷ b ∷ c ∷ d ∷ e ∷ f ∷ g ∷ []) = refl
 eight_slots (a ∷ b ∷ c ∷ d ∷ e ∷ f ∷ g ∷ h ∷ others) = refl
 
 -- the types in one byte or two are those of the operands
-types_at-double : (is_double : Bool) (operands : List Operand) (rest : List ℕ) → length operands ≤ cond is_double 8 4 → types_at is_double (cond is_double (types_byte operands 0 ∷ types_byte operands 4 ∷ []) (types_byte operands 0 ∷ []) ++ rest) ≡ Some (map type_code operands, rest)
+types_at-double : (is_double : Bool) (operands : List Operand) (rest : List ℕ) → length operands ≤ cond is_double 8 4 → types_at is_double
+    (cond is_double (types_byte operands 0 ∷ types_byte operands 4 ∷ []) (types_byte operands 0 ∷ []) ++ rest) ≡ Some
+    (map type_code operands, rest)
 types_at-double true operands rest few =
     let all : types_in (types_byte operands 0) ++ types_in (types_byte operands 4) ≡ slots 8 operands =
     ap (λ xs. xs ++ types_in (types_byte operands 4)) (types_in-byte operands 0)
@@ -129,7 +136,9 @@ types_at-double false operands rest few =
     ∙ ap (λ codes. Some (codes, rest)) (given_types-slots 4 operands few)
 
 -- an opening whose types follow
-pub untyped-found : (found : Option Opcode) (opcode : Opcode) (most : ℕ) (operands : List Operand) (rest : List ℕ) → found ≡ Some opcode → (row_of opcode).most ≡ most → length operands ≤ most → most ≤ 8 → untyped found (types_bytes most operands ++ rest) ≡ Some (record { opcode = opcode; types = map type_code operands; rest = rest })
+pub untyped-found : (found : Option Opcode) (opcode : Opcode) (most : ℕ) (operands : List Operand) (rest : List ℕ) → found ≡ Some opcode →
+    (row_of opcode).most ≡ most → length operands ≤ most → most ≤ 8 →
+    untyped found (types_bytes most operands ++ rest) ≡ Some (record { opcode = opcode; types = map type_code operands; rest = rest })
 untyped-found found opcode most operands rest is few_is few at_most =
     let fits : length operands ≤ cond (ltb 4 most) 8 4 = grind (arith, nat_tests) in
     let next : Opcode → List ℕ × List ℕ → Option Opening = λ o types. Some (record { opcode = o; types = types.0; rest = types.1 }) in

@@ -82,7 +82,8 @@ typed found types rest = found >>= λ opcode. Some (record { opcode = opcode; ty
 
 abbrev pub untyped : Option Opcode → List ℕ → Option Opening
 untyped found rest =
-    found >>= λ opcode. types_at (nat_lt 4 (row_of opcode).most) rest >>= λ types. Some (record { opcode = opcode; types = types.0; rest = types.1 })
+    found >>= λ opcode. types_at (nat_lt 4 (row_of opcode).most) rest >>= λ types. Some
+    (record { opcode = opcode; types = types.0; rest = types.1 })
 
 -- An instruction's opening by its form. In the long form a bit of a type says variable and not small (sections 4.4.1 to 4.4.3).
 abbrev pub opening_by : Form → ℕ → List ℕ → Option Opening
@@ -195,7 +196,8 @@ instructions_at total zero bytes = Some ([], bytes)
 instructions_at total (suc more) bytes =
     instruction_at total bytes >>= λ first. instructions_at total more first.1 >>= λ others. Some (first.0 ∷ others.0, others.1)
 
--- How the instructions of a routine are to be seen, with the places of its labels. Each label that is used has a place where its bytes are known.
+-- How the instructions of a routine are to be seen, with the places of its labels. Each label that is used has a place where its bytes are
+-- known.
 abbrev pub place_in : Option ℕ → ℕ
 place_in None = 0
 place_in (Some place) = place
@@ -217,4 +219,11 @@ aimed places branch = record { sense = branch.sense; aim = aim_of places branch.
 
 abbrev pub seen : Places → Parts → Seen
 seen places parts =
-    record { opcode = parts.opcode; operands = map (given places) parts.operands; store = parts.store; branch = option_map (aimed places) parts.branch; text = parts.text }
+    record {
+      opcode = parts.opcode;
+      operands = map (given places) parts.operands;
+      store = parts.store;
+      branch = option_map (aimed places)
+          parts.branch;
+      text = parts.text;
+    }

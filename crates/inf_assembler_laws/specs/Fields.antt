@@ -23,7 +23,8 @@ field_at long places old new (Refers target) = []
 abbrev pub fields : Places → Places → ℕ → ℕ → List Cell → List Field
 fields long places old new [] = []
 fields long places old new ((Plain byte) ∷ cells) = fields long places (old + 1) (new + 1) cells
-fields long places old new ((Of what) ∷ cells) = field_at long places old new what ++ fields long places (old + special_size what) (new + size_at long old what) cells
+fields long places old new ((Of what) ∷ cells) =
+    field_at long places old new what ++ fields long places (old + special_size what) (new + size_at long old what) cells
 
 abbrev pub routine_fields : ℕ → Contents → List Field
 routine_fields place contents = fields (long_places place contents) (places place contents) (place + 1) (place + 1) contents.cells

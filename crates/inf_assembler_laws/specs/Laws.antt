@@ -17,7 +17,8 @@ use Rattle.inf_assembler_laws.specs.Filling.{known_cells, filled}
 abbrev pub NamesAreFound : Type 0
 NamesAreFound = (opcode : Opcode) → opcode_named (name_of opcode) ≡ Some opcode
 
--- The bytes of a routine, which stands at a place, are read as its instructions: each branch and jump goes to the place of its label, and references
+-- The bytes of a routine, which stands at a place, are read as its instructions: each branch and jump goes to the place of its label, and
+-- references
 -- are zero. The bytes behind them are left.
 abbrev pub RoutinesAreReadBack : Type 0
 RoutinesAreReadBack =
@@ -32,7 +33,8 @@ returning Own = Rtrue
 returning Embedded = Rfalse
 
 abbrev pub ReturnsAreReadBack : Type 0
-ReturnsAreReadBack = (kind : RoutineKind) (total : ℕ) (rest : List ℕ) → instruction_at total (closing_byte kind ∷ rest) ≡ Some (seen (λ _. None) (bare (returning kind)), rest)
+ReturnsAreReadBack = (kind : RoutineKind) (total : ℕ) (rest : List ℕ) → instruction_at total (closing_byte kind ∷ rest) ≡ Some
+    (seen (λ _. None) (bare (returning kind)), rest)
 
 -- a place that is no later than another, where there are both, or neither
 abbrev pub NoLater : Option ℕ → Option ℕ → Type 0
@@ -47,9 +49,11 @@ PlacesAreNoLater = (place : ℕ) (contents : Contents) (label : ℕ) → NoLater
 
 -- The offset of each branch fits in 6 bits where the branch is short and in 14 where it is long, and that of each jump in 16.
 abbrev pub OffsetsFit : Type 0
-OffsetsFit = (place : ℕ) (contents : Contents) (body : List ℕ) → body_bytes place contents ≡ Some body → AreWithin (routine_fields place contents)
+OffsetsFit =
+    (place : ℕ) (contents : Contents) (body : List ℕ) → body_bytes place contents ≡ Some body → AreWithin (routine_fields place contents)
 
--- A routine whose fixups are filled has the bytes of the routine with these numbers in place of its references, and what stands before it stays.
+-- A routine whose fixups are filled has the bytes of the routine with these numbers in place of its references, and what stands before it
+-- stays.
 abbrev pub with_numbers : (Target → ℕ) → Contents → Contents
 with_numbers number_of contents = record contents { cells = known_cells number_of contents.cells }
 
@@ -57,4 +61,5 @@ abbrev pub FixupsTakeNumbers : Type 0
 FixupsTakeNumbers =
     (number_of : Target → ℕ) (contents : Contents) (front body rest : List ℕ) → body_bytes (length front) contents ≡ Some body
     → (numbered : List ℕ) × (body_bytes (length front) (with_numbers number_of contents) ≡ Some numbered)
-    × (filled number_of (routine_fixups (length front) contents) (front ++ (contents.locals ∷ (body ++ rest))) ≡ front ++ (contents.locals ∷ (numbered ++ rest)))
+    × (filled number_of (routine_fixups (length front) contents) (front ++ (contents.locals ∷ (body ++ rest))) ≡ front ++
+    (contents.locals ∷ (numbered ++ rest)))

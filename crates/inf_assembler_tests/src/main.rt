@@ -13,7 +13,8 @@
 //! The answer tells each refusal, how the routine was closed, all bytes, and the fixups, or the first five and the last. Both areas
 //! answer the same.
 //!
-//! Other lines are `opcode "NAME"`, which tells its row; `area` with what is done to an area; and `refs LIMIT` with what is done to a list of
+//! Other lines are `opcode "NAME"`, which tells its row; `area` with what is done to an area; and `refs LIMIT` with what is done to a list
+//! of
 //! fixups.
 //!
 //! `stdout` has what the Z-Machine Standard 1.1 says of each.

@@ -11,7 +11,8 @@ bytes_of-append [] others = refl
 bytes_of-append ((cell.Byte byte) ∷ cells) others = ap (λ xs. byte ∷ xs) (bytes_of-append cells others)
 bytes_of-append ((cell.Later target) ∷ cells) others = ap (λ xs. 0 ∷ 0 ∷ xs) (bytes_of-append cells others)
 
-pub fixups_of-append : (area : AreaName) (place : ℕ) (cells others : List Cell) → fixups_of area place (cells ++ others) ≡ fixups_of area place cells ++ fixups_of area (place + size_of cells) others
+pub fixups_of-append : (area : AreaName) (place : ℕ) (cells others : List Cell) →
+    fixups_of area place (cells ++ others) ≡ fixups_of area place cells ++ fixups_of area (place + size_of cells) others
 fixups_of-append area place [] others = ap (λ n. fixups_of area n others) (omega arith)
 fixups_of-append area place ((cell.Byte byte) ∷ cells) others =
     let at : place + 1 + size_of cells ≡ place + (1 + size_of cells) = omega arith in
@@ -19,7 +20,8 @@ fixups_of-append area place ((cell.Byte byte) ∷ cells) others =
 fixups_of-append area place ((cell.Later target) ∷ cells) others =
     let at : place + 2 + size_of cells ≡ place + (2 + size_of cells) = omega arith in
     let here : Fixup = record { area = area; place = place; target = target } in
-    ap (λ xs. here ∷ xs) (fixups_of-append area (place + 2) cells others ∙ ap (λ n. fixups_of area (place + 2) cells ++ fixups_of area n others) at)
+    ap (λ xs. here ∷ xs) (fixups_of-append area (place + 2) cells others ∙ ap (λ n. fixups_of area (place + 2) cells ++ fixups_of area n
+    others) at)
 
 pub length-bytes_of : (cells : List Cell) → length (bytes_of cells) ≡ size_of cells
 length-bytes_of [] = refl

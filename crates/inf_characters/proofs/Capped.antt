@@ -18,7 +18,8 @@ capped-more base high digit = go base (cases_lt high 65536)
     go (suc base) (inr le) = let e : min high 65536 ≡ 65536 = omega arith in rw e (omega arith)
 
 -- a byte that is a digit belongs to the number
-pub number_from-more : (base count high b d : ℕ) (bytes : List ℕ) → digit_of base b ≡ Some d → number_from base count high (b ∷ bytes) ≡ number_from base (count + 1) (base * high + d) bytes
+pub number_from-more : (base count high b d : ℕ) (bytes : List ℕ) → digit_of base b ≡ Some d →
+    number_from base count high (b ∷ bytes) ≡ number_from base (count + 1) (base * high + d) bytes
 number_from-more base count high b d bytes e =
     ap (λ (o : Option ℕ). elim o as (λ _. ℕ × ℕ) [ None ↦ (count, high) | Some d ↦ number_from base (count + 1) (base * high + d) bytes ]) e
 

@@ -27,7 +27,8 @@ number_from-grows base n high (b ∷ bytes) = go (λ d. number_from-grows base (
     go more (Some d) = omega (arith, more d)
 
 -- a number that ends within the first bytes is the one that they write
-number_from-cut : (base n high : ℕ) (xs ys : List ℕ) → (number_from base n high (xs ++ ys)).0 ≤ n + length xs → number_from base n high (xs ++ ys) ≡ number_from base n high xs
+number_from-cut : (base n high : ℕ) (xs ys : List ℕ) → (number_from base n high (xs ++ ys)).0 ≤ n + length xs →
+    number_from base n high (xs ++ ys) ≡ number_from base n high xs
 number_from-cut base n high [] [] le = refl
 number_from-cut base n high [] (y ∷ ys) le = go (digit_of base y) le
   where
@@ -36,7 +37,9 @@ number_from-cut base n high [] (y ∷ ys) le = go (digit_of base y) le
     go (Some d) le = absurd (omega (arith, number_from-grows base (n + 1) (base * high + d) ys))
 number_from-cut base n high (x ∷ xs) ys le = go (λ d. number_from-cut base (n + 1) (base * high + d) xs ys) (digit_of base x) le
   where
-    go : ((d : ℕ) → (number_from base (n + 1) (base * high + d) (xs ++ ys)).0 ≤ n + 1 + length xs → number_from base (n + 1) (base * high + d) (xs ++ ys) ≡ number_from base (n + 1) (base * high + d) xs) → (o : Option ℕ) → (after_digit base n high (xs ++ ys) o).0 ≤ n + length (x ∷ xs) → after_digit base n high (xs ++ ys) o ≡ after_digit base n high xs o
+    go : ((d : ℕ) → (number_from base (n + 1) (base * high + d) (xs ++ ys)).0 ≤ n + 1 + length xs → number_from base (n + 1)
+        (base * high + d) (xs ++ ys) ≡ number_from base (n + 1) (base * high + d) xs) → (o : Option ℕ) →
+        (after_digit base n high (xs ++ ys) o).0 ≤ n + length (x ∷ xs) → after_digit base n high (xs ++ ys) o ≡ after_digit base n high xs o
     go more None le = refl
     go more (Some d) le = more d (omega arith)
 
@@ -52,7 +55,8 @@ prefix_len-cut p [] [] le = refl
 prefix_len-cut p [] (y ∷ ys) le = omega arith
 prefix_len-cut p (x ∷ xs) ys le = go (prefix_len-cut p xs ys) (p x) le
   where
-    go : (prefix_len p (xs ++ ys) ≤ length xs → prefix_len p (xs ++ ys) ≡ prefix_len p xs) → (t : Bool) → cond t (1 + prefix_len p (xs ++ ys)) 0 ≤ length (x ∷ xs) → cond t (1 + prefix_len p (xs ++ ys)) 0 ≡ cond t (1 + prefix_len p xs) 0
+    go : (prefix_len p (xs ++ ys) ≤ length xs → prefix_len p (xs ++ ys) ≡ prefix_len p xs) → (t : Bool) →
+        cond t (1 + prefix_len p (xs ++ ys)) 0 ≤ length (x ∷ xs) → cond t (1 + prefix_len p (xs ++ ys)) 0 ≡ cond t (1 + prefix_len p xs) 0
     go more true le = ap (λ (n : ℕ). 1 + n) (more (omega arith))
     go more false le = refl
 
@@ -92,7 +96,11 @@ variable_piece-behind p mode.Abbreviation tens bytes = behind_err p 2 _
 variable_piece-behind p mode.Text tens [] = behind_err p 2 _
 variable_piece-behind p mode.Text tens (b ∷ bytes) = go (digit_of 10 b)
   where
-    go : (o : Option ℕ) → Behind p 2 (elim o as (λ _. Result Piece TextFault) [ None ↦ Err UnknownEscape | Some units ↦ cond (ltb (10 * tens + units) 32) (Ok (one (Variable (10 * tens + units)) 2)) (Err BadCode) ])
+    go : (o : Option ℕ) → Behind p 2 (elim o as (λ _. Result Piece TextFault) [
+      | None ↦ Err UnknownEscape
+      | Some units ↦ cond
+          (ltb (10 * tens + units) 32) (Ok (one (Variable (10 * tens + units)) 2)) (Err BadCode)
+    ])
     go None = behind_err p 2 _
     go (Some units) = behind_both p 2 (ltb (10 * tens + units) 32) _ _ (behind_ok p _ 2 refl) (behind_err p 2 _)
 
@@ -100,7 +108,8 @@ accent_piece-behind : (p : Piece) (a : ℕ) (bytes : List ℕ) → Behind p 2 (a
 accent_piece-behind p a [] = behind_err p 2 _
 accent_piece-behind p a (b ∷ bytes) = go (spelled a b)
   where
-    go : (o : Option ℕ) → Behind p 2 (elim o as (λ _. Result Piece TextFault) [ None ↦ Err UnknownEscape | Some c ↦ Ok (one (Character c) 2) ])
+    go : (o : Option ℕ) →
+        Behind p 2 (elim o as (λ _. Result Piece TextFault) [ None ↦ Err UnknownEscape | Some c ↦ Ok (one (Character c) 2) ])
     go None = behind_err p 2 _
     go (Some c) = behind_ok p _ 2 refl
 
@@ -112,7 +121,8 @@ keeps_both : (p : Piece) (t : Bool) (a b c d : Result Piece TextFault) → Keeps
 keeps_both p true a b c d f g = f
 keeps_both p false a b c d f g = g
 
-code_piece-cut : (p : Piece) (xs ys : List ℕ) → p.behind ≤ 1 + length xs → Keeps p (code_piece (number_from 10 0 0 (xs ++ ys))) (code_piece (number_from 10 0 0 xs))
+code_piece-cut : (p : Piece) (xs ys : List ℕ) → p.behind ≤ 1 + length xs →
+    Keeps p (code_piece (number_from 10 0 0 (xs ++ ys))) (code_piece (number_from 10 0 0 xs))
 unfolding Keeps Behind
 code_piece-cut p xs ys le e =
     let found = number_from 10 0 0 (xs ++ ys) in
@@ -120,7 +130,8 @@ code_piece-cut p xs ys le e =
     let same = number_from-cut 10 0 0 xs ys (omega arith) in
     ap code_piece (sym same) ∙ e
 
-unicode_piece-cut : (p : Piece) (xs ys : List ℕ) → p.behind ≤ 1 + length xs → Keeps p (unicode_piece (xs ++ ys) (number_from 16 0 0 (xs ++ ys))) (unicode_piece xs (number_from 16 0 0 xs))
+unicode_piece-cut : (p : Piece) (xs ys : List ℕ) → p.behind ≤ 1 + length xs →
+    Keeps p (unicode_piece (xs ++ ys) (number_from 16 0 0 (xs ++ ys))) (unicode_piece xs (number_from 16 0 0 xs))
 unfolding Keeps Behind
 unicode_piece-cut p xs ys le e =
     let found = number_from 16 0 0 (xs ++ ys) in
@@ -128,10 +139,12 @@ unicode_piece-cut p xs ys le e =
     let same = number_from-cut 16 0 0 xs ys (omega arith) in
     let closed = closes-cut found.0 xs ys (omega arith) in
     ap (unicode_piece xs) (sym same)
-    ∙ ap (λ (t : Bool). cond (eqb found.0 0 || not t) (Err UnknownEscape) (character_piece (zscii_of_unicode found.1) (2 + found.0))) (sym closed)
+    ∙ ap (λ (t : Bool). cond (eqb found.0 0 || not t) (Err UnknownEscape) (character_piece (zscii_of_unicode found.1) (2 + found.0)))
+    (sym closed)
     ∙ e
 
-variable_piece-cut : (p : Piece) (m : Mode) (tens : ℕ) (xs ys : List ℕ) → p.behind ≤ 1 + length xs → Keeps p (variable_piece m tens (xs ++ ys)) (variable_piece m tens xs)
+variable_piece-cut : (p : Piece) (m : Mode) (tens : ℕ) (xs ys : List ℕ) → p.behind ≤ 1 + length xs →
+    Keeps p (variable_piece m tens (xs ++ ys)) (variable_piece m tens xs)
 unfolding Keeps Behind
 variable_piece-cut p m tens [] ys le e = let behind : p.behind ≡ 2 = variable_piece-behind p m tens ys e in absurd (omega arith)
 variable_piece-cut p mode.Quote tens (x ∷ xs) ys le e = e
@@ -148,7 +161,8 @@ abbrev plain_escape : Mode → ℕ → List ℕ → Option ℕ → Result Piece 
 plain_escape m b bytes None = accent_piece b bytes
 plain_escape m b bytes (Some tens) = variable_piece m tens bytes
 
-plain_escape-cut : (p : Piece) (m : Mode) (b : ℕ) (xs ys : List ℕ) (o : Option ℕ) → p.behind ≤ 1 + length xs → Keeps p (plain_escape m b (xs ++ ys) o) (plain_escape m b xs o)
+plain_escape-cut : (p : Piece) (m : Mode) (b : ℕ) (xs ys : List ℕ) (o : Option ℕ) → p.behind ≤ 1 + length xs →
+    Keeps p (plain_escape m b (xs ++ ys) o) (plain_escape m b xs o)
 plain_escape-cut p m b xs ys None le = accent_piece-cut p b xs ys le
 plain_escape-cut p m b xs ys (Some tens) le = variable_piece-cut p m tens xs ys le
 
@@ -194,14 +208,17 @@ white-behind : (p : Piece) (count behind : ℕ) → Behind p behind (white count
 unfolding white
 white-behind p count behind = behind_ok p _ behind refl
 
-stroke-cut : (p : Piece) (set : CharSet) (xs ys : List ℕ) → p.behind ≤ length xs → Keeps p (white 0 (white_len set (xs ++ ys))) (white 0 (white_len set xs))
+stroke-cut : (p : Piece) (set : CharSet) (xs ys : List ℕ) → p.behind ≤ length xs →
+    Keeps p (white 0 (white_len set (xs ++ ys))) (white 0 (white_len set xs))
 unfolding Keeps Behind
 stroke-cut p set xs ys le e =
     let behind : p.behind ≡ white_len set (xs ++ ys) = white-behind p 0 (white_len set (xs ++ ys)) e in
     let same = prefix_len-cut (is_white set) xs ys (omega arith) in
     ap (white 0) (sym same) ∙ e
 
-run-cut : (p : Piece) (set : CharSet) (after_mark : Bool) (b : ℕ) (xs ys : List ℕ) → p.behind ≤ length xs → Keeps p (white (spaces after_mark (b ∷ take (white_len set (xs ++ ys)) (xs ++ ys))) (white_len set (xs ++ ys))) (white (spaces after_mark (b ∷ take (white_len set xs) xs)) (white_len set xs))
+run-cut : (p : Piece) (set : CharSet) (after_mark : Bool) (b : ℕ) (xs ys : List ℕ) → p.behind ≤ length xs → Keeps p
+    (white (spaces after_mark (b ∷ take (white_len set (xs ++ ys)) (xs ++ ys))) (white_len set (xs ++ ys)))
+    (white (spaces after_mark (b ∷ take (white_len set xs) xs)) (white_len set xs))
 unfolding Keeps Behind
 run-cut p set after_mark b xs ys le e =
     let n = white_len set (xs ++ ys) in
@@ -213,7 +230,8 @@ run-cut p set after_mark b xs ys le e =
     ∙ e
 
 -- a piece that ends within the first bytes is the one that they begin with
-pub piece_at-cut : (set : CharSet) (m : Mode) (after_mark : Bool) (b : ℕ) (xs ys : List ℕ) (p : Piece) → piece_at set m after_mark b (xs ++ ys) ≡ Ok p → p.behind ≤ length xs → piece_at set m after_mark b xs ≡ Ok p
+pub piece_at-cut : (set : CharSet) (m : Mode) (after_mark : Bool) (b : ℕ) (xs ys : List ℕ) (p : Piece) →
+    piece_at set m after_mark b (xs ++ ys) ≡ Ok p → p.behind ≤ length xs → piece_at set m after_mark b xs ≡ Ok p
 unfolding piece_at Keeps white
 piece_at-cut set m after_mark b xs ys p e le =
     keeps_both p (eqb b 64) _ _ _ _ (escape_piece-cut p m xs ys le)

@@ -45,7 +45,8 @@ character_piece-told (Some c) k = told_ok _
 
 unicode_piece-told : (bytes : List ℕ) (found : ℕ × ℕ) → Told (unicode_piece bytes found)
 unicode_piece-told bytes found =
-    told_both (eqb found.0 0 || not (closes (drop found.0 bytes))) _ _ told_escape (character_piece-told (zscii_of_unicode found.1) (2 + found.0))
+    told_both (eqb found.0 0 || not (closes (drop found.0 bytes))) _ _ told_escape
+    (character_piece-told (zscii_of_unicode found.1) (2 + found.0))
 
 variable_piece-told : (m : Mode) (tens : ℕ) (bytes : List ℕ) → Told (variable_piece m tens bytes)
 variable_piece-told mode.Quote tens bytes = told_escape
@@ -53,7 +54,11 @@ variable_piece-told mode.Abbreviation tens bytes = told_escape
 variable_piece-told mode.Text tens [] = told_escape
 variable_piece-told mode.Text tens (b ∷ bytes) = go (digit_of 10 b)
   where
-    go : (o : Option ℕ) → Told (elim o as (λ _. Result Piece TextFault) [ None ↦ Err UnknownEscape | Some units ↦ cond (ltb (10 * tens + units) 32) (Ok (one (Variable (10 * tens + units)) 2)) (Err BadCode) ])
+    go : (o : Option ℕ) → Told (elim o as (λ _. Result Piece TextFault) [
+      | None ↦ Err UnknownEscape
+      | Some units ↦ cond
+          (ltb (10 * tens + units) 32) (Ok (one (Variable (10 * tens + units)) 2)) (Err BadCode)
+    ])
     go None = told_escape
     go (Some units) = told_both (ltb (10 * tens + units) 32) _ _ (told_ok _) told_code
 
@@ -72,7 +77,8 @@ escape_piece-told m (b ∷ bytes) =
     told_both (eqb b 64) _ _ (code_piece-told (number_from 10 0 0 bytes))
     (told_both (eqb b 123) _ _ (unicode_piece-told bytes (number_from 16 0 0 bytes)) (go (digit_of 10 b)))
   where
-    go : (o : Option ℕ) → Told (elim o as (λ _. Result Piece TextFault) [ None ↦ accent_piece b bytes | Some tens ↦ variable_piece m tens bytes ])
+    go : (o : Option ℕ) →
+        Told (elim o as (λ _. Result Piece TextFault) [ None ↦ accent_piece b bytes | Some tens ↦ variable_piece m tens bytes ])
     go None = accent_piece-told b bytes
     go (Some tens) = variable_piece-told m tens bytes
 
@@ -82,12 +88,18 @@ piece_at-told set m after_mark b bytes =
     told_both (eqb b 64) _ _ (escape_piece-told m bytes)
     (told_both (eqb b 92) _ _ (told_ok _) (told_both (is_white set b) _ _ (told_ok _) (go (zscii_of set b))))
   where
-    go : (o : Option ℕ) → Told (elim o as (λ _. Result Piece TextFault) [ None ↦ Err NoZscii | Some c ↦ Ok (record { item = Character (meaning m c); count = 1; behind = 0; is_mark = is_new_line_mark m b }) ])
+    go : (o : Option ℕ) → Told (elim o as (λ _. Result Piece TextFault) [
+      | None ↦ Err NoZscii
+      | Some c ↦ Ok
+          (record { item = Character (meaning m c); count = 1; behind = 0; is_mark = is_new_line_mark m b })
+    ])
     go None = told_character
     go (Some c) = told_ok _
 
 -- the fault of a piece is that of the text
-pub Continues-fault : (set : CharSet) (m : Mode) (after_mark : Bool) (items : List TextItem) (rest bytes : List ℕ) (first : ℕ) (tail : List ℕ) (fault : TextFault) → rest ≡ first ∷ tail → piece_at set m after_mark first tail ≡ Err fault → Continues set m after_mark items rest bytes → Reads set m bytes (Err fault)
+pub Continues-fault : (set : CharSet) (m : Mode) (after_mark : Bool) (items : List TextItem) (rest bytes : List ℕ) (first : ℕ)
+    (tail : List ℕ) (fault : TextFault) → rest ≡ first ∷ tail → piece_at set m after_mark first tail ≡ Err fault → Continues set m
+    after_mark items rest bytes → Reads set m bytes (Err fault)
 unfolding Told
 Continues-fault set m after_mark items rest bytes first tail fault split found h =
     let step : text_from set m after_mark 0 rest ≡ Err fault =
@@ -95,7 +107,8 @@ Continues-fault set m after_mark items rest bytes first tail fault split found h
     ∙ ap (λ (r : Result Piece TextFault). and_then r (λ p. text_from set m p.is_mark p.behind tail)) found in
     go fault (sym h.value ∙ ap (with_front items) step) (λ e. piece_at-told set m after_mark first tail (found ∙ e))
   where
-    go : (f : TextFault) → text_of set m bytes ≡ Err f → (◌≡◌ {A = Result Piece TextFault} (Err f) (Err Memory) → ⊥) → Reads set m bytes (Err f)
+    go : (f : TextFault) → text_of set m bytes ≡ Err f → (◌≡◌ {A = Result Piece TextFault} (Err f) (Err Memory) → ⊥) →
+        Reads set m bytes (Err f)
     go UnknownEscape is never = is
     go NoZscii is never = is
     go BadCode is never = is

@@ -41,14 +41,17 @@ in_unicode b l m = rw (l, m) refl
 
 has_code : (set : CharSet) (b : ℕ) → nat_le 32 b ≡ true → nat_le b 126 ≡ true → is_some (zscii_of set b) ≡ true
 unfolding zscii_of
-has_code set b l m = either_some (is_white set b) (Some 32) _ refl (this_some (has_byte set b) (zscii_of_unicode b) None (byte_is set b m) (in_unicode b l m))
+has_code set b l m = either_some (is_white set b) (Some 32) _ refl
+    (this_some (has_byte set b) (zscii_of_unicode b) None (byte_is set b m) (in_unicode b l m))
 
-plain_piece : (set : CharSet) (mode : Mode) (after_mark : Bool) (b : ℕ) (bytes : List ℕ) → is_plain b ≡ true → is_ok (piece_at set mode after_mark b bytes) ≡ true
+plain_piece : (set : CharSet) (mode : Mode) (after_mark : Bool) (b : ℕ) (bytes : List ℕ) → is_plain b ≡ true →
+    is_ok (piece_at set mode after_mark b bytes) ≡ true
 unfolding piece_at
 plain_piece set mode after_mark b bytes p =
     let parts = and_parts (nat_le 32 b && nat_le b 126) (not (b == 64)) p in
     let bounds = and_parts (nat_le 32 b) (nat_le b 126) parts.0 in
-    other_ok (b == 64) _ _ parts.1 (either_ok (b == 92) _ _ refl (either_ok (is_white set b) _ _ refl (by_code (zscii_of set b) (has_code set b bounds.0 bounds.1))))
+    other_ok (b == 64) _ _ parts.1 (either_ok (b == 92) _ _ refl (either_ok (is_white set b) _ _ refl
+    (by_code (zscii_of set b) (has_code set b bounds.0 bounds.1))))
   where
     by_code : (z : Option ℕ) → is_some z ≡ true → is_ok {T = Piece} {E = TextFault} (elim z [
       | None ↦ Err NoZscii
@@ -61,16 +64,20 @@ behind_ok : (front : List TextItem) (r : Result (List TextItem) TextFault) → i
 behind_ok front (Ok items) is = refl
 behind_ok front (Err fault) is = is
 
-then_ok : (r : Result Piece TextFault) (next : Piece → Result (List TextItem) TextFault) → is_ok r ≡ true → ((p : Piece) → is_ok (next p) ≡ true) → is_ok (and_then r next) ≡ true
+then_ok : (r : Result Piece TextFault) (next : Piece → Result (List TextItem) TextFault) → is_ok r ≡ true →
+    ((p : Piece) → is_ok (next p) ≡ true) → is_ok (and_then r next) ≡ true
 then_ok (Ok found) next is after = behind_ok (replicate found.count found.item) (next found) (after found)
 then_ok (Err fault) next is after = is
 
-plain_from : (set : CharSet) (mode : Mode) (after_mark : Bool) (passed : ℕ) (bytes : List ℕ) → list_all is_plain bytes ≡ true → is_ok (text_from set mode after_mark passed bytes) ≡ true
+plain_from : (set : CharSet) (mode : Mode) (after_mark : Bool) (passed : ℕ) (bytes : List ℕ) → list_all is_plain bytes ≡ true →
+    is_ok (text_from set mode after_mark passed bytes) ≡ true
 plain_from set mode after_mark passed [] p = refl
-plain_from set mode after_mark (suc passed) (b ∷ bytes) p = plain_from set mode after_mark passed bytes (and_parts (is_plain b) (list_all is_plain bytes) p).1
+plain_from set mode after_mark (suc passed) (b ∷ bytes) p =
+    plain_from set mode after_mark passed bytes (and_parts (is_plain b) (list_all is_plain bytes) p).1
 plain_from set mode after_mark zero (b ∷ bytes) p =
     let parts = and_parts (is_plain b) (list_all is_plain bytes) p in
-    then_ok (piece_at set mode after_mark b bytes) (λ found. text_from set mode found.is_mark found.behind bytes) (plain_piece set mode after_mark b bytes parts.0) (λ found. plain_from set mode found.is_mark found.behind bytes parts.1)
+    then_ok (piece_at set mode after_mark b bytes) (λ found. text_from set mode found.is_mark found.behind bytes)
+    (plain_piece set mode after_mark b bytes parts.0) (λ found. plain_from set mode found.is_mark found.behind bytes parts.1)
 
 pub plain_text : (set : CharSet) (mode : Mode) (bytes : List ℕ) → list_all is_plain bytes ≡ true → is_ok (text_of set mode bytes) ≡ true
 unfolding text_of

@@ -112,7 +112,8 @@ is_new_line_mark mode.Abbreviation b = b == 94
 abbrev pub white_len : CharSet → List ℕ → ℕ
 white_len set bytes = prefix_len (is_white set) bytes
 
--- How many spaces a run of white space is: with a line end in it one, or none right behind the mark of a new line; else as many as it has bytes.
+-- How many spaces a run of white space is: with a line end in it one, or none right behind the mark of a new line; else as many as it has
+-- bytes.
 abbrev pub spaces : Bool → List ℕ → ℕ
 spaces after_mark run =
     if not (list_any is_line_end run) then length run else if after_mark then 0 else 1
@@ -122,7 +123,13 @@ unfoldable pub piece_at : CharSet → Mode → Bool → ℕ → List ℕ → Res
 piece_at set mode after_mark b bytes =
     if b == 64 then escape_piece mode bytes
     else if b == 92 then Ok (record { item = Character 32; count = 0; behind = white_len set bytes; is_mark = false })
-    else if is_white set b then Ok (record { item = Character 32; count = spaces after_mark (b ∷ take (white_len set bytes) bytes); behind = white_len set bytes; is_mark = false })
+    else if is_white set b then Ok (record {
+      item = Character 32;
+      count = spaces after_mark (b ∷ take (white_len set bytes) bytes);
+      behind =
+          white_len set bytes;
+      is_mark = false;
+    })
     else elim (zscii_of set b) [
       | None ↦ Err NoZscii
       | Some c ↦ Ok (record { item = Character (meaning mode c); count = 1; behind = 0; is_mark = is_new_line_mark mode b })
@@ -138,7 +145,8 @@ abbrev pub and_then : Result Piece TextFault → (Piece → Result (List TextIte
 and_then (Err fault) next = Err fault
 and_then (Ok found) next = with_front (replicate found.count found.item) (next found)
 
--- the text of some bytes, but for those at their front that are passed over; after_mark is whether the mark of a new line stands before them
+-- the text of some bytes, but for those at their front that are passed over; after_mark is whether the mark of a new line stands before
+-- them
 abbrev pub text_from : CharSet → Mode → Bool → ℕ → List ℕ → Result (List TextItem) TextFault
 text_from set mode after_mark passed [] = Ok []
 text_from set mode after_mark (suc passed) (b ∷ bytes) = text_from set mode after_mark passed bytes

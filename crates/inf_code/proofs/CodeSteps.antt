@@ -13,7 +13,8 @@ use Rattle.inf_code.specs.declared.code.CodeLimits.{CodeLimits}
 use Rattle.inf_code.proofs.CodeLemmas.{itself, size-stands_for, stands_for-closed}
 
 -- the bytes of the finished routines
-module _ (limits : CodeLimits) (finished : ℕ) (refs : Fixups) (bytes : List ℕ) (routine : Option State) (is : IsCode limits finished refs bytes routine) where
+module _ (limits : CodeLimits) (finished : ℕ) (refs : Fixups) (bytes : List ℕ) (routine : Option State)
+    (is : IsCode limits finished refs bytes routine) where
   pub length_finished : length (take finished bytes) ≡ finished
   length_finished = length-take-le finished bytes is.within
 
@@ -24,7 +25,8 @@ module _ (limits : CodeLimits) (finished : ℕ) (refs : Fixups) (bytes : List �
   length_source = omega (arith, first_within, length-drop 8 (take finished bytes), length_finished)
 
   pub size_finished : place_behind (source_cells finished refs bytes) ≡ finished
-  size_finished = omega (arith, size-stands_for 8 refs.list (source_bytes finished bytes) (source_cells finished refs bytes) is.stands, length_source)
+  size_finished =
+      omega (arith, size-stands_for 8 refs.list (source_bytes finished bytes) (source_cells finished refs bytes) is.stands, length_source)
 
   -- with other bytes behind them
   module _ (new : List ℕ) (same : take finished new ≡ take finished bytes) where
@@ -44,31 +46,40 @@ module _ (limits : CodeLimits) (finished : ℕ) (refs : Fixups) (bytes : List �
   pub code_cut : (cut : List ℕ) → cut ≡ take finished bytes → IsCode limits finished refs cut None
   code_cut cut e =
       let same = front_cut cut e in
-      record { within = within_along cut same; front = front_along cut same; stands = stands_along cut same; limit = is.limit; few = is.few; behind = tt }
+      record {
+        within = within_along cut same;
+        front = front_along cut same;
+        stands = stands_along cut same;
+        limit = is.limit;
+        few = is.few;
+        behind = tt;
+      }
 
   -- with bytes behind them
   pub front_longer : (longer more : List ℕ) → longer ≡ take finished bytes ++ more → take finished longer ≡ take finished bytes
   front_longer longer more e = ap (take finished) e ∙ take_at (take finished bytes) more finished length_finished
 
   -- a routine is opened behind them
-  module _ (locals : ℕ) (opened : State) (cut new : List ℕ) (at : cut ≡ take finished bytes) (stands : Stands opened new cut (fresh locals)) where
-    pub front_opened : take finished new ≡ take finished bytes
-    front_opened = front_longer new _ (stands.bytes ∙ ap (λ xs. xs ++ locals ∷ long_bytes []) at)
+  module _ (locals : ℕ) (opened : State) (cut new : List ℕ) (at : cut ≡ take finished bytes) (stands : Stands opened new cut (fresh locals))
+    where
+      pub front_opened : take finished new ≡ take finished bytes
+      front_opened = front_longer new _ (stands.bytes ∙ ap (λ xs. xs ++ locals ∷ long_bytes []) at)
 
-    pub code_opened : IsOpen opened new → opened.limits ≡ routine_bounds → IsCode limits finished refs new (Some opened)
-    code_opened open_now same =
-        let start : opened.start ≡ finished = stands.start ∙ ap length at ∙ length_finished in
-        record {
-          within = within_along new front_opened;
-          front = front_along new front_opened;
-          stands = stands_along new front_opened;
-          limit = is.limit;
-          few = is.few;
-          behind = record { start = start; open_still = open_now; limits = same };
-        }
+      pub code_opened : IsOpen opened new → opened.limits ≡ routine_bounds → IsCode limits finished refs new (Some opened)
+      code_opened open_now same =
+          let start : opened.start ≡ finished = stands.start ∙ ap length at ∙ length_finished in
+          record {
+            within = within_along new front_opened;
+            front = front_along new front_opened;
+            stands = stands_along new front_opened;
+            limit = is.limit;
+            few = is.few;
+            behind = record { start = start; open_still = open_now; limits = same };
+          }
 
 -- the open routine has grown
-module _ (limits : CodeLimits) (finished : ℕ) (refs : Fixups) (bytes new : List ℕ) (routine longer : State) (contents : Contents) (is : IsCode limits finished refs bytes (Some routine))
+module _ (limits : CodeLimits) (finished : ℕ) (refs : Fixups) (bytes new : List ℕ) (routine longer : State) (contents : Contents)
+    (is : IsCode limits finished refs bytes (Some routine))
     (holds : Holds contents routine bytes longer new) where
   pub front_emitted : take finished new ≡ take finished bytes
   front_emitted = subst (λ n. take n new ≡ take n bytes) is.behind.start holds.front
@@ -84,15 +95,19 @@ module _ (limits : CodeLimits) (finished : ℕ) (refs : Fixups) (bytes new : Lis
   }
 
 -- or it is refused
-pub code_or_same : {T E : Type 0} (limits : CodeLimits) (finished : ℕ) (refs : Fixups) (bytes new : List ℕ) (routine longer : State) (contents : Contents) → IsCode limits finished refs bytes (Some routine)
-    → (r : Result T E) → OnOk r (Holds contents routine bytes longer new) → OnErr r ((longer ≡ routine) × (new ≡ bytes)) → IsCode limits finished refs new (Some longer)
+pub code_or_same : {T E : Type 0} (limits : CodeLimits) (finished : ℕ) (refs : Fixups) (bytes new : List ℕ) (routine longer : State)
+    (contents : Contents) → IsCode limits finished refs bytes (Some routine)
+    → (r : Result T E) → OnOk r (Holds contents routine bytes longer new) → OnErr r ((longer ≡ routine) × (new ≡ bytes)) → IsCode limits
+    finished refs new (Some longer)
 code_or_same limits finished refs bytes new routine longer contents is (Ok x) holds same =
     code_emitted limits finished refs bytes new routine longer contents is holds
 code_or_same limits finished refs bytes new routine longer contents is (Err e) holds same =
-    subst (λ xs. IsCode limits finished refs xs (Some longer)) (sym same.1) (subst (λ r. IsCode limits finished refs bytes (Some r)) (sym same.0) is)
+    subst (λ xs. IsCode limits finished refs xs (Some longer)) (sym same.1)
+    (subst (λ r. IsCode limits finished refs bytes (Some r)) (sym same.0) is)
 
 -- the open routine is closed, and filled up
-module _ (scale : Scale) (kind : RoutineKind) (limits : CodeLimits) (finished : ℕ) (refs listed : Fixups) (bytes written whole : List ℕ) (routine : State) (closed : Closed) (is : IsCode limits finished refs bytes (Some routine))
+module _ (scale : Scale) (kind : RoutineKind) (limits : CodeLimits) (finished : ℕ) (refs listed : Fixups) (bytes written whole : List ℕ)
+    (routine : State) (closed : Closed) (is : IsCode limits finished refs bytes (Some routine))
     (closes : Closes kind routine.start (contents_of routine bytes) bytes refs closed written listed) where
   abbrev contents : Contents
   contents = contents_of routine bytes
@@ -106,17 +121,25 @@ module _ (scale : Scale) (kind : RoutineKind) (limits : CodeLimits) (finished : 
   front_closed = front_longer limits finished refs bytes (Some routine) is written _ written_is
 
   long_enough : 8 ≤ length written
-  long_enough = omega (arith, first_within limits finished refs bytes (Some routine) is, within_along limits finished refs bytes (Some routine) is written front_closed)
+  long_enough = omega (
+    arith,
+    first_within limits finished refs bytes (Some routine) is,
+    within_along limits finished refs bytes
+        (Some routine) is written front_closed,
+  )
 
   pub code_closed : whole ≡ written ++ zeros_behind scale closed.len
-      → StandsFor 8 listed.list (drop 8 whole) (source_cells finished refs bytes ++ padded scale (routine_cells finished kind (contents_of routine bytes)))
+      → StandsFor 8 listed.list (drop 8 whole) (source_cells finished refs bytes ++ padded scale
+      (routine_cells finished kind (contents_of routine bytes)))
   code_closed filled =
       let start = is.behind.start in
       let body = closes.body in
       let eight : 8 ≤ length (take finished bytes) =
-      omega (arith, first_within limits finished refs bytes (Some routine) is, length_finished limits finished refs bytes (Some routine) is) in
+      omega (arith, first_within limits finished refs bytes (Some routine) is, length_finished limits finished refs bytes (Some routine) is)
+      in
       let body_is : body_bytes finished contents ≡ Some body = ap (λ n. body_bytes n contents) (sym start) ∙ closes.is in
-      let listed_is : listed.list ≡ refs.list ++ routine_fixups finished contents = ap (λ (h : Fixups). h.list) closes.fixups ∙ ap (λ n. refs.list ++ routine_fixups n contents) start in
+      let listed_is : listed.list ≡ refs.list ++ routine_fixups finished contents =
+      ap (λ (h : Fixups). h.list) closes.fixups ∙ ap (λ n. refs.list ++ routine_fixups n contents) start in
       let source_is : drop 8 written ≡ source_bytes finished bytes ++ contents.locals ∷ body ++ closing kind contents =
       ap (drop 8) written_is ∙ drop-append-le 8 (take finished bytes) (contents.locals ∷ body ++ closing kind contents) eight
       ∙ sym (append_assoc (source_bytes finished bytes) (contents.locals ∷ body) (closing kind contents)) in
@@ -124,52 +147,82 @@ module _ (scale : Scale) (kind : RoutineKind) (limits : CodeLimits) (finished : 
       ap (drop 8) filled ∙ drop-append-le 8 written (zeros_behind scale closed.len) long_enough in
       let count : closed.len ≡ length (whole_bytes kind contents body) =
       omega (arith, closes.len, length-append (contents.locals ∷ body) (closing kind contents)) in
-      stands_for-closed scale kind contents body 8 refs.list listed.list (source_bytes finished bytes) (drop 8 written) (drop 8 whole) (source_cells finished refs bytes) finished closed.len
+      stands_for-closed scale kind contents body 8 refs.list listed.list (source_bytes finished bytes) (drop 8 written) (drop 8 whole)
+      (source_cells finished refs bytes) finished closed.len
       (length_source limits finished refs bytes (Some routine) is) body_is is.stands listed_is source_is count whole_is
 
   pub finished_closed : whole ≡ written ++ zeros_behind scale closed.len
-      → source_cells (length whole) listed whole ≡ source_cells finished refs bytes ++ padded scale (routine_cells (place_behind (source_cells finished refs bytes)) kind (contents_of routine bytes))
+      → source_cells (length whole) listed whole ≡ source_cells finished refs bytes ++ padded scale
+      (routine_cells (place_behind (source_cells finished refs bytes)) kind (contents_of routine bytes))
   finished_closed filled =
       let before = source_cells finished refs bytes in
       ap (λ xs. cells_from 8 listed.list (drop 8 xs)) (take_all (length whole) whole (omega arith)) ∙ (code_closed filled).are
-      ∙ ap (λ n. before ++ padded scale (routine_cells n kind (contents_of routine bytes))) (sym (size_finished limits finished refs bytes (Some routine) is))
+      ∙ ap (λ n. before ++ padded scale (routine_cells n kind (contents_of routine bytes)))
+      (sym (size_finished limits finished refs bytes (Some routine) is))
 
   whole_front : whole ≡ written ++ zeros_behind scale closed.len → take 8 (take (length whole) whole) ≡ first_routine
   whole_front filled =
       let more = contents.locals ∷ closes.body ++ closing kind contents in
       let zeros = zeros_behind scale closed.len in
-      let longer : whole ≡ take finished bytes ++ (more ++ zeros) = filled ∙ ap (λ xs. xs ++ zeros) written_is ∙ append_assoc (take finished bytes) more zeros in
+      let longer : whole ≡ take finished bytes ++ (more ++ zeros) =
+      filled ∙ ap (λ xs. xs ++ zeros) written_is ∙ append_assoc (take finished bytes) more zeros in
       ap (take 8) (take_all (length whole) whole (omega arith))
       ∙ sym (take-take 8 finished whole (first_within limits finished refs bytes (Some routine) is))
       ∙ ap (take 8) (front_longer limits finished refs bytes (Some routine) is whole _ longer) ∙ is.front
 
-  whole_stands : whole ≡ written ++ zeros_behind scale closed.len → StandsFor 8 listed.list (source_bytes (length whole) whole) (source_cells (length whole) listed whole)
+  whole_stands : whole ≡ written ++ zeros_behind scale closed.len →
+      StandsFor 8 listed.list (source_bytes (length whole) whole) (source_cells (length whole) listed whole)
   whole_stands filled =
-      let stands = itself 8 listed.list (drop 8 whole) (source_cells finished refs bytes ++ padded scale (routine_cells finished kind (contents_of routine bytes))) (code_closed filled) in
-      subst (λ xs. StandsFor 8 listed.list (drop 8 xs) (cells_from 8 listed.list (drop 8 xs))) (sym (take_all (length whole) whole (omega arith))) stands
+      let stands = itself 8 listed.list (drop 8 whole)
+      (source_cells finished refs bytes ++ padded scale (routine_cells finished kind (contents_of routine bytes))) (code_closed filled)
+      in
+      subst (λ xs. StandsFor 8 listed.list (drop 8 xs) (cells_from 8 listed.list (drop 8 xs)))
+      (sym (take_all (length whole) whole (omega arith))) stands
 
-  pub code_after : whole ≡ written ++ zeros_behind scale closed.len → length whole ≤ limits.code → IsCode limits (length whole) listed whole None
+  pub code_after : whole ≡ written ++ zeros_behind scale closed.len → length whole ≤ limits.code →
+      IsCode limits (length whole) listed whole None
   code_after filled few =
-      record { within = omega arith; front = whole_front filled; stands = whole_stands filled; limit = ap (λ (h : Fixups). h.limit) closes.fixups ∙ is.limit; few = omega (arith, few); behind = tt }
+      record {
+        within = omega arith;
+        front = whole_front filled;
+        stands = whole_stands filled;
+        limit = ap (λ (h : Fixups). h.limit)
+            closes.fixups ∙ is.limit;
+        few = omega (arith, few);
+        behind = tt;
+      }
 
   -- so many bytes it has then
   size_after : whole ≡ written ++ zeros_behind scale closed.len → place_behind (source_cells (length whole) listed whole) ≡ length whole
   size_after filled =
       let eight : 8 ≤ length whole = omega (arith, long_enough, ap length filled, length-append written (zeros_behind scale closed.len)) in
       let all : length (take (length whole) whole) ≡ length whole = ap length (take_all (length whole) whole (omega arith)) in
-      omega (arith, size-stands_for 8 listed.list (source_bytes (length whole) whole) (source_cells (length whole) listed whole) (whole_stands filled), length-drop 8 (take (length whole) whole), all, eight)
+      omega (
+        arith,
+        size-stands_for 8 listed.list (source_bytes (length whole) whole) (source_cells (length whole) listed whole)
+            (whole_stands filled),
+        length-drop 8 (take (length whole) whole),
+        all,
+        eight,
+      )
 
-pub closed_size : (scale : Scale) (kind : RoutineKind) (limits : CodeLimits) (finished : ℕ) (refs listed : Fixups) (bytes written : List ℕ) (routine : State) (closed : Closed) (is : IsCode limits finished refs bytes (Some routine))
+pub closed_size : (scale : Scale) (kind : RoutineKind) (limits : CodeLimits) (finished : ℕ) (refs listed : Fixups) (bytes written : List ℕ)
+    (routine : State) (closed : Closed) (is : IsCode limits finished refs bytes (Some routine))
     → Closes kind routine.start (contents_of routine bytes) bytes refs closed written listed
-    → place_behind (source_cells finished refs bytes ++ padded scale (routine_cells (place_behind (source_cells finished refs bytes)) kind (contents_of routine bytes))) ≡ length written + length (zeros_behind scale closed.len)
+    → place_behind (source_cells finished refs bytes ++ padded scale
+    (routine_cells (place_behind (source_cells finished refs bytes)) kind (contents_of routine bytes))) ≡ length written + length
+    (zeros_behind scale closed.len)
 closed_size scale kind limits finished refs listed bytes written routine closed is closes =
     let whole = written ++ zeros_behind scale closed.len in
     ap place_behind (sym (finished_closed scale kind limits finished refs listed bytes written whole routine closed is closes refl))
-    ∙ size_after scale kind limits finished refs listed bytes written whole routine closed is closes refl ∙ length-append written (zeros_behind scale closed.len)
+    ∙ size_after scale kind limits finished refs listed bytes written whole routine closed is closes refl
+    ∙ length-append written (zeros_behind scale closed.len)
 
 -- what stands behind the finished routines is given up
-pub code_lost : (limits : CodeLimits) (finished : ℕ) (refs : Fixups) (bytes new : List ℕ) (routine : State) → IsCode limits finished refs bytes (Some routine)
-    → take routine.start new ≡ take routine.start bytes → routine.start ≤ length new → (IsCode limits finished refs new None) × (take finished new ≡ take finished bytes)
+pub code_lost : (limits : CodeLimits) (finished : ℕ) (refs : Fixups) (bytes new : List ℕ) (routine : State) →
+    IsCode limits finished refs bytes (Some routine)
+    → take routine.start new ≡ take routine.start bytes → routine.start ≤ length new → (IsCode limits finished refs new None) ×
+    (take finished new ≡ take finished bytes)
 code_lost limits finished refs bytes new routine is front within =
     let same : take finished new ≡ take finished bytes = subst (λ n. take n new ≡ take n bytes) is.behind.start front in (
       record {

@@ -21,11 +21,13 @@ use Rattle.inf_code.specs.Code.{IsCode, IsSpare, StandsFor, bytes_with, referenc
 use Rattle.inf_code.proofs.CodeSteps.{size_finished}
 
 -- each fixup is a reference that is known later
-pub later_stands_for : (place : ℕ) (fixups : List Fixup) (bytes : List ℕ) (cells : List CodeCell) → StandsFor place fixups bytes cells → later_count cells ≡ length fixups
+pub later_stands_for : (place : ℕ) (fixups : List Fixup) (bytes : List ℕ) (cells : List CodeCell) → StandsFor place fixups bytes cells →
+    later_count cells ≡ length fixups
 later_stands_for place fixups bytes cells stands = sym (length-fixups_of name.Code place cells) ∙ ap length stands.fixups_are
 
 -- where no limit would be passed, that of bytes is not
-pub code_is_free : (full : Bool) (rest : Option Limit) → cond full (Some setting.Code) rest ≡ None → cond full (Some setting.Code) None ≡ None
+pub code_is_free : (full : Bool) (rest : Option Limit) → cond full (Some setting.Code) rest ≡ None →
+    cond full (Some setting.Code) None ≡ None
 code_is_free true rest e = cc
 code_is_free false rest e = refl
 
@@ -38,18 +40,22 @@ pub record Lists (is_lost : Bool) (finished : List CodeCell) (listed : Fixups) :
   pub limit : listed.limit ≡ most_references
   pub count : length listed.list ≡ references_before is_lost finished
 
-pub lists : (is_lost : Bool) (finished : ℕ) (refs spare : Fixups) (bytes : List ℕ) (listed : Fixups) → StandsFor 8 refs.list (source_bytes finished bytes) (source_cells finished refs bytes) → refs.limit ≡ most_references → IsSpare spare
+pub lists : (is_lost : Bool) (finished : ℕ) (refs spare : Fixups) (bytes : List ℕ) (listed : Fixups) →
+    StandsFor 8 refs.list (source_bytes finished bytes) (source_cells finished refs bytes) → refs.limit ≡ most_references → IsSpare spare
     → listed ≡ cond is_lost spare refs → Lists is_lost (source_cells finished refs bytes) listed
 lists true finished refs spare bytes listed stands limit empty is =
     record { limit = ap (λ (f : Fixups). f.limit) (is ∙ empty); count = ap (λ (f : Fixups). length f.list) (is ∙ empty) }
 lists false finished refs spare bytes listed stands limit empty is =
     record {
       limit = ap (λ (f : Fixups). f.limit) is ∙ limit;
-      count = ap (λ (f : Fixups). length f.list) is ∙ sym (later_stands_for 8 refs.list (source_bytes finished bytes) (source_cells finished refs bytes) stands);
+      count =
+          ap (λ (f : Fixups). length f.list) is
+          ∙ sym (later_stands_for 8 refs.list (source_bytes finished bytes) (source_cells finished refs bytes) stands);
     }
 
 -- so many bytes there are
-pub bytes_are : (limits : CodeLimits) (finished : ℕ) (refs : Fixups) (bytes : List ℕ) (routine : State) → IsCode limits finished refs bytes (Some routine)
+pub bytes_are : (limits : CodeLimits) (finished : ℕ) (refs : Fixups) (bytes : List ℕ) (routine : State) →
+    IsCode limits finished refs bytes (Some routine)
     → length bytes ≡ bytes_with (source_cells finished refs bytes) (contents_of routine bytes)
 bytes_are limits finished refs bytes routine is =
     let stands = is.behind.open_still in
@@ -66,16 +72,19 @@ bytes_are limits finished refs bytes routine is =
 -- what is wrong with a routine, under any bounds
 abbrev pub limit_by : Limits → ℕ → ℕ → Contents → ℕ → Option CloseFault
 limit_by limits most references contents len =
-    cond (is_full contents.is_final limits.code len) (Some (close_fault.Full setting.Code)) (cond (nat_lt most (references + fixup_count contents.cells)) (Some (close_fault.Full setting.Refs)) None)
+    cond (is_full contents.is_final limits.code len) (Some (close_fault.Full setting.Code))
+    (cond (nat_lt most (references + fixup_count contents.cells)) (Some (close_fault.Full setting.Refs)) None)
 
 abbrev pub behind_by : Limits → ℕ → ℕ → ℕ → Contents → Option CloseFault
 behind_by limits most start references contents =
     missing_fault
-    (twice_fault (body_fault (λ body. limit_by limits most references contents (start + 1 + length body)) (body_bytes start contents)) (twice_behind [] contents.cells))
+    (twice_fault (body_fault (λ body. limit_by limits most references contents (start + 1 + length body)) (body_bytes start contents))
+    (twice_behind [] contents.cells))
     (missing (long_places start contents) contents.cells)
 
 -- more in the open routine, and its end
-module _ (limits : CodeLimits) (finished : ℕ) (refs listed : Fixups) (bytes : List ℕ) (is_lost : Bool) (routine : State) (is : IsCode limits finished refs bytes (Some routine))
+module _ (limits : CodeLimits) (finished : ℕ) (refs listed : Fixups) (bytes : List ℕ) (is_lost : Bool) (routine : State)
+    (is : IsCode limits finished refs bytes (Some routine))
     (kept : Lists is_lost (source_cells finished refs bytes) listed) where
   abbrev before : List CodeCell
   before = source_cells finished refs bytes
@@ -86,7 +95,8 @@ module _ (limits : CodeLimits) (finished : ℕ) (refs listed : Fixups) (bytes : 
   start_is : routine.start ≡ place_behind before
   start_is = is.behind.start ∙ sym (size_finished limits finished refs bytes (Some routine) is)
 
-  pub full_is : (cells : List Cell) → full_with cells routine bytes listed ≡ full_cells is_lost (source_cells finished refs bytes) cells (contents_of routine bytes)
+  pub full_is : (cells : List Cell) →
+      full_with cells routine bytes listed ≡ full_cells is_lost (source_cells finished refs bytes) cells (contents_of routine bytes)
   full_is cells =
       let stands = is.behind.open_still in
       let front = take routine.start bytes in
@@ -94,14 +104,22 @@ module _ (limits : CodeLimits) (finished : ℕ) (refs listed : Fixups) (bytes : 
       let fixups = fixup_count cells in
       let len : length bytes ≡ bytes_with before contents =
       omega (arith, ap length stands.bytes, length-append front (contents.locals ∷ long_bytes contents.cells), stands.start, start_is) in
-      let referred : length listed.list + routine.fixups ≡ references_with is_lost before contents = omega (arith, kept.count, stands.fixups) in
-      ap (λ (l : Limits). of_three (nat_lt l.labels (routine.labels + label_count cells)) (nat_lt l.code (length bytes + long)) (nat_lt listed.limit (length listed.list + routine.fixups + fixups))) is.behind.limits
-      ∙ ap (λ n. of_three (nat_lt unlimited (n + label_count cells)) (nat_lt unlimited (length bytes + long)) (nat_lt listed.limit (length listed.list + routine.fixups + fixups))) stands.labels
-      ∙ ap (λ n. of_three (nat_lt unlimited (label_count contents.cells + label_count cells)) (nat_lt unlimited (n + long)) (nat_lt listed.limit (length listed.list + routine.fixups + fixups))) len
-      ∙ ap (λ n. of_three (nat_lt unlimited (label_count contents.cells + label_count cells)) (nat_lt unlimited (bytes_with before contents + long)) (nat_lt n (length listed.list + routine.fixups + fixups))) kept.limit
-      ∙ ap (λ n. of_three (nat_lt unlimited (label_count contents.cells + label_count cells)) (nat_lt unlimited (bytes_with before contents + long)) (nat_lt most_references (n + fixups))) referred
+      let referred : length listed.list + routine.fixups ≡ references_with is_lost before contents =
+      omega (arith, kept.count, stands.fixups) in
+      ap (λ (l : Limits). of_three (nat_lt l.labels (routine.labels + label_count cells)) (nat_lt l.code (length bytes + long))
+      (nat_lt listed.limit (length listed.list + routine.fixups + fixups))) is.behind.limits
+      ∙ ap (λ n. of_three (nat_lt unlimited (n + label_count cells)) (nat_lt unlimited (length bytes + long))
+      (nat_lt listed.limit (length listed.list + routine.fixups + fixups))) stands.labels
+      ∙ ap (λ n. of_three (nat_lt unlimited (label_count contents.cells + label_count cells)) (nat_lt unlimited (n + long))
+      (nat_lt listed.limit (length listed.list + routine.fixups + fixups))) len
+      ∙ ap (λ n. of_three (nat_lt unlimited (label_count contents.cells + label_count cells))
+      (nat_lt unlimited (bytes_with before contents + long)) (nat_lt n (length listed.list + routine.fixups + fixups))) kept.limit
+      ∙ ap (λ n. of_three (nat_lt unlimited (label_count contents.cells + label_count cells))
+      (nat_lt unlimited (bytes_with before contents + long)) (nat_lt most_references (n + fixups))) referred
 
-  pub end_is : (kind : RoutineKind) → fault_of routine.start kind (contents_of routine bytes) routine.limits listed ≡ fault_behind (place_behind (source_cells finished refs bytes)) (references_before is_lost (source_cells finished refs bytes)) (contents_of routine bytes)
+  pub end_is : (kind : RoutineKind) → fault_of routine.start kind (contents_of routine bytes) routine.limits listed ≡ fault_behind
+      (place_behind (source_cells finished refs bytes)) (references_before is_lost (source_cells finished refs bytes))
+      (contents_of routine bytes)
   end_is kind =
       ap (λ (l : Limits). behind_by l listed.limit routine.start (length listed.list) contents) is.behind.limits
       ∙ ap (λ n. behind_by routine_bounds n routine.start (length listed.list) contents) kept.limit
@@ -117,6 +135,7 @@ pub first_some : (first later : Option CloseFault) (fault : CloseFault) → firs
 first_some None later fault e = cc
 first_some (Some f) later fault e = e
 
-pub later_some : (first later : Option CloseFault) (fault : CloseFault) → first ≡ None → later ≡ Some fault → first_fault first later ≡ Some fault
+pub later_some : (first later : Option CloseFault) (fault : CloseFault) → first ≡ None → later ≡ Some fault →
+    first_fault first later ≡ Some fault
 later_some None later fault e is = is
 later_some (Some f) later fault e is = cc

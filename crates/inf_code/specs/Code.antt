@@ -39,7 +39,8 @@ padding scale size = known (zeros_behind scale size)
 abbrev pub padded : Scale → List CodeCell → List CodeCell
 padded scale cells = cells ++ padding scale (size_of cells)
 
--- The first routine, which has no locals: it calls a routine that waits in two zeros, with which nothing is done that it returns, and quits; and zeros up to
+-- The first routine, which has no locals: it calls a routine that waits in two zeros, with which nothing is done that it returns, and
+-- quits; and zeros up to
 -- a packed address of each version (sections 5.2, 14).
 abbrev pub first_routine : List ℕ
 first_routine = 0x00 ∷ 0x8F ∷ 0 ∷ 0 ∷ 0xBA ∷ 0 ∷ 0 ∷ 0 ∷ []
@@ -89,7 +90,8 @@ pub record Opened : Type 0 where
   pub contents : Contents
   pub is_lost : Bool
 
--- The routines of a story: what it may hold, what packed addresses are multiplied by, whether its code has begun, the finished routines of its source, and
+-- The routines of a story: what it may hold, what packed addresses are multiplied by, whether its code has begun, the finished routines of
+-- its source, and
 -- the one that is open, if any. Code begins with a first routine that the source does not have: it calls the source's Main.
 pub record Routines : Type 0 where
   pub limits : CodeLimits
@@ -130,7 +132,10 @@ closed_cells scale kind place (Some o) = if o.is_lost then [] else padded scale 
 -- the routines after the open one is closed
 abbrev pub with_closed : RoutineKind → Routines → Routines
 with_closed kind routines =
-    record routines { finished = routines.finished ++ closed_cells routines.scale kind (place_behind routines.finished) routines.opened; opened = None }
+    record routines {
+      finished = routines.finished ++ closed_cells routines.scale kind (place_behind routines.finished) routines.opened;
+      opened = None;
+    }
 
 -- the routines after the open one is given up
 abbrev pub with_none_open : Routines → Routines
@@ -197,16 +202,19 @@ full_before is_lost has_begun limits = if has_begun then None else full_with_loc
 
 -- the first limit that another routine would pass at a place
 abbrev pub full_behind_bytes : CodeLimits → Bool → Bool → ℕ → Option Limit
-full_behind_bytes limits is_lost has_begun place = if nat_lt unlimited (place + 1) then Some setting.Code else full_before is_lost has_begun limits
+full_behind_bytes limits is_lost has_begun place =
+    if nat_lt unlimited (place + 1) then Some setting.Code else full_before is_lost has_begun limits
 
 abbrev pub full_opened : Bool → Routines → Option Limit
 full_opened is_lost routines = full_behind_bytes routines.limits is_lost routines.has_begun (place_behind routines.finished)
 
 -- another routine of so many locals is open, which is lost or not
 abbrev pub with_opened : ℕ → Bool → Routines → Routines
-with_opened locals is_lost routines = record routines { has_begun = true; opened = Some (record { contents = fresh locals; is_lost = is_lost }) }
+with_opened locals is_lost routines =
+    record routines { has_begun = true; opened = Some (record { contents = fresh locals; is_lost = is_lost }) }
 
--- The first bound that more cells in the open routine would pass: that of its labels, branches and jumps, of all bytes, and of all references.
+-- The first bound that more cells in the open routine would pass: that of its labels, branches and jumps, of all bytes, and of all
+-- references.
 abbrev pub full_cells : Bool → List CodeCell → List Cell → Contents → Option Limit
 full_cells is_lost finished cells contents =
     if nat_lt unlimited (label_count contents.cells + label_count cells) then Some setting.Labels else
@@ -267,7 +275,8 @@ references_open (Some o) = if o.is_lost then 0 else fixup_count o.contents.cells
 abbrev pub references_left : Routines → Option ℕ
 references_left routines = rest_behind (rest routines.limits.refs (reference_count routines)) (references_open routines.opened)
 
--- What is wrong with a routine behind so many bytes and references: a label that is missing or stands twice, an offset that does not fit, the
+-- What is wrong with a routine behind so many bytes and references: a label that is missing or stands twice, an offset that does not fit,
+-- the
 -- first bound that it would pass with what returns at its end, or that all references would.
 abbrev pub limit_fault : ℕ → Contents → ℕ → Option CloseFault
 limit_fault references contents len =
@@ -277,7 +286,8 @@ limit_fault references contents len =
 abbrev pub fault_behind : ℕ → ℕ → Contents → Option CloseFault
 fault_behind start references contents =
     missing_fault
-    (twice_fault (body_fault (λ body. limit_fault references contents (start + 1 + length body)) (body_bytes start contents)) (twice_behind [] contents.cells))
+    (twice_fault (body_fault (λ body. limit_fault references contents (start + 1 + length body)) (body_bytes start contents))
+    (twice_behind [] contents.cells))
     (missing (long_places start contents) contents.cells)
 
 -- or the routine with the zeros behind it would pass the limit of bytes

@@ -49,7 +49,8 @@ pub struct CodeLimits {
     /// The most bytes of all routines: the first one, which has 8, the finished ones with the zeros behind them, and the open one with
     /// every branch long. The finished ones never have more; how many there are with the open one is looked at where a unit is finished.
     pub code: usize,
-    /// The most references whose numbers are known later: those of the routines, and four in tables. How many there are is looked at where a
+    /// The most references whose numbers are known later: those of the routines, and four in tables. How many there are is looked at where
+    /// a
     /// unit is finished.
     pub refs: usize,
 }
@@ -112,9 +113,17 @@ impl Model for Code {
 
     ghost Value = { Routines };
 
-    ghost view = { λ code. record { limits = code.limits; scale = code.scale; has_begun = code.has_begun; finished = source_cells code.finished code.refs code.area; opened = open_in code.area code.is_lost code.routine } };
+    ghost view = { λ code. record {
+      limits = code.limits;
+      scale = code.scale;
+      has_begun = code.has_begun;
+      finished = source_cells
+          code.finished code.refs code.area;
+      opened = open_in code.area code.is_lost code.routine;
+    } };
 
-    ghost invariant = { λ code. IsCode code.limits code.finished code.refs code.area code.routine × (HasRoom code.has_begun code.limits × IsSpare code.spare) };
+    ghost invariant = { λ code. IsCode code.limits code.finished code.refs code.area code.routine ×
+        (HasRoom code.has_begun code.limits × IsSpare code.spare) };
 }
 
 impl Code {
@@ -194,7 +203,8 @@ impl Code {
         self.limits.labels.checked_sub(self.labels())
     }
 
-    /// How many more bytes there may be, behind those of the finished routines and of the open one with every branch long; nothing where there are
+    /// How many more bytes there may be, behind those of the finished routines and of the open one with every branch long; nothing where
+    /// there are
     /// too many. A routine that is lost has none.
     pub fn code_left(&self) -> Option<usize>
         ensures { result ≡ code_left self.now }
@@ -215,7 +225,8 @@ impl Code {
         self.area.len()
     }
 
-    /// How many more references there may be, behind those of the finished routines and of the open one; nothing where there are too many. A
+    /// How many more references there may be, behind those of the finished routines and of the open one; nothing where there are too many.
+    /// A
     /// routine that is lost has none.
     pub fn references_left(&self) -> Option<usize>
         ensures { result ≡ references_left self.now }
@@ -248,7 +259,8 @@ impl Code {
         full
     }
 
-    /// Opens a routine of so many locals, at most 15. One that is open is given up. Code begins with it, unless it has begun. A routine that is
+    /// Opens a routine of so many locals, at most 15. One that is open is given up. Code begins with it, unless it has begun. A routine
+    /// that is
     /// lost gives no code: only its labels are counted, and what is wrong with them and with offsets is answered at its end.
     ///
     /// Where it is refused, none is open. It is refused where the beginning of code would pass a limit, or the number of locals
@@ -296,7 +308,8 @@ impl Code {
 
     /// Marks the place of a label in the open routine, if there is one.
     ///
-    /// Where it is refused the routine is as it was. It is refused where it would pass the numbers of the program, and else only for want of memory.
+    /// Where it is refused the routine is as it was. It is refused where it would pass the numbers of the program, and else only for want
+    /// of memory.
     pub fn label(&mut self, label: Label) -> Result<(), GrowFault>
         ensures ok { OnOk result (self.new ≡ record self.old { opened = with_label label self.old.opened }) }
         ensures err { OnErr result (self.new ≡ self.old) }
@@ -313,7 +326,8 @@ impl Code {
     /// zeros to the next packed address; but one that is lost is given up.
     ///
     /// Where it is refused the finished routines are as they were, and the open one is given up. It is refused where a label is missing or
-    /// stands twice, where a branch or jump is too far, where what returns at its end or all references would pass the numbers of the program, or
+    /// stands twice, where a branch or jump is too far, where what returns at its end or all references would pass the numbers of the
+    /// program, or
     /// all of it with the zeros behind it the limit of bytes, in this order, and else only for want of memory.
     pub fn close(&mut self, kind: RoutineKind) -> Result<(), CloseFault>
         ensures ok { OnOk result (self.new ≡ with_closed kind self.old) }
@@ -401,7 +415,8 @@ fn fill_up(area: &mut PagedArea, len: usize, scale: Scale, limit: usize) -> Resu
     ensures room { OnOk result (length area.new ≤ limit) }
     ensures err { OnErr result (area.new ≡ area.old) }
     ensures fault { let full = nat_lt limit (length area.old + length (zeros_behind scale len)) in
-        MatchResult result (λ _. full ≡ false) (λ fault. (fault ≡ close_fault.Memory) ⊎ ((full ≡ true) × (fault ≡ close_fault.Full code_setting.Code))) }
+        MatchResult result (λ _. full ≡ false) (λ fault. (fault ≡ close_fault.Memory) ⊎
+        ((full ≡ true) × (fault ≡ close_fault.Full code_setting.Code))) }
 {
     let zeros: &[u8] = &[0, 0, 0, 0, 0, 0, 0];
     let behind = &zeros[..scale.gap(len)];

@@ -24,7 +24,8 @@ use Rattle.inf_sinks.specs.Sinks.{Takes}
 use Rattle.inf_words.specs.FileNames.{source_name}
 
 -- what was compiled was delivered
-pub compiles : (s : Sources) (o : Choices) (serial name : List ℕ) (old new : Openings) (before after story_old story_new : Option (List ℕ)) (c : Compiled) (status : Status)
+pub compiles : (s : Sources) (o : Choices) (serial name : List ℕ) (old new : Openings) (before after story_old story_new : Option (List ℕ))
+    (c : Compiled) (status : Status)
     → Comes s o serial name old new before after c → status ≡ c.status → TakesStory (story_in c) story_old story_new
     → Compiles s o serial name status before after story_old story_new
 compiles s o serial name old new before after story_old story_new c status k is taken = record {
@@ -36,8 +37,10 @@ compiles s o serial name old new before after story_old story_new c status k is 
 }
 
 -- a part of its story was
-pub delivers_part : (s : Sources) (o : Choices) (serial name : List ℕ) (old new : Openings) (before after story_old story_new : Option (List ℕ)) (c : Compiled) (n : ℕ)
-    → Comes s o serial name old new before after c → TakesPart (story_in c) n story_old story_new → DeliversPart s o serial name n before after story_old story_new
+pub delivers_part : (s : Sources) (o : Choices) (serial name : List ℕ) (old new : Openings)
+    (before after story_old story_new : Option (List ℕ)) (c : Compiled) (n : ℕ)
+    → Comes s o serial name old new before after c → TakesPart (story_in c) n story_old story_new → DeliversPart s o serial name n before
+    after story_old story_new
 delivers_part s o serial name old new before after story_old story_new c n k taken = record {
   ending = k.ending;
   is_outcome = k.is_outcome;
@@ -46,7 +49,8 @@ delivers_part s o serial name old new before after story_old story_new c n k tak
 }
 
 -- All messages are a front of those of the outcome, which is the only one.
-pub begins_whole : (s : Sources) (o p : Choices) (serial name other : List ℕ) (old new : Openings) (before after : Option (List ℕ)) (c : Compiled)
+pub begins_whole : (s : Sources) (o p : Choices) (serial name other : List ℕ) (old new : Openings) (before after : Option (List ℕ))
+    (c : Compiled)
     → o ≡ p → name ≡ other → Comes s o serial name old new before after c → Begins s p serial other before after
 begins_whole s o p serial name other old new before after c same named k =
     subst (λ (x : Choices). Begins s x serial other before after) same
@@ -54,12 +58,14 @@ begins_whole s o p serial name other old new before after c same named k =
       front = k.ending.messages;
       takes = k.delivers.messages;
       begins = λ e outcome.
-          subst (λ (x : Outcome). IsFront k.ending.messages x.messages) (outcomes_are_unique s o serial name k.ending e k.is_outcome outcome)
+          subst (λ (x : Outcome). IsFront k.ending.messages x.messages)
+          (outcomes_are_unique s o serial name k.ending e k.is_outcome outcome)
           (front_same k.ending.messages);
     }))
 
 -- All openings of the reading are those of its turns.
-opened_by : (x : Option (List ℕ)) (s : Sources) (o : Choices) (name : List ℕ) (old new : Openings) → OpenedBy x s o name old new → OpenedPart s o name old new
+opened_by : (x : Option (List ℕ)) (s : Sources) (o : Choices) (name : List ℕ) (old new : Openings) → OpenedBy x s o name old new →
+    OpenedPart s o name old new
 opened_by None s o name old new same = inl same
 opened_by (Some source) s o name old new w = inr (record {
   turns = w.is_read.turns;
@@ -68,7 +74,8 @@ opened_by (Some source) s o name old new w = inr (record {
   each = λ i le lt. (w.each i le lt).is_cut;
 })
 
-pub opened_whole : (s : Sources) (o p : Choices) (serial name other : List ℕ) (old new : Openings) (before after : Option (List ℕ)) (c : Compiled)
+pub opened_whole : (s : Sources) (o p : Choices) (serial name other : List ℕ) (old new : Openings) (before after : Option (List ℕ))
+    (c : Compiled)
     → o ≡ p → name ≡ other → Comes s o serial name old new before after c → OpenedPart s p other old new
 opened_whole s o p serial name other old new before after c same named k =
     subst (λ (x : Choices). OpenedPart s x other old new) same
@@ -76,16 +83,20 @@ opened_whole s o p serial name other old new before after c same named k =
 
 -- what is chosen, by its parts
 abbrev pub made : CharSet → Bool → Settings → List (List ℕ) → Choices
-made set has_warnings settings directories = record { set = set; has_warnings = has_warnings; settings = settings; directories = directories }
+made set has_warnings settings directories =
+    record { set = set; has_warnings = has_warnings; settings = settings; directories = directories }
 
-pub chosen_is : (a b : CharSet) (v w : Bool) (s t : Settings) (d e : List (List ℕ)) → a ≡ b → v ≡ w → s ≡ t → d ≡ e → made a v s d ≡ made b w t e
+pub chosen_is : (a b : CharSet) (v w : Bool) (s t : Settings) (d e : List (List ℕ)) → a ≡ b → v ≡ w → s ≡ t → d ≡ e →
+    made a v s d ≡ made b w t e
 chosen_is a b v w s t d e of_set of_warnings of_settings of_directories =
     ap (λ (x : CharSet). made x v s d) of_set ∙ ap (λ (x : Bool). made b x s d) of_warnings
     ∙ ap (λ (x : Settings). made b w x d) of_settings ∙ ap (λ (x : List (List ℕ)). made b w t x) of_directories
 
 -- where a story came, whole or in part, the messages end with the line that tells of no error
-pub clean_where_delivered : (P : ℕ → Type 0) (r : Result Status Fault) (c : Compiled) (before after story_old story_new : Option (List ℕ)) → IfOk r (λ s. s ≡ c.status)
-    → IfErr r (λ fault. OnlyStory fault (λ n. P n × TakesPart (story_in c) n story_old story_new)) → (c.status ≡ status.Errors → c.story ≡ None)
+pub clean_where_delivered : (P : ℕ → Type 0) (r : Result Status Fault) (c : Compiled) (before after story_old story_new : Option (List ℕ)) →
+    IfOk r (λ s. s ≡ c.status)
+    → IfErr r (λ fault. OnlyStory fault (λ n. P n × TakesPart (story_in c) n story_old story_new)) →
+    (c.status ≡ status.Errors → c.story ≡ None)
     → (c.status ≡ status.Success → EndsClean before after)
     → MatchResult r (λ s. s ≡ status.Success → EndsClean before after) (λ fault. IfStory fault (λ n. EndsClean before after))
 clean_where_delivered P (Ok s) c before after story_old story_new is told none clean = λ success. clean (sym is ∙ success)
@@ -96,17 +107,20 @@ clean_where_delivered P (Err (fault.Story n)) c before after story_old story_new
   where
     by_status : (s : Status) → c.status ≡ s → EndsClean before after
     by_status status.Success e = clean e
-    by_status status.Errors e = absurd (subst (λ (o : Option (List ℕ)). TakesPart o n story_old story_new) (ap (option_map (λ v. v.items)) (none e)) told.1)
+    by_status status.Errors e =
+        absurd (subst (λ (o : Option (List ℕ)). TakesPart o n story_old story_new) (ap (option_map (λ v. v.items)) (none e)) told.1)
 
 -- a fault before the story, and one of its sink
-pub caused_before : {T : Type 0} (r : Result T Fault) (P : List ℕ → Type 0) (A : Type 0) (R : ℕ → Type 0) → IfErr r (λ f. Caused f P A) → IfErr r (λ f. HasCause f P A R)
+pub caused_before : {T : Type 0} (r : Result T Fault) (P : List ℕ → Type 0) (A : Type 0) (R : ℕ → Type 0) → IfErr r (λ f. Caused f P A) →
+    IfErr r (λ f. HasCause f P A R)
 caused_before (Ok x) P A R h = tt
 caused_before (Err fault.Memory) P A R h = tt
 caused_before (Err (fault.Read name)) P A R h = h
 caused_before (Err fault.Messages) P A R h = h
 caused_before (Err (fault.Story n)) P A R h = absurd h
 
-pub caused_behind : {T : Type 0} (r : Result T Fault) (P : List ℕ → Type 0) (A : Type 0) (R X : ℕ → Type 0) → IfErr r (λ f. OnlyStory f (λ n. R n × X n))
+pub caused_behind : {T : Type 0} (r : Result T Fault) (P : List ℕ → Type 0) (A : Type 0) (R X : ℕ → Type 0) →
+    IfErr r (λ f. OnlyStory f (λ n. R n × X n))
     → IfErr r (λ f. HasCause f P A R)
 caused_behind (Ok x) P A R X h = tt
 caused_behind (Err fault.Memory) P A R X h = tt
@@ -126,8 +140,10 @@ no_bytes : (b : ℕ) (word : List ℕ) → (length (b ∷ word) == 0) ≡ true �
 no_bytes b word e = let never : false ≡ true = sym (eqb-suc-zero (length word)) ∙ e in cc
 
 -- status and messages are those of a source that is not there, and no story comes
-pub refused_compiles : (word date : List ℕ) (s : Sources) (o : Choices) (r : Status) (before after story_old story_new : Option (List ℕ)) → (length word == 0) ≡ true → r ≡ status.Errors
-    → Takes before after (missing (codes ".inf")).messages → story_new ≡ story_old → Compiles (named_by word s) o date (source_name word) r before after story_old story_new
+pub refused_compiles : (word date : List ℕ) (s : Sources) (o : Choices) (r : Status) (before after story_old story_new : Option (List ℕ)) →
+    (length word == 0) ≡ true → r ≡ status.Errors
+    → Takes before after (missing (codes ".inf")).messages → story_new ≡ story_old → Compiles (named_by word s) o date (source_name word) r
+    before after story_old story_new
 refused_compiles [] date s o r before after story_old story_new e is takes same =
     record { ending = missing (codes ".inf"); is_outcome = refl; status_is = is; messages = takes; story = same }
 refused_compiles (b ∷ word) date s o r before after story_old story_new e is takes same = absurd (no_bytes b word e)
@@ -135,7 +151,12 @@ refused_compiles (b ∷ word) date s o r before after story_old story_new e is t
 pub refused_begins : (word date : List ℕ) (s : Sources) (o : Choices) (before after : Option (List ℕ)) → (length word == 0) ≡ true
     → TakesFront (missing (codes ".inf")).messages before after → Begins (named_by word s) o date (source_name word) before after
 refused_begins [] date s o before after e t =
-    record { front = t.front; takes = t.takes; begins = λ x outcome. subst (λ (y : Outcome). IsFront t.front y.messages) (sym outcome) t.begins }
+    record {
+      front = t.front;
+      takes = t.takes;
+      begins = λ x outcome. subst (λ (y : Outcome). IsFront t.front y.messages) (sym outcome)
+          t.begins;
+    }
 refused_begins (b ∷ word) date s o before after e t = absurd (no_bytes b word e)
 
 -- nothing is opened
@@ -157,7 +178,8 @@ none_told (fault.Read name) writing P cause = tt
 none_told fault.Messages writing P cause = tt
 none_told (fault.Story n) writing P cause = absurd cause
 
-pub more_caused : (fault : Fault) (writing : Type 0) (P : List ℕ → Type 0) (Q : ℕ → Type 0) → HasCause fault (λ name. ⊥) writing (λ n. ⊥) → HasCause fault P writing Q
+pub more_caused : (fault : Fault) (writing : Type 0) (P : List ℕ → Type 0) (Q : ℕ → Type 0) → HasCause fault (λ name. ⊥) writing (λ n. ⊥) →
+    HasCause fault P writing Q
 more_caused fault.Memory writing P Q cause = tt
 more_caused (fault.Read name) writing P Q cause = absurd cause
 more_caused fault.Messages writing P Q cause = cause
@@ -173,7 +195,8 @@ no_success : (r : Status) (P : Type 0) → r ≡ status.Errors → r ≡ status.
 no_success r P is success = let never : status.Errors ≡ status.Success = sym is ∙ success in cc
 
 -- it is no success
-pub none_clean : (r : Result Status Fault) (writing A : Type 0) → IfOk r (λ s. s ≡ status.Errors) → IfErr r (λ fault. HasCause fault (λ name. ⊥) writing (λ n. ⊥))
+pub none_clean : (r : Result Status Fault) (writing A : Type 0) → IfOk r (λ s. s ≡ status.Errors) →
+    IfErr r (λ fault. HasCause fault (λ name. ⊥) writing (λ n. ⊥))
     → MatchResult r (λ s. s ≡ status.Success → A) (λ fault. IfStory fault (λ n. A))
 none_clean (Ok s) writing A is cause = λ success. no_success s A is success
 none_clean (Err fault) writing A is cause = none_told fault writing (λ n. A) cause

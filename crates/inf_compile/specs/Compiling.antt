@@ -14,7 +14,8 @@ use Rattle.inf_session.specs.declared.compiled.Status.{Status}
 
 -- what the words of a command choose of the reading
 abbrev pub chosen_by : Choice → Choices
-chosen_by c = record { set = c.letters.set; has_warnings = c.letters.has_warnings; settings = c.settings; directories = directories_of c.path }
+chosen_by c =
+    record { set = c.letters.set; has_warnings = c.letters.has_warnings; settings = c.settings; directories = directories_of c.path }
 
 -- An empty word names no file: with it no source is there.
 abbrev pub no_sources : Sources
@@ -44,7 +45,8 @@ OnlyStory fault.Memory P = ⊥
 OnlyStory (fault.Read name) P = ⊥
 OnlyStory fault.Messages P = ⊥
 
--- a fault of reading, with the name that it tells, one of writing messages, and one of the story, with the bytes that were written, have their causes
+-- a fault of reading, with the name that it tells, one of writing messages, and one of the story, with the bytes that were written, have
+-- their causes
 abbrev pub HasCause : Fault → (List ℕ → Type 0) → Type 0 → (ℕ → Type 0) → Type 0
 HasCause fault.Memory reading writing telling = Unit {0}
 HasCause (fault.Read name) reading writing telling = reading (string_bytes name)
@@ -52,7 +54,8 @@ HasCause fault.Messages reading writing telling = writing
 HasCause (fault.Story n) reading writing telling = telling n
 
 -- Status, messages and story are those of the outcome of the main source of a name: both sinks took just these bytes.
-pub record Compiles (sources : Sources) (o : Choices) (serial name : List ℕ) (status : Status) (messages_old messages_new story_old story_new : Option (List ℕ)) : Type 0 where
+pub record Compiles (sources : Sources) (o : Choices) (serial name : List ℕ) (status : Status)
+    (messages_old messages_new story_old story_new : Option (List ℕ)) : Type 0 where
   pub ending : Outcome
   pub is_outcome : IsOutcome sources o serial name ending
   pub status_is : status ≡ ending.status
@@ -60,7 +63,8 @@ pub record Compiles (sources : Sources) (o : Choices) (serial name : List ℕ) (
   pub story : TakesStory ending.story story_old story_new
 
 -- All messages of the outcome were taken, and the first n bytes of its story, which has more.
-pub record DeliversPart (sources : Sources) (o : Choices) (serial name : List ℕ) (n : ℕ) (messages_old messages_new story_old story_new : Option (List ℕ)) : Type 0 where
+pub record DeliversPart (sources : Sources) (o : Choices) (serial name : List ℕ) (n : ℕ)
+    (messages_old messages_new story_old story_new : Option (List ℕ)) : Type 0 where
   pub ending : Outcome
   pub is_outcome : IsOutcome sources o serial name ending
   pub messages : Takes messages_old messages_new ending.messages

@@ -47,14 +47,18 @@ fn compile_named<F: Files, M: Sink, S: Sink>(
         (M.taken messages.old) (M.taken messages.new) (S.taken story.old) (S.taken story.new)) }
     ensures once { let name = source_name options.now.source in
         IsTrue (F.is_honest files.old) → OnOk result
-        (OpenedBy (F.sources files.old name) (F.sources files.old) (chosen_by options.now) name (F.openings files.old) (F.openings files.new)) }
+        (OpenedBy (F.sources files.old name) (F.sources files.old) (chosen_by options.now) name (F.openings files.old)
+        (F.openings files.new)) }
     ensures opened { IsTrue (F.is_honest files.old) → OnErr result
-        (OpenedPart (F.sources files.old) (chosen_by options.now) (source_name options.now.source) (F.openings files.old) (F.openings files.new)) }
+        (OpenedPart (F.sources files.old) (chosen_by options.now) (source_name options.now.source) (F.openings files.old)
+        (F.openings files.new)) }
     ensures begins { IsTrue (F.is_honest files.old) → OnErr result
-        (Begins (F.sources files.old) (chosen_by options.now) date (source_name options.now.source) (M.taken messages.old) (M.taken messages.new)) }
+        (Begins (F.sources files.old) (chosen_by options.now) date (source_name options.now.source) (M.taken messages.old)
+        (M.taken messages.new)) }
     ensures heard { let name = source_name options.now.source in
         IsTrue (F.is_honest files.old) → IfErr result (λ fault. IfRead fault (λ told. Heard (Rose (F.faults files.old) (F.faults files.new))
-        (F.sources files.old) (chosen_by options.now) name (F.openings files.old) (F.openings files.new) (M.taken messages.old) (M.taken messages.new) told)) }
+        (F.sources files.old) (chosen_by options.now) name (F.openings files.old) (F.openings files.new) (M.taken messages.old)
+        (M.taken messages.new) told)) }
     ensures depth { F.depth files.new ≡ F.depth files.old }
     ensures errors { result ≡ Ok Status.Errors → S.taken story.new ≡ S.taken story.old }
     ensures clean { MatchResult result (λ status. status ≡ Status.Success → EndsClean (M.taken messages.old) (M.taken messages.new))
@@ -81,7 +85,8 @@ fn compile_named<F: Files, M: Sink, S: Sink>(
 
 /// Tells that an empty word names no file.
 fn refuse<M: Sink>(alloc: Global, messages: &mut M) -> Result<Status, Fault>
-    ensures ok { IfOk result (λ status. (status ≡ Status.Errors) × Takes (M.taken messages.old) (M.taken messages.new) (missing (codes ".inf")).messages) }
+    ensures ok { IfOk result (λ status. (status ≡ Status.Errors) × Takes (M.taken messages.old) (M.taken messages.new)
+        (missing (codes ".inf")).messages) }
     ensures err { OnErr result (TakesFront (missing (codes ".inf")).messages (M.taken messages.old) (M.taken messages.new)) }
     ensures fault { IfErr result (λ fault. HasCause fault (λ name. ⊥) (Rose (M.failures messages.old) (M.failures messages.new)) (λ n. ⊥)) }
 {
@@ -94,7 +99,8 @@ fn refuse<M: Sink>(alloc: Global, messages: &mut M) -> Result<Status, Fault>
 /// the story where no error was found.
 ///
 /// `date` is the story's serial number, six ASCII digits. The source's name is the word for it,
-/// with `.inf` where its last part has no extension; a name that is not there is a fatal message, and so is an empty word, for which nothing is
+/// with `.inf` where its last part has no extension; a name that is not there is a fatal message, and so is an empty word, for which
+/// nothing is
 /// opened. Included files are
 /// looked for in the directories of the options. `Status` tells whether an error is among the messages.
 ///
@@ -118,21 +124,25 @@ pub fn compile<F: Files, M: Sink, S: Sink>(
     // The openings are then those of the reading, in its order, each once, and all were closed again.
     ensures once { let name = source_name options.now.source in
         IsTrue (F.is_honest files.old) → OnOk result
-        (OpenedBy (named_by options.now.source (F.sources files.old) name) (named_by options.now.source (F.sources files.old)) (chosen_by options.now) name (F.openings files.old) (F.openings files.new)) }
+        (OpenedBy (named_by options.now.source (F.sources files.old) name) (named_by options.now.source (F.sources files.old))
+        (chosen_by options.now) name (F.openings files.old) (F.openings files.new)) }
 
     // Where a fault is answered they are those of the reading up to some turn.
     ensures opened { IsTrue (F.is_honest files.old) → OnErr result
-        (OpenedPart (named_by options.now.source (F.sources files.old)) (chosen_by options.now) (source_name options.now.source) (F.openings files.old) (F.openings files.new)) }
+        (OpenedPart (named_by options.now.source (F.sources files.old)) (chosen_by options.now) (source_name options.now.source)
+        (F.openings files.old) (F.openings files.new)) }
 
     // Where a fault is answered, a front of the outcome's messages was written.
     ensures begins { IsTrue (F.is_honest files.old) → OnErr result
-        (Begins (named_by options.now.source (F.sources files.old)) (chosen_by options.now) date (source_name options.now.source) (M.taken messages.old) (M.taken messages.new)) }
+        (Begins (named_by options.now.source (F.sources files.old)) (chosen_by options.now) date (source_name options.now.source)
+        (M.taken messages.old) (M.taken messages.new)) }
 
     // After a fault of reading it is all that comes with the tokens that were read, of some number of turns from the start, and behind them
     // there is a cause: the device failed, the innermost file is too long, or its inclusion names one file too many.
     ensures heard { let name = source_name options.now.source in
         IsTrue (F.is_honest files.old) → IfErr result (λ fault. IfRead fault (λ told. Heard (Rose (F.faults files.old) (F.faults files.new))
-        (named_by options.now.source (F.sources files.old)) (chosen_by options.now) name (F.openings files.old) (F.openings files.new) (M.taken messages.old) (M.taken messages.new) told)) }
+        (named_by options.now.source (F.sources files.old)) (chosen_by options.now) name (F.openings files.old) (F.openings files.new)
+        (M.taken messages.old) (M.taken messages.new) told)) }
 
     // With any reader nothing is left open, no story comes with an error, and where a story came, whole or in part, the messages that were
     // written end with the line that tells of no error.

@@ -28,13 +28,15 @@ by_key : (spelling : List ℕ) (ws : List (List ℕ)) → place_in spelling ws �
 by_key spelling [] = refl
 by_key spelling (w ∷ ws) = ap (λ n. cond (bytes_eq (folded spelling) (folded w)) 0 (1 + n)) (by_key spelling ws)
 
-same_place : (spelling other : List ℕ) → str_eq_ignore_ascii_case spelling other ≡ true → place_in spelling words ≡ place_by (folded other) words
+same_place : (spelling other : List ℕ) → str_eq_ignore_ascii_case spelling other ≡ true →
+    place_in spelling words ≡ place_by (folded other) words
 same_place spelling other e = by_key spelling words ∙ ap (λ key. place_by key words) (same_names spelling other e)
 
 -- which word it is
 abbrev first_of_six : (a b c d e f : Bool) → Option ConditionalWord
 first_of_six a b c d e f =
-    cond a (Some word.Ifdef) (cond b (Some word.Ifndef) (cond c (Some word.Iftrue) (cond d (Some word.Iffalse) (cond e (Some word.Ifnot) (cond f (Some word.Endif) None)))))
+    cond a (Some word.Ifdef) (cond b (Some word.Ifndef) (cond c (Some word.Iftrue) (cond d (Some word.Iffalse)
+    (cond e (Some word.Ifnot) (cond f (Some word.Endif) None)))))
 
 is_iftrue : (a b c d e f : Bool) → first_of_six a b c d e f ≡ Some word.Iftrue → c ≡ true
 is_iftrue true b c d e f is = cc
@@ -65,15 +67,18 @@ iffalse_fits : fits grammar known (first_word + 0 + place_by (folded (codes "iff
 unfolding grammar known
 iffalse_fits = refl
 
-fits_so : (wanted : Bool) (k : TokenKind) (bytes : List ℕ) (place : Place) → word_of (record { kind = k; bytes = bytes; place = place }) ≡ Some (asking wanted)
+fits_so : (wanted : Bool) (k : TokenKind) (bytes : List ℕ) (place : Place) →
+    word_of (record { kind = k; bytes = bytes; place = place }) ≡ Some (asking wanted)
     → fits grammar known (atom_of (record { kind = k; bytes = bytes; place = place })) condition_begun.stack ≡ true
 fits_so true kind.Name bytes place is =
     let spelled = is_spelled bytes in
-    let same = is_iftrue (spelled (codes "ifdef")) (spelled (codes "ifndef")) (spelled (codes "iftrue")) (spelled (codes "iffalse")) (spelled (codes "ifnot")) (spelled (codes "endif")) is in
+    let same = is_iftrue (spelled (codes "ifdef")) (spelled (codes "ifndef")) (spelled (codes "iftrue")) (spelled (codes "iffalse"))
+    (spelled (codes "ifnot")) (spelled (codes "endif")) is in
     ap (λ n. fits grammar known (first_word + 0 + n) condition_begun.stack) (same_place bytes (codes "iftrue") same) ∙ iftrue_fits
 fits_so false kind.Name bytes place is =
     let spelled = is_spelled bytes in
-    let same = is_iffalse (spelled (codes "ifdef")) (spelled (codes "ifndef")) (spelled (codes "iftrue")) (spelled (codes "iffalse")) (spelled (codes "ifnot")) (spelled (codes "endif")) is in
+    let same = is_iffalse (spelled (codes "ifdef")) (spelled (codes "ifndef")) (spelled (codes "iftrue")) (spelled (codes "iffalse"))
+    (spelled (codes "ifnot")) (spelled (codes "endif")) is in
     ap (λ n. fits grammar known (first_word + 0 + n) condition_begun.stack) (same_place bytes (codes "iffalse") same) ∙ iffalse_fits
 fits_so wanted (kind.Number n) bytes place is = cc
 fits_so wanted kind.Text bytes place is = cc
@@ -84,5 +89,6 @@ fits_so wanted (kind.Bad x) bytes place is = cc
 fits_so wanted kind.End bytes place is = cc
 
 -- wherever its directive begins
-pub asking_fits : (wanted : Bool) (t : SourceToken) (place : Place) → word_of t ≡ Some (asking wanted) → fits grammar known (atom_of (record t { place = place })) condition_begun.stack ≡ true
+pub asking_fits : (wanted : Bool) (t : SourceToken) (place : Place) → word_of t ≡ Some (asking wanted) →
+    fits grammar known (atom_of (record t { place = place })) condition_begun.stack ≡ true
 asking_fits wanted t place is = fits_so wanted t.kind t.bytes place is

@@ -68,7 +68,8 @@ never : (b : Bool) → b && false ≡ true → ⊥
 never true e = cc
 never false e = cc
 
-acted : (w : ConditionalWord) (second : Bool) (level : ℕ) (c : Conditions) → ends_side second level (Some w) ≡ true → sides (ended_by w c) ≡ sides_behind w (sides c)
+acted : (w : ConditionalWord) (second : Bool) (level : ℕ) (c : Conditions) → ends_side second level (Some w) ≡ true →
+    sides (ended_by w c) ≡ sides_behind w (sides c)
 acted word.Endif second level c e = closed_sides c
 acted word.Ifnot second level c e = turned_sides c
 acted word.Ifdef second level c e = absurd (never (level == 0) e)
@@ -98,9 +99,13 @@ words_end_sides site out t w c side left_out going is ends =
     let now = awaiting place false (awaits.End effect.Nothing) (record (ended_by w c) { left_out = None; sign = None }) in
     let same : judged site out t c ≡ passed now =
     ap (λ (o : Option LeftOut). judged_by o c.sign site out t c) left_out
-    ∙ ap (λ (b : Bool). cond b (offered false site.is_quiet out t (record c { left_out = None; sign = None })) (passed (passed_by (word_of t) t side c))) going
+    ∙ ap (λ (b : Bool). cond b (offered false site.is_quiet out t (record c { left_out = None; sign = None }))
+    (passed (passed_by (word_of t) t side c))) going
     ∙ ap (λ (o : Option ConditionalWord). passed (passed_by o t side c)) is
-    ∙ ap (λ (b : Bool). passed (cond b now (record c { left_out = Some (record side { levels = levels_behind w side.levels }); sign = None }))) (ends_as w side.levels (is_second (latest c)) true ends) in
+    ∙ ap (λ (b : Bool). passed (cond b now (record c {
+      left_out = Some (record side { levels = levels_behind w side.levels });
+      sign = None;
+    }))) (ends_as w side.levels (is_second (latest c)) true ends) in
     record {
       is_cut = ap (λ (b : Behind). b.judged) same;
       kept_on = ap (λ (b : Behind). b.now.left_out) same;
@@ -126,7 +131,8 @@ semicolons_end_them site out t place others c all_kept no_sign is_read no_hash l
 abbrev at_sign : Option Place → Conditions → Conditions
 at_sign sign c = record c { left_out = None; sign = sign }
 
-hash_step : (site : Site) (out : Out) (t : SourceToken) (c : Conditions) → site.is_between && is_none_pending c.pending ≡ false → is_mark mark.Hash t.kind ≡ true
+hash_step : (site : Site) (out : Out) (t : SourceToken) (c : Conditions) → site.is_between && is_none_pending c.pending ≡ false →
+    is_mark mark.Hash t.kind ≡ true
     → judged site out t (at_sign None c) ≡ passed (at_sign (Some t.place) c)
 hash_step site out t c inside hash =
     let here = at_sign None c in
@@ -134,13 +140,15 @@ hash_step site out t c inside hash =
     ap (λ b. cond b (passed (held front t.place here)) (offered_to c.pending front site.is_quiet out t here)) hash
     ∙ ap (λ b. passed (held b t.place here)) inside
 
-word_step : (flag : Bool) (site : Site) (out : Out) (w : SourceToken) (o : ConditionalWord) (sign : Place) (c : Conditions) → word_of w ≡ Some o → awaits_of o ≡ awaits.Name flag
+word_step : (flag : Bool) (site : Site) (out : Out) (w : SourceToken) (o : ConditionalWord) (sign : Place) (c : Conditions) →
+    word_of w ≡ Some o → awaits_of o ≡ awaits.Name flag
     → judged site out w (at_sign (Some sign) c) ≡ passed (awaiting sign true (awaits.Name flag) (at_sign None c))
 word_step flag site out w o sign c is awaits =
     ap (λ (x : Option ConditionalWord). behind_sign x sign site.is_quiet out w (at_sign (Some sign) c)) is
     ∙ ap (λ (a : Awaits). begun_by a (record w { place = sign }) true (at_sign None c)) awaits
 
-end_step : (k : Bool) (site : Site) (out : Out) (t : SourceToken) (p : Pending) (c : Conditions) → is_mark mark.Hash t.kind ≡ false → is_mark mark.Semicolon t.kind ≡ true
+end_step : (k : Bool) (site : Site) (out : Out) (t : SourceToken) (p : Pending) (c : Conditions) → is_mark mark.Hash t.kind ≡ false →
+    is_mark mark.Semicolon t.kind ≡ true
     → judged site out t (record (at_sign None c) { pending = record p { awaits = awaits.End (effect.Opens k) } ∷ c.pending })
     ≡ effected (effect.Opens k) site.is_quiet (record p { awaits = awaits.End (effect.Opens k) }) (at_sign None c)
 end_step k site out t p c no_hash is =
@@ -153,7 +161,8 @@ first_side : (flag : Bool) (o : ConditionalWord) → awaits_of o ≡ awaits.Name
 first_side flag o waits zeroth first second third out hash w end name place c at is_hash is semicolon no_hash =
     let here = at_sign None c in
     let sign = hash.place in
-    let cleared : here ≡ c = ap (λ l. record c { left_out = l; sign = None }) (sym at.all_kept) ∙ ap (λ s. record c { sign = s }) (sym at.no_sign) in
+    let cleared : here ≡ c =
+    ap (λ l. record c { left_out = l; sign = None }) (sym at.all_kept) ∙ ap (λ s. record c { sign = s }) (sym at.no_sign) in
     let kept_so = is_kept flag out c.declared name in
     let p : Pending = record { place = sign; is_inner = true; awaits = awaits.Name flag } in
     let q : Pending = record p { awaits = awaits.End (effect.Opens kept_so) } in
@@ -171,12 +180,19 @@ first_side flag o waits zeroth first second third out hash w end name place c at
     ap (behind_all (directive first second third out w name place end)) a_now
     ∙ ap (behind_all (name_token ∷ Token third out end ∷ [])) b_now
     ∙ ap (λ (x : Behind). x.now) d in
-    let of_end : NoneHandedOn (Token third out end ∷ []) after_name = ((ap (λ (x : Behind). x.judged.sign) d, ap (λ (x : Behind). x.judged.token) d), tt) in
+    let of_end : NoneHandedOn (Token third out end ∷ []) after_name =
+    ((ap (λ (x : Behind). x.judged.sign) d, ap (λ (x : Behind). x.judged.token) d), tt) in
     let of_name : NoneHandedOn (name_token ∷ Token third out end ∷ []) after_word = ((refl, refl), of_end) in
-    let of_word : NoneHandedOn (directive first second third out w name place end) after_sign =
-    ((ap (λ (x : Behind). x.judged.sign) b, ap (λ (x : Behind). x.judged.token) b), subst (NoneHandedOn (name_token ∷ Token third out end ∷ [])) (sym b_now) of_name) in
-    let of_all : NoneHandedOn whole here =
-    ((ap (λ (x : Behind). x.judged.sign) a, ap (λ (x : Behind). x.judged.token) a), subst (NoneHandedOn (directive first second third out w name place end)) (sym a_now) of_word) in (
+    let of_word : NoneHandedOn (directive first second third out w name place end) after_sign = (
+      (ap (λ (x : Behind). x.judged.sign) b, ap (λ (x : Behind). x.judged.token) b),
+      subst
+          (NoneHandedOn (name_token ∷ Token third out end ∷ [])) (sym b_now) of_name,
+    ) in
+    let of_all : NoneHandedOn whole here = (
+      (ap (λ (x : Behind). x.judged.sign) a, ap (λ (x : Behind). x.judged.token) a),
+      subst
+          (NoneHandedOn (directive first second third out w name place end)) (sym a_now) of_word,
+    ) in (
       subst (NoneHandedOn whole) cleared of_all,
       record {
         inner = ap (λ (x : Conditions). (behind_all whole x).inner) (sym cleared) ∙ ap (λ (x : Conditions). x.inner) all;
@@ -192,9 +208,14 @@ second_sides_turn site out t p c at has_one =
     let read : Conditions = record c { pending = at.others } in
     let left : LeftOut = record { is_inner = not (is_none_open c.inner); levels = 0 } in
     let told : Option Place = cond site.is_quiet None (Some p.place) in
-    let same : judged site out t c ≡ record { now = record (turned read) { left_out = Some left }; judged = record none_handed { ended = told } } =
+    let same : judged site out t c ≡ record {
+      now = record (turned read) { left_out = Some left };
+      judged = record none_handed
+          { ended = told };
+    } =
     ended_is effect.Turns word.Ifnot site out t p c at refl
-    ∙ ap (λ b. let x = cond b (unmatched site.is_quiet p.place read) (passed (record (turned read) { left_out = Some left })) in record { now = x.now; judged = record x.judged { ended = told } })
+    ∙ ap (λ b. let x = cond b (unmatched site.is_quiet p.place read) (passed (record (turned read) { left_out = Some left })) in
+    record { now = x.now; judged = record x.judged { ended = told } })
     (second_is c.inner c.among ∙ has_one) in
     record {
       is_cut = ap (λ (b : Behind). b.judged) same;
@@ -203,4 +224,5 @@ second_sides_turn site out t p c at has_one =
     }
 
 pub inner_sides_agree : InnerSidesAgree
-inner_sides_agree = record { of_ifdef = first_side true word.Ifdef refl; of_ifndef = first_side false word.Ifndef refl; of_ifnot = second_sides_turn }
+inner_sides_agree =
+    record { of_ifdef = first_side true word.Ifdef refl; of_ifndef = first_side false word.Ifndef refl; of_ifnot = second_sides_turn }

@@ -46,7 +46,8 @@ use Rattle.inf_conditional_laws.proofs.Sides.{ends_as, inside as left_inside, si
 -- Tokens
 
 -- the word of a conditional is a name
-word_is_name : (k : TokenKind) (bytes : List ℕ) (place : Place) (w : ConditionalWord) → word_of (record { kind = k; bytes = bytes; place = place }) ≡ Some w → k ≡ kind.Name
+word_is_name : (k : TokenKind) (bytes : List ℕ) (place : Place) (w : ConditionalWord) →
+    word_of (record { kind = k; bytes = bytes; place = place }) ≡ Some w → k ≡ kind.Name
 word_is_name kind.Name bytes place w e = refl
 word_is_name (kind.Number n) bytes place w e = cc
 word_is_name kind.Text bytes place w e = cc
@@ -60,7 +61,8 @@ is_name : (t : SourceToken) (w : ConditionalWord) → word_of t ≡ Some w → t
 is_name t w e = word_is_name t.kind t.bytes t.place w e
 
 -- a mark is none, and is not the end
-mark_word : (k : TokenKind) (bytes : List ℕ) (place : Place) → (k ≡ kind.Name → ⊥) → word_of (record { kind = k; bytes = bytes; place = place }) ≡ None
+mark_word : (k : TokenKind) (bytes : List ℕ) (place : Place) → (k ≡ kind.Name → ⊥) →
+    word_of (record { kind = k; bytes = bytes; place = place }) ≡ None
 mark_word kind.Name bytes place other = absurd (other refl)
 mark_word (kind.Number n) bytes place other = refl
 mark_word kind.Text bytes place other = refl
@@ -98,7 +100,8 @@ hash_end kind.End e = cc
 
 -- semicolons and names are plain
 semicolon_plain : (is_kept is_within : Bool) (t : At) → IsSemicolon t → IsPlain is_kept is_within t
-semicolon_plain is_kept is_within t is = record { no_word = λ _. semicolon_word t.token is.is; no_hash = is.no_hash; goes_on = semicolon_end t.token.kind is.is }
+semicolon_plain is_kept is_within t is =
+    record { no_word = λ _. semicolon_word t.token is.is; no_hash = is.no_hash; goes_on = semicolon_end t.token.kind is.is }
 
 name_plain : (is_within : Bool) (t : At) → t.token.kind ≡ kind.Name → word_of t.token ≡ None → IsPlain false is_within t
 name_plain is_within t is none = record { no_word = λ _. none; no_hash = ap (is_mark mark.Hash) is; goes_on = ap is_end is }
@@ -107,7 +110,8 @@ name_plain is_within t is none = record { no_word = λ _. none; no_hash = ap (is
 
 -- where a `#` may be held back
 abbrev pub state : Conditions → Option Place → List Conditional → List Conditional → Option LeftOut → ℕ → Conditions
-state c sign inner among left declared = record c { among = among; inner = inner; left_out = left; sign = sign; declared = declared; said = None }
+state c sign inner among left declared =
+    record c { among = among; inner = inner; left_out = left; sign = sign; declared = declared; said = None }
 
 -- between two parts
 abbrev pub at : Conditions → List Conditional → List Conditional → Option LeftOut → ℕ → Conditions
@@ -136,73 +140,91 @@ pub plain_kept : (t : At) (c : Conditions) (inner among : List Conditional) (dec
 plain_kept t c inner among declared none is =
     let here = at c inner among None declared in
     let front = is_front t c in
-    ap (λ (b : Bool). cond b (passed (held front t.token.place here)) (offered_to c.pending front t.site.is_quiet t.out t.token here)) is.no_hash
+    ap (λ (b : Bool). cond b (passed (held front t.token.place here)) (offered_to c.pending front t.site.is_quiet t.out t.token here))
+    is.no_hash
     ∙ ap (λ ps. offered_to ps (t.site.is_between && is_none_pending ps) t.site.is_quiet t.out t.token here) none
     ∙ go t.site.is_between refl
   where
-    go : (b : Bool) → t.site.is_between ≡ b → cond (b && true) (at_front (word_of t.token) t.token (at c inner among None declared)) (kept (at c inner among None declared)) ≡ kept (at c inner among None declared)
+    go : (b : Bool) → t.site.is_between ≡ b → cond (b && true) (at_front (word_of t.token) t.token (at c inner among None declared))
+        (kept (at c inner among None declared)) ≡ kept (at c inner among None declared)
     go true e = ap (λ o. at_front o t.token (at c inner among None declared)) (is.no_word e)
     go false e = refl
 
 -- a `#` between directives, and inside one
-pub sign_kept : (t : At) (c : Conditions) (inner among : List Conditional) (declared : ℕ) → is_front t c ≡ true → is_mark mark.Hash t.token.kind ≡ true
+pub sign_kept : (t : At) (c : Conditions) (inner among : List Conditional) (declared : ℕ) → is_front t c ≡ true →
+    is_mark mark.Hash t.token.kind ≡ true
     → judged_at t (at c inner among None declared) ≡ passed (reading false t.token.place awaits.Word c inner among declared)
 sign_kept t c inner among declared front hash =
     let here = at c inner among None declared in
-    ap (λ (b : Bool). cond b (passed (held (is_front t c) t.token.place here)) (offered_to c.pending (is_front t c) t.site.is_quiet t.out t.token here)) hash
+    ap (λ (b : Bool). cond b (passed (held (is_front t c) t.token.place here))
+    (offered_to c.pending (is_front t c) t.site.is_quiet t.out t.token here)) hash
     ∙ ap (λ (b : Bool). passed (held b t.token.place here)) front
 
-pub sign_inner : (t : At) (c : Conditions) (inner among : List Conditional) (declared : ℕ) → is_front t c ≡ false → is_mark mark.Hash t.token.kind ≡ true
+pub sign_inner : (t : At) (c : Conditions) (inner among : List Conditional) (declared : ℕ) → is_front t c ≡ false →
+    is_mark mark.Hash t.token.kind ≡ true
     → judged_at t (at c inner among None declared) ≡ passed (state c (Some t.token.place) inner among None declared)
 sign_inner t c inner among declared front hash =
     let here = at c inner among None declared in
-    ap (λ (b : Bool). cond b (passed (held (is_front t c) t.token.place here)) (offered_to c.pending (is_front t c) t.site.is_quiet t.out t.token here)) hash
+    ap (λ (b : Bool). cond b (passed (held (is_front t c) t.token.place here))
+    (offered_to c.pending (is_front t c) t.site.is_quiet t.out t.token here)) hash
     ∙ ap (λ (b : Bool). passed (held b t.token.place here)) front
 
 -- a word alone, behind a `#` between directives, and inside one
-word_kept : (w : ConditionalWord) (t : At) (c : Conditions) (inner among : List Conditional) (declared : ℕ) → c.pending ≡ [] → t.site.is_between ≡ true → word_of t.token ≡ Some w
+word_kept : (w : ConditionalWord) (t : At) (c : Conditions) (inner among : List Conditional) (declared : ℕ) → c.pending ≡ [] →
+    t.site.is_between ≡ true → word_of t.token ≡ Some w
     → judged_at t (at c inner among None declared) ≡ begun w t.token t.token.place false (at c inner among None declared)
 word_kept w t c inner among declared none between is =
     let here = at c inner among None declared in
-    ap (λ (k : TokenKind). cond (is_mark mark.Hash k) (passed (held (is_front t c) t.token.place here)) (offered_to c.pending (is_front t c) t.site.is_quiet t.out t.token here))
+    ap (λ (k : TokenKind). cond (is_mark mark.Hash k) (passed (held (is_front t c) t.token.place here))
+    (offered_to c.pending (is_front t c) t.site.is_quiet t.out t.token here))
     (is_name t.token w is)
     ∙ ap (λ ps. offered_to ps (t.site.is_between && is_none_pending ps) t.site.is_quiet t.out t.token here) none
     ∙ ap (λ (b : Bool). cond (b && true) (at_front (word_of t.token) t.token here) (kept here)) between
     ∙ ap (λ o. at_front o t.token here) is
 
-signed_kept : (w : ConditionalWord) (place : Place) (t : At) (c : Conditions) (inner among : List Conditional) (declared : ℕ) → word_of t.token ≡ Some w
+signed_kept : (w : ConditionalWord) (place : Place) (t : At) (c : Conditions) (inner among : List Conditional) (declared : ℕ) →
+    word_of t.token ≡ Some w
     → judged_at t (reading false place awaits.Word c inner among declared) ≡ begun w t.token place false (at c inner among None declared)
 signed_kept w place t c inner among declared is =
     let here = at c inner among None declared in
     let p = directive false place awaits.Word in
-    ap (λ (k : TokenKind). cond (is_mark mark.Hash k) (passed (held (t.site.is_between && false) t.token.place (reading false place awaits.Word c inner among declared)))
+    ap (λ (k : TokenKind). cond (is_mark mark.Hash k)
+    (passed (held (t.site.is_between && false) t.token.place (reading false place awaits.Word c inner among declared)))
     (behind_front (word_of t.token) t.token p here))
     (is_name t.token w is)
     ∙ ap (λ o. behind_front o t.token p here) is
 
-signed_inner : (w : ConditionalWord) (place : Place) (t : At) (c : Conditions) (inner among : List Conditional) (declared : ℕ) → word_of t.token ≡ Some w
+signed_inner : (w : ConditionalWord) (place : Place) (t : At) (c : Conditions) (inner among : List Conditional) (declared : ℕ) →
+    word_of t.token ≡ Some w
     → judged_at t (state c (Some place) inner among None declared) ≡ begun w t.token place true (at c inner among None declared)
-signed_inner w place t c inner among declared is = ap (λ o. behind_sign o place t.site.is_quiet t.out t.token (state c (Some place) inner among None declared)) is
+signed_inner w place t c inner among declared is =
+    ap (λ o. behind_sign o place t.site.is_quiet t.out t.token (state c (Some place) inner among None declared)) is
 
-pub begun_opening : (is_inner if_declared : Bool) (t : SourceToken) (place : Place) (c : Conditions) → begun (opening if_declared) t place is_inner c ≡ passed (awaiting place is_inner (awaits.Name if_declared) c)
+pub begun_opening : (is_inner if_declared : Bool) (t : SourceToken) (place : Place) (c : Conditions) →
+    begun (opening if_declared) t place is_inner c ≡ passed (awaiting place is_inner (awaits.Name if_declared) c)
 begun_opening is_inner true t place c = refl
 begun_opening is_inner false t place c = refl
 
-pub name_kept : (is_inner if_declared : Bool) (place : Place) (t : At) (c : Conditions) (inner among : List Conditional) (declared : ℕ) → t.token.kind ≡ kind.Name
+pub name_kept : (is_inner if_declared : Bool) (place : Place) (t : At) (c : Conditions) (inner among : List Conditional) (declared : ℕ) →
+    t.token.kind ≡ kind.Name
     → judged_at t (reading is_inner place (awaits.Name if_declared) c inner among declared)
     ≡ passed (reading is_inner place (awaits.End (effect.Opens (is_kept if_declared t.out declared t.token.bytes))) c inner among declared)
 name_kept is_inner if_declared place t c inner among declared is =
     let here = at c inner among None declared in
     let p = directive is_inner place (awaits.Name if_declared) in
-    ap (λ (k : TokenKind). cond (is_mark mark.Hash k) (passed (held (t.site.is_between && false) t.token.place (reading is_inner place (awaits.Name if_declared) c inner among declared)))
+    ap (λ (k : TokenKind). cond (is_mark mark.Hash k)
+    (passed (held (t.site.is_between && false) t.token.place (reading is_inner place (awaits.Name if_declared) c inner among declared)))
     (named k t.token.bytes if_declared t.out p here)) is
 
-end_kept : (e : Effect) (is_inner : Bool) (place : Place) (t : At) (c : Conditions) (inner among : List Conditional) (declared : ℕ) → IsSemicolon t
-    → judged_at t (reading is_inner place (awaits.End e) c inner among declared) ≡ effected e t.site.is_quiet (directive is_inner place (awaits.End e)) (at c inner among None declared)
+end_kept : (e : Effect) (is_inner : Bool) (place : Place) (t : At) (c : Conditions) (inner among : List Conditional) (declared : ℕ) →
+    IsSemicolon t
+    → judged_at t (reading is_inner place (awaits.End e) c inner among declared) ≡ effected e t.site.is_quiet
+    (directive is_inner place (awaits.End e)) (at c inner among None declared)
 end_kept e is_inner place t c inner among declared is =
     let here = at c inner among None declared in
     let p = directive is_inner place (awaits.End e) in
-    ap (λ (b : Bool). cond b (passed (held (t.site.is_between && false) t.token.place (reading is_inner place (awaits.End e) c inner among declared)))
+    ap (λ (b : Bool). cond b (passed (held (t.site.is_between && false) t.token.place
+    (reading is_inner place (awaits.End e) c inner among declared)))
     (cond (is_mark mark.Semicolon t.token.kind) (effected e t.site.is_quiet p here) (unfit here))) is.no_hash
     ∙ ap (λ (b : Bool). cond b (effected e t.site.is_quiet p here) (unfit here)) is.is
 
@@ -221,22 +243,26 @@ end_is_no_hash (kind.Bad x) e = cc
 pub end_word : (t : SourceToken) → is_end t.kind ≡ true → word_of t ≡ None
 end_word t e = mark_word t.kind t.bytes t.place (λ name. let never : true ≡ false = sym e ∙ ap is_end name in cc)
 
-pub end_kept_so : (front quiet : Bool) (o : Out) (t : SourceToken) (c : Conditions) → is_end t.kind ≡ true → c.pending ≡ [] → offered front quiet o t c ≡ kept c
+pub end_kept_so : (front quiet : Bool) (o : Out) (t : SourceToken) (c : Conditions) → is_end t.kind ≡ true → c.pending ≡ [] →
+    offered front quiet o t c ≡ kept c
 end_kept_so front quiet o t c is none =
     ap (λ (b : Bool). cond b (passed (held front t.place c)) (offered_to c.pending front quiet o t c)) (end_is_no_hash t.kind is)
     ∙ ap (λ ps. offered_to ps front quiet o t c) none
-    ∙ of_both (λ (b : Behind). b ≡ kept c) front (at_front (word_of t) t c) (kept c) (λ _. ap (λ w. at_front w t c) (end_word t is)) (λ _. refl)
+    ∙ of_both (λ (b : Behind). b ≡ kept c) front (at_front (word_of t) t c) (kept c) (λ _. ap (λ w. at_front w t c) (end_word t is))
+    (λ _. refl)
 
 end_stays : (t : At) (c : Conditions) → is_end t.token.kind ≡ true → c.pending ≡ [] → c.sign ≡ None
     → ((judged_at t c).now.among ≡ c.among) × ((judged_at t c).now.inner ≡ c.inner)
 end_stays t c is none no_sign = go c.left_out c.sign no_sign
   where
     go : (left : Option LeftOut) (sign : Option Place) → sign ≡ None
-        → ((judged_by left sign t.site t.out t.token c).now.among ≡ c.among) × ((judged_by left sign t.site t.out t.token c).now.inner ≡ c.inner)
+        → ((judged_by left sign t.site t.out t.token c).now.among ≡ c.among) ×
+        ((judged_by left sign t.site t.out t.token c).now.inner ≡ c.inner)
     go (Some side) sign e =
         let cleared = record c { left_out = None; sign = None } in
         let same =
-        ap (λ (b : Bool). cond b (offered false t.site.is_quiet t.out t.token cleared) (passed (passed_by (word_of t.token) t.token side c))) is
+        ap (λ (b : Bool). cond b (offered false t.site.is_quiet t.out t.token cleared)
+        (passed (passed_by (word_of t.token) t.token side c))) is
         ∙ end_kept_so false t.site.is_quiet t.out t.token cleared is none in
         (ap (λ (b : Behind). b.now.among) same, ap (λ (b : Behind). b.now.inner) same)
     go None None e =
@@ -252,56 +278,71 @@ side_at is_inner = record { is_inner = is_inner; levels = 0 }
 abbrev second : List Conditional → List Conditional → Bool
 second inner among = is_second (latest_among inner among)
 
-plain_left : (is_within : Bool) (t : At) (c : Conditions) (inner among : List Conditional) (b : Bool) (n declared : ℕ) → IsPlain false is_within t → n + 1 ≤ most_levels
+plain_left : (is_within : Bool) (t : At) (c : Conditions) (inner among : List Conditional) (b : Bool) (n declared : ℕ) →
+    IsPlain false is_within t → n + 1 ≤ most_levels
     → judged_at t (at c inner among (left_at b n) declared) ≡ passed (at c inner among (left_at b n) declared)
 plain_left is_within t c inner among b n declared is few =
     let base = at c inner among None declared in
-    token_is t.site t.out t.token base (side_at b) n None declared is.goes_on (ap (λ o. ends_side (second inner among) n o) (is.no_word refl)) few
+    token_is t.site t.out t.token base (side_at b) n None declared is.goes_on
+    (ap (λ o. ends_side (second inner among) n o) (is.no_word refl)) few
     ∙ ap (λ o. passed (left_inside base (side_at b) (level_behind o n) (sign_behind o t.token) declared)) (is.no_word refl)
     ∙ ap (λ h. passed (left_inside base (side_at b) n (cond h (Some t.token.place) None) declared)) is.no_hash
 
 -- behind a `#`
-signed_left : (t : At) (place : Place) (c : Conditions) (inner among : List Conditional) (b : Bool) (n declared : ℕ) → IsSignedPlain t → n + 1 ≤ most_levels
+signed_left : (t : At) (place : Place) (c : Conditions) (inner among : List Conditional) (b : Bool) (n declared : ℕ) → IsSignedPlain t →
+    n + 1 ≤ most_levels
     → judged_at t (state c (Some place) inner among (left_at b n) declared) ≡ passed (at c inner among (left_at b n) declared)
 signed_left t place c inner among b n declared is few =
     let base = at c inner among None declared in
-    token_is t.site t.out t.token base (side_at b) n (Some place) declared is.goes_on (ap (λ o. ends_side (second inner among) n o) is.no_word) few
+    token_is t.site t.out t.token base (side_at b) n (Some place) declared is.goes_on
+    (ap (λ o. ends_side (second inner among) n o) is.no_word) few
     ∙ ap (λ o. passed (left_inside base (side_at b) (level_behind o n) (sign_behind o t.token) declared)) is.no_word
     ∙ ap (λ h. passed (left_inside base (side_at b) n (cond h (Some t.token.place) None) declared)) is.no_hash
 
-pub sign_left : (t : At) (sign : Option Place) (c : Conditions) (inner among : List Conditional) (b : Bool) (n declared : ℕ) → is_mark mark.Hash t.token.kind ≡ true → n + 1 ≤ most_levels
-    → judged_at t (state c sign inner among (left_at b n) declared) ≡ passed (state c (Some t.token.place) inner among (left_at b n) declared)
+pub sign_left : (t : At) (sign : Option Place) (c : Conditions) (inner among : List Conditional) (b : Bool) (n declared : ℕ) →
+    is_mark mark.Hash t.token.kind ≡ true → n + 1 ≤ most_levels
+    → judged_at t (state c sign inner among (left_at b n) declared) ≡ passed
+    (state c (Some t.token.place) inner among (left_at b n) declared)
 sign_left t sign c inner among b n declared hash few =
     let base = at c inner among None declared in
     let none = hash_word t.token hash in
-    token_is t.site t.out t.token base (side_at b) n sign declared (hash_end t.token.kind hash) (ap (λ o. ends_side (second inner among) n o) none) few
+    token_is t.site t.out t.token base (side_at b) n sign declared (hash_end t.token.kind hash)
+    (ap (λ o. ends_side (second inner among) n o) none) few
     ∙ ap (λ o. passed (left_inside base (side_at b) (level_behind o n) (sign_behind o t.token) declared)) none
     ∙ ap (λ h. passed (left_inside base (side_at b) n (cond h (Some t.token.place) None) declared)) hash
 
 -- a word that ends no side
-word_left : (w : ConditionalWord) (t : At) (sign : Option Place) (c : Conditions) (inner among : List Conditional) (b : Bool) (n declared : ℕ) → word_of t.token ≡ Some w → n + 1 ≤ most_levels
+word_left : (w : ConditionalWord) (t : At) (sign : Option Place) (c : Conditions) (inner among : List Conditional) (b : Bool)
+    (n declared : ℕ) → word_of t.token ≡ Some w → n + 1 ≤ most_levels
     → ends_side (second inner among) n (Some w) ≡ false
-    → judged_at t (state c sign inner among (left_at b n) declared) ≡ passed (at c inner among (left_at b (level_behind (Some w) n)) declared)
+    → judged_at t (state c sign inner among (left_at b n) declared) ≡ passed
+    (at c inner among (left_at b (level_behind (Some w) n)) declared)
 word_left w t sign c inner among b n declared is few stays =
     let base = at c inner among None declared in
-    token_is t.site t.out t.token base (side_at b) n sign declared (ap is_end (is_name t.token w is)) (ap (λ o. ends_side (second inner among) n o) is ∙ stays) few
+    token_is t.site t.out t.token base (side_at b) n sign declared (ap is_end (is_name t.token w is))
+    (ap (λ o. ends_side (second inner among) n o) is ∙ stays) few
     ∙ ap (λ o. passed (left_inside base (side_at b) (level_behind o n) (sign_behind o t.token) declared)) is
 
 -- and one that does, behind which these conditionals are open
 abbrev Acted : ConditionalWord → Bool → Conditions → List Conditional → List Conditional → List Conditional → List Conditional → Type 0
 Acted w b c inner among inner_now among_now = (sign : Option Place) (declared : ℕ)
-    → record (ended_by w (state c sign inner among (left_at b 0) declared)) { left_out = None; sign = None } ≡ at c inner_now among_now None declared
+    → record (ended_by w (state c sign inner among (left_at b 0) declared)) { left_out = None; sign = None } ≡ at c inner_now among_now None
+    declared
 
-word_ends : (w : ConditionalWord) (t : At) (sign : Option Place) (c : Conditions) (inner among inner_now among_now : List Conditional) (b : Bool) (declared : ℕ) → word_of t.token ≡ Some w
+word_ends : (w : ConditionalWord) (t : At) (sign : Option Place) (c : Conditions) (inner among inner_now among_now : List Conditional)
+    (b : Bool) (declared : ℕ) → word_of t.token ≡ Some w
     → ends_side (second inner among) 0 (Some w) ≡ true → Acted w b c inner among inner_now among_now
-    → judged_at t (state c sign inner among (left_at b 0) declared) ≡ passed (reading false (unwrap_or sign t.token.place) (awaits.End effect.Nothing) c inner_now among_now declared)
+    → judged_at t (state c sign inner among (left_at b 0) declared) ≡ passed
+    (reading false (unwrap_or sign t.token.place) (awaits.End effect.Nothing) c inner_now among_now declared)
 word_ends w t sign c inner among inner_now among_now b declared is ends acted =
     let here = state c sign inner among (left_at b 0) declared in
     let place = unwrap_or sign t.token.place in
     let now = awaiting place false (awaits.End effect.Nothing) (record (ended_by w here) { left_out = None; sign = None }) in
-    ap (λ (x : Bool). cond x (offered false t.site.is_quiet t.out t.token (at c inner among None declared)) (passed (passed_by (word_of t.token) t.token (side_at b) here))) (ap is_end (is_name t.token w is))
+    ap (λ (x : Bool). cond x (offered false t.site.is_quiet t.out t.token (at c inner among None declared))
+    (passed (passed_by (word_of t.token) t.token (side_at b) here))) (ap is_end (is_name t.token w is))
     ∙ ap (λ o. passed (passed_by o t.token (side_at b) here)) is
-    ∙ ap (λ (x : Bool). passed (cond x now (record here { left_out = left_at b (levels_behind w 0); sign = None }))) (ends_as w 0 (second inner among) true ends)
+    ∙ ap (λ (x : Bool). passed (cond x now (record here { left_out = left_at b (levels_behind w 0); sign = None })))
+    (ends_as w 0 (second inner among) true ends)
     ∙ ap (λ (x : Conditions). passed (awaiting place false (awaits.End effect.Nothing) x)) (acted sign declared)
 
 -- The end of a directive in the midst of a part
@@ -309,7 +350,8 @@ word_ends w t sign c inner among inner_now among_now b declared is ends acted =
 abbrev Calm : Bool → List Conditional → Option LeftOut → Type 0
 Calm is_inner inner left = is_inner ≡ false → (inner ≡ []) × (side_kept left ≡ left)
 
-pub mid : (is_inner : Bool) (t : At) (c : Conditions) (sign : Option Place) (inner among : List Conditional) (left : Option LeftOut) (declared : ℕ) → GoesOn is_inner t → Calm is_inner inner left
+pub mid : (is_inner : Bool) (t : At) (c : Conditions) (sign : Option Place) (inner among : List Conditional) (left : Option LeftOut)
+    (declared : ℕ) → GoesOn is_inner t → Calm is_inner inner left
     → (ended_behind t.ended (state c sign inner among left declared) ≡ state c sign inner among left (declared_behind t declared))
     × (ended_places t.ended inner ≡ [])
 mid true t c sign inner among left declared goes calm = (
@@ -319,7 +361,8 @@ mid true t c sign inner among left declared goes calm = (
 )
 mid false t c sign inner among left declared goes calm = go t.ended
   where
-    go : (e : Option ℕ) → (ended_behind e (state c sign inner among left declared) ≡ state c sign inner among left (unwrap_or e declared)) × (ended_places e inner ≡ [])
+    go : (e : Option ℕ) → (ended_behind e (state c sign inner among left declared) ≡ state c sign inner among left (unwrap_or e declared)) ×
+        (ended_places e inner ≡ [])
     go None = (refl, refl)
     go (Some now) = (
       ap (λ x. state c sign [] among x now) (calm refl).1 ∙ ap (λ x. state c sign x among left now) (sym (calm refl).0),
@@ -330,7 +373,8 @@ mid false t c sign inner among left declared goes calm = go t.ended
 abbrev pub CalmLeft : Bool → List Conditional → Bool → Type 0
 CalmLeft is_inner inner b = is_inner ≡ false → (inner ≡ []) × (b ≡ false)
 
-pub calm_at : (is_inner : Bool) (inner : List Conditional) (b : Bool) (n : ℕ) → CalmLeft is_inner inner b → Calm is_inner inner (left_at b n)
+pub calm_at : (is_inner : Bool) (inner : List Conditional) (b : Bool) (n : ℕ) → CalmLeft is_inner inner b →
+    Calm is_inner inner (left_at b n)
 calm_at is_inner inner b n calm e = ((calm e).0, ap (λ x. cond x None (left_at b n)) (calm e).1)
 
 -- Facts of what is open
@@ -339,10 +383,12 @@ pub not_kept : (deep : List Open) (x : Open) (around : List Open) → x.stays �
 not_kept [] x around left = ap (λ b. b && are_kept around) left
 not_kept (y ∷ deep) x around left = ap (λ b. y.stays && b) (not_kept deep x around left) ∙ and-false y.stays
 
-pub both_kept : (inside between : List Open) → are_kept inside ≡ true → are_kept between ≡ true → all_kept (record { inside = inside; between = between }) ≡ true
+pub both_kept : (inside between : List Open) → are_kept inside ≡ true → are_kept between ≡ true →
+    all_kept (record { inside = inside; between = between }) ≡ true
 both_kept inside between si sb = ap (λ b. b && are_kept between) si ∙ sb
 
-pub inner_not_kept : (deep : List Open) (x : Open) (inside between : List Open) → x.stays ≡ false → all_kept (record { inside = deep ++ x ∷ inside; between = between }) ≡ false
+pub inner_not_kept : (deep : List Open) (x : Open) (inside between : List Open) → x.stays ≡ false →
+    all_kept (record { inside = deep ++ x ∷ inside; between = between }) ≡ false
 inner_not_kept deep x inside between left = ap (λ b. b && are_kept between) (not_kept deep x inside left)
 
 kept_head : (x : Open) (around : List Open) → are_kept (x ∷ around) ≡ true → (x.stays ≡ true) × (are_kept around ≡ true)
@@ -370,12 +416,15 @@ left_still x e left = ap (λ (o : Open). o.stays) (other_same x e) ∙ left
 left_turned : (x : Open) → x.is_second ≡ false → x.stays ≡ true → (other_side x).stays ≡ false
 left_turned x e stays = ap (λ (o : Open). o.stays) (other_is x e) ∙ ap not stays
 
-kept_turned : (x : Open) (around : List Open) → x.is_second ≡ false → x.stays ≡ false → are_kept around ≡ true → are_kept (other_side x ∷ around) ≡ true
-kept_turned x around e left stay = ap (λ (o : Open). o.stays && are_kept around) (other_is x e) ∙ ap (λ b. not b && are_kept around) left ∙ stay
+kept_turned : (x : Open) (around : List Open) → x.is_second ≡ false → x.stays ≡ false → are_kept around ≡ true →
+    are_kept (other_side x ∷ around) ≡ true
+kept_turned x around e left stay =
+    ap (λ (o : Open). o.stays && are_kept around) (other_is x e) ∙ ap (λ b. not b && are_kept around) left ∙ stay
 
 -- Lone ones
 
-lone_is : (w : ConditionalWord) (first : First) (end : At) (s : Around) (b : Bool) → all_kept s ≡ true → b ≡ is_lone w (seconds (s.inside ++ s.between))
+lone_is : (w : ConditionalWord) (first : First) (end : At) (s : Around) (b : Bool) → all_kept s ≡ true →
+    b ≡ is_lone w (seconds (s.inside ++ s.between))
     → lone_places (cond b (cond end.site.is_quiet None (Some (begins first))) None) ≡ lone_at w first end s
 lone_is w first end s b stay e = quiet_or end.site.is_quiet
   where
@@ -387,7 +436,8 @@ lone_is w first end s b stay e = quiet_or end.site.is_quiet
     told true = refl
     told false = refl
 
-    quiet_or : (q : Bool) → lone_places (cond b (cond q None (Some (begins first))) None) ≡ cond q [] (cond (all_kept s && is_lone w (seconds (s.inside ++ s.between))) (begins first ∷ []) [])
+    quiet_or : (q : Bool) → lone_places (cond b (cond q None (Some (begins first))) None) ≡ cond q []
+        (cond (all_kept s && is_lone w (seconds (s.inside ++ s.between))) (begins first ∷ []) [])
     quiet_or true = none b
     quiet_or false =
         told b
@@ -414,11 +464,13 @@ abbrev pub outer : List Open → List Open
 outer [] = []
 outer (x ∷ around) = cond (are_kept around) (x ∷ outer around) (outer around)
 
--- Of none of the conditionals that are open a side is left out, or of one that was opened inside a directive or between directives, and so many
+-- Of none of the conditionals that are open a side is left out, or of one that was opened inside a directive or between directives, and so
+-- many
 -- others are open in it.
 pub data Stands : Type 0 where
   AllStay : (inside between : List Open) → are_kept inside ≡ true → are_kept between ≡ true → Stands
-  InnerLeft : (deep : List Open) (x : Open) (inside between : List Open) → x.stays ≡ false → are_kept inside ≡ true → are_kept between ≡ true → Stands
+  InnerLeft : (deep : List Open) (x : Open) (inside between : List Open) → x.stays ≡ false → are_kept inside ≡ true →
+      are_kept between ≡ true → Stands
   OuterLeft : (deep : List Open) (x : Open) (between : List Open) → x.stays ≡ false → are_kept between ≡ true → Stands
 
 abbrev pub stack_of : Stands → Around
@@ -457,18 +509,22 @@ outer_kept (x ∷ around) stay =
     let kept_so = (kept_head x around stay).1 in
     ap (λ b. cond b (x ∷ outer around) (outer around)) kept_so ∙ ap (λ xs. x ∷ xs) (outer_kept around kept_so)
 
-outer_left : (deep : List Open) (x : Open) (around : List Open) → x.stays ≡ false → are_kept around ≡ true → outer (deep ++ x ∷ around) ≡ x ∷ around
+outer_left : (deep : List Open) (x : Open) (around : List Open) → x.stays ≡ false → are_kept around ≡ true →
+    outer (deep ++ x ∷ around) ≡ x ∷ around
 outer_left [] x around left stay = ap (λ b. cond b (x ∷ outer around) (outer around)) stay ∙ ap (λ xs. x ∷ xs) (outer_kept around stay)
 outer_left (y ∷ deep) x around left stay =
-    ap (λ b. cond b (y ∷ outer (deep ++ x ∷ around)) (outer (deep ++ x ∷ around))) (not_kept deep x around left) ∙ outer_left deep x around left stay
+    ap (λ b. cond b (y ∷ outer (deep ++ x ∷ around)) (outer (deep ++ x ∷ around))) (not_kept deep x around left)
+    ∙ outer_left deep x around left stay
 
 pub record AreOpen (last : Around) (inner among : List Conditional) : Type 0 where
   pub inside : inner ≡ conditionals (outer last.inside)
   pub between : among ≡ conditionals (outer last.between)
 
 pub are_open : (st : Stands) → AreOpen (stack_of st) (inner_of st) (among_of st)
-are_open (AllStay inside between si sb) = record { inside = sym (ap conditionals (outer_kept inside si)); between = sym (ap conditionals (outer_kept between sb)) }
-are_open (InnerLeft deep x inside between left si sb) = record { inside = sym (ap conditionals (outer_left deep x inside left si)); between = sym (ap conditionals (outer_kept between sb)) }
+are_open (AllStay inside between si sb) =
+    record { inside = sym (ap conditionals (outer_kept inside si)); between = sym (ap conditionals (outer_kept between sb)) }
+are_open (InnerLeft deep x inside between left si sb) =
+    record { inside = sym (ap conditionals (outer_left deep x inside left si)); between = sym (ap conditionals (outer_kept between sb)) }
 are_open (OuterLeft deep x between left sb) = record { inside = refl; between = sym (ap conditionals (outer_left deep x between left sb)) }
 
 pub unended_is : (around : List Open) → unended around ≡ map place_of (reverse (conditionals (outer around)))
@@ -478,7 +534,8 @@ unended_is (x ∷ around) = go (are_kept around) (unended_is around)
     rest : List Conditional
     rest = conditionals (outer around)
 
-    go : (b : Bool) → unended around ≡ map place_of (reverse rest) → unended around ++ cond b (x.place ∷ []) [] ≡ map place_of (reverse (conditionals (cond b (x ∷ outer around) (outer around))))
+    go : (b : Bool) → unended around ≡ map place_of (reverse rest) →
+        unended around ++ cond b (x.place ∷ []) [] ≡ map place_of (reverse (conditionals (cond b (x ∷ outer around) (outer around))))
     go true is =
         ap (λ ps. ps ++ x.place ∷ []) is
         ∙ sym (map-append place_of (reverse rest) (conditional_of x ∷ []))
@@ -537,17 +594,20 @@ abbrev pub TakesAll : Reader → List SourceToken → Type 0
 TakesAll r [] = Unit {0}
 TakesAll r (t ∷ tokens) = TakesOne r t × TakesAll (read_one t r) tokens
 
-takes_both : (first second : List SourceToken) (r : Reader) → TakesAll r (first ++ second) → TakesAll r first × TakesAll (read_on first r) second
+takes_both : (first second : List SourceToken) (r : Reader) → TakesAll r (first ++ second) →
+    TakesAll r first × TakesAll (read_on first r) second
 takes_both [] second r e = (tt, e)
 takes_both (t ∷ first) second r e = let both = takes_both first second (read_one t r) e.1 in ((e.0, both.0), both.1)
 
-handed_both : (first second : List SourceToken) (r : Reader) → handed_to r (first ++ second) ≡ handed_to r first ++ handed_to (read_on first r) second
+handed_both : (first second : List SourceToken) (r : Reader) →
+    handed_to r (first ++ second) ≡ handed_to r first ++ handed_to (read_on first r) second
 handed_both [] second r = refl
 handed_both (t ∷ first) second r =
     ap (λ hs. handed_one r t ++ hs) (handed_both first second (read_one t r))
     ∙ sym (append_assoc (handed_one r t) (handed_to (read_one t r) first) (handed_to (read_on first (read_one t r)) second))
 
-pub nothing_handed : (tokens : List SourceToken) (p : Pending) (others : List Pending) (ks : List Condition) → handed_to (Reads p others ks) tokens ≡ []
+pub nothing_handed : (tokens : List SourceToken) (p : Pending) (others : List Pending) (ks : List Condition) →
+    handed_to (Reads p others ks) tokens ≡ []
 nothing_handed [] p others ks = refl
 nothing_handed (t ∷ tokens) p others [] = nothing_handed tokens p others []
 nothing_handed (t ∷ tokens) p others (k ∷ ks) = nothing_handed tokens p others (condition_took t k ∷ ks)
@@ -574,17 +634,21 @@ within_same [] r = refl
 within_same (t ∷ tokens) r = within_same tokens (read_one t r) ∙ within_one t r
 
 -- a condition
-pub read_condition : (tokens : List SourceToken) (p : Pending) (others : List Pending) (k : Condition) (ks : List Condition) → read_on tokens (Reads p others (k ∷ ks)) ≡ Reads p others (condition_behind tokens k ∷ ks)
+pub read_condition : (tokens : List SourceToken) (p : Pending) (others : List Pending) (k : Condition) (ks : List Condition) →
+    read_on tokens (Reads p others (k ∷ ks)) ≡ Reads p others (condition_behind tokens k ∷ ks)
 read_condition [] p others k ks = refl
 read_condition (t ∷ tokens) p others k ks = read_condition tokens p others (condition_took t k) ks
 
-takes_condition : (tokens : List SourceToken) (end : At) (k : Condition) (is_inner wanted : Bool) (place : Place) (others : List Pending) (ks : List Condition) → AreTaken tokens end k
+takes_condition : (tokens : List SourceToken) (end : At) (k : Condition) (is_inner wanted : Bool) (place : Place) (others : List Pending)
+    (ks : List Condition) → AreTaken tokens end k
     → TakesAll (Reads (directive is_inner place (awaits.Condition wanted)) others (k ∷ ks)) tokens
 takes_condition [] end k is_inner wanted place others ks are = tt
-takes_condition (t ∷ tokens) end k is_inner wanted place others ks are = ((are.0, are.1.0), takes_condition tokens end (condition_took t k) is_inner wanted place others ks are.1.1)
+takes_condition (t ∷ tokens) end k is_inner wanted place others ks are =
+    ((are.0, are.1.0), takes_condition tokens end (condition_took t k) is_inner wanted place others ks are.1.1)
 
 last_taken : (tokens : List SourceToken) (end : At) (k : Condition) → AreTaken tokens end k
-    → (fits grammar known (atom_of end.token) (condition_behind tokens k).stack ≡ true) × (is_whole (condition_took end.token (condition_behind tokens k)) ≡ true)
+    → (fits grammar known (atom_of end.token) (condition_behind tokens k).stack ≡ true) ×
+    (is_whole (condition_took end.token (condition_behind tokens k)) ≡ true)
 last_taken [] end k are = are
 last_taken (t ∷ tokens) end k are = last_taken tokens end (condition_took t k) are.1.1
 
@@ -614,13 +678,16 @@ pub record Led (r : Reader) (all : List At) (c : Conditions) (tokens : List Sour
 
 -- One after the other
 
-pub hands_both : (first second : List At) (c : Conditions) → all_handed_on (first ++ second) c ≡ all_handed_on first c ++ all_handed_on second (all_behind first c)
+pub hands_both : (first second : List At) (c : Conditions) →
+    all_handed_on (first ++ second) c ≡ all_handed_on first c ++ all_handed_on second (all_behind first c)
 hands_both [] second c = refl
 hands_both (t ∷ first) second c =
     ap (λ hs. handed_on (judged_at t c).judged t.token ++ hs) (hands_both first second (going_on t c))
-    ∙ sym (append_assoc (handed_on (judged_at t c).judged t.token) (all_handed_on first (going_on t c)) (all_handed_on second (all_behind first (going_on t c))))
+    ∙ sym (append_assoc (handed_on (judged_at t c).judged t.token) (all_handed_on first (going_on t c))
+    (all_handed_on second (all_behind first (going_on t c))))
 
-pub tells_both : (first second : List At) (c : Conditions) → all_told (first ++ second) c ≡ all_told first c ++ all_told second (all_behind first c)
+pub tells_both : (first second : List At) (c : Conditions) →
+    all_told (first ++ second) c ≡ all_told first c ++ all_told second (all_behind first c)
 tells_both [] second c = refl
 tells_both (t ∷ first) second c =
     let alone = lone_places (judged_at t c).judged.unmatched in
@@ -634,7 +701,8 @@ pub behind_both : (first second : List At) (c : Conditions) → all_behind (firs
 behind_both [] second c = refl
 behind_both (t ∷ first) second c = behind_both first second (going_on t c)
 
-pub declared_both : (first second : List At) (declared : ℕ) → declared_tokens (first ++ second) declared ≡ declared_tokens second (declared_tokens first declared)
+pub declared_both : (first second : List At) (declared : ℕ) →
+    declared_tokens (first ++ second) declared ≡ declared_tokens second (declared_tokens first declared)
 declared_both [] second declared = refl
 declared_both (t ∷ first) second declared = declared_both first second (declared_behind t declared)
 
@@ -642,14 +710,18 @@ pub length_both : (first second : List At) → length (first ++ second) ≡ leng
 length_both [] second = omega arith
 length_both (t ∷ first) second = omega (arith, length_both first second)
 
-joined : (r : Reader) (first second : List At) (c : Conditions) (tokens more : List SourceToken) (places others : List Place) (between last : Last)
-    → Led r first c tokens places between → Led (read_on tokens r) second (all_behind first c) more others last → Led r (first ++ second) c (tokens ++ more) (places ++ others) last
+joined : (r : Reader) (first second : List At) (c : Conditions) (tokens more : List SourceToken) (places others : List Place)
+    (between last : Last)
+    → Led r first c tokens places between → Led (read_on tokens r) second (all_behind first c) more others last → Led r (first ++ second) c
+    (tokens ++ more) (places ++ others) last
 joined r first second c tokens more places others between last a b = record {
   hands =
-      hands_both first second c ∙ ap (λ hs. hs ++ all_handed_on second (all_behind first c)) a.hands ∙ ap (λ hs. handed_to r tokens ++ hs) b.hands
+      hands_both first second c ∙ ap (λ hs. hs ++ all_handed_on second (all_behind first c)) a.hands
+      ∙ ap (λ hs. handed_to r tokens ++ hs) b.hands
       ∙ sym (handed_both tokens more r);
   tells = tells_both first second c ∙ ap (λ ps. ps ++ all_told second (all_behind first c)) a.tells ∙ ap (λ ps. places ++ ps) b.tells;
-  ends = subst (λ (x : Conditions). StandsAt (read_on (tokens ++ more) r) last x) (sym (behind_both first second c)) (subst (λ (q : Reader). StandsAt q last (all_behind second (all_behind first c))) (sym (read_both tokens more r)) b.ends);
+  ends = subst (λ (x : Conditions). StandsAt (read_on (tokens ++ more) r) last x) (sym (behind_both first second c))
+      (subst (λ (q : Reader). StandsAt q last (all_behind second (all_behind first c))) (sym (read_both tokens more r)) b.ends);
 }
   where
     read_both : (first second : List SourceToken) (r : Reader) → read_on (first ++ second) r ≡ read_on second (read_on first r)
@@ -657,7 +729,8 @@ joined r first second c tokens more places others between last a b = record {
     read_both (t ∷ first) second r = read_both first second (read_one t r)
 
 -- what is told of more names and levels
-pub relaxed : (r : Reader) (all : List At) (c : Conditions) (tokens : List SourceToken) (places : List Place) (s : Around) (declared declared_so n m : ℕ) (w : List (List Conditional)) → declared ≡ declared_so → n ≤ m
+pub relaxed : (r : Reader) (all : List At) (c : Conditions) (tokens : List SourceToken) (places : List Place) (s : Around)
+    (declared declared_so n m : ℕ) (w : List (List Conditional)) → declared ≡ declared_so → n ≤ m
     → Led r all c tokens places (last_at s declared n w) → Led r all c tokens places (last_at s declared_so m w)
 relaxed r all c tokens places s declared declared_so n m w e few is =
     let at_end = is.ends in
@@ -681,38 +754,58 @@ relaxed r all c tokens places s declared declared_so n m w e few is =
 pub rests : (r : Reader) (c : Conditions) (last : Last) → StandsAt r last c → Led r [] c [] [] last
 rests r c last e = record { hands = refl; tells = refl; ends = e }
 
-pub passes : (r : Reader) (t : At) (all : List At) (c now next : Conditions) (tokens : List SourceToken) (missing places : List Place) (last : Last) → judged_at t c ≡ passed now → ended_behind t.ended (silent now) ≡ next
+pub passes : (r : Reader) (t : At) (all : List At) (c now next : Conditions) (tokens : List SourceToken) (missing places : List Place)
+    (last : Last) → judged_at t c ≡ passed now → ended_behind t.ended (silent now) ≡ next
     → ended_places t.ended now.inner ≡ missing → Led r all next tokens places last → Led r (t ∷ all) c tokens (missing ++ places) last
 passes r t all c now next tokens missing places last e to told rest = record {
   hands =
-      ap (λ (b : Behind). handed_on b.judged t.token ++ all_handed_on all (ended_behind t.ended (silent b.now))) e ∙ ap (all_handed_on all) to ∙ rest.hands;
+      ap (λ (b : Behind). handed_on b.judged t.token ++ all_handed_on all (ended_behind t.ended (silent b.now))) e
+      ∙ ap (all_handed_on all) to ∙ rest.hands;
   tells =
-      ap (λ (b : Behind). lone_places b.judged.unmatched ++ (ended_places t.ended b.now.inner ++ all_told all (ended_behind t.ended (silent b.now)))) e
-      ∙ ap (λ x. ended_places t.ended now.inner ++ all_told all x) to ∙ ap (λ ps. ps ++ all_told all next) told ∙ ap (λ ps. missing ++ ps) rest.tells;
-  ends = subst (λ (x : Conditions). StandsAt (read_on tokens r) last (all_behind all x)) (sym (ap (λ (b : Behind). ended_behind t.ended (silent b.now)) e ∙ to)) rest.ends;
+      ap (λ (b : Behind). lone_places b.judged.unmatched ++
+      (ended_places t.ended b.now.inner ++ all_told all (ended_behind t.ended (silent b.now)))) e
+      ∙ ap (λ x. ended_places t.ended now.inner ++ all_told all x) to ∙ ap (λ ps. ps ++ all_told all next) told
+      ∙ ap (λ ps. missing ++ ps) rest.tells;
+  ends = subst (λ (x : Conditions). StandsAt (read_on tokens r) last (all_behind all x))
+      (sym (ap (λ (b : Behind). ended_behind t.ended (silent b.now)) e ∙ to)) rest.ends;
 }
 
 -- in the midst of a directive
-pub goes_by : (r : Reader) (t : At) (all : List At) (c now next : Conditions) (tokens : List SourceToken) (places : List Place) (last : Last) → judged_at t c ≡ passed now
-    → (ended_behind t.ended (silent now) ≡ next) × (ended_places t.ended now.inner ≡ []) → Led r all next tokens places last → Led r (t ∷ all) c tokens places last
+pub goes_by : (r : Reader) (t : At) (all : List At) (c now next : Conditions) (tokens : List SourceToken) (places : List Place)
+    (last : Last) → judged_at t c ≡ passed now
+    → (ended_behind t.ended (silent now) ≡ next) × (ended_places t.ended now.inner ≡ []) → Led r all next tokens places last → Led r
+    (t ∷ all) c tokens places last
 goes_by r t all c now next tokens places last e both rest = passes r t all c now next tokens [] places last e both.0 both.1 rest
 
 -- one that is kept, alone or behind a `#`
-keeps : (t : At) (c : Conditions) (missing : List Place) (last : Last) → judged_at t c ≡ kept c → StandsAt Hands last (ended_behind t.ended (silent c)) → ended_places t.ended c.inner ≡ missing → Led Hands (t ∷ []) c (t.token ∷ []) missing last
+keeps : (t : At) (c : Conditions) (missing : List Place) (last : Last) → judged_at t c ≡ kept c →
+    StandsAt Hands last (ended_behind t.ended (silent c)) → ended_places t.ended c.inner ≡ missing →
+    Led Hands (t ∷ []) c (t.token ∷ []) missing last
 keeps t c missing last e rest told = record {
   hands = ap (λ (b : Behind). handed_on b.judged t.token ++ []) e;
-  tells = ap (λ (b : Behind). lone_places b.judged.unmatched ++ (ended_places t.ended b.now.inner ++ [])) e ∙ append-nil (ended_places t.ended c.inner) ∙ told;
+  tells =
+      ap (λ (b : Behind). lone_places b.judged.unmatched ++ (ended_places t.ended b.now.inner ++ [])) e
+      ∙ append-nil (ended_places t.ended c.inner) ∙ told;
   ends = subst (λ (x : Conditions). StandsAt Hands last x) (sym (ap (λ (b : Behind). ended_behind t.ended (silent b.now)) e)) rest;
 }
 
 abbrev both_kept_so : Place → Conditions → Behind
-both_kept_so place now = record { now = now; judged = record none_handed { sign = Some (record { place = place; handed = handed.Kept }); token = Some handed.Kept } }
+both_kept_so place now = record {
+  now = now;
+  judged = record none_handed {
+    sign = Some (record { place = place; handed = handed.Kept });
+    token = Some handed.Kept;
+  };
+}
 
 keeps_both : (t : At) (place : Place) (c now : Conditions) (missing : List Place) (last : Last) → judged_at t c ≡ both_kept_so place now
-    → StandsAt Hands last (ended_behind t.ended (silent now)) → ended_places t.ended now.inner ≡ missing → Led Hands (t ∷ []) c (hash place ∷ t.token ∷ []) missing last
+    → StandsAt Hands last (ended_behind t.ended (silent now)) → ended_places t.ended now.inner ≡ missing → Led Hands (t ∷ []) c
+    (hash place ∷ t.token ∷ []) missing last
 keeps_both t place c now missing last e rest told = record {
   hands = ap (λ (b : Behind). handed_on b.judged t.token ++ []) e;
-  tells = ap (λ (b : Behind). lone_places b.judged.unmatched ++ (ended_places t.ended b.now.inner ++ [])) e ∙ append-nil (ended_places t.ended now.inner) ∙ told;
+  tells =
+      ap (λ (b : Behind). lone_places b.judged.unmatched ++ (ended_places t.ended b.now.inner ++ [])) e
+      ∙ append-nil (ended_places t.ended now.inner) ∙ told;
   ends = subst (λ (x : Conditions). StandsAt Hands last x) (sym (ap (λ (b : Behind). ended_behind t.ended (silent b.now)) e)) rest;
 }
 
@@ -722,7 +815,8 @@ front_kept : (place : Place) (t : At) (c : Conditions) (inner among : List Condi
 front_kept place t c inner among declared is =
     let here = at c inner among None declared in
     let p = directive false place awaits.Word in
-    ap (λ (b : Bool). cond b (passed (held (t.site.is_between && false) t.token.place (reading false place awaits.Word c inner among declared)))
+    ap (λ (b : Bool). cond b (passed (held (t.site.is_between && false) t.token.place
+    (reading false place awaits.Word c inner among declared)))
     (behind_front (word_of t.token) t.token p here)) is.no_hash
     ∙ ap (λ o. behind_front o t.token p here) is.no_word
 
@@ -735,7 +829,14 @@ inside_kept : (place : Place) (t : At) (c : Conditions) (inner among : List Cond
 inside_kept place t c inner among declared none is =
     let here = at (given_up_so c) inner among None declared in
     let signed : List Pending → Behind → Behind = λ ps b.
-    record b { judged = record b.judged { sign = Some (record { place = place; handed = cond (is_none_pending ps) handed.Kept handed.Unfit }) } } in
+    record b {
+      judged = record b.judged {
+        sign = Some (record {
+          place = place;
+          handed = cond (is_none_pending ps) handed.Kept handed.Unfit;
+        });
+      };
+    } in
     ap (λ o. behind_sign o place t.site.is_quiet t.out t.token (state c (Some place) inner among None declared)) is.no_word
     ∙ ap (λ (b : Bool). signed c.pending (cond b (passed (held false t.token.place here)) (kept here))) is.no_hash
     ∙ ap (λ ps. signed ps (kept here)) none
@@ -744,26 +845,37 @@ inside_kept place t c inner among declared none is =
 abbrev ended_so : Conditions → Option Place → Option Place → Behind
 ended_so now alone place = record { now = now; judged = record none_handed { unmatched = alone; ended = place } }
 
-acts : (r : Reader) (t : At) (c now : Conditions) (alone place : Option Place) (missing : List Place) (last : Last) → judged_at t c ≡ ended_so now alone place
-    → StandsAt r last (ended_behind t.ended (silent now)) → ended_places t.ended now.inner ≡ missing → Led r (t ∷ []) c [] (lone_places alone ++ missing) last
+acts : (r : Reader) (t : At) (c now : Conditions) (alone place : Option Place) (missing : List Place) (last : Last) →
+    judged_at t c ≡ ended_so now alone place
+    → StandsAt r last (ended_behind t.ended (silent now)) → ended_places t.ended now.inner ≡ missing → Led r (t ∷ []) c []
+    (lone_places alone ++ missing) last
 acts r t c now alone place missing last e rest told = record {
   hands = ap (λ (b : Behind). handed_on b.judged t.token ++ []) e;
-  tells = ap (λ (b : Behind). lone_places b.judged.unmatched ++ (ended_places t.ended b.now.inner ++ [])) e ∙ ap (λ ps. lone_places alone ++ ps) (append-nil (ended_places t.ended now.inner) ∙ told);
+  tells =
+      ap (λ (b : Behind). lone_places b.judged.unmatched ++ (ended_places t.ended b.now.inner ++ [])) e
+      ∙ ap (λ ps. lone_places alone ++ ps) (append-nil (ended_places t.ended now.inner) ∙ told);
   ends = subst (λ (x : Conditions). StandsAt r last x) (sym (ap (λ (b : Behind). ended_behind t.ended (silent b.now)) e)) rest;
 }
 
-takes : (r : Reader) (t : At) (c now : Conditions) (missing : List Place) (last : Last) → handed_one r t.token ≡ [] → judged_at t c ≡ taken now
-    → StandsAt (read_one t.token r) last (ended_behind t.ended (silent now)) → ended_places t.ended now.inner ≡ missing → Led r (t ∷ []) c (t.token ∷ []) missing last
+takes : (r : Reader) (t : At) (c now : Conditions) (missing : List Place) (last : Last) → handed_one r t.token ≡ [] →
+    judged_at t c ≡ taken now
+    → StandsAt (read_one t.token r) last (ended_behind t.ended (silent now)) → ended_places t.ended now.inner ≡ missing → Led r (t ∷ []) c
+    (t.token ∷ []) missing last
 takes r t c now missing last none e rest told = record {
   hands = ap (λ (b : Behind). handed_on b.judged t.token ++ []) e ∙ sym (ap (λ hs. hs ++ []) none);
-  tells = ap (λ (b : Behind). lone_places b.judged.unmatched ++ (ended_places t.ended b.now.inner ++ [])) e ∙ append-nil (ended_places t.ended now.inner) ∙ told;
-  ends = subst (λ (x : Conditions). StandsAt (read_one t.token r) last x) (sym (ap (λ (b : Behind). ended_behind t.ended (silent b.now)) e)) rest;
+  tells =
+      ap (λ (b : Behind). lone_places b.judged.unmatched ++ (ended_places t.ended b.now.inner ++ [])) e
+      ∙ append-nil (ended_places t.ended now.inner) ∙ told;
+  ends = subst (λ (x : Conditions). StandsAt (read_one t.token r) last x) (sym (ap (λ (b : Behind). ended_behind t.ended (silent b.now)) e))
+      rest;
 }
 
 -- behind the end of a directive, or where none ends
-pub ended_stands : (r : Reader) (e : Option ℕ) (st : Stands) (declared n : ℕ) (w : List (List Conditional)) (c : Conditions) → Holds r c → c.waiting ≡ w → levels_of st ≤ n
+pub ended_stands : (r : Reader) (e : Option ℕ) (st : Stands) (declared n : ℕ) (w : List (List Conditional)) (c : Conditions) → Holds r c →
+    c.waiting ≡ w → levels_of st ≤ n
     → StandsAt r (last_at (ended_in e (stack_of st)) (unwrap_or e declared) n w) (ended_behind e (stands_at c st declared))
-ended_stands r None st declared n w c holds waits few = record { base = c; stand = st; holds = holds; waits = waits; is = refl; stack = refl; few = few }
+ended_stands r None st declared n w c holds waits few =
+    record { base = c; stand = st; holds = holds; waits = waits; is = refl; stack = refl; few = few }
 ended_stands r (Some now) (AllStay inside between si sb) declared n w c holds waits few =
     record { base = c; stand = AllStay [] between refl sb; holds = holds; waits = waits; is = refl; stack = refl; few = omega arith }
 ended_stands r (Some now) (InnerLeft deep x inside between left si sb) declared n w c holds waits few =
@@ -779,9 +891,11 @@ sign_hash false false sign t is = is.1
 sign_hash false true sign t is = absurd is
 
 -- inside a directive reading is not at the front of one
-inner_front : (r : Reader) (sign : At) (c : Conditions) → Holds r c → (within r ≡ false → sign.site.is_between ≡ false) → is_front sign c ≡ false
+inner_front : (r : Reader) (sign : At) (c : Conditions) → Holds r c → (within r ≡ false → sign.site.is_between ≡ false) →
+    is_front sign c ≡ false
 inner_front Hands sign c holds inside = ap (λ b. b && is_none_pending c.pending) (inside refl)
-inner_front (Reads p others ks) sign c holds inside = ap (λ ps. sign.site.is_between && is_none_pending ps) holds.0 ∙ and-false sign.site.is_between
+inner_front (Reads p others ks) sign c holds inside =
+    ap (λ ps. sign.site.is_between && is_none_pending ps) holds.0 ∙ and-false sign.site.is_between
 
 pub outer_front : (sign : At) (c : Conditions) → c.pending ≡ [] → sign.site.is_between ≡ true → is_front sign c ≡ true
 outer_front sign c none between = ap (λ ps. sign.site.is_between && is_none_pending ps) none ∙ ap (λ b. b && true) between
@@ -797,45 +911,56 @@ pub record Mids (sign : Option At) (t : At) (inner : List Conditional) : Type 0 
   pub sign_goes : SignGoes b sign
   pub calm : Calm b inner None
 
-pub begins_kept : (r q : Reader) (is_inner : Bool) (w : ConditionalWord) (a : Awaits) (sign : Option At) (t : At) (all : List At) (c after : Conditions) (inner among : List Conditional) (declared : ℕ) (places : List Place) (last : Last)
+pub begins_kept : (r q : Reader) (is_inner : Bool) (w : ConditionalWord) (a : Awaits) (sign : Option At) (t : At) (all : List At)
+    (c after : Conditions) (inner among : List Conditional) (declared : ℕ) (places : List Place) (last : Last)
     → Holds r c → Begins true is_inner (within r) sign t → word_of t.token ≡ Some w → Mids sign t inner
-    → ((m : ℕ) → begun w t.token (begins_at sign t) is_inner (at c inner among None m) ≡ passed (reading is_inner (begins_at sign t) a after inner among m))
+    → ((m : ℕ) → begun w t.token (begins_at sign t) is_inner (at c inner among None m) ≡ passed
+    (reading is_inner (begins_at sign t) a after inner among m))
     → Led q all (reading is_inner (begins_at sign t) a after inner among (declared_behind t (declared_sign sign declared))) [] places last
     → Led q (signed_tokens sign (t ∷ all)) (at c inner among None declared) [] places last
 begins_kept Hands q false w a None t all c after inner among declared places last holds between is m waits rest =
     let place = t.token.place in
-    goes_by q t all (at c inner among None declared) (reading false place a after inner among declared) (reading false place a after inner among (declared_behind t declared)) [] places last
+    goes_by q t all (at c inner among None declared) (reading false place a after inner among declared)
+    (reading false place a after inner among (declared_behind t declared)) [] places last
     (word_kept w t c inner among declared holds between is ∙ waits declared)
     (mid m.b t (awaits_it false place a after) None inner among None declared m.word m.calm) rest
 begins_kept Hands q false w a (Some sign) t all c after inner among declared places last holds between is m waits rest =
     let place = sign.token.place in
     let now = declared_behind sign declared in
-    goes_by q sign (t ∷ all) (at c inner among None declared) (reading false place awaits.Word c inner among declared) (reading false place awaits.Word c inner among now) [] places last
+    goes_by q sign (t ∷ all) (at c inner among None declared) (reading false place awaits.Word c inner among declared)
+    (reading false place awaits.Word c inner among now) [] places last
     (sign_kept sign c inner among declared (outer_front sign c holds between.0) between.1.is)
     (mid m.b sign (awaits_it false place awaits.Word c) None inner among None declared m.sign_goes m.calm)
-    (goes_by q t all (reading false place awaits.Word c inner among now) (reading false place a after inner among now) (reading false place a after inner among (declared_behind t now)) [] places last
+    (goes_by q t all (reading false place awaits.Word c inner among now) (reading false place a after inner among now)
+    (reading false place a after inner among (declared_behind t now)) [] places last
     (signed_kept w place t c inner among now is ∙ waits now)
     (mid m.b t (awaits_it false place a after) None inner among None now m.word m.calm) rest)
-begins_kept (Reads p others ks) q false w a sign t all c after inner among declared places last holds between is m waits rest = absurd between
+begins_kept (Reads p others ks) q false w a sign t all c after inner among declared places last holds between is m waits rest =
+    absurd between
 begins_kept r q true w a None t all c after inner among declared places last holds between is m waits rest = absurd between
 begins_kept r q true w a (Some sign) t all c after inner among declared places last holds between is m waits rest =
     let place = sign.token.place in
     let now = declared_behind sign declared in
-    goes_by q sign (t ∷ all) (at c inner among None declared) (state c (Some place) inner among None declared) (state c (Some place) inner among None now) [] places last
+    goes_by q sign (t ∷ all) (at c inner among None declared) (state c (Some place) inner among None declared)
+    (state c (Some place) inner among None now) [] places last
     (sign_inner sign c inner among declared (inner_front r sign c holds between.0) between.1.is)
     (mid m.b sign c (Some place) inner among None declared m.sign_goes m.calm)
-    (goes_by q t all (state c (Some place) inner among None now) (reading true place a after inner among now) (reading true place a after inner among (declared_behind t now)) [] places last
+    (goes_by q t all (state c (Some place) inner among None now) (reading true place a after inner among now)
+    (reading true place a after inner among (declared_behind t now)) [] places last
     (signed_inner w place t c inner among now is ∙ waits now)
     (mid m.b t (awaits_it true place a after) None inner among None now m.word m.calm) rest)
 
 -- where a side is left out, one that ends none
-begins_left : (r : Reader) (is_inner is_within : Bool) (w : ConditionalWord) (m : ℕ) (sign : Option At) (t : At) (all : List At) (c : Conditions) (inner among : List Conditional) (b : Bool) (n declared : ℕ) (places : List Place) (last : Last)
-    → Begins false is_inner is_within sign t → word_of t.token ≡ Some w → GoesOn is_inner t → CalmLeft is_inner inner b → n + 1 ≤ most_levels → ends_side (second inner among) n (Some w) ≡ false
+begins_left : (r : Reader) (is_inner is_within : Bool) (w : ConditionalWord) (m : ℕ) (sign : Option At) (t : At) (all : List At)
+    (c : Conditions) (inner among : List Conditional) (b : Bool) (n declared : ℕ) (places : List Place) (last : Last)
+    → Begins false is_inner is_within sign t → word_of t.token ≡ Some w → GoesOn is_inner t → CalmLeft is_inner inner b → n + 1 ≤
+    most_levels → ends_side (second inner among) n (Some w) ≡ false
     → level_behind (Some w) n ≡ m
     → Led r all (at c inner among (left_at b m) (declared_behind t (declared_sign sign declared))) [] places last
     → Led r (signed_tokens sign (t ∷ all)) (at c inner among (left_at b n) declared) [] places last
 begins_left r is_inner is_within w m None t all c inner among b n declared places last between is goes calm few stays level rest =
-    goes_by r t all (at c inner among (left_at b n) declared) (at c inner among (left_at b m) declared) (at c inner among (left_at b m) (declared_behind t declared)) [] places last
+    goes_by r t all (at c inner among (left_at b n) declared) (at c inner among (left_at b m) declared)
+    (at c inner among (left_at b m) (declared_behind t declared)) [] places last
     (word_left w t None c inner among b n declared is few stays ∙ ap (λ l. passed (at c inner among (left_at b l) declared)) level)
     (mid is_inner t c None inner among (left_at b m) declared goes (calm_at is_inner inner b m calm)) rest
 begins_left r is_inner is_within w m (Some sign) t all c inner among b n declared places last between is goes calm few stays level rest =
@@ -845,23 +970,30 @@ begins_left r is_inner is_within w m (Some sign) t all c inner among b n declare
     goes_by r sign (t ∷ all) (at c inner among (left_at b n) declared) (held_back declared) (held_back now) [] places last
     (sign_left sign None c inner among b n declared between.is few)
     (mid is_inner sign c (Some place) inner among (left_at b n) declared between.goes_on (calm_at is_inner inner b n calm))
-    (goes_by r t all (held_back now) (at c inner among (left_at b m) now) (at c inner among (left_at b m) (declared_behind t now)) [] places last
+    (goes_by r t all (held_back now) (at c inner among (left_at b m) now) (at c inner among (left_at b m) (declared_behind t now)) [] places
+    last
     (word_left w t (Some place) c inner among b n now is few stays ∙ ap (λ l. passed (at c inner among (left_at b l) now)) level)
     (mid is_inner t c None inner among (left_at b m) now goes (calm_at is_inner inner b m calm)) rest)
 
 -- and one that ends it
-begins_end : (r : Reader) (is_inner is_within : Bool) (w : ConditionalWord) (sign : Option At) (t : At) (all : List At) (c : Conditions) (inner among inner_now among_now : List Conditional) (b : Bool) (declared : ℕ) (places : List Place) (last : Last)
-    → Begins false is_inner is_within sign t → word_of t.token ≡ Some w → GoesOn is_inner t → CalmLeft is_inner inner b → Calm is_inner inner_now None → 1 ≤ most_levels → ends_side (second inner among) 0 (Some w) ≡ true
+begins_end : (r : Reader) (is_inner is_within : Bool) (w : ConditionalWord) (sign : Option At) (t : At) (all : List At) (c : Conditions)
+    (inner among inner_now among_now : List Conditional) (b : Bool) (declared : ℕ) (places : List Place) (last : Last)
+    → Begins false is_inner is_within sign t → word_of t.token ≡ Some w → GoesOn is_inner t → CalmLeft is_inner inner b → Calm is_inner
+    inner_now None → 1 ≤ most_levels → ends_side (second inner among) 0 (Some w) ≡ true
     → Acted w b c inner among inner_now among_now
-    → Led r all (reading false (begins_at sign t) (awaits.End effect.Nothing) c inner_now among_now (declared_behind t (declared_sign sign declared))) [] places last
+    → Led r all (reading false (begins_at sign t) (awaits.End effect.Nothing) c inner_now among_now
+    (declared_behind t (declared_sign sign declared))) [] places last
     → Led r (signed_tokens sign (t ∷ all)) (at c inner among (left_at b 0) declared) [] places last
-begins_end r is_inner is_within w None t all c inner among inner_now among_now b declared places last between is goes calm calm_now few ends acted rest =
+begins_end r is_inner is_within w None t all c inner among inner_now among_now b declared places last between is goes calm calm_now few ends
+    acted rest =
     let place = t.token.place in
     let a = awaits.End effect.Nothing in
-    goes_by r t all (at c inner among (left_at b 0) declared) (reading false place a c inner_now among_now declared) (reading false place a c inner_now among_now (declared_behind t declared)) [] places last
+    goes_by r t all (at c inner among (left_at b 0) declared) (reading false place a c inner_now among_now declared)
+    (reading false place a c inner_now among_now (declared_behind t declared)) [] places last
     (word_ends w t None c inner among inner_now among_now b declared is ends acted)
     (mid is_inner t (awaits_it false place a c) None inner_now among_now None declared goes calm_now) rest
-begins_end r is_inner is_within w (Some sign) t all c inner among inner_now among_now b declared places last between is goes calm calm_now few ends acted rest =
+begins_end r is_inner is_within w (Some sign) t all c inner among inner_now among_now b declared places last between is goes calm calm_now
+    few ends acted rest =
     let place = sign.token.place in
     let now = declared_behind sign declared in
     let a = awaits.End effect.Nothing in
@@ -869,7 +1001,8 @@ begins_end r is_inner is_within w (Some sign) t all c inner among inner_now amon
     goes_by r sign (t ∷ all) (at c inner among (left_at b 0) declared) (held_back declared) (held_back now) [] places last
     (sign_left sign None c inner among b 0 declared between.is few)
     (mid is_inner sign c (Some place) inner among (left_at b 0) declared between.goes_on (calm_at is_inner inner b 0 calm))
-    (goes_by r t all (held_back now) (reading false place a c inner_now among_now now) (reading false place a c inner_now among_now (declared_behind t now)) [] places last
+    (goes_by r t all (held_back now) (reading false place a c inner_now among_now now)
+    (reading false place a c inner_now among_now (declared_behind t now)) [] places last
     (word_ends w t (Some place) c inner among inner_now among_now b now is ends acted)
     (mid is_inner t (awaits_it false place a c) None inner_now among_now None now goes calm_now) rest)
 
@@ -882,9 +1015,11 @@ with_condition k c = record c { conditions = k ∷ c.conditions }
 abbrev counted : Bool → Condition → Conditions → Conditions
 counted is_quiet k c = record c { most_tokens = cond is_quiet c.most_tokens (max c.most_tokens (outer_tokens k.unit)) }
 
-pub begun_asking : (is_inner wanted : Bool) (t : SourceToken) (place : Place) (c : Conditions) (inner among : List Conditional) (declared : ℕ) → fits grammar known (atom_of (record t { place = place })) condition_begun.stack ≡ true
+pub begun_asking : (is_inner wanted : Bool) (t : SourceToken) (place : Place) (c : Conditions) (inner among : List Conditional)
+    (declared : ℕ) → fits grammar known (atom_of (record t { place = place })) condition_begun.stack ≡ true
     → begun (asking wanted) t place is_inner (at c inner among None declared)
-    ≡ passed (reading is_inner place (awaits.Condition wanted) (with_condition (condition_took (record t { place = place }) condition_begun) c) inner among declared)
+    ≡ passed (reading is_inner place (awaits.Condition wanted)
+    (with_condition (condition_took (record t { place = place }) condition_begun) c) inner among declared)
 begun_asking is_inner true t place c inner among declared is =
     let here = at c inner among None declared in
     let first : SourceToken = record t { place = place } in
@@ -895,22 +1030,28 @@ begun_asking is_inner false t place c inner among declared is =
     ap (λ (b : Bool). cond b (passed (asking_on place is_inner false (condition_took first condition_begun) here)) (unfit here)) is
 
 -- a token that it takes, whatever then is
-next_taken : (is_inner wanted : Bool) (place : Place) (t : At) (k : Condition) (c : Conditions) (inner among : List Conditional) (declared : ℕ) → is_mark mark.Hash t.token.kind ≡ false → fits grammar known (atom_of t.token) k.stack ≡ true
+next_taken : (is_inner wanted : Bool) (place : Place) (t : At) (k : Condition) (c : Conditions) (inner among : List Conditional)
+    (declared : ℕ) → is_mark mark.Hash t.token.kind ≡ false → fits grammar known (atom_of t.token) k.stack ≡ true
     → judged_at t (reading is_inner place (awaits.Condition wanted) (with_condition k c) inner among declared)
-    ≡ went_on wanted t.site.is_quiet t.out t.token (condition_took t.token k) (directive is_inner place (awaits.Condition wanted)) (at c inner among None declared)
+    ≡ went_on wanted t.site.is_quiet t.out t.token (condition_took t.token k) (directive is_inner place (awaits.Condition wanted))
+    (at c inner among None declared)
 next_taken is_inner wanted place t k c inner among declared plain is_taken =
     let here = at c inner among None declared in
     let p = directive is_inner place (awaits.Condition wanted) in
     let then = went_on wanted t.site.is_quiet t.out t.token (condition_took t.token k) p here in
-    ap (λ (b : Bool). cond b (passed (held (t.site.is_between && false) t.token.place (reading is_inner place (awaits.Condition wanted) (with_condition k c) inner among declared)))
+    ap (λ (b : Bool). cond b (passed (held (t.site.is_between && false) t.token.place
+    (reading is_inner place (awaits.Condition wanted) (with_condition k c) inner among declared)))
     (cond (fits grammar known (atom_of t.token) k.stack) then (unfit here))) plain
     ∙ ap (λ (b : Bool). cond b then (unfit here)) is_taken
 
 -- one that is not the last
-next_goes : (is_inner wanted : Bool) (place : Place) (t : At) (k : Condition) (c : Conditions) (inner among : List Conditional) (declared : ℕ) → is_mark mark.Hash t.token.kind ≡ false → fits grammar known (atom_of t.token) k.stack ≡ true
+next_goes : (is_inner wanted : Bool) (place : Place) (t : At) (k : Condition) (c : Conditions) (inner among : List Conditional)
+    (declared : ℕ) → is_mark mark.Hash t.token.kind ≡ false → fits grammar known (atom_of t.token) k.stack ≡ true
     → is_whole (condition_took t.token k) ≡ false
     → judged_at t (reading is_inner place (awaits.Condition wanted) (with_condition k c) inner among declared)
-    ≡ taken (asking_on place is_inner wanted (condition_took t.token k) (saying t.site.is_quiet (too_much c.longest t.token (condition_took t.token k)) (tokens_counted t.site.is_quiet (condition_took t.token k) (at c inner among None declared))))
+    ≡ taken (asking_on place is_inner wanted (condition_took t.token k)
+    (saying t.site.is_quiet (too_much c.longest t.token (condition_took t.token k))
+    (tokens_counted t.site.is_quiet (condition_took t.token k) (at c inner among None declared))))
 next_goes is_inner wanted place t k c inner among declared plain is_taken whole =
     let here = at c inner among None declared in
     let p = directive is_inner place (awaits.Condition wanted) in
@@ -921,10 +1062,12 @@ next_goes is_inner wanted place t k c inner among declared plain is_taken whole 
     (taken (asking_on place is_inner wanted next (saying quiet (too_much c.longest t.token next) (tokens_counted quiet next here))))) whole
 
 -- and the last
-next_ends : (is_inner wanted : Bool) (place : Place) (t : At) (k : Condition) (c : Conditions) (inner among : List Conditional) (declared : ℕ) → is_mark mark.Hash t.token.kind ≡ false → fits grammar known (atom_of t.token) k.stack ≡ true
+next_ends : (is_inner wanted : Bool) (place : Place) (t : At) (k : Condition) (c : Conditions) (inner among : List Conditional)
+    (declared : ℕ) → is_mark mark.Hash t.token.kind ≡ false → fits grammar known (atom_of t.token) k.stack ≡ true
     → is_whole (condition_took t.token k) ≡ true
     → judged_at t (reading is_inner place (awaits.Condition wanted) (with_condition k c) inner among declared)
-    ≡ decided (verdict_of declared t.out (condition_took t.token k)) wanted t.site.is_quiet (condition_took t.token k) (directive is_inner place (awaits.Condition wanted)) (at c inner among None declared)
+    ≡ decided (verdict_of declared t.out (condition_took t.token k)) wanted t.site.is_quiet (condition_took t.token k)
+    (directive is_inner place (awaits.Condition wanted)) (at c inner among None declared)
 next_ends is_inner wanted place t k c inner among declared plain is_taken whole =
     let here = at c inner among None declared in
     let p = directive is_inner place (awaits.Condition wanted) in
@@ -970,10 +1113,12 @@ fewer first tokens = go first.sign
     go None = omega arith
     go (Some sign) = omega arith
 
-pub declared_behind_first : (first : First) (tokens : List At) (declared : ℕ) → declared_tokens tokens (declared_first first declared) ≡ declared_tokens (first_tokens first tokens) declared
+pub declared_behind_first : (first : First) (tokens : List At) (declared : ℕ) →
+    declared_tokens tokens (declared_first first declared) ≡ declared_tokens (first_tokens first tokens) declared
 declared_behind_first first tokens declared = go first.sign
   where
-    go : (sign : Option At) → declared_tokens tokens (declared_behind first.word (declared_sign sign declared)) ≡ declared_tokens (signed_tokens sign (first.word ∷ tokens)) declared
+    go : (sign : Option At) → declared_tokens tokens (declared_behind first.word (declared_sign sign declared)) ≡ declared_tokens
+        (signed_tokens sign (first.word ∷ tokens)) declared
     go None = refl
     go (Some sign) = refl
 
@@ -999,9 +1144,11 @@ pub record KeptAt (p : Pending) (others : List Pending) (ks : List Condition) (l
   pub inside_kept : are_kept last.around.inside ≡ true
   pub between_kept : are_kept last.around.between ≡ true
   pub waits : base.waiting ≡ last.waiting
-  pub is : c ≡ at (record base { pending = p ∷ others; conditions = ks }) (conditionals last.around.inside) (conditionals last.around.between) None last.declared
+  pub is : c ≡ at (record base { pending = p ∷ others; conditions = ks }) (conditionals last.around.inside)
+      (conditionals last.around.between) None last.declared
 
-pub kept_at : (p : Pending) (others : List Pending) (ks : List Condition) (last : Last) (c : Conditions) → StandsAt (Reads p others ks) last c → all_kept last.around ≡ true → KeptAt p others ks last c
+pub kept_at : (p : Pending) (others : List Pending) (ks : List Condition) (last : Last) (c : Conditions) →
+    StandsAt (Reads p others ks) last c → all_kept last.around ≡ true → KeptAt p others ks last c
 kept_at p others ks last c e all = go e.stand e.stack e.is
   where
     go : (st : Stands) → stack_of st ≡ last.around → c ≡ stands_at e.base st last.declared → KeptAt p others ks last c
@@ -1013,8 +1160,10 @@ kept_at p others ks last c e all = go e.stand e.stack e.is
       is =
           is
           ∙ ap (λ ps. at (record e.base { pending = ps }) (conditionals inside) (conditionals between) None last.declared) e.holds.0
-          ∙ ap (λ cs. at (record e.base { pending = p ∷ others; conditions = cs }) (conditionals inside) (conditionals between) None last.declared) e.holds.1
-          ∙ ap (λ (x : Around). at (record e.base { pending = p ∷ others; conditions = ks }) (conditionals x.inside) (conditionals x.between) None last.declared) stack;
+          ∙ ap (λ cs. at (record e.base { pending = p ∷ others; conditions = cs }) (conditionals inside) (conditionals between) None
+          last.declared) e.holds.1
+          ∙ ap (λ (x : Around). at (record e.base { pending = p ∷ others; conditions = ks }) (conditionals x.inside)
+          (conditionals x.between) None last.declared) stack;
     }
     go (InnerLeft deep x inside between left si sb) stack is =
         absurd (let never : true ≡ false = sym all ∙ ap all_kept (sym stack) ∙ inner_not_kept deep x inside between left in cc)
@@ -1024,22 +1173,29 @@ kept_at p others ks last c e all = go e.stand e.stack e.is
 -- Parts between the tokens of a directive
 
 abbrev pub last_behind : Answers → Parts → Around → ℕ → ℕ → List (List Conditional) → Last
-last_behind d parts s declared n w = last_at (behind_parts d s parts) (declared_tokens (all_tokens parts) declared) (n + length (all_tokens parts)) w
+last_behind d parts s declared n w =
+    last_at (behind_parts d s parts) (declared_tokens (all_tokens parts) declared) (n + length (all_tokens parts)) w
 
 abbrev pub Leads : Answers → Parts → Type 0
-Leads d parts = (r : Reader) (s : Around) (declared n : ℕ) (w : List (List Conditional)) (c : Conditions) → StandsAt r (last_at s declared n w) c → AreParts d (within r) s declared parts → TakesAll r (kept_sides d s parts)
+Leads d parts = (r : Reader) (s : Around) (declared n : ℕ) (w : List (List Conditional)) (c : Conditions) → StandsAt r
+    (last_at s declared n w) c → AreParts d (within r) s declared parts → TakesAll r (kept_sides d s parts)
     → n + length (all_tokens parts) ≤ most_levels
     → Led r (all_tokens parts) c (kept_sides d s parts) (told_parts d s parts) (last_behind d parts s declared n w)
 
 -- of one that is kept
-within_led_so : (tokens : List SourceToken) → (d : Answers) (parts : Parts) → Leads d parts → (r : Reader) (rest : List At) (is_inner : Bool) (place : Place) (a : Awaits) (c : Conditions) (ks after : List Condition) (s : Around) (declared n : ℕ) (w : List (List Conditional)) (start : Conditions) (places : List Place) (last : Last)
+within_led_so : (tokens : List SourceToken) → (d : Answers) (parts : Parts) → Leads d parts → (r : Reader) (rest : List At)
+    (is_inner : Bool) (place : Place) (a : Awaits) (c : Conditions) (ks after : List Condition) (s : Around) (declared n : ℕ)
+    (w : List (List Conditional)) (start : Conditions) (places : List Place) (last : Last)
     → let p = directive is_inner place a in let l = last_behind d parts s declared n w in
-    StandsAt (Reads p c.pending ks) (last_at s declared n w) start → all_kept s ≡ true → AreParts d true s declared parts → StayAs d s parts → TakesAll (Reads p c.pending ks) (kept_sides d s parts)
+    StandsAt (Reads p c.pending ks) (last_at s declared n w) start → all_kept s ≡ true → AreParts d true s declared parts → StayAs d s parts
+    → TakesAll (Reads p c.pending ks) (kept_sides d s parts)
     → read_on (kept_sides d s parts) (Reads p c.pending ks) ≡ Reads p c.pending after → n + length (all_tokens parts) ≤ most_levels
     → ((base : Conditions) → base.waiting ≡ w → are_kept l.around.inside ≡ true → are_kept l.around.between ≡ true
-    → Led r rest (reading is_inner place a (record base { pending = c.pending; conditions = after }) (conditionals l.around.inside) (conditionals l.around.between) l.declared) tokens places last)
+    → Led r rest (reading is_inner place a (record base { pending = c.pending; conditions = after }) (conditionals l.around.inside)
+    (conditionals l.around.between) l.declared) tokens places last)
     → Led r (all_tokens parts ++ rest) start tokens (told_parts d s parts ++ places) last
-within_led_so tokens d parts leads r rest is_inner place a c ks after s declared n w start places last e all are stay taken_so read few further =
+within_led_so tokens d parts leads r rest is_inner place a c ks after s declared n w start places last e all are stay taken_so read few
+    further =
     let p = directive is_inner place a in
     let l = last_behind d parts s declared n w in
     let first = leads (Reads p c.pending ks) s declared n w start e are taken_so few in
@@ -1053,16 +1209,22 @@ within_led_so tokens d parts leads r rest is_inner place a c ks after s declared
           hands_both (all_tokens parts) rest start
           ∙ ap (λ hs. hs ++ all_handed_on rest there) (first.hands ∙ nothing_handed (kept_sides d s parts) p c.pending ks)
           ∙ second.hands;
-      tells = tells_both (all_tokens parts) rest start ∙ ap (λ ps. ps ++ all_told rest there) first.tells ∙ ap (λ ps. told_parts d s parts ++ ps) second.tells;
+      tells =
+          tells_both (all_tokens parts) rest start ∙ ap (λ ps. ps ++ all_told rest there) first.tells
+          ∙ ap (λ ps. told_parts d s parts ++ ps) second.tells;
       ends = subst (λ (x : Conditions). StandsAt (read_on tokens r) last x) (sym (behind_both (all_tokens parts) rest start)) second.ends;
     }
 
-pub within_led : (d : Answers) (parts : Parts) → Leads d parts → (r : Reader) (rest : List At) (is_inner : Bool) (place : Place) (a : Awaits) (c : Conditions) (ks after : List Condition) (s : Around) (declared n : ℕ) (w : List (List Conditional)) (start : Conditions) (places : List Place) (last : Last)
+pub within_led : (d : Answers) (parts : Parts) → Leads d parts → (r : Reader) (rest : List At) (is_inner : Bool) (place : Place)
+    (a : Awaits) (c : Conditions) (ks after : List Condition) (s : Around) (declared n : ℕ) (w : List (List Conditional))
+    (start : Conditions) (places : List Place) (last : Last)
     → let p = directive is_inner place a in let l = last_behind d parts s declared n w in
-    StandsAt (Reads p c.pending ks) (last_at s declared n w) start → all_kept s ≡ true → AreParts d true s declared parts → StayAs d s parts → TakesAll (Reads p c.pending ks) (kept_sides d s parts)
+    StandsAt (Reads p c.pending ks) (last_at s declared n w) start → all_kept s ≡ true → AreParts d true s declared parts → StayAs d s parts
+    → TakesAll (Reads p c.pending ks) (kept_sides d s parts)
     → read_on (kept_sides d s parts) (Reads p c.pending ks) ≡ Reads p c.pending after → n + length (all_tokens parts) ≤ most_levels
     → ((base : Conditions) → base.waiting ≡ w → are_kept l.around.inside ≡ true → are_kept l.around.between ≡ true
-    → Led r rest (reading is_inner place a (record base { pending = c.pending; conditions = after }) (conditionals l.around.inside) (conditionals l.around.between) l.declared) [] places last)
+    → Led r rest (reading is_inner place a (record base { pending = c.pending; conditions = after }) (conditionals l.around.inside)
+    (conditionals l.around.between) l.declared) [] places last)
     → Led r (all_tokens parts ++ rest) start [] (told_parts d s parts ++ places) last
 within_led = within_led_so []
 
@@ -1074,8 +1236,10 @@ pub reads_none : (tokens : List SourceToken) (r : Reader) → tokens ≡ [] → 
 reads_none tokens r e = ap (λ ts. read_on ts r) e
 
 -- of one that stands in a side that is left out
-left_led : (d : Answers) (parts : Parts) → Leads d parts → (r : Reader) (rest : List At) (s : Around) (declared n : ℕ) (w : List (List Conditional)) (start : Conditions) (places : List Place) (last : Last)
-    → StandsAt r (last_at s declared n w) start → AreParts d (within r) s declared parts → kept_sides d s parts ≡ [] → n + length (all_tokens parts) ≤ most_levels
+left_led : (d : Answers) (parts : Parts) → Leads d parts → (r : Reader) (rest : List At) (s : Around) (declared n : ℕ)
+    (w : List (List Conditional)) (start : Conditions) (places : List Place) (last : Last)
+    → StandsAt r (last_at s declared n w) start → AreParts d (within r) s declared parts → kept_sides d s parts ≡ [] → n + length
+    (all_tokens parts) ≤ most_levels
     → ((c : Conditions) → StandsAt r (last_behind d parts s declared n w) c → Led r rest c [] places last)
     → Led r (all_tokens parts ++ rest) start [] (told_parts d s parts ++ places) last
 left_led d parts leads r rest s declared n w start places last e are none few further =
@@ -1089,36 +1253,47 @@ left_led d parts leads r rest s declared n w start places last e are none few fu
           hands_both (all_tokens parts) rest start
           ∙ ap (λ hs. hs ++ all_handed_on rest there) (first.hands ∙ ap (handed_to r) none)
           ∙ second.hands;
-      tells = tells_both (all_tokens parts) rest start ∙ ap (λ ps. ps ++ all_told rest there) first.tells ∙ ap (λ ps. told_parts d s parts ++ ps) second.tells;
+      tells =
+          tells_both (all_tokens parts) rest start ∙ ap (λ ps. ps ++ all_told rest there) first.tells
+          ∙ ap (λ ps. told_parts d s parts ++ ps) second.tells;
       ends = subst (λ (x : Conditions). StandsAt r last x) (sym (behind_both (all_tokens parts) rest start)) second.ends;
     }
 
 -- a plain token of a side that is left out
-left_token : (r : Reader) (is_within : Bool) (t : At) (all : List At) (s : Around) (declared n : ℕ) (w : List (List Conditional)) (start : Conditions) (tokens : List SourceToken) (places : List Place) (last : Last)
+left_token : (r : Reader) (is_within : Bool) (t : At) (all : List At) (s : Around) (declared n : ℕ) (w : List (List Conditional))
+    (start : Conditions) (tokens : List SourceToken) (places : List Place) (last : Last)
     → StandsAt r (last_at s declared n w) start → all_kept s ≡ false → IsPlain false is_within t → n + 1 ≤ most_levels
     → ((c : Conditions) → StandsAt r (last_at (ended_in t.ended s) (declared_behind t declared) n w) c → Led r all c tokens places last)
     → Led r (t ∷ all) start tokens (missing_in t.ended s ++ places) last
 left_token r is_within t all s declared n w start tokens places last e left plain few further =
     subst (λ (x : Conditions). Led r (t ∷ all) x tokens (missing_in t.ended s ++ places) last) (sym e.is) (go e.stand e.stack e.few)
   where
-    goes : (st : Stands) (b : Bool) (m : ℕ) → stack_of st ≡ s → left_of st ≡ left_at b m → m ≤ n → levels_of st ≤ n → Led r (t ∷ all) (stands_at e.base st declared) tokens (missing_in t.ended s ++ places) last
+    goes : (st : Stands) (b : Bool) (m : ℕ) → stack_of st ≡ s → left_of st ≡ left_at b m → m ≤ n → levels_of st ≤ n →
+        Led r (t ∷ all) (stands_at e.base st declared) tokens (missing_in t.ended s ++ places) last
     goes st b m stack is_left few_m few_st =
         let here = stands_at e.base st declared in
         let there = at e.base (inner_of st) (among_of st) (left_at b m) declared in
         let same : there ≡ here = ap (λ x. at e.base (inner_of st) (among_of st) x declared) (sym is_left) in
         let behind : StandsAt r (last_at (ended_in t.ended s) (declared_behind t declared) n w) (ended_behind t.ended there) =
-        subst (λ (x : Conditions). StandsAt r (last_at (ended_in t.ended s) (declared_behind t declared) n w) (ended_behind t.ended x)) (sym same)
-        (subst (λ (x : Around). StandsAt r (last_at (ended_in t.ended x) (declared_behind t declared) n w) (ended_behind t.ended here)) stack
+        subst (λ (x : Conditions). StandsAt r (last_at (ended_in t.ended s) (declared_behind t declared) n w) (ended_behind t.ended x))
+        (sym same)
+        (subst (λ (x : Around). StandsAt r (last_at (ended_in t.ended x) (declared_behind t declared) n w) (ended_behind t.ended here))
+        stack
         (ended_stands r t.ended st declared n w e.base e.holds e.waits few_st)) in
         subst (λ (x : Conditions). Led r (t ∷ all) x tokens (missing_in t.ended s ++ places) last) same
-        (passes r t all there there (ended_behind t.ended there) tokens (missing_in t.ended s) places last (plain_left is_within t e.base (inner_of st) (among_of st) b m declared plain (omega (arith, few, few_m))) refl
+        (passes r t all there there (ended_behind t.ended there) tokens (missing_in t.ended s) places last
+        (plain_left is_within t e.base (inner_of st) (among_of st) b m declared plain (omega (arith, few, few_m))) refl
         (ended_told t.ended st declared e.base ∙ ap (missing_in t.ended) stack)
         (further (ended_behind t.ended there) behind))
 
-    go : (st : Stands) → stack_of st ≡ s → levels_of st ≤ n → Led r (t ∷ all) (stands_at e.base st declared) tokens (missing_in t.ended s ++ places) last
-    go (AllStay inside between si sb) stack few_st = absurd (let never : true ≡ false = sym (both_kept inside between si sb) ∙ ap all_kept stack ∙ left in cc)
-    go (InnerLeft deep x inside between gone si sb) stack few_st = goes (InnerLeft deep x inside between gone si sb) true (length deep) stack refl few_st few_st
-    go (OuterLeft deep x between gone sb) stack few_st = goes (OuterLeft deep x between gone sb) false (length deep) stack refl few_st few_st
+    go : (st : Stands) → stack_of st ≡ s → levels_of st ≤ n →
+        Led r (t ∷ all) (stands_at e.base st declared) tokens (missing_in t.ended s ++ places) last
+    go (AllStay inside between si sb) stack few_st =
+        absurd (let never : true ≡ false = sym (both_kept inside between si sb) ∙ ap all_kept stack ∙ left in cc)
+    go (InnerLeft deep x inside between gone si sb) stack few_st =
+        goes (InnerLeft deep x inside between gone si sb) true (length deep) stack refl few_st few_st
+    go (OuterLeft deep x between gone sb) stack few_st =
+        goes (OuterLeft deep x between gone sb) false (length deep) stack refl few_st few_st
 
 -- The last token of a directive
 
@@ -1131,18 +1306,23 @@ abbrev new_open : Place → Bool → Open
 new_open place b = record { place = place; is_second = false; stays = b }
 
 -- one is opened more
-opened_stands : (r : Reader) (is_inner b : Bool) (place : Place) (t : At) (inside between : List Open) (declared n : ℕ) (w : List (List Conditional)) (c : Conditions) → Holds r c → c.waiting ≡ w
+opened_stands : (r : Reader) (is_inner b : Bool) (place : Place) (t : At) (inside between : List Open) (declared n : ℕ)
+    (w : List (List Conditional)) (c : Conditions) → Holds r c → c.waiting ≡ w
     → are_kept inside ≡ true → are_kept between ≡ true → NoneInsideBehind true is_inner t (record { inside = inside; between = between })
-    → StandsAt r (last_at (ended_in t.ended (opened_more is_inner (new_open place b) (record { inside = inside; between = between }))) (declared_behind t declared) n w)
+    → StandsAt r (last_at (ended_in t.ended (opened_more is_inner (new_open place b) (record { inside = inside; between = between })))
+    (declared_behind t declared) n w)
     (ended_behind t.ended (opened_at is_inner b place c (conditionals inside) (conditionals between) declared))
 opened_stands r true b place t inside between declared n w c holds waits si sb none =
-    subst (λ k. StandsAt r (last_at (ended_in t.ended (cond k (record { inside = new_open place b ∷ inside; between = between }) (record { inside = inside; between = new_open place b ∷ between }))) (declared_behind t declared) n w)
+    subst (λ k. StandsAt r (last_at (ended_in t.ended (cond k (record { inside = new_open place b ∷ inside; between = between })
+    (record { inside = inside; between = new_open place b ∷ between }))) (declared_behind t declared) n w)
     (ended_behind t.ended (opened_at true b place c (conditionals inside) (conditionals between) declared))) (sym sb) (go b)
   where
-    go : (b : Bool) → StandsAt r (last_at (ended_in t.ended (record { inside = new_open place b ∷ inside; between = between })) (declared_behind t declared) n w)
+    go : (b : Bool) → StandsAt r (last_at (ended_in t.ended (record { inside = new_open place b ∷ inside; between = between }))
+        (declared_behind t declared) n w)
         (ended_behind t.ended (opened_at true b place c (conditionals inside) (conditionals between) declared))
     go true = ended_stands r t.ended (AllStay (new_open place true ∷ inside) between si sb) declared n w c holds waits (omega arith)
-    go false = ended_stands r t.ended (InnerLeft [] (new_open place false) inside between refl si sb) declared n w c holds waits (omega arith)
+    go false =
+        ended_stands r t.ended (InnerLeft [] (new_open place false) inside between refl si sb) declared n w c holds waits (omega arith)
 opened_stands r false true place t inside between declared n w c holds waits si sb none =
     ended_stands r t.ended (AllStay inside (new_open place true ∷ between) si sb) declared n w c holds waits (omega arith)
 opened_stands r false false place t inside between declared n w c holds waits si sb none = go t.ended none
@@ -1150,42 +1330,70 @@ opened_stands r false false place t inside between declared n w c holds waits si
     x : Open
     x = new_open place false
 
-    go : (e : Option ℕ) → (e ≡ None → inside ≡ []) → StandsAt r (last_at (ended_in e (record { inside = inside; between = x ∷ between })) (unwrap_or e declared) n w)
+    go : (e : Option ℕ) → (e ≡ None → inside ≡ []) →
+        StandsAt r (last_at (ended_in e (record { inside = inside; between = x ∷ between })) (unwrap_or e declared) n w)
         (ended_behind e (opened_at false false place c (conditionals inside) (conditionals between) declared))
-    go (Some now) none = record { base = c; stand = OuterLeft [] x between refl sb; holds = holds; waits = waits; is = refl; stack = refl; few = omega arith }
+    go (Some now) none = record {
+      base = c;
+      stand = OuterLeft [] x between refl sb;
+      holds = holds;
+      waits = waits;
+      is = refl;
+      stack = refl;
+      few = omega arith;
+    }
     go None none =
-        subst (λ i. StandsAt r (last_at (record { inside = i; between = x ∷ between }) declared n w) (opened_at false false place c (conditionals i) (conditionals between) declared)) (sym (none refl))
-        (record { base = c; stand = OuterLeft [] x between refl sb; holds = holds; waits = waits; is = refl; stack = refl; few = omega arith })
+        subst (λ i. StandsAt r (last_at (record { inside = i; between = x ∷ between }) declared n w)
+        (opened_at false false place c (conditionals i) (conditionals between) declared)) (sym (none refl))
+        (record {
+          base = c;
+          stand = OuterLeft [] x between refl sb;
+          holds = holds;
+          waits = waits;
+          is = refl;
+          stack = refl;
+          few = omega arith;
+        })
 
-opened_told : (is_inner b : Bool) (place : Place) (t : At) (inside between : List Open) (declared : ℕ) (c : Conditions) → are_kept inside ≡ true → are_kept between ≡ true
+opened_told : (is_inner b : Bool) (place : Place) (t : At) (inside between : List Open) (declared : ℕ) (c : Conditions) →
+    are_kept inside ≡ true → are_kept between ≡ true
     → ended_places t.ended (opened_at is_inner b place c (conditionals inside) (conditionals between) declared).inner
     ≡ missing_in t.ended (opened_more is_inner (new_open place b) (record { inside = inside; between = between }))
 opened_told true b place t inside between declared c si sb =
     go b
-    ∙ sym (ap (λ k. missing_in t.ended (cond k (record { inside = new_open place b ∷ inside; between = between }) (record { inside = inside; between = new_open place b ∷ between }))) sb)
+    ∙ sym (ap (λ k. missing_in t.ended (cond k (record { inside = new_open place b ∷ inside; between = between })
+    (record { inside = inside; between = new_open place b ∷ between }))) sb)
   where
-    go : (b : Bool) → ended_places t.ended (opened_at true b place c (conditionals inside) (conditionals between) declared).inner ≡ missing_in t.ended (record { inside = new_open place b ∷ inside; between = between })
+    go : (b : Bool) → ended_places t.ended (opened_at true b place c (conditionals inside) (conditionals between) declared).inner ≡
+        missing_in t.ended (record { inside = new_open place b ∷ inside; between = between })
     go true = ended_told t.ended (AllStay (new_open place true ∷ inside) between si sb) declared c
     go false = ended_told t.ended (InnerLeft [] (new_open place false) inside between refl si sb) declared c
 opened_told false b place t inside between declared c si sb = go t.ended
   where
-    go : (e : Option ℕ) → ended_places e (opened_at false b place c (conditionals inside) (conditionals between) declared).inner ≡ missing_in e (record { inside = inside; between = new_open place b ∷ between })
+    go : (e : Option ℕ) → ended_places e (opened_at false b place c (conditionals inside) (conditionals between) declared).inner ≡
+        missing_in e (record { inside = inside; between = new_open place b ∷ between })
     go None = refl
     go (Some now) = told_places inside (conditionals inside) (sym (ap conditionals (outer_kept inside si)))
 
 -- the semicolon of an `Ifnot`
 abbrev LastLed : ConditionalWord → (Around → Around) → Effect → Type 0
-LastLed w act e = (r : Reader) (is_inner : Bool) (first : First) (t : At) (inside between : List Open) (declared n : ℕ) (v : List (List Conditional)) (c : Conditions) → Holds r c → c.waiting ≡ v
+LastLed w act e = (r : Reader) (is_inner : Bool) (first : First) (t : At) (inside between : List Open) (declared n : ℕ)
+    (v : List (List Conditional)) (c : Conditions) → Holds r c → c.waiting ≡ v
     → are_kept inside ≡ true → are_kept between ≡ true → IsSemicolon t
-    → Led r (t ∷ []) (reading is_inner (begins first) (awaits.End e) c (conditionals inside) (conditionals between) declared) [] (lone_at w first t (record { inside = inside; between = between }) ++ missing_in t.ended (act (record { inside = inside; between = between })))
+    → Led r (t ∷ []) (reading is_inner (begins first) (awaits.End e) c (conditionals inside) (conditionals between) declared) []
+    (lone_at w first t (record { inside = inside; between = between }) ++ missing_in t.ended
+    (act (record { inside = inside; between = between })))
     (last_at (ended_in t.ended (act (record { inside = inside; between = between }))) (declared_behind t declared) n v)
 
 abbrev unless_quiet : At → Place → Option Place
 unless_quiet t place = cond t.site.is_quiet None (Some place)
 
-turns_among : (is_inner : Bool) (place : Place) (t : At) (c : Conditions) (z : Conditional) (among : List Conditional) (declared : ℕ) → IsSemicolon t
+turns_among : (is_inner : Bool) (place : Place) (t : At) (c : Conditions) (z : Conditional) (among : List Conditional) (declared : ℕ) →
+    IsSemicolon t
     → judged_at t (reading is_inner place (awaits.End effect.Turns) c [] (z ∷ among) declared)
-    ≡ ended_so (cond z.is_second (at c [] (z ∷ among) None declared) (at c [] (record z { is_second = true } ∷ among) (left_at false 0) declared)) (cond z.is_second (unless_quiet t place) None) (unless_quiet t place)
+    ≡ ended_so (cond z.is_second (at c [] (z ∷ among) None declared)
+    (at c [] (record z { is_second = true } ∷ among) (left_at false 0) declared)) (cond z.is_second (unless_quiet t place) None)
+    (unless_quiet t place)
 turns_among is_inner place t c z among declared is = end_kept effect.Turns is_inner place t c [] (z ∷ among) declared is ∙ go z.is_second
   where
     here : Conditions
@@ -1194,14 +1402,20 @@ turns_among is_inner place t c z among declared is = end_kept effect.Turns is_in
     there : Conditions
     there = at c [] (record z { is_second = true } ∷ among) (left_at false 0) declared
 
-    go : (b : Bool) → (let x = cond b (unmatched t.site.is_quiet place here) (passed there) in record { now = x.now; judged = record x.judged { ended = unless_quiet t place } }) ≡ ended_so (cond b here there) (cond b (unless_quiet t place) None) (unless_quiet t place)
+    go : (b : Bool) → (let x = cond b (unmatched t.site.is_quiet place here) (passed there) in
+        record { now = x.now; judged = record x.judged { ended = unless_quiet t place } }) ≡ ended_so (cond b here there)
+        (cond b (unless_quiet t place) None) (unless_quiet t place)
     go true = refl
     go false = refl
 
-turns_inner : (is_inner : Bool) (place : Place) (t : At) (c : Conditions) (z : Conditional) (inner among : List Conditional) (declared : ℕ) → IsSemicolon t
+turns_inner : (is_inner : Bool) (place : Place) (t : At) (c : Conditions) (z : Conditional) (inner among : List Conditional) (declared : ℕ)
+    → IsSemicolon t
     → judged_at t (reading is_inner place (awaits.End effect.Turns) c (z ∷ inner) among declared)
-    ≡ ended_so (cond z.is_second (at c (z ∷ inner) among None declared) (at c (record z { is_second = true } ∷ inner) among (left_at true 0) declared)) (cond z.is_second (unless_quiet t place) None) (unless_quiet t place)
-turns_inner is_inner place t c z inner among declared is = end_kept effect.Turns is_inner place t c (z ∷ inner) among declared is ∙ go z.is_second
+    ≡ ended_so (cond z.is_second (at c (z ∷ inner) among None declared)
+    (at c (record z { is_second = true } ∷ inner) among (left_at true 0) declared)) (cond z.is_second (unless_quiet t place) None)
+    (unless_quiet t place)
+turns_inner is_inner place t c z inner among declared is =
+    end_kept effect.Turns is_inner place t c (z ∷ inner) among declared is ∙ go z.is_second
   where
     here : Conditions
     here = at c (z ∷ inner) among None declared
@@ -1209,7 +1423,9 @@ turns_inner is_inner place t c z inner among declared is = end_kept effect.Turns
     there : Conditions
     there = at c (record z { is_second = true } ∷ inner) among (left_at true 0) declared
 
-    go : (b : Bool) → (let x = cond b (unmatched t.site.is_quiet place here) (passed there) in record { now = x.now; judged = record x.judged { ended = unless_quiet t place } }) ≡ ended_so (cond b here there) (cond b (unless_quiet t place) None) (unless_quiet t place)
+    go : (b : Bool) → (let x = cond b (unmatched t.site.is_quiet place here) (passed there) in
+        record { now = x.now; judged = record x.judged { ended = unless_quiet t place } }) ≡ ended_so (cond b here there)
+        (cond b (unless_quiet t place) None) (unless_quiet t place)
     go true = refl
     go false = refl
 
@@ -1217,18 +1433,23 @@ turns_inner is_inner place t c z inner among declared is = end_kept effect.Turns
 still_is : (x : Open) (around : List Open) → x.is_second ≡ true → conditionals (other_side x ∷ around) ≡ conditionals (x ∷ around)
 still_is x around e = ap (λ (o : Open). conditionals (o ∷ around)) (other_same x e)
 
-turned_is : (x : Open) (around : List Open) → x.is_second ≡ false → conditionals (other_side x ∷ around) ≡ record { place = x.place; is_second = true } ∷ conditionals around
+turned_is : (x : Open) (around : List Open) → x.is_second ≡ false →
+    conditionals (other_side x ∷ around) ≡ record { place = x.place; is_second = true } ∷ conditionals around
 turned_is x around e = ap (λ (o : Open). conditionals (o ∷ around)) (other_is x e)
 
-told_as : (r : Reader) (t : At) (c : Conditions) (alone told missing : List Place) (last : Last) → alone ≡ told → Led r (t ∷ []) c [] (alone ++ missing) last → Led r (t ∷ []) c [] (told ++ missing) last
+told_as : (r : Reader) (t : At) (c : Conditions) (alone told missing : List Place) (last : Last) → alone ≡ told →
+    Led r (t ∷ []) c [] (alone ++ missing) last → Led r (t ∷ []) c [] (told ++ missing) last
 told_as r t c alone told missing last e is = subst (λ ps. Led r (t ∷ []) c [] (ps ++ missing) last) e is
 
 -- where what is open now is known
-stands_told : (r : Reader) (t : At) (st : Stands) (s : Around) (declared n : ℕ) (v : List (List Conditional)) (c x : Conditions) → stands_at c st declared ≡ x → stack_of st ≡ s → Holds r c → c.waiting ≡ v → levels_of st ≤ n
-    → StandsAt r (last_at (ended_in t.ended s) (declared_behind t declared) n v) (ended_behind t.ended x) × (ended_places t.ended x.inner ≡ missing_in t.ended s)
+stands_told : (r : Reader) (t : At) (st : Stands) (s : Around) (declared n : ℕ) (v : List (List Conditional)) (c x : Conditions) →
+    stands_at c st declared ≡ x → stack_of st ≡ s → Holds r c → c.waiting ≡ v → levels_of st ≤ n
+    → StandsAt r (last_at (ended_in t.ended s) (declared_behind t declared) n v) (ended_behind t.ended x) ×
+    (ended_places t.ended x.inner ≡ missing_in t.ended s)
 stands_told r t st s declared n v c x is stack holds waits few = (
   subst (λ (y : Around). StandsAt r (last_at (ended_in t.ended y) (declared_behind t declared) n v) (ended_behind t.ended x)) stack
-      (subst (λ (y : Conditions). StandsAt r (last_at (ended_in t.ended (stack_of st)) (declared_behind t declared) n v) (ended_behind t.ended y)) is (ended_stands r t.ended st declared n v c holds waits few)),
+      (subst (λ (y : Conditions). StandsAt r (last_at (ended_in t.ended (stack_of st)) (declared_behind t declared) n v)
+      (ended_behind t.ended y)) is (ended_stands r t.ended st declared n v c holds waits few)),
   ap (λ (y : Conditions). ended_places t.ended y.inner) (sym is) ∙ ended_told t.ended st declared c ∙ ap (missing_in t.ended) stack,
 )
 
@@ -1238,9 +1459,12 @@ turns_last r is_inner first t [] [] declared n v c holds waits si sb is =
     let m = reading is_inner place (awaits.End effect.Turns) c [] [] declared in
     let last = last_at (ended_in t.ended none_around) (declared_behind t declared) n v in
     let missing = missing_in t.ended none_around in
-    let both = stands_told r t (AllStay [] [] si sb) none_around declared n v c (at c [] [] None declared) refl refl holds waits (omega arith) in
-    told_as r t m (lone_places (unless_quiet t place)) (lone_at word.Ifnot first t none_around) missing last (lone_is word.Ifnot first t none_around true refl refl)
-    (acts r t m (at c [] [] None declared) (unless_quiet t place) (unless_quiet t place) missing last (end_kept effect.Turns is_inner place t c [] [] declared is) both.0 both.1)
+    let both =
+    stands_told r t (AllStay [] [] si sb) none_around declared n v c (at c [] [] None declared) refl refl holds waits (omega arith) in
+    told_as r t m (lone_places (unless_quiet t place)) (lone_at word.Ifnot first t none_around) missing last
+    (lone_is word.Ifnot first t none_around true refl refl)
+    (acts r t m (at c [] [] None declared) (unless_quiet t place) (unless_quiet t place) missing last
+    (end_kept effect.Turns is_inner place t c [] [] declared is) both.0 both.1)
 turns_last r is_inner first t [] (y ∷ between) declared n v c holds waits si sb is =
     let place = begins first in
     let s : Around = record { inside = []; between = y ∷ between } in
@@ -1249,18 +1473,25 @@ turns_last r is_inner first t [] (y ∷ between) declared n v c holds waits si s
     let missing = missing_in t.ended (turned s) in
     let here = at c [] (conditionals (y ∷ between)) None declared in
     let there = at c [] (record { place = y.place; is_second = true } ∷ conditionals between) (left_at false 0) declared in
-    let both : (StandsAt r last (ended_behind t.ended (cond y.is_second here there))) × (ended_places t.ended (cond y.is_second here there).inner ≡ missing) =
-    of_both (λ (x : Conditions). (StandsAt r last (ended_behind t.ended x)) × (ended_places t.ended x.inner ≡ missing)) y.is_second here there
-    (λ e. stands_told r t (AllStay [] (other_side y ∷ between) si (kept_still y between e sb)) (turned s) declared n v c here (ap (λ cs. at c [] cs None declared) (still_is y between e)) refl holds waits (omega arith))
-    (λ e. stands_told r t (OuterLeft [] (other_side y) between (left_turned y e (kept_head y between sb).0) (kept_head y between sb).1) (turned s) declared n v c there
+    let both : (StandsAt r last (ended_behind t.ended (cond y.is_second here there))) ×
+    (ended_places t.ended (cond y.is_second here there).inner ≡ missing) =
+    of_both (λ (x : Conditions). (StandsAt r last (ended_behind t.ended x)) × (ended_places t.ended x.inner ≡ missing)) y.is_second here
+    there
+    (λ e. stands_told r t (AllStay [] (other_side y ∷ between) si (kept_still y between e sb)) (turned s) declared n v c here
+    (ap (λ cs. at c [] cs None declared) (still_is y between e)) refl holds waits (omega arith))
+    (λ e. stands_told r t (OuterLeft [] (other_side y) between (left_turned y e (kept_head y between sb).0) (kept_head y between sb).1)
+    (turned s) declared n v c there
     (ap (λ cs. at c [] cs (left_at false 0) declared) (turned_is y between e)) refl holds waits (omega arith)) in
-    told_as r t m (lone_places (cond y.is_second (unless_quiet t place) None)) (lone_at word.Ifnot first t s) missing last (lone_is word.Ifnot first t s y.is_second sb refl)
-    (acts r t m (cond y.is_second here there) (cond y.is_second (unless_quiet t place) None) (unless_quiet t place) missing last (turns_among is_inner place t c (conditional_of y) (conditionals between) declared is)
+    told_as r t m (lone_places (cond y.is_second (unless_quiet t place) None)) (lone_at word.Ifnot first t s) missing last
+    (lone_is word.Ifnot first t s y.is_second sb refl)
+    (acts r t m (cond y.is_second here there) (cond y.is_second (unless_quiet t place) None) (unless_quiet t place) missing last
+    (turns_among is_inner place t c (conditional_of y) (conditionals between) declared is)
     (of_both (λ (x : Conditions). StandsAt r last (ended_behind t.ended (silent x))) y.is_second here there
     (λ e. subst (λ cs. StandsAt r last (ended_behind t.ended (at c [] cs None declared))) (still_is y between e)
     (ended_stands r t.ended (AllStay [] (other_side y ∷ between) si (kept_still y between e sb)) declared n v c holds waits (omega arith)))
     (λ e. subst (λ cs. StandsAt r last (ended_behind t.ended (at c [] cs (left_at false 0) declared))) (turned_is y between e)
-    (ended_stands r t.ended (OuterLeft [] (other_side y) between (left_turned y e (kept_head y between sb).0) (kept_head y between sb).1) declared n v c holds waits (omega arith)))) both.1)
+    (ended_stands r t.ended (OuterLeft [] (other_side y) between (left_turned y e (kept_head y between sb).0) (kept_head y between sb).1)
+    declared n v c holds waits (omega arith)))) both.1)
 turns_last r is_inner first t (y ∷ inside) between declared n v c holds waits si sb is =
     let place = begins first in
     let s : Around = record { inside = y ∷ inside; between = between } in
@@ -1270,18 +1501,26 @@ turns_last r is_inner first t (y ∷ inside) between declared n v c holds waits 
     let missing = missing_in t.ended (turned s) in
     let here = at c (conditionals (y ∷ inside)) among None declared in
     let there = at c (record { place = y.place; is_second = true } ∷ conditionals inside) among (left_at true 0) declared in
-    let both : (StandsAt r last (ended_behind t.ended (cond y.is_second here there))) × (ended_places t.ended (cond y.is_second here there).inner ≡ missing) =
-    of_both (λ (x : Conditions). (StandsAt r last (ended_behind t.ended x)) × (ended_places t.ended x.inner ≡ missing)) y.is_second here there
-    (λ e. stands_told r t (AllStay (other_side y ∷ inside) between (kept_still y inside e si) sb) (turned s) declared n v c here (ap (λ cs. at c cs among None declared) (still_is y inside e)) refl holds waits (omega arith))
-    (λ e. stands_told r t (InnerLeft [] (other_side y) inside between (left_turned y e (kept_head y inside si).0) (kept_head y inside si).1 sb) (turned s) declared n v c there
+    let both : (StandsAt r last (ended_behind t.ended (cond y.is_second here there))) ×
+    (ended_places t.ended (cond y.is_second here there).inner ≡ missing) =
+    of_both (λ (x : Conditions). (StandsAt r last (ended_behind t.ended x)) × (ended_places t.ended x.inner ≡ missing)) y.is_second here
+    there
+    (λ e. stands_told r t (AllStay (other_side y ∷ inside) between (kept_still y inside e si) sb) (turned s) declared n v c here
+    (ap (λ cs. at c cs among None declared) (still_is y inside e)) refl holds waits (omega arith))
+    (λ e. stands_told r t (InnerLeft [] (other_side y) inside between (left_turned y e (kept_head y inside si).0) (kept_head y inside si).1
+    sb) (turned s) declared n v c there
     (ap (λ cs. at c cs among (left_at true 0) declared) (turned_is y inside e)) refl holds waits (omega arith)) in
-    told_as r t m (lone_places (cond y.is_second (unless_quiet t place) None)) (lone_at word.Ifnot first t s) missing last (lone_is word.Ifnot first t s y.is_second (both_kept (y ∷ inside) between si sb) refl)
-    (acts r t m (cond y.is_second here there) (cond y.is_second (unless_quiet t place) None) (unless_quiet t place) missing last (turns_inner is_inner place t c (conditional_of y) (conditionals inside) among declared is)
+    told_as r t m (lone_places (cond y.is_second (unless_quiet t place) None)) (lone_at word.Ifnot first t s) missing last
+    (lone_is word.Ifnot first t s y.is_second (both_kept (y ∷ inside) between si sb) refl)
+    (acts r t m (cond y.is_second here there) (cond y.is_second (unless_quiet t place) None) (unless_quiet t place) missing last
+    (turns_inner is_inner place t c (conditional_of y) (conditionals inside) among declared is)
     (of_both (λ (x : Conditions). StandsAt r last (ended_behind t.ended (silent x))) y.is_second here there
     (λ e. subst (λ cs. StandsAt r last (ended_behind t.ended (at c cs among None declared))) (still_is y inside e)
-    (ended_stands r t.ended (AllStay (other_side y ∷ inside) between (kept_still y inside e si) sb) declared n v c holds waits (omega arith)))
+    (ended_stands r t.ended (AllStay (other_side y ∷ inside) between (kept_still y inside e si) sb) declared n v c holds waits
+    (omega arith)))
     (λ e. subst (λ cs. StandsAt r last (ended_behind t.ended (at c cs among (left_at true 0) declared))) (turned_is y inside e)
-    (ended_stands r t.ended (InnerLeft [] (other_side y) inside between (left_turned y e (kept_head y inside si).0) (kept_head y inside si).1 sb) declared n v c holds waits (omega arith)))) both.1)
+    (ended_stands r t.ended (InnerLeft [] (other_side y) inside between (left_turned y e (kept_head y inside si).0)
+    (kept_head y inside si).1 sb) declared n v c holds waits (omega arith)))) both.1)
 
 -- and that of an `Endif`
 closes_last : LastLed word.Endif closed effect.Closes
@@ -1290,9 +1529,12 @@ closes_last r is_inner first t [] [] declared n v c holds waits si sb is =
     let m = reading is_inner place (awaits.End effect.Closes) c [] [] declared in
     let last = last_at (ended_in t.ended none_around) (declared_behind t declared) n v in
     let missing = missing_in t.ended none_around in
-    let both = stands_told r t (AllStay [] [] si sb) none_around declared n v c (at c [] [] None declared) refl refl holds waits (omega arith) in
-    told_as r t m (lone_places (unless_quiet t place)) (lone_at word.Endif first t none_around) missing last (lone_is word.Endif first t none_around true refl refl)
-    (acts r t m (at c [] [] None declared) (unless_quiet t place) (unless_quiet t place) missing last (end_kept effect.Closes is_inner place t c [] [] declared is) both.0 both.1)
+    let both =
+    stands_told r t (AllStay [] [] si sb) none_around declared n v c (at c [] [] None declared) refl refl holds waits (omega arith) in
+    told_as r t m (lone_places (unless_quiet t place)) (lone_at word.Endif first t none_around) missing last
+    (lone_is word.Endif first t none_around true refl refl)
+    (acts r t m (at c [] [] None declared) (unless_quiet t place) (unless_quiet t place) missing last
+    (end_kept effect.Closes is_inner place t c [] [] declared is) both.0 both.1)
 closes_last r is_inner first t [] (y ∷ between) declared n v c holds waits si sb is =
     let place = begins first in
     let s : Around = record { inside = []; between = y ∷ between } in
@@ -1300,9 +1542,11 @@ closes_last r is_inner first t [] (y ∷ between) declared n v c holds waits si 
     let last = last_at (ended_in t.ended (closed s)) (declared_behind t declared) n v in
     let missing = missing_in t.ended (closed s) in
     let now = at c [] (conditionals between) None declared in
-    let both = stands_told r t (AllStay [] between si (kept_head y between sb).1) (closed s) declared n v c now refl refl holds waits (omega arith) in
+    let both =
+    stands_told r t (AllStay [] between si (kept_head y between sb).1) (closed s) declared n v c now refl refl holds waits (omega arith) in
     told_as r t m [] (lone_at word.Endif first t s) missing last (lone_is word.Endif first t s false sb refl)
-    (acts r t m now None (unless_quiet t place) missing last (end_kept effect.Closes is_inner place t c [] (conditionals (y ∷ between)) declared is) both.0 both.1)
+    (acts r t m now None (unless_quiet t place) missing last
+    (end_kept effect.Closes is_inner place t c [] (conditionals (y ∷ between)) declared is) both.0 both.1)
 closes_last r is_inner first t (y ∷ inside) between declared n v c holds waits si sb is =
     let place = begins first in
     let s : Around = record { inside = y ∷ inside; between = between } in
@@ -1310,28 +1554,37 @@ closes_last r is_inner first t (y ∷ inside) between declared n v c holds waits
     let last = last_at (ended_in t.ended (closed s)) (declared_behind t declared) n v in
     let missing = missing_in t.ended (closed s) in
     let now = at c (conditionals inside) (conditionals between) None declared in
-    let both = stands_told r t (AllStay inside between (kept_head y inside si).1 sb) (closed s) declared n v c now refl refl holds waits (omega arith) in
-    told_as r t m [] (lone_at word.Endif first t s) missing last (lone_is word.Endif first t s false (both_kept (y ∷ inside) between si sb) refl)
-    (acts r t m now None (unless_quiet t place) missing last (end_kept effect.Closes is_inner place t c (conditionals (y ∷ inside)) (conditionals between) declared is) both.0 both.1)
+    let both = stands_told r t (AllStay inside between (kept_head y inside si).1 sb) (closed s) declared n v c now refl refl holds waits
+    (omega arith) in
+    told_as r t m [] (lone_at word.Endif first t s) missing last
+    (lone_is word.Endif first t s false (both_kept (y ∷ inside) between si sb) refl)
+    (acts r t m now None (unless_quiet t place) missing last
+    (end_kept effect.Closes is_inner place t c (conditionals (y ∷ inside)) (conditionals between) declared is) both.0 both.1)
 
 -- The word of a directive in a side that is left out
 
 abbrev Further : Reader → Reader → List At → List Place → Last → Last → Type 0
 Further r q all places there last = (c : Conditions) → StandsAt r there c → Led q all c [] places last
 
-opens_left : (r q : Reader) (is_inner is_within : Bool) (w : ConditionalWord) (first : First) (all : List At) (more : Open) (st : Stands) (declared n : ℕ) (v : List (List Conditional)) (c : Conditions) (places : List Place) (last : Last)
-    → Holds r c → c.waiting ≡ v → levels_of st ≤ n → n + 1 ≤ most_levels → all_kept (stack_of st) ≡ false → NoneInside is_inner (stack_of st) → IsFirst false is_inner is_within w first
+opens_left : (r q : Reader) (is_inner is_within : Bool) (w : ConditionalWord) (first : First) (all : List At) (more : Open) (st : Stands)
+    (declared n : ℕ) (v : List (List Conditional)) (c : Conditions) (places : List Place) (last : Last)
+    → Holds r c → c.waiting ≡ v → levels_of st ≤ n → n + 1 ≤ most_levels → all_kept (stack_of st) ≡ false → NoneInside is_inner
+    (stack_of st) → IsFirst false is_inner is_within w first
     → ((m : ℕ) (b : Bool) → ends_side b m (Some w) ≡ false) → ((m : ℕ) → level_behind (Some w) m ≡ suc m)
     → Further r q all places (last_at (opened_more is_inner more (stack_of st)) (declared_first first declared) (n + 1) v) last
     → Led q (first_tokens first all) (stands_at c st declared) [] places last
-opens_left r q is_inner is_within w first all more (AllStay inside between si sb) declared n v c places last holds waits few_st few left none is stays level further =
+opens_left r q is_inner is_within w first all more (AllStay inside between si sb) declared n v c places last holds waits few_st few left
+    none is stays level further =
     absurd (let never : true ≡ false = sym (both_kept inside between si sb) ∙ left in cc)
-opens_left r q false is_within w first all more (InnerLeft deep x inside between gone si sb) declared n v c places last holds waits few_st few left none is stays level further = absurd (some_open deep x inside none)
-opens_left r q true is_within w first all more (InnerLeft deep x inside between gone si sb) declared n v c places last holds waits few_st few left none is stays level further =
+opens_left r q false is_within w first all more (InnerLeft deep x inside between gone si sb) declared n v c places last holds waits few_st
+    few left none is stays level further = absurd (some_open deep x inside none)
+opens_left r q true is_within w first all more (InnerLeft deep x inside between gone si sb) declared n v c places last holds waits few_st
+    few left none is stays level further =
     let m = length deep in
     let inner = conditionals (x ∷ inside) in
     let now = declared_first first declared in
-    begins_left q true is_within w (suc m) first.sign first.word all c inner (conditionals between) true m declared places last is.begins is.is is.goes_on (λ e. absurd (no_false e)) (omega (arith, few_st, few))
+    begins_left q true is_within w (suc m) first.sign first.word all c inner (conditionals between) true m declared places last is.begins
+    is.is is.goes_on (λ e. absurd (no_false e)) (omega (arith, few_st, few))
     (stays m (second inner (conditionals between))) (level m)
     (further (at c inner (conditionals between) (left_at true (suc m)) now)
     (record {
@@ -1340,14 +1593,17 @@ opens_left r q true is_within w first all more (InnerLeft deep x inside between 
       holds = holds;
       waits = waits;
       is = refl;
-      stack = sym (ap (λ k. cond k (record { inside = more ∷ deep ++ x ∷ inside; between = between }) (record { inside = deep ++ x ∷ inside; between = more ∷ between })) sb);
+      stack = sym (ap (λ k. cond k (record { inside = more ∷ deep ++ x ∷ inside; between = between })
+          (record { inside = deep ++ x ∷ inside; between = more ∷ between })) sb);
       few = omega (arith, few_st);
     }))
-opens_left r q is_inner is_within w first all more (OuterLeft deep x between gone sb) declared n v c places last holds waits few_st few left none is stays level further =
+opens_left r q is_inner is_within w first all more (OuterLeft deep x between gone sb) declared n v c places last holds waits few_st few left
+    none is stays level further =
     let m = length deep in
     let among = conditionals (x ∷ between) in
     let now = declared_first first declared in
-    begins_left q is_inner is_within w (suc m) first.sign first.word all c [] among false m declared places last is.begins is.is is.goes_on (λ _. (refl, refl)) (omega (arith, few_st, few))
+    begins_left q is_inner is_within w (suc m) first.sign first.word all c [] among false m declared places last is.begins is.is is.goes_on
+    (λ _. (refl, refl)) (omega (arith, few_st, few))
     (stays m (second [] among)) (level m)
     (further (at c [] among (left_at false (suc m)) now)
     (record {
@@ -1356,29 +1612,39 @@ opens_left r q is_inner is_within w first all more (OuterLeft deep x between gon
       holds = holds;
       waits = waits;
       is = refl;
-      stack = sym (ap (λ k. cond k (record { inside = more ∷ []; between = deep ++ x ∷ between }) (record { inside = []; between = more ∷ deep ++ x ∷ between })) (ap (λ k. is_inner && k) (not_kept deep x between gone) ∙ and-false is_inner));
+      stack = sym (ap (λ k. cond k (record { inside = more ∷ []; between = deep ++ x ∷ between })
+          (record { inside = []; between = more ∷ deep ++ x ∷ between }))
+          (ap (λ k. is_inner && k) (not_kept deep x between gone) ∙ and-false is_inner));
       few = omega (arith, few_st);
     }))
 
 -- a word that may end the side
 abbrev pub LeftLed : ConditionalWord → (Around → Around) → Type 0
-LeftLed w act = (r q : Reader) (is_inner is_within : Bool) (first : First) (all : List At) (st : Stands) (declared n : ℕ) (v : List (List Conditional)) (c : Conditions) (places : List Place) (last : Last)
-    → Holds r c → c.waiting ≡ v → levels_of st ≤ n → n + 1 ≤ most_levels → all_kept (stack_of st) ≡ false → NoneInside is_inner (stack_of st) → IsFirst false is_inner is_within w first
+LeftLed w act = (r q : Reader) (is_inner is_within : Bool) (first : First) (all : List At) (st : Stands) (declared n : ℕ)
+    (v : List (List Conditional)) (c : Conditions) (places : List Place) (last : Last)
+    → Holds r c → c.waiting ≡ v → levels_of st ≤ n → n + 1 ≤ most_levels → all_kept (stack_of st) ≡ false → NoneInside is_inner
+    (stack_of st) → IsFirst false is_inner is_within w first
     → (all_kept (act (stack_of st)) ≡ false → Further r q all places (last_at (act (stack_of st)) (declared_first first declared) n v) last)
-    → ((inside between : List Open) → are_kept inside ≡ true → are_kept between ≡ true → record { inside = inside; between = between } ≡ act (stack_of st)
-    → Led q all (reading false (begins first) (awaits.End effect.Nothing) c (conditionals inside) (conditionals between) (declared_first first declared)) [] places last)
+    → ((inside between : List Open) → are_kept inside ≡ true → are_kept between ≡ true → record { inside = inside; between = between } ≡ act
+    (stack_of st)
+    → Led q all (reading false (begins first) (awaits.End effect.Nothing) c (conditionals inside) (conditionals between)
+    (declared_first first declared)) [] places last)
     → Led q (first_tokens first all) (stands_at c st declared) [] places last
 
 pub turns_left : LeftLed word.Ifnot turned
-turns_left r q is_inner is_within first all (AllStay inside between si sb) declared n v c places last holds waits few_st few left none is still ended = absurd (let never : true ≡ false = sym (both_kept inside between si sb) ∙ left in cc)
-turns_left r q false is_within first all (InnerLeft deep x inside between gone si sb) declared n v c places last holds waits few_st few left none is still ended = absurd (some_open deep x inside none)
-turns_left r q true is_within first all (InnerLeft [] x inside between gone si sb) declared n v c places last holds waits few_st few left none is still ended =
+turns_left r q is_inner is_within first all (AllStay inside between si sb) declared n v c places last holds waits few_st few left none is
+    still ended = absurd (let never : true ≡ false = sym (both_kept inside between si sb) ∙ left in cc)
+turns_left r q false is_within first all (InnerLeft deep x inside between gone si sb) declared n v c places last holds waits few_st few left
+    none is still ended = absurd (some_open deep x inside none)
+turns_left r q true is_within first all (InnerLeft [] x inside between gone si sb) declared n v c places last holds waits few_st few left
+    none is still ended =
     let inner = conditionals (x ∷ inside) in
     let among = conditionals between in
     let now = declared_first first declared in
     bool_cases_of x.is_second (Led q (first_tokens first all) (at c inner among (left_at true 0) declared) [] places last)
     (λ e.
-    begins_left q true is_within word.Ifnot 0 first.sign first.word all c inner among true 0 declared places last is.begins is.is is.goes_on (λ e. absurd (no_false e)) (omega (arith, few)) (ap not e) refl
+    begins_left q true is_within word.Ifnot 0 first.sign first.word all c inner among true 0 declared places last is.begins is.is is.goes_on
+    (λ e. absurd (no_false e)) (omega (arith, few)) (ap not e) refl
     (still (inner_not_kept [] (other_side x) inside between (left_still x e gone)) (at c inner among (left_at true 0) now)
     (record {
       base = c;
@@ -1391,24 +1657,37 @@ turns_left r q true is_within first all (InnerLeft [] x inside between gone si s
     })))
     (λ e.
     let next : List Conditional = record { place = x.place; is_second = true } ∷ conditionals inside in
-    begins_end q true is_within word.Ifnot first.sign first.word all c inner among next among true declared places last is.begins is.is is.goes_on (λ e. absurd (no_false e)) (λ e. absurd (no_false e)) (omega (arith, few)) (ap not e) (λ sign m. refl)
+    begins_end q true is_within word.Ifnot first.sign first.word all c inner among next among true declared places last is.begins is.is
+    is.goes_on (λ e. absurd (no_false e)) (λ e. absurd (no_false e)) (omega (arith, few)) (ap not e) (λ sign m. refl)
     (subst (λ cs. Led q all (reading false (begins first) (awaits.End effect.Nothing) c cs among now) [] places last) (turned_is x inside e)
     (ended (other_side x ∷ inside) between (kept_turned x inside e gone si) sb refl)))
-turns_left r q true is_within first all (InnerLeft (y ∷ deep) x inside between gone si sb) declared n v c places last holds waits few_st few left none is still ended =
+turns_left r q true is_within first all (InnerLeft (y ∷ deep) x inside between gone si sb) declared n v c places last holds waits few_st few
+    left none is still ended =
     let inner = conditionals (x ∷ inside) in
     let among = conditionals between in
     let m = length deep in
     let now = declared_first first declared in
-    begins_left q true is_within word.Ifnot (suc m) first.sign first.word all c inner among true (suc m) declared places last is.begins is.is is.goes_on (λ e. absurd (no_false e)) (omega (arith, few, few_st))
+    begins_left q true is_within word.Ifnot (suc m) first.sign first.word all c inner among true (suc m) declared places last is.begins
+    is.is is.goes_on (λ e. absurd (no_false e)) (omega (arith, few, few_st))
     (ap (λ b. b && not (second inner among)) (eqb-suc-zero m)) refl
     (still (inner_not_kept (other_side y ∷ deep) x inside between gone) (at c inner among (left_at true (suc m)) now)
-    (record { base = c; stand = InnerLeft (other_side y ∷ deep) x inside between gone si sb; holds = holds; waits = waits; is = refl; stack = refl; few = few_st }))
-turns_left r q is_inner is_within first all (OuterLeft [] x between gone sb) declared n v c places last holds waits few_st few left none is still ended =
+    (record {
+      base = c;
+      stand = InnerLeft (other_side y ∷ deep) x inside between gone si sb;
+      holds = holds;
+      waits = waits;
+      is = refl;
+      stack = refl;
+      few = few_st;
+    }))
+turns_left r q is_inner is_within first all (OuterLeft [] x between gone sb) declared n v c places last holds waits few_st few left none is
+    still ended =
     let among = conditionals (x ∷ between) in
     let now = declared_first first declared in
     bool_cases_of x.is_second (Led q (first_tokens first all) (at c [] among (left_at false 0) declared) [] places last)
     (λ e.
-    begins_left q is_inner is_within word.Ifnot 0 first.sign first.word all c [] among false 0 declared places last is.begins is.is is.goes_on (λ _. (refl, refl)) (omega (arith, few)) (ap not e) refl
+    begins_left q is_inner is_within word.Ifnot 0 first.sign first.word all c [] among false 0 declared places last is.begins is.is
+    is.goes_on (λ _. (refl, refl)) (omega (arith, few)) (ap not e) refl
     (still (not_kept [] (other_side x) between (left_still x e gone)) (at c [] among (left_at false 0) now)
     (record {
       base = c;
@@ -1421,83 +1700,136 @@ turns_left r q is_inner is_within first all (OuterLeft [] x between gone sb) dec
     })))
     (λ e.
     let next : List Conditional = record { place = x.place; is_second = true } ∷ conditionals between in
-    begins_end q is_inner is_within word.Ifnot first.sign first.word all c [] among [] next false declared places last is.begins is.is is.goes_on (λ _. (refl, refl)) (λ _. (refl, refl)) (omega (arith, few)) (ap not e) (λ sign m. refl)
+    begins_end q is_inner is_within word.Ifnot first.sign first.word all c [] among [] next false declared places last is.begins is.is
+    is.goes_on (λ _. (refl, refl)) (λ _. (refl, refl)) (omega (arith, few)) (ap not e) (λ sign m. refl)
     (subst (λ cs. Led q all (reading false (begins first) (awaits.End effect.Nothing) c [] cs now) [] places last) (turned_is x between e)
     (ended [] (other_side x ∷ between) refl (kept_turned x between e gone sb) refl)))
-turns_left r q is_inner is_within first all (OuterLeft (y ∷ deep) x between gone sb) declared n v c places last holds waits few_st few left none is still ended =
+turns_left r q is_inner is_within first all (OuterLeft (y ∷ deep) x between gone sb) declared n v c places last holds waits few_st few left
+    none is still ended =
     let among = conditionals (x ∷ between) in
     let m = length deep in
     let now = declared_first first declared in
-    begins_left q is_inner is_within word.Ifnot (suc m) first.sign first.word all c [] among false (suc m) declared places last is.begins is.is is.goes_on (λ _. (refl, refl)) (omega (arith, few, few_st))
+    begins_left q is_inner is_within word.Ifnot (suc m) first.sign first.word all c [] among false (suc m) declared places last is.begins
+    is.is is.goes_on (λ _. (refl, refl)) (omega (arith, few, few_st))
     (ap (λ b. b && not (second [] among)) (eqb-suc-zero m)) refl
     (still (not_kept (other_side y ∷ deep) x between gone) (at c [] among (left_at false (suc m)) now)
-    (record { base = c; stand = OuterLeft (other_side y ∷ deep) x between gone sb; holds = holds; waits = waits; is = refl; stack = refl; few = few_st }))
+    (record {
+      base = c;
+      stand = OuterLeft (other_side y ∷ deep) x between gone sb;
+      holds = holds;
+      waits = waits;
+      is = refl;
+      stack = refl;
+      few = few_st;
+    }))
 
 pub closes_left : LeftLed word.Endif closed
-closes_left r q is_inner is_within first all (AllStay inside between si sb) declared n v c places last holds waits few_st few left none is still ended = absurd (let never : true ≡ false = sym (both_kept inside between si sb) ∙ left in cc)
-closes_left r q false is_within first all (InnerLeft deep x inside between gone si sb) declared n v c places last holds waits few_st few left none is still ended = absurd (some_open deep x inside none)
-closes_left r q true is_within first all (InnerLeft [] x inside between gone si sb) declared n v c places last holds waits few_st few left none is still ended =
+closes_left r q is_inner is_within first all (AllStay inside between si sb) declared n v c places last holds waits few_st few left none is
+    still ended = absurd (let never : true ≡ false = sym (both_kept inside between si sb) ∙ left in cc)
+closes_left r q false is_within first all (InnerLeft deep x inside between gone si sb) declared n v c places last holds waits few_st few
+    left none is still ended = absurd (some_open deep x inside none)
+closes_left r q true is_within first all (InnerLeft [] x inside between gone si sb) declared n v c places last holds waits few_st few left
+    none is still ended =
     let among = conditionals between in
-    begins_end q true is_within word.Endif first.sign first.word all c (conditionals (x ∷ inside)) among (conditionals inside) among true declared places last is.begins is.is is.goes_on (λ e. absurd (no_false e)) (λ e. absurd (no_false e)) (omega (arith, few)) refl (λ sign m. refl)
+    begins_end q true is_within word.Endif first.sign first.word all c (conditionals (x ∷ inside)) among (conditionals inside) among true
+    declared places last is.begins is.is is.goes_on (λ e. absurd (no_false e)) (λ e. absurd (no_false e)) (omega (arith, few)) refl
+    (λ sign m. refl)
     (ended inside between si sb refl)
-closes_left r q true is_within first all (InnerLeft (y ∷ deep) x inside between gone si sb) declared n v c places last holds waits few_st few left none is still ended =
+closes_left r q true is_within first all (InnerLeft (y ∷ deep) x inside between gone si sb) declared n v c places last holds waits few_st
+    few left none is still ended =
     let inner = conditionals (x ∷ inside) in
     let among = conditionals between in
     let m = length deep in
     let now = declared_first first declared in
-    begins_left q true is_within word.Endif m first.sign first.word all c inner among true (suc m) declared places last is.begins is.is is.goes_on (λ e. absurd (no_false e)) (omega (arith, few, few_st))
+    begins_left q true is_within word.Endif m first.sign first.word all c inner among true (suc m) declared places last is.begins is.is
+    is.goes_on (λ e. absurd (no_false e)) (omega (arith, few, few_st))
     (ap (λ b. b && true) (eqb-suc-zero m)) (omega arith)
     (still (inner_not_kept deep x inside between gone) (at c inner among (left_at true m) now)
-    (record { base = c; stand = InnerLeft deep x inside between gone si sb; holds = holds; waits = waits; is = refl; stack = refl; few = omega (arith, few_st) }))
-closes_left r q is_inner is_within first all (OuterLeft [] x between gone sb) declared n v c places last holds waits few_st few left none is still ended =
+    (record {
+      base = c;
+      stand = InnerLeft deep x inside between gone si sb;
+      holds = holds;
+      waits = waits;
+      is = refl;
+      stack = refl;
+      few =
+          omega (arith, few_st);
+    }))
+closes_left r q is_inner is_within first all (OuterLeft [] x between gone sb) declared n v c places last holds waits few_st few left none is
+    still ended =
     let among = conditionals (x ∷ between) in
-    begins_end q is_inner is_within word.Endif first.sign first.word all c [] among [] (conditionals between) false declared places last is.begins is.is is.goes_on (λ _. (refl, refl)) (λ _. (refl, refl)) (omega (arith, few)) refl (λ sign m. refl)
+    begins_end q is_inner is_within word.Endif first.sign first.word all c [] among [] (conditionals between) false declared places last
+    is.begins is.is is.goes_on (λ _. (refl, refl)) (λ _. (refl, refl)) (omega (arith, few)) refl (λ sign m. refl)
     (ended [] between refl sb refl)
-closes_left r q is_inner is_within first all (OuterLeft (y ∷ deep) x between gone sb) declared n v c places last holds waits few_st few left none is still ended =
+closes_left r q is_inner is_within first all (OuterLeft (y ∷ deep) x between gone sb) declared n v c places last holds waits few_st few left
+    none is still ended =
     let among = conditionals (x ∷ between) in
     let m = length deep in
     let now = declared_first first declared in
-    begins_left q is_inner is_within word.Endif m first.sign first.word all c [] among false (suc m) declared places last is.begins is.is is.goes_on (λ _. (refl, refl)) (omega (arith, few, few_st))
+    begins_left q is_inner is_within word.Endif m first.sign first.word all c [] among false (suc m) declared places last is.begins is.is
+    is.goes_on (λ _. (refl, refl)) (omega (arith, few, few_st))
     (ap (λ b. b && true) (eqb-suc-zero m)) (omega arith)
     (still (not_kept deep x between gone) (at c [] among (left_at false m) now)
-    (record { base = c; stand = OuterLeft deep x between gone sb; holds = holds; waits = waits; is = refl; stack = refl; few = omega (arith, few_st) }))
+    (record {
+      base = c;
+      stand = OuterLeft deep x between gone sb;
+      holds = holds;
+      waits = waits;
+      is = refl;
+      stack = refl;
+      few = omega
+          (arith, few_st);
+    }))
 
 -- Parts
 
 abbrev last_part : Answers → Part → Around → ℕ → ℕ → List (List Conditional) → Last
-last_part d part s declared n v = last_at (behind_part d part s) (declared_tokens (part_tokens part) declared) (n + length (part_tokens part)) v
+last_part d part s declared n v =
+    last_at (behind_part d part s) (declared_tokens (part_tokens part) declared) (n + length (part_tokens part)) v
 
 abbrev StandLeads : Answers → Part → Type 0
-StandLeads d part = (r : Reader) (st : Stands) (declared n : ℕ) (v : List (List Conditional)) (c : Conditions) → Holds r c → c.waiting ≡ v → levels_of st ≤ n → IsPart d (within r) (stack_of st) declared part
+StandLeads d part = (r : Reader) (st : Stands) (declared n : ℕ) (v : List (List Conditional)) (c : Conditions) → Holds r c → c.waiting ≡ v →
+    levels_of st ≤ n → IsPart d (within r) (stack_of st) declared part
     → TakesAll r (kept_of part (stack_of st)) → n + length (part_tokens part) ≤ most_levels
-    → Led r (part_tokens part) (stands_at c st declared) (kept_of part (stack_of st)) (told_of d part (stack_of st)) (last_part d part (stack_of st) declared n v)
+    → Led r (part_tokens part) (stands_at c st declared) (kept_of part (stack_of st)) (told_of d part (stack_of st))
+    (last_part d part (stack_of st) declared n v)
 
 abbrev PartLeads : Answers → Part → Type 0
-PartLeads d part = (r : Reader) (s : Around) (declared n : ℕ) (v : List (List Conditional)) (c : Conditions) → StandsAt r (last_at s declared n v) c → IsPart d (within r) s declared part → TakesAll r (kept_of part s)
+PartLeads d part = (r : Reader) (s : Around) (declared n : ℕ) (v : List (List Conditional)) (c : Conditions) → StandsAt r
+    (last_at s declared n v) c → IsPart d (within r) s declared part → TakesAll r (kept_of part s)
     → n + length (part_tokens part) ≤ most_levels
     → Led r (part_tokens part) c (kept_of part s) (told_of d part s) (last_part d part s declared n v)
 
 -- where all is kept
-kept_only : (P : Stands → Type 0) → ((inside between : List Open) (si : are_kept inside ≡ true) (sb : are_kept between ≡ true) → P (AllStay inside between si sb)) → (st : Stands) → all_kept (stack_of st) ≡ true → P st
+kept_only : (P : Stands → Type 0) →
+    ((inside between : List Open) (si : are_kept inside ≡ true) (sb : are_kept between ≡ true) → P (AllStay inside between si sb)) →
+    (st : Stands) → all_kept (stack_of st) ≡ true → P st
 kept_only P so (AllStay inside between si sb) e = so inside between si sb
-kept_only P so (InnerLeft deep x inside between left si sb) e = absurd (let never : true ≡ false = sym e ∙ inner_not_kept deep x inside between left in cc)
+kept_only P so (InnerLeft deep x inside between left si sb) e =
+    absurd (let never : true ≡ false = sym e ∙ inner_not_kept deep x inside between left in cc)
 kept_only P so (OuterLeft deep x between left sb) e = absurd (let never : true ≡ false = sym e ∙ not_kept deep x between left in cc)
 
 abbrev stands_so : Reader → Stands → ℕ → ℕ → List (List Conditional) → Conditions → Type 0
 stands_so r st declared n v c = StandsAt r (last_at (stack_of st) declared n v) (stands_at c st declared)
 
-stands : (r : Reader) (st : Stands) (declared n : ℕ) (v : List (List Conditional)) (c : Conditions) → Holds r c → c.waiting ≡ v → levels_of st ≤ n → stands_so r st declared n v c
-stands r st declared n v c holds waits few = record { base = c; stand = st; holds = holds; waits = waits; is = refl; stack = refl; few = few }
+stands : (r : Reader) (st : Stands) (declared n : ℕ) (v : List (List Conditional)) (c : Conditions) → Holds r c → c.waiting ≡ v →
+    levels_of st ≤ n → stands_so r st declared n v c
+stands r st declared n v c holds waits few =
+    record { base = c; stand = st; holds = holds; waits = waits; is = refl; stack = refl; few = few }
 
-pub told_so : (r : Reader) (all : List At) (c : Conditions) (tokens : List SourceToken) (places told : List Place) (last : Last) → places ≡ told → Led r all c tokens places last → Led r all c tokens told last
+pub told_so : (r : Reader) (all : List At) (c : Conditions) (tokens : List SourceToken) (places told : List Place) (last : Last) →
+    places ≡ told → Led r all c tokens places last → Led r all c tokens told last
 told_so r all c tokens places told last e is = subst (λ ps. Led r all c tokens ps last) e is
 
 -- Plain tokens
 
 -- a condition takes one
-reads_one : (a : Awaits) (ks : List Condition) (is_inner : Bool) (place : Place) (others : List Pending) (t : At) (inside between : List Open) (declared n : ℕ) (v : List (List Conditional)) (c : Conditions)
-    → c.pending ≡ directive is_inner place a ∷ others → c.conditions ≡ ks → c.waiting ≡ v → are_kept inside ≡ true → are_kept between ≡ true → TakenBy a t.token ks → IsPlain true true t
-    → Led (Reads (directive is_inner place a) others ks) (t ∷ []) (at c (conditionals inside) (conditionals between) None declared) (t.token ∷ []) (missing_in t.ended (record { inside = inside; between = between }))
+reads_one : (a : Awaits) (ks : List Condition) (is_inner : Bool) (place : Place) (others : List Pending) (t : At)
+    (inside between : List Open) (declared n : ℕ) (v : List (List Conditional)) (c : Conditions)
+    → c.pending ≡ directive is_inner place a ∷ others → c.conditions ≡ ks → c.waiting ≡ v → are_kept inside ≡ true → are_kept between ≡ true
+    → TakenBy a t.token ks → IsPlain true true t
+    → Led (Reads (directive is_inner place a) others ks) (t ∷ []) (at c (conditionals inside) (conditionals between) None declared)
+    (t.token ∷ []) (missing_in t.ended (record { inside = inside; between = between }))
     (last_at (ended_in t.ended (record { inside = inside; between = between })) (declared_behind t declared) n v)
 reads_one (awaits.Condition wanted) (k ∷ ks) is_inner place others t inside between declared n v c hp hk waits si sb is plain =
     let base = record c { pending = others; conditions = ks } in
@@ -1509,27 +1841,34 @@ reads_one (awaits.Condition wanted) (k ∷ ks) is_inner place others t inside be
     let r = Reads (directive is_inner place a) others (k ∷ ks) in
     let last = last_at (ended_in t.ended (record { inside = inside; between = between })) (declared_behind t declared) n v in
     let here = reading is_inner place a (with_condition k base) inner among declared in
-    let now = asking_on place is_inner wanted next (saying quiet (too_much base.longest t.token next) (tokens_counted quiet next (at base inner among None declared))) in
+    let now = asking_on place is_inner wanted next
+    (saying quiet (too_much base.longest t.token next) (tokens_counted quiet next (at base inner among None declared))) in
     let missing = missing_in t.ended (record { inside = inside; between = between }) in
     let same : here ≡ at c inner among None declared =
     ap (λ cs. at (record c { pending = directive is_inner place a ∷ others; conditions = cs }) inner among None declared) (sym hk)
     ∙ ap (λ ps. at (record c { pending = ps }) inner among None declared) (sym hp) in
     subst (λ (x : Conditions). Led r (t ∷ []) x (t.token ∷ []) missing last) same
     (takes r t here now missing last refl (next_goes is_inner wanted place t k base inner among declared plain.no_hash is.0 is.1)
-    (ended_stands (Reads (directive is_inner place a) others (next ∷ ks)) t.ended (AllStay inside between si sb) declared n v (awaits_it is_inner place a (with_condition next (counted quiet next base))) (refl, refl) waits (omega arith))
+    (ended_stands (Reads (directive is_inner place a) others (next ∷ ks)) t.ended (AllStay inside between si sb) declared n v
+    (awaits_it is_inner place a (with_condition next (counted quiet next base))) (refl, refl) waits (omega arith))
     (ended_told t.ended (AllStay inside between si sb) declared base))
 reads_one (awaits.Condition wanted) [] is_inner place others t inside between declared n v c hp hk waits si sb is plain = absurd is
 reads_one awaits.Word ks is_inner place others t inside between declared n v c hp hk waits si sb is plain = absurd is
 reads_one (awaits.Name if_declared) ks is_inner place others t inside between declared n v c hp hk waits si sb is plain = absurd is
 reads_one (awaits.End e) ks is_inner place others t inside between declared n v c hp hk waits si sb is plain = absurd is
 
-one_kept : (r : Reader) (t : At) (inside between : List Open) (declared n : ℕ) (v : List (List Conditional)) (c : Conditions) → Holds r c → c.waiting ≡ v → are_kept inside ≡ true → are_kept between ≡ true
+one_kept : (r : Reader) (t : At) (inside between : List Open) (declared n : ℕ) (v : List (List Conditional)) (c : Conditions) → Holds r c →
+    c.waiting ≡ v → are_kept inside ≡ true → are_kept between ≡ true
     → TakesAll r (t.token ∷ []) → IsPlain true (within r) t
-    → Led r (t ∷ []) (at c (conditionals inside) (conditionals between) None declared) (t.token ∷ []) (missing_in t.ended (record { inside = inside; between = between }))
+    → Led r (t ∷ []) (at c (conditionals inside) (conditionals between) None declared) (t.token ∷ [])
+    (missing_in t.ended (record { inside = inside; between = between }))
     (last_at (ended_in t.ended (record { inside = inside; between = between })) (declared_behind t declared) n v)
 one_kept Hands t inside between declared n v c holds waits si sb takes plain =
-    keeps t (at c (conditionals inside) (conditionals between) None declared) (missing_in t.ended (record { inside = inside; between = between })) (last_at (ended_in t.ended (record { inside = inside; between = between })) (declared_behind t declared) n v)
-    (plain_kept t c (conditionals inside) (conditionals between) declared holds plain) (ended_stands Hands t.ended (AllStay inside between si sb) declared n v c holds waits (omega arith))
+    keeps t (at c (conditionals inside) (conditionals between) None declared)
+    (missing_in t.ended (record { inside = inside; between = between }))
+    (last_at (ended_in t.ended (record { inside = inside; between = between })) (declared_behind t declared) n v)
+    (plain_kept t c (conditionals inside) (conditionals between) declared holds plain)
+    (ended_stands Hands t.ended (AllStay inside between si sb) declared n v c holds waits (omega arith))
     (ended_told t.ended (AllStay inside between si sb) declared c)
 one_kept (Reads p others ks) t inside between declared n v c holds waits si sb takes plain =
     reads_one p.awaits ks p.is_inner p.place others t inside between declared n v c holds.0 holds.1 waits si sb takes.0 plain
@@ -1537,13 +1876,19 @@ one_kept (Reads p others ks) t inside between declared n v c holds waits si sb t
 abbrev plain_last : At → Around → ℕ → ℕ → List (List Conditional) → Last
 plain_last t s declared n v = last_at (ended_in t.ended s) (declared_behind t declared) n v
 
-plain_gone : (d : Answers) (t : At) (r : Reader) (st : Stands) (declared n : ℕ) (v : List (List Conditional)) (c : Conditions) → all_kept (stack_of st) ≡ false → Holds r c → c.waiting ≡ v → levels_of st ≤ n → IsPlain false (within r) t
-    → n + length (t ∷ []) ≤ most_levels → Led r (t ∷ []) (stands_at c st declared) (kept_of (Plain t) (stack_of st)) (missing_in t.ended (stack_of st)) (last_part d (Plain t) (stack_of st) declared n v)
+plain_gone : (d : Answers) (t : At) (r : Reader) (st : Stands) (declared n : ℕ) (v : List (List Conditional)) (c : Conditions) →
+    all_kept (stack_of st) ≡ false → Holds r c → c.waiting ≡ v → levels_of st ≤ n → IsPlain false (within r) t
+    → n + length (t ∷ []) ≤ most_levels → Led r (t ∷ []) (stands_at c st declared) (kept_of (Plain t) (stack_of st))
+    (missing_in t.ended (stack_of st)) (last_part d (Plain t) (stack_of st) declared n v)
 plain_gone d t r st declared n v c left holds waits few_st plain few =
-    subst (λ k. Led r (t ∷ []) (stands_at c st declared) (cond k (t.token ∷ []) []) (missing_in t.ended (stack_of st)) (last_part d (Plain t) (stack_of st) declared n v)) (sym left)
-    (relaxed r (t ∷ []) (stands_at c st declared) [] (missing_in t.ended (stack_of st)) (ended_in t.ended (stack_of st)) (declared_behind t declared) (declared_behind t declared) n (n + length (t ∷ [])) v refl (omega arith)
-    (told_so r (t ∷ []) (stands_at c st declared) [] (missing_in t.ended (stack_of st) ++ []) (missing_in t.ended (stack_of st)) (plain_last t (stack_of st) declared n v) (append-nil (missing_in t.ended (stack_of st)))
-    (left_token r (within r) t [] (stack_of st) declared n v (stands_at c st declared) [] [] (plain_last t (stack_of st) declared n v) (stands r st declared n v c holds waits few_st) left plain (omega (arith, few))
+    subst (λ k. Led r (t ∷ []) (stands_at c st declared) (cond k (t.token ∷ []) []) (missing_in t.ended (stack_of st))
+    (last_part d (Plain t) (stack_of st) declared n v)) (sym left)
+    (relaxed r (t ∷ []) (stands_at c st declared) [] (missing_in t.ended (stack_of st)) (ended_in t.ended (stack_of st))
+    (declared_behind t declared) (declared_behind t declared) n (n + length (t ∷ [])) v refl (omega arith)
+    (told_so r (t ∷ []) (stands_at c st declared) [] (missing_in t.ended (stack_of st) ++ []) (missing_in t.ended (stack_of st))
+    (plain_last t (stack_of st) declared n v) (append-nil (missing_in t.ended (stack_of st)))
+    (left_token r (within r) t [] (stack_of st) declared n v (stands_at c st declared) [] [] (plain_last t (stack_of st) declared n v)
+    (stands r st declared n v c holds waits few_st) left plain (omega (arith, few))
     (λ x e. rests r x (plain_last t (stack_of st) declared n v) e))))
 
 plain_leads : (d : Answers) (t : At) → StandLeads d (Plain t)
@@ -1551,22 +1896,30 @@ plain_leads d t r (AllStay inside between si sb) declared n v c holds waits few_
     let s : Around = record { inside = inside; between = between } in
     let here = at c (conditionals inside) (conditionals between) None declared in
     let all = both_kept inside between si sb in
-    subst (λ k. TakesAll r (cond k (t.token ∷ []) []) → Led r (t ∷ []) here (cond k (t.token ∷ []) []) (missing_in t.ended s) (last_part d (Plain t) s declared n v)) (sym all)
-    (λ taken_so. relaxed r (t ∷ []) here (t.token ∷ []) (missing_in t.ended s) (ended_in t.ended s) (declared_behind t declared) (declared_behind t declared) n (n + length (t ∷ [])) v refl (omega arith)
+    subst (λ k. TakesAll r (cond k (t.token ∷ []) []) → Led r (t ∷ []) here (cond k (t.token ∷ []) []) (missing_in t.ended s)
+    (last_part d (Plain t) s declared n v)) (sym all)
+    (λ taken_so. relaxed r (t ∷ []) here (t.token ∷ []) (missing_in t.ended s) (ended_in t.ended s) (declared_behind t declared)
+    (declared_behind t declared) n (n + length (t ∷ [])) v refl (omega arith)
     (one_kept r t inside between declared n v c holds waits si sb taken_so (subst (λ k. IsPlain k (within r) t) all are))) takes
 plain_leads d t r (InnerLeft deep x inside between left si sb) declared n v c holds waits few_st are takes few =
-    plain_gone d t r (InnerLeft deep x inside between left si sb) declared n v c (inner_not_kept deep x inside between left) holds waits few_st (subst (λ k. IsPlain k (within r) t) (inner_not_kept deep x inside between left) are) few
+    plain_gone d t r (InnerLeft deep x inside between left si sb) declared n v c (inner_not_kept deep x inside between left) holds waits
+    few_st (subst (λ k. IsPlain k (within r) t) (inner_not_kept deep x inside between left) are) few
 plain_leads d t r (OuterLeft deep x between left sb) declared n v c holds waits few_st are takes few =
-    plain_gone d t r (OuterLeft deep x between left sb) declared n v c (not_kept deep x between left) holds waits few_st (subst (λ k. IsPlain k (within r) t) (not_kept deep x between left) are) few
+    plain_gone d t r (OuterLeft deep x between left sb) declared n v c (not_kept deep x between left) holds waits few_st
+    (subst (λ k. IsPlain k (within r) t) (not_kept deep x between left) are) few
 
 -- and those behind a `#`
 
 abbrev signed_last : At → At → Around → ℕ → ℕ → List (List Conditional) → Last
-signed_last sign t s declared n v = last_at (ended_in t.ended s) (declared_behind t (declared_behind sign declared)) (n + length (sign ∷ t ∷ [])) v
+signed_last sign t s declared n v =
+    last_at (ended_in t.ended s) (declared_behind t (declared_behind sign declared)) (n + length (sign ∷ t ∷ [])) v
 
-signed_left_led : (d : Answers) (is_inner : Bool) (sign t : At) (r : Reader) (st : Stands) (b : Bool) (m declared n : ℕ) (v : List (List Conditional)) (c : Conditions) → left_of st ≡ left_at b m → m ≤ n → all_kept (stack_of st) ≡ false → CalmLeft is_inner (inner_of st) b
+signed_left_led : (d : Answers) (is_inner : Bool) (sign t : At) (r : Reader) (st : Stands) (b : Bool) (m declared n : ℕ)
+    (v : List (List Conditional)) (c : Conditions) → left_of st ≡ left_at b m → m ≤ n → all_kept (stack_of st) ≡ false → CalmLeft is_inner
+    (inner_of st) b
     → Holds r c → c.waiting ≡ v → levels_of st ≤ n → IsSign is_inner sign → IsSignedPlain t → n + length (sign ∷ t ∷ []) ≤ most_levels
-    → Led r (sign ∷ t ∷ []) (stands_at c st declared) (kept_of (Signed is_inner sign t) (stack_of st)) (missing_in t.ended (stack_of st)) (last_part d (Signed is_inner sign t) (stack_of st) declared n v)
+    → Led r (sign ∷ t ∷ []) (stands_at c st declared) (kept_of (Signed is_inner sign t) (stack_of st)) (missing_in t.ended (stack_of st))
+    (last_part d (Signed is_inner sign t) (stack_of st) declared n v)
 signed_left_led d is_inner sign t r st b m declared n v c is_left_at few_m left calm holds waits few_st is plain few =
     let inner = inner_of st in
     let among = among_of st in
@@ -1606,12 +1959,14 @@ signed_leads d true sign t Hands (AllStay inside between si sb) declared n v c h
     let both = hash place ∷ t.token ∷ [] in
     let missing = missing_in t.ended s in
     subst (λ k. Led Hands (sign ∷ t ∷ []) here (cond k both []) missing last) (sym all)
-    (goes_by Hands sign (t ∷ []) here (state c (Some place) inner among None declared) (state c (Some place) inner among None now) both missing last
+    (goes_by Hands sign (t ∷ []) here (state c (Some place) inner among None declared) (state c (Some place) inner among None now) both
+    missing last
     (sign_inner sign c inner among declared (inner_front Hands sign c holds is.0) is.1.is)
     (mid true sign c (Some place) inner among None declared is.1.goes_on (λ e. absurd (no_false e)))
     (keeps_both t place (state c (Some place) inner among None now) (at (given_up_so c) inner among None now) missing last
     (inside_kept place t c inner among now holds are.1.1.0)
-    (ended_stands Hands t.ended (AllStay inside between si sb) now (n + length (sign ∷ t ∷ [])) v (given_up_so c) refl waits (omega arith)) (ended_told t.ended (AllStay inside between si sb) now (given_up_so c))))
+    (ended_stands Hands t.ended (AllStay inside between si sb) now (n + length (sign ∷ t ∷ [])) v (given_up_so c) refl waits (omega arith))
+    (ended_told t.ended (AllStay inside between si sb) now (given_up_so c))))
 signed_leads d false sign t Hands (AllStay [] between si sb) declared n v c holds waits few_st are takes few =
     let s : Around = record { inside = []; between = between } in
     let among = conditionals between in
@@ -1624,39 +1979,49 @@ signed_leads d false sign t Hands (AllStay [] between si sb) declared n v c hold
     let both = hash place ∷ t.token ∷ [] in
     let missing = missing_in t.ended s in
     subst (λ k. Led Hands (sign ∷ t ∷ []) here (cond k both []) missing last) (sym all)
-    (goes_by Hands sign (t ∷ []) here (reading false place awaits.Word c [] among declared) (reading false place awaits.Word c [] among now) both missing last
+    (goes_by Hands sign (t ∷ []) here (reading false place awaits.Word c [] among declared) (reading false place awaits.Word c [] among now)
+    both missing last
     (sign_kept sign c [] among declared (outer_front sign c holds is.0) is.1.is)
     (mid false sign (awaits_it false place awaits.Word c) None [] among None declared tt (λ _. (refl, refl)))
     (keeps_both t place (reading false place awaits.Word c [] among now) (at c [] among None now) missing last
     (front_kept place t c [] among now are.1.1.0)
-    (ended_stands Hands t.ended (AllStay [] between si sb) now (n + length (sign ∷ t ∷ [])) v c holds waits (omega arith)) (ended_told t.ended (AllStay [] between si sb) now c)))
-signed_leads d false sign t Hands (AllStay (y ∷ inside) between si sb) declared n v c holds waits few_st are takes few = absurd (some_open [] y inside are.1.0)
-signed_leads d false sign t r (InnerLeft deep x inside between left si sb) declared n v c holds waits few_st are takes few = absurd (some_open deep x inside are.1.0)
+    (ended_stands Hands t.ended (AllStay [] between si sb) now (n + length (sign ∷ t ∷ [])) v c holds waits (omega arith))
+    (ended_told t.ended (AllStay [] between si sb) now c)))
+signed_leads d false sign t Hands (AllStay (y ∷ inside) between si sb) declared n v c holds waits few_st are takes few =
+    absurd (some_open [] y inside are.1.0)
+signed_leads d false sign t r (InnerLeft deep x inside between left si sb) declared n v c holds waits few_st are takes few =
+    absurd (some_open deep x inside are.1.0)
 signed_leads d true sign t r (InnerLeft deep x inside between left si sb) declared n v c holds waits few_st are takes few =
     let gone = inner_not_kept deep x inside between left in
     let is = subst (λ k. Begins k true (within r) (Some sign) t) gone are.0 in
-    signed_left_led d true sign t r (InnerLeft deep x inside between left si sb) true (length deep) declared n v c refl few_st gone (λ e. absurd (no_false e)) holds waits few_st is are.1.1.0 few
+    signed_left_led d true sign t r (InnerLeft deep x inside between left si sb) true (length deep) declared n v c refl few_st gone
+    (λ e. absurd (no_false e)) holds waits few_st is are.1.1.0 few
 signed_leads d is_inner sign t r (OuterLeft deep x between left sb) declared n v c holds waits few_st are takes few =
     let gone = not_kept deep x between left in
     let is = subst (λ k. Begins k is_inner (within r) (Some sign) t) gone are.0 in
-    signed_left_led d is_inner sign t r (OuterLeft deep x between left sb) false (length deep) declared n v c refl few_st gone (λ _. (refl, refl)) holds waits few_st is are.1.1.0 few
+    signed_left_led d is_inner sign t r (OuterLeft deep x between left sb) false (length deep) declared n v c refl few_st gone
+    (λ _. (refl, refl)) holds waits few_st is are.1.1.0 few
 
 -- A `#` before another one
 
 -- A `#` may be held back where this one comes.
-pub same_first : (r : Reader) (t : At) (all : List At) (c held_back : Conditions) (tokens : List SourceToken) (places : List Place) (last : Last) → judged_at t held_back ≡ judged_at t c
+pub same_first : (r : Reader) (t : At) (all : List At) (c held_back : Conditions) (tokens : List SourceToken) (places : List Place)
+    (last : Last) → judged_at t held_back ≡ judged_at t c
     → Led r (t ∷ all) c tokens places last → Led r (t ∷ all) held_back tokens places last
 same_first r t all c held_back tokens places last e is = record {
   hands = ap (λ (b : Behind). handed_on b.judged t.token ++ all_handed_on all (ended_behind t.ended (silent b.now))) e ∙ is.hands;
-  tells = ap (λ (b : Behind). lone_places b.judged.unmatched ++ (ended_places t.ended b.now.inner ++ all_told all (ended_behind t.ended (silent b.now)))) e ∙ is.tells;
-  ends = subst (λ (x : Conditions). StandsAt (read_on tokens r) last (all_behind all x)) (sym (ap (λ (b : Behind). ended_behind t.ended (silent b.now)) e)) is.ends;
+  tells = ap (λ (b : Behind). lone_places b.judged.unmatched ++
+      (ended_places t.ended b.now.inner ++ all_told all (ended_behind t.ended (silent b.now)))) e ∙ is.tells;
+  ends = subst (λ (x : Conditions). StandsAt (read_on tokens r) last (all_behind all x))
+      (sym (ap (λ (b : Behind). ended_behind t.ended (silent b.now)) e)) is.ends;
 }
 
 -- Where it is kept, it is handed on then.
 abbrev pub with_sign : Forwarded → Place → Behind → Behind
 with_sign h place b = record b { judged = record b.judged { sign = Some (record { place = place; handed = h }) } }
 
-pub hash_freed : (place : Place) (t : At) (c : Conditions) (ps : List Pending) (inner among : List Conditional) (declared : ℕ) → c.pending ≡ ps → is_mark mark.Hash t.token.kind ≡ true → t.site.is_between ≡ false
+pub hash_freed : (place : Place) (t : At) (c : Conditions) (ps : List Pending) (inner among : List Conditional) (declared : ℕ) →
+    c.pending ≡ ps → is_mark mark.Hash t.token.kind ≡ true → t.site.is_between ≡ false
     → judged_at t (state c (Some place) inner among None declared)
     ≡ with_sign (cond (is_none_pending ps) handed.Kept handed.Unfit) place (judged_at t (at (given_up_so c) inner among None declared))
 hash_freed place t c ps inner among declared read hash inside =
@@ -1667,7 +2032,8 @@ hash_freed place t c ps inner among declared read hash inside =
     ∙ ap (λ ps. signed ps (passed (held false t.token.place here))) read
     ∙ sym (ap (signed ps) (sign_inner t (given_up_so c) inner among declared (ap (λ b. b && true) inside) hash))
 
-kept_first : (place : Place) (t : At) (all : List At) (c : Conditions) (inner among : List Conditional) (declared : ℕ) (tokens : List SourceToken) (places : List Place) (last : Last)
+kept_first : (place : Place) (t : At) (all : List At) (c : Conditions) (inner among : List Conditional) (declared : ℕ)
+    (tokens : List SourceToken) (places : List Place) (last : Last)
     → c.pending ≡ [] → is_mark mark.Hash t.token.kind ≡ true → t.site.is_between ≡ false
     → Led Hands (t ∷ all) (at (given_up_so c) inner among None declared) tokens places last
     → Led Hands (t ∷ all) (state c (Some place) inner among None declared) (hash place ∷ tokens) places last
@@ -1679,14 +2045,18 @@ kept_first place t all c inner among declared tokens places last none is inside 
     ap (λ (b : Behind). ended_behind t.ended (silent b.now)) b in
     record {
       hands =
-          ap (λ (b : Behind). handed_on b.judged t.token ++ all_handed_on all (ended_behind t.ended (silent b.now))) (b ∙ ap (with_sign handed.Kept place) e)
-          ∙ ap (λ hs. as_kept (hash place) ∷ hs) (sym (ap (λ (b : Behind). handed_on b.judged t.token ++ all_handed_on all (ended_behind t.ended (silent b.now))) e) ∙ led_on.hands);
+          ap (λ (b : Behind). handed_on b.judged t.token ++ all_handed_on all (ended_behind t.ended (silent b.now)))
+          (b ∙ ap (with_sign handed.Kept place) e)
+          ∙ ap (λ hs. as_kept (hash place) ∷ hs) (sym (ap (λ (b : Behind). handed_on b.judged t.token ++ all_handed_on all
+          (ended_behind t.ended (silent b.now))) e) ∙ led_on.hands);
       tells =
-          ap (λ (b : Behind). lone_places b.judged.unmatched ++ (ended_places t.ended b.now.inner ++ all_told all (ended_behind t.ended (silent b.now)))) b ∙ led_on.tells;
+          ap (λ (b : Behind). lone_places b.judged.unmatched ++
+          (ended_places t.ended b.now.inner ++ all_told all (ended_behind t.ended (silent b.now)))) b ∙ led_on.tells;
       ends = subst (λ (x : Conditions). StandsAt (read_on tokens Hands) last (all_behind all x)) (sym next) led_on.ends;
     }
 
-signed_begins : (sign : Option At) (next : At) (tokens : List At) → sign ≡ Some next → (rest : List At) × (signed_tokens sign tokens ≡ next ∷ rest)
+signed_begins : (sign : Option At) (next : At) (tokens : List At) → sign ≡ Some next →
+    (rest : List At) × (signed_tokens sign tokens ≡ next ∷ rest)
 signed_begins sign next tokens e = (tokens, ap (λ o. signed_tokens o tokens) e)
 
 begins_with : (part : Part) (next : At) → first_sign part ≡ Some next → (rest : List At) × (part_tokens part ≡ next ∷ rest)
@@ -1716,15 +2086,21 @@ next_of is_kept is_inner part follows = go is_kept is_inner (first_sign part) re
     go is_kept is_inner None e follows = absurd follows
     go true false (Some next) e follows = absurd follows
     go true true (Some next) e follows =
-        let all = begins_with part next e in record { next = next; rest = all.0; is = all.1; hash = follows.0; inside = λ _. (refl, follows.1) }
+        let all =
+        begins_with part next e in record { next = next; rest = all.0; is = all.1; hash = follows.0; inside = λ _. (refl, follows.1) }
     go false is_inner (Some next) e follows =
         let all = begins_with part next e in record { next = next; rest = all.0; is = all.1; hash = follows; inside = λ never. cc }
 
-before_left_led : (d : Answers) (is_inner : Bool) (sign : At) (part : Part) → PartLeads d part → (r : Reader) (st : Stands) (b : Bool) (m declared n : ℕ) (v : List (List Conditional)) (c : Conditions) → left_of st ≡ left_at b m → m ≤ n → all_kept (stack_of st) ≡ false → CalmLeft is_inner (inner_of st) b
-    → Holds r c → c.waiting ≡ v → levels_of st ≤ n → IsSign is_inner sign → Follows false is_inner (first_sign part) → IsPart d (within r) (stack_of st) (declared_behind sign declared) part
+before_left_led : (d : Answers) (is_inner : Bool) (sign : At) (part : Part) → PartLeads d part →
+    (r : Reader) (st : Stands) (b : Bool) (m declared n : ℕ) (v : List (List Conditional)) (c : Conditions) → left_of st ≡ left_at b m →
+    m ≤ n → all_kept (stack_of st) ≡ false → CalmLeft is_inner (inner_of st) b
+    → Holds r c → c.waiting ≡ v → levels_of st ≤ n → IsSign is_inner sign → Follows false is_inner (first_sign part) → IsPart d (within r)
+    (stack_of st) (declared_behind sign declared) part
     → TakesAll r (kept_of part (stack_of st)) → n + length (sign ∷ part_tokens part) ≤ most_levels
-    → Led r (sign ∷ part_tokens part) (stands_at c st declared) (kept_of (Before is_inner sign part) (stack_of st)) (told_of d part (stack_of st)) (last_part d (Before is_inner sign part) (stack_of st) declared n v)
-before_left_led d is_inner sign part leads r st b m declared n v c is_left_at few_m left calm holds waits few_st is follows is_part takes few =
+    → Led r (sign ∷ part_tokens part) (stands_at c st declared) (kept_of (Before is_inner sign part) (stack_of st))
+    (told_of d part (stack_of st)) (last_part d (Before is_inner sign part) (stack_of st) declared n v)
+before_left_led d is_inner sign part leads r st b m declared n v c is_left_at few_m left calm holds waits few_st is follows is_part takes
+    few =
     let s = stack_of st in
     let inner = inner_of st in
     let among = among_of st in
@@ -1742,15 +2118,18 @@ before_left_led d is_inner sign part leads r st b m declared n v c is_left_at fe
     let rest : Led r all (here now) kept_so places last =
     subst (λ x. Led r all (at c inner among x now) kept_so places last) is_left_at
     (leads r s now n v (stands_at c st now) (stands r st now n v c holds waits few_st) is_part takes few_so) in
-    let same : (declared : ℕ) → here declared ≡ stands_at c st declared = λ declared. ap (λ x. at c inner among x declared) (sym is_left_at) in
+    let same : (declared : ℕ) → here declared ≡ stands_at c st declared =
+    λ declared. ap (λ x. at c inner among x declared) (sym is_left_at) in
     let again : Led r all (held_back now) kept_so places last =
     subst (λ ts. Led r ts (held_back now) kept_so places last) (sym next.is)
     (same_first r next.next next.rest (here now) (held_back now) kept_so places last
-    (sign_left next.next (Some place) c inner among b m now next.hash (omega (arith, few, few_m)) ∙ sym (sign_left next.next None c inner among b m now next.hash (omega (arith, few, few_m))))
+    (sign_left next.next (Some place) c inner among b m now next.hash (omega (arith, few, few_m)) ∙ sym
+    (sign_left next.next None c inner among b m now next.hash (omega (arith, few, few_m))))
     (subst (λ ts. Led r ts (here now) kept_so places last) next.is rest)) in
     subst (λ k. Led r (sign ∷ all) (stands_at c st declared) (cond k (hash place ∷ []) [] ++ kept_so) places last_so) (sym left)
     (subst (λ (x : Conditions). Led r (sign ∷ all) x kept_so places last_so) (same declared)
-    (relaxed r (sign ∷ all) (here declared) kept_so places last.around last.declared last_so.declared last.levels last_so.levels v refl (omega arith)
+    (relaxed r (sign ∷ all) (here declared) kept_so places last.around last.declared last_so.declared last.levels last_so.levels v refl
+    (omega arith)
     (goes_by r sign all (here declared) (held_back declared) (held_back now) kept_so places last
     (sign_left sign None c inner among b m declared is.is (omega (arith, few, few_m)))
     (mid is_inner sign c (Some place) inner among (left_at b m) declared is.goes_on (calm_at is_inner inner b m calm))
@@ -1760,7 +2139,8 @@ before_leads : (d : Answers) (is_inner : Bool) (sign : At) (part : Part) → Par
 before_leads d is_inner sign part leads (Reads p others ks) (AllStay inside between si sb) declared n v c holds waits few_st are takes few =
     absurd (let never : true ≡ false = sym (both_kept inside between si sb) ∙ are.1.1.0 refl in cc)
 before_leads d false sign part leads Hands (AllStay inside between si sb) declared n v c holds waits few_st are takes few =
-    absurd (no_false (sym ((next_of true false part (subst (λ k. Follows k false (first_sign part)) (both_kept inside between si sb) are.1.1.1.0)).inside refl).0))
+    absurd (no_false (sym ((next_of true false part (subst (λ k. Follows k false (first_sign part)) (both_kept inside between si sb)
+    are.1.1.1.0)).inside refl).0))
 before_leads d true sign part leads Hands (AllStay inside between si sb) declared n v c holds waits few_st are takes few =
     let s : Around = record { inside = inside; between = between } in
     let inner = conditionals inside in
@@ -1780,37 +2160,46 @@ before_leads d true sign part leads Hands (AllStay inside between si sb) declare
     let there = at (given_up_so c) inner among None now in
     let held_back = state c (Some place) inner among None now in
     let rest : Led Hands all there kept_so places last =
-    leads Hands s now n v there (stands Hands (AllStay inside between si sb) now n v (given_up_so c) refl waits few_st) are.1.1.1.1 (all_taken kept_so) few_so in
+    leads Hands s now n v there (stands Hands (AllStay inside between si sb) now n v (given_up_so c) refl waits few_st) are.1.1.1.1
+    (all_taken kept_so) few_so in
     let on : Led Hands all held_back (hash place ∷ kept_so) places last =
     subst (λ ts. Led Hands ts held_back (hash place ∷ kept_so) places last) (sym next.is)
     (kept_first place next.next next.rest c inner among now kept_so places last holds next.hash (next.inside refl).1
     (subst (λ ts. Led Hands ts there kept_so places last) next.is rest)) in
     subst (λ k. Led Hands (sign ∷ all) here (cond k (hash place ∷ []) [] ++ kept_so) places last_so) (sym stays)
-    (relaxed Hands (sign ∷ all) here (hash place ∷ kept_so) places last.around last.declared last_so.declared last.levels last_so.levels v refl (omega arith)
+    (relaxed Hands (sign ∷ all) here (hash place ∷ kept_so) places last.around last.declared last_so.declared last.levels last_so.levels v
+    refl (omega arith)
     (goes_by Hands sign all here (state c (Some place) inner among None declared) held_back (hash place ∷ kept_so) places last
     (sign_inner sign c inner among declared (inner_front Hands sign c holds is.0) is.1.is)
     (mid true sign c (Some place) inner among None declared is.1.goes_on (λ e. absurd (no_false e)))
     on))
-before_leads d false sign part leads r (InnerLeft deep x inside between left si sb) declared n v c holds waits few_st are takes few = absurd (some_open deep x inside are.1.0)
+before_leads d false sign part leads r (InnerLeft deep x inside between left si sb) declared n v c holds waits few_st are takes few =
+    absurd (some_open deep x inside are.1.0)
 before_leads d true sign part leads r (InnerLeft deep x inside between left si sb) declared n v c holds waits few_st are takes few =
     let gone = inner_not_kept deep x inside between left in
     let is = subst (λ k. Begins k true (within r) (Some sign) sign) gone are.0 in
-    before_left_led d true sign part leads r (InnerLeft deep x inside between left si sb) true (length deep) declared n v c refl few_st gone (λ e. absurd (no_false e)) holds waits few_st is
+    before_left_led d true sign part leads r (InnerLeft deep x inside between left si sb) true (length deep) declared n v c refl few_st gone
+    (λ e. absurd (no_false e)) holds waits few_st is
     (subst (λ k. Follows k true (first_sign part)) gone are.1.1.1.0) are.1.1.1.1
-    (subst (λ k. TakesAll r (cond k (hash sign.token.place ∷ []) [] ++ kept_of part (record { inside = deep ++ x ∷ inside; between = between }))) gone takes) few
+    (subst (λ k. TakesAll r (cond k (hash sign.token.place ∷ []) [] ++ kept_of part (record
+    { inside = deep ++ x ∷ inside; between = between }))) gone takes) few
 before_leads d is_inner sign part leads r (OuterLeft deep x between left sb) declared n v c holds waits few_st are takes few =
     let gone = not_kept deep x between left in
     let is = subst (λ k. Begins k is_inner (within r) (Some sign) sign) gone are.0 in
-    before_left_led d is_inner sign part leads r (OuterLeft deep x between left sb) false (length deep) declared n v c refl few_st gone (λ _. (refl, refl)) holds waits few_st is
+    before_left_led d is_inner sign part leads r (OuterLeft deep x between left sb) false (length deep) declared n v c refl few_st gone
+    (λ _. (refl, refl)) holds waits few_st is
     (subst (λ k. Follows k is_inner (first_sign part)) gone are.1.1.1.0) are.1.1.1.1
-    (subst (λ k. TakesAll r (cond k (hash sign.token.place ∷ []) [] ++ kept_of part (record { inside = []; between = deep ++ x ∷ between }))) gone takes) few
+    (subst (λ k. TakesAll r (cond k (hash sign.token.place ∷ []) [] ++ kept_of part (record
+    { inside = []; between = deep ++ x ∷ between }))) gone takes) few
 
 -- A `#` that begins a directive
 
 fronted_leads : (d : Answers) (sign : At) (parts : Parts) (t : At) → Leads d parts → StandLeads d (Fronted sign parts t)
 fronted_leads d sign parts t leads (Reads p others ks) st declared n v c holds waits few_st are takes few = absurd are.1.0
-fronted_leads d sign parts t leads Hands (AllStay (y ∷ inside) between si sb) declared n v c holds waits few_st are takes few = absurd (some_open [] y inside are.1.1.0)
-fronted_leads d sign parts t leads Hands (InnerLeft deep x inside between left si sb) declared n v c holds waits few_st are takes few = absurd (some_open deep x inside are.1.1.0)
+fronted_leads d sign parts t leads Hands (AllStay (y ∷ inside) between si sb) declared n v c holds waits few_st are takes few =
+    absurd (some_open [] y inside are.1.1.0)
+fronted_leads d sign parts t leads Hands (InnerLeft deep x inside between left si sb) declared n v c holds waits few_st are takes few =
+    absurd (some_open deep x inside are.1.1.0)
 fronted_leads d sign parts t leads Hands (OuterLeft deep x between left sb) declared n v c holds waits few_st are takes few =
     absurd (let never : true ≡ false = sym are.0 ∙ not_kept deep x between left in cc)
 fronted_leads d sign parts t leads Hands (AllStay [] between si sb) declared n v c holds waits few_st are takes few =
@@ -1830,14 +2219,25 @@ fronted_leads d sign parts t leads Hands (AllStay [] between si sb) declared n v
     let missing = missing_in t.ended l.around in
     let sum = length_both (all_tokens parts) (t ∷ []) in
     let start = reading false place awaits.Word c [] among now in
-    relaxed Hands (sign ∷ (all_tokens parts ++ t ∷ [])) here both (told_parts d s parts ++ missing) last.around last.declared (declared_tokens (sign ∷ (all_tokens parts ++ t ∷ [])) declared) m m v
+    relaxed Hands (sign ∷ (all_tokens parts ++ t ∷ [])) here both (told_parts d s parts ++ missing) last.around last.declared
+    (declared_tokens (sign ∷ (all_tokens parts ++ t ∷ [])) declared) m m v
     (sym (declared_both (all_tokens parts) (t ∷ []) now)) (omega arith)
-    (goes_by Hands sign (all_tokens parts ++ t ∷ []) here (reading false place awaits.Word c [] among declared) start both (told_parts d s parts ++ missing) last
+    (goes_by Hands sign (all_tokens parts ++ t ∷ []) here (reading false place awaits.Word c [] among declared) start both
+    (told_parts d s parts ++ missing) last
     (sign_kept sign c [] among declared (outer_front sign c holds are.1.0.0) are.1.0.1.is)
     (mid false sign (awaits_it false place awaits.Word c) None [] among None declared tt (λ _. (refl, refl)))
     (within_led_so both d parts leads Hands (t ∷ []) false place awaits.Word c ks ks s now n v start missing last
-    (record { base = awaits_it false place awaits.Word c; stand = AllStay [] between si sb; holds = (refl, refl); waits = waits; is = refl; stack = refl; few = omega arith })
-    are.0 are.1.1.1.0.0 adds.0 (takes_none tokens (Reads p c.pending ks) adds.1) (reads_none tokens (Reads p c.pending ks) adds.1) (omega (arith, few, sum))
+    (record {
+      base = awaits_it false place awaits.Word c;
+      stand = AllStay [] between si sb;
+      holds = (refl, refl);
+      waits = waits;
+      is = refl;
+      stack = refl;
+      few = omega arith;
+    })
+    are.0 are.1.1.1.0.0 adds.0 (takes_none tokens (Reads p c.pending ks) adds.1) (reads_none tokens (Reads p c.pending ks) adds.1)
+    (omega (arith, few, sum))
     (λ base waits_so bi bb.
     let after = record base { pending = c.pending; conditions = ks } in
     let i = conditionals l.around.inside in
@@ -1848,35 +2248,46 @@ fronted_leads d sign parts t leads Hands (AllStay [] between si sb) declared n v
     (ended_told t.ended (AllStay l.around.inside l.around.between bi bb) l.declared after))))
 
 -- What is led behind a `#` is so from where that is held back.
-pub behind_sign_led : (r : Reader) (sign : At) (all : List At) (c now then : Conditions) (tokens : List SourceToken) (places : List Place) (last : Last) → judged_at sign c ≡ passed now
-    → (ended_behind sign.ended (silent now) ≡ then) × (ended_places sign.ended now.inner ≡ []) → Led r (sign ∷ all) c tokens places last → Led r all then tokens places last
+pub behind_sign_led : (r : Reader) (sign : At) (all : List At) (c now then : Conditions) (tokens : List SourceToken) (places : List Place)
+    (last : Last) → judged_at sign c ≡ passed now
+    → (ended_behind sign.ended (silent now) ≡ then) × (ended_places sign.ended now.inner ≡ []) → Led r (sign ∷ all) c tokens places last →
+    Led r all then tokens places last
 behind_sign_led r sign all c now then tokens places last e both is = record {
   hands =
       sym
-      (ap (λ (b : Behind). handed_on b.judged sign.token ++ all_handed_on all (ended_behind sign.ended (silent b.now))) e ∙ ap (all_handed_on all) both.0)
+      (ap (λ (b : Behind). handed_on b.judged sign.token ++ all_handed_on all (ended_behind sign.ended (silent b.now))) e ∙ ap
+      (all_handed_on all) both.0)
       ∙ is.hands;
   tells =
       sym
-      (ap (λ (b : Behind). lone_places b.judged.unmatched ++ (ended_places sign.ended b.now.inner ++ all_told all (ended_behind sign.ended (silent b.now)))) e
+      (ap (λ (b : Behind). lone_places b.judged.unmatched ++
+      (ended_places sign.ended b.now.inner ++ all_told all (ended_behind sign.ended (silent b.now)))) e
       ∙ ap (λ x. ended_places sign.ended now.inner ++ all_told all x) both.0
       ∙ ap (λ ps. ps ++ all_told all then) both.1)
       ∙ is.tells;
-  ends = subst (λ (x : Conditions). StandsAt (read_on tokens r) last (all_behind all x)) (ap (λ (b : Behind). ended_behind sign.ended (silent b.now)) e ∙ both.0) is.ends;
+  ends = subst (λ (x : Conditions). StandsAt (read_on tokens r) last (all_behind all x))
+      (ap (λ (b : Behind). ended_behind sign.ended (silent b.now)) e ∙ both.0) is.ends;
 }
 
 -- where it begins a directive
-pub front_led : (r : Reader) (sign : At) (all : List At) (c : Conditions) (inner among : List Conditional) (declared : ℕ) (tokens : List SourceToken) (places : List Place) (last : Last) → c.pending ≡ []
+pub front_led : (r : Reader) (sign : At) (all : List At) (c : Conditions) (inner among : List Conditional) (declared : ℕ)
+    (tokens : List SourceToken) (places : List Place) (last : Last) → c.pending ≡ []
     → sign.site.is_between ≡ true → is_mark mark.Hash sign.token.kind ≡ true → sign.ended ≡ None
-    → Led r (sign ∷ all) (at c inner among None declared) tokens places last → Led r all (reading false sign.token.place awaits.Word c inner among declared) tokens places last
+    → Led r (sign ∷ all) (at c inner among None declared) tokens places last → Led r all
+    (reading false sign.token.place awaits.Word c inner among declared) tokens places last
 front_led r sign all c inner among declared tokens places last none front hash goes is =
     let held_so = reading false sign.token.place awaits.Word c inner among declared in
-    behind_sign_led r sign all (at c inner among None declared) held_so held_so tokens places last (sign_kept sign c inner among declared (outer_front sign c none front) hash)
+    behind_sign_led r sign all (at c inner among None declared) held_so held_so tokens places last
+    (sign_kept sign c inner among declared (outer_front sign c none front) hash)
     (ap (λ e. ended_behind e held_so) goes, ap (λ e. ended_places e inner) goes) is
 
-word_leads : (d : Answers) (sign : At) (parts : Parts) (part : Part) → Leads d parts → PartLeads d part → StandLeads d (FrontedWord sign parts part)
+word_leads : (d : Answers) (sign : At) (parts : Parts) (part : Part) → Leads d parts → PartLeads d part →
+    StandLeads d (FrontedWord sign parts part)
 word_leads d sign parts part leads leads_part (Reads p others ks) st declared n v c holds waits few_st are takes few = absurd are.1.0
-word_leads d sign parts part leads leads_part Hands (AllStay (y ∷ inside) between si sb) declared n v c holds waits few_st are takes few = absurd (some_open [] y inside are.1.1.0)
-word_leads d sign parts part leads leads_part Hands (InnerLeft deep x inside between left si sb) declared n v c holds waits few_st are takes few = absurd (some_open deep x inside are.1.1.0)
+word_leads d sign parts part leads leads_part Hands (AllStay (y ∷ inside) between si sb) declared n v c holds waits few_st are takes few =
+    absurd (some_open [] y inside are.1.1.0)
+word_leads d sign parts part leads leads_part Hands (InnerLeft deep x inside between left si sb) declared n v c holds waits few_st are takes
+    few = absurd (some_open deep x inside are.1.1.0)
 word_leads d sign parts part leads leads_part Hands (OuterLeft deep x between left sb) declared n v c holds waits few_st are takes few =
     absurd (let never : true ≡ false = sym are.0 ∙ not_kept deep x between left in cc)
 word_leads d sign parts part leads leads_part Hands (AllStay [] between si sb) declared n v c holds waits few_st are takes few =
@@ -1903,14 +2314,25 @@ word_leads d sign parts part leads leads_part Hands (AllStay [] between si sb) d
     let sum_part = ap (λ ts. length ts) is_rest in
     let start = reading false place awaits.Word c [] among now in
     let declared_so : last.declared ≡ declared_tokens toks declared =
-    ap (λ ts. declared_tokens ts l.declared) is_rest ∙ ap (λ e. declared_tokens rest (unwrap_or e l.declared)) goes ∙ sym (declared_both (all_tokens parts) rest now) in
-    relaxed Hands toks here [] places last.around last.declared (declared_tokens toks declared) last.levels (n + length toks) v declared_so (omega (arith, sum, sum_part))
+    ap (λ ts. declared_tokens ts l.declared) is_rest ∙ ap (λ e. declared_tokens rest (unwrap_or e l.declared)) goes
+    ∙ sym (declared_both (all_tokens parts) rest now) in
+    relaxed Hands toks here [] places last.around last.declared (declared_tokens toks declared) last.levels (n + length toks) v declared_so
+    (omega (arith, sum, sum_part))
     (goes_by Hands sign (all_tokens parts ++ rest) here (reading false place awaits.Word c [] among declared) start [] places last
     (sign_kept sign c [] among declared (outer_front sign c holds are.1.0.0) are.1.0.1.is)
     (mid false sign (awaits_it false place awaits.Word c) None [] among None declared tt (λ _. (refl, refl)))
     (within_led d parts leads Hands rest false place awaits.Word c ks ks s now n v start told_part last
-    (record { base = awaits_it false place awaits.Word c; stand = AllStay [] between si sb; holds = (refl, refl); waits = waits; is = refl; stack = refl; few = omega arith })
-    are.0 are.1.1.1.0.0 adds.0 (takes_none tokens (Reads p c.pending ks) adds.1) (reads_none tokens (Reads p c.pending ks) adds.1) (omega (arith, few, sum))
+    (record {
+      base = awaits_it false place awaits.Word c;
+      stand = AllStay [] between si sb;
+      holds = (refl, refl);
+      waits = waits;
+      is = refl;
+      stack = refl;
+      few = omega arith;
+    })
+    are.0 are.1.1.1.0.0 adds.0 (takes_none tokens (Reads p c.pending ks) adds.1) (reads_none tokens (Reads p c.pending ks) adds.1)
+    (omega (arith, few, sum))
     (λ base waits_so bi bb.
     let after = record base { pending = c.pending; conditions = ks } in
     let i = conditionals l.around.inside in
@@ -1920,17 +2342,28 @@ word_leads d sign parts part leads leads_part Hands (AllStay [] between si sb) d
     let none_kept = are.1.1.1.1.1.0 in
     let is : Led Hands (part_tokens part) there kept_so told_part last =
     leads_part Hands l.around l.declared l.levels v there
-    (record { base = after; stand = AllStay l.around.inside l.around.between bi bb; holds = holds; waits = waits_so; is = refl; stack = refl; few = omega arith })
+    (record {
+      base = after;
+      stand = AllStay l.around.inside l.around.between bi bb;
+      holds = holds;
+      waits = waits_so;
+      is = refl;
+      stack =
+          refl;
+      few = omega arith;
+    })
     are.1.1.1.1.1.1 (all_taken kept_so) (omega (arith, few, sum, sum_part)) in
     front_led Hands sign rest after i b l.declared [] told_part last holds are.1.0.0 are.1.0.1.is goes
-    (subst (λ ts. Led Hands ts there [] told_part last) is_rest (subst (λ ks. Led Hands (part_tokens part) there ks told_part last) none_kept is)))))
+    (subst (λ ts. Led Hands ts there [] told_part last) is_rest
+    (subst (λ ks. Led Hands (part_tokens part) there ks told_part last) none_kept is)))))
 
 -- Directives
 
 abbrev directive_tokens : First → List At → At → List At
 directive_tokens first tokens end = first_tokens first (tokens ++ end ∷ [])
 
-last_declared : (first : First) (tokens : List At) (end : At) (declared : ℕ) → declared_behind end (declared_tokens tokens (declared_first first declared)) ≡ declared_tokens (directive_tokens first tokens end) declared
+last_declared : (first : First) (tokens : List At) (end : At) (declared : ℕ) → declared_behind end
+    (declared_tokens tokens (declared_first first declared)) ≡ declared_tokens (directive_tokens first tokens end) declared
 last_declared first tokens end declared =
     sym (declared_both tokens (end ∷ []) (declared_first first declared)) ∙ declared_behind_first first (tokens ++ end ∷ []) declared
 
@@ -1941,8 +2374,10 @@ none_ended (Some now) so = cc
 no_true : false ≡ true → ⊥
 no_true e = cc
 
-pub mids_of : (is_inner is_within : Bool) (w : ConditionalWord) (first : First) (s : Around) → IsFirst true is_inner is_within w first → NoneInsideFirst true is_inner first s → Mids first.sign first.word (conditionals s.inside)
-mids_of true is_within w first s is none = record { b = true; word = is.goes_on; sign_goes = go first.sign is.begins; calm = λ e. absurd (no_false e) }
+pub mids_of : (is_inner is_within : Bool) (w : ConditionalWord) (first : First) (s : Around) → IsFirst true is_inner is_within w first →
+    NoneInsideFirst true is_inner first s → Mids first.sign first.word (conditionals s.inside)
+mids_of true is_within w first s is none =
+    record { b = true; word = is.goes_on; sign_goes = go first.sign is.begins; calm = λ e. absurd (no_false e) }
   where
     go : (sign : Option At) → Begins true true is_within sign first.word → SignGoes true sign
     go None begins = tt
@@ -1964,13 +2399,16 @@ mids_of false is_within w first s is none = go (first_ends first) refl
     go : (b : Bool) → first_ends first ≡ b → Mids first.sign first.word (conditionals s.inside)
     go true ends = record { b = false; word = tt; sign_goes = any first.sign; calm = λ _. (ap conditionals (none ends), refl) }
     go false ends =
-        let both = goes first.sign first.word.ended ends in record { b = true; word = both.1; sign_goes = both.0; calm = λ e. absurd (no_false e) }
+        let both =
+        goes first.sign first.word.ended ends in record { b = true; word = both.1; sign_goes = both.0; calm = λ e. absurd (no_false e) }
 
 -- with the parts that are read
-among_kept : (d : Answers) (is_within : Bool) (s : Around) (declared : ℕ) (parts : Parts) → all_kept s ≡ true → AreParts d (among is_within s) s declared parts → AreParts d true s declared parts
+among_kept : (d : Answers) (is_within : Bool) (s : Around) (declared : ℕ) (parts : Parts) → all_kept s ≡ true →
+    AreParts d (among is_within s) s declared parts → AreParts d true s declared parts
 among_kept d is_within s declared parts e are = subst (λ b. AreParts d (b || is_within) s declared parts) e are
 
-among_left : (d : Answers) (is_within : Bool) (s : Around) (declared : ℕ) (parts : Parts) → all_kept s ≡ false → AreParts d (among is_within s) s declared parts → AreParts d is_within s declared parts
+among_left : (d : Answers) (is_within : Bool) (s : Around) (declared : ℕ) (parts : Parts) → all_kept s ≡ false →
+    AreParts d (among is_within s) s declared parts → AreParts d is_within s declared parts
 among_left d is_within s declared parts e are = subst (λ b. AreParts d (b || is_within) s declared parts) e are
 
 -- An `Ifnot`, and an `Endif`
@@ -1978,26 +2416,35 @@ among_left d is_within s declared parts e are = subst (λ b. AreParts d (b || is
 abbrev EndingIs : ConditionalWord → (Around → Around) → Answers → Bool → Bool → First → Parts → At → ℕ → Around → Bool → Type 0
 EndingIs w act d is_within is_inner first parts end declared s k =
     IsFirst k is_inner is_within w first
-    × (NoneInsideFirst k is_inner first s × ((AreParts d (among is_within (cond k s (act s))) (cond k s (act s)) (declared_first first declared) parts × AddsNone d (cond k s (act s)) parts) × IsSemicolon end))
+    × (NoneInsideFirst k is_inner first s × ((AreParts d (among is_within (cond k s (act s))) (cond k s (act s))
+    (declared_first first declared) parts × AddsNone d (cond k s (act s)) parts) × IsSemicolon end))
 
 abbrev ending_places : ConditionalWord → (Around → Around) → Answers → First → Parts → At → Around → Bool → List Place
 ending_places w act d first parts end s k =
-    told_parts d (cond k s (act s)) parts ++ (lone_at w first end (cond k (behind_parts d s parts) s) ++ missing_in end.ended (cond k (act (behind_parts d s parts)) (behind_parts d (act s) parts)))
+    told_parts d (cond k s (act s)) parts ++ (lone_at w first end (cond k (behind_parts d s parts) s) ++ missing_in end.ended
+    (cond k (act (behind_parts d s parts)) (behind_parts d (act s) parts)))
 
 abbrev ending_last : (Around → Around) → Answers → First → Parts → At → ℕ → ℕ → List (List Conditional) → Around → Bool → Last
 ending_last act d first parts end declared n v s k =
-    last_at (ended_in end.ended (cond k (act (behind_parts d s parts)) (behind_parts d (act s) parts))) (declared_tokens (directive_tokens first (all_tokens parts) end) declared)
+    last_at (ended_in end.ended (cond k (act (behind_parts d s parts)) (behind_parts d (act s) parts)))
+    (declared_tokens (directive_tokens first (all_tokens parts) end) declared)
     (n + length (directive_tokens first (all_tokens parts) end)) v
 
-abbrev EndingLed : ConditionalWord → (Around → Around) → Answers → Bool → First → Parts → At → Reader → Stands → ℕ → ℕ → List (List Conditional) → Conditions → Bool → Type 0
+abbrev EndingLed : ConditionalWord → (Around → Around) → Answers → Bool → First → Parts → At → Reader → Stands → ℕ → ℕ →
+    List (List Conditional) → Conditions → Bool → Type 0
 EndingLed w act d is_inner first parts end r st declared n v c k =
     EndingIs w act d (within r) is_inner first parts end declared (stack_of st) k
-    → Led r (directive_tokens first (all_tokens parts) end) (stands_at c st declared) [] (ending_places w act d first parts end (stack_of st) k) (ending_last act d first parts end declared n v (stack_of st) k)
+    → Led r (directive_tokens first (all_tokens parts) end) (stands_at c st declared) []
+    (ending_places w act d first parts end (stack_of st) k) (ending_last act d first parts end declared n v (stack_of st) k)
 
-ending_kept : (w : ConditionalWord) (act : Around → Around) (e : Effect) → ((t : SourceToken) (place : Place) (is_inner : Bool) (c : Conditions) → begun w t place is_inner c ≡ passed (awaiting place is_inner (awaits.End e) c)) → LastLed w act e
-    → (d : Answers) (is_inner : Bool) (first : First) (parts : Parts) (end : At) → Leads d parts → (r : Reader) (declared n : ℕ) (v : List (List Conditional)) (c : Conditions) → Holds r c → c.waiting ≡ v
+ending_kept : (w : ConditionalWord) (act : Around → Around) (e : Effect) →
+    ((t : SourceToken) (place : Place) (is_inner : Bool) (c : Conditions) → begun w t place is_inner c ≡ passed
+    (awaiting place is_inner (awaits.End e) c)) → LastLed w act e
+    → (d : Answers) (is_inner : Bool) (first : First) (parts : Parts) (end : At) → Leads d parts → (r : Reader) (declared n : ℕ)
+    (v : List (List Conditional)) (c : Conditions) → Holds r c → c.waiting ≡ v
     → n + length (directive_tokens first (all_tokens parts) end) ≤ most_levels
-    → (inside between : List Open) (si : are_kept inside ≡ true) (sb : are_kept between ≡ true) → EndingLed w act d is_inner first parts end r (AllStay inside between si sb) declared n v c true
+    → (inside between : List Open) (si : are_kept inside ≡ true) (sb : are_kept between ≡ true) → EndingLed w act d is_inner first parts end
+    r (AllStay inside between si sb) declared n v c true
 ending_kept w act e begins_so last_led d is_inner first parts end leads r declared n v c holds waits few inside between si sb are =
     let s : Around = record { inside = inside; between = between } in
     let tokens = all_tokens parts in
@@ -2019,17 +2466,32 @@ ending_kept w act e begins_so last_led d is_inner first parts end leads r declar
     let places = told_parts d s parts ++ places_end in
     let rest : Led r (tokens ++ end ∷ []) start [] places last =
     within_led d parts leads r (end ∷ []) is_inner place a c c.conditions c.conditions s now n v start places_end last
-    (record { base = awaits_it is_inner place a c; stand = AllStay inside between si sb; holds = (refl, refl); waits = waits; is = refl; stack = refl; few = omega arith })
-    all (among_kept d (within r) s now parts all are.1.1.0.0) are.1.1.0.1.0 (takes_none kept_so (Reads p c.pending c.conditions) are.1.1.0.1.1) (reads_none kept_so (Reads p c.pending c.conditions) are.1.1.0.1.1) (omega (arith, few, less, sum))
-    (λ base bw bi bb. last_led r is_inner first end l.around.inside l.around.between l.declared m v (record base { pending = c.pending; conditions = c.conditions }) (holds_on r c base holds) bw bi bb are.1.1.1) in
-    relaxed r (directive_tokens first tokens end) (at c inner among_now None declared) [] places (ended_in end.ended (act l.around)) (declared_behind end l.declared) (declared_tokens (directive_tokens first tokens end) declared) m m v
+    (record {
+      base = awaits_it is_inner place a c;
+      stand = AllStay inside between si sb;
+      holds = (refl, refl);
+      waits = waits;
+      is = refl;
+      stack = refl;
+      few = omega arith;
+    })
+    all (among_kept d (within r) s now parts all are.1.1.0.0) are.1.1.0.1.0
+    (takes_none kept_so (Reads p c.pending c.conditions) are.1.1.0.1.1)
+    (reads_none kept_so (Reads p c.pending c.conditions) are.1.1.0.1.1) (omega (arith, few, less, sum))
+    (λ base bw bi bb. last_led r is_inner first end l.around.inside l.around.between l.declared m v
+    (record base { pending = c.pending; conditions = c.conditions }) (holds_on r c base holds) bw bi bb are.1.1.1) in
+    relaxed r (directive_tokens first tokens end) (at c inner among_now None declared) [] places (ended_in end.ended (act l.around))
+    (declared_behind end l.declared) (declared_tokens (directive_tokens first tokens end) declared) m m v
     (last_declared first tokens end declared) (omega arith)
-    (begins_kept r r is_inner w a first.sign first.word (tokens ++ end ∷ []) c c inner among_now declared places last holds are.0.begins are.0.is (mids_of is_inner (within r) w first s are.0 are.1.0)
+    (begins_kept r r is_inner w a first.sign first.word (tokens ++ end ∷ []) c c inner among_now declared places last holds are.0.begins
+    are.0.is (mids_of is_inner (within r) w first s are.0 are.1.0)
     (λ x. begins_so first.word.token place is_inner (at c inner among_now None x)) rest)
 
 ending_left : (w : ConditionalWord) (act : Around → Around) → LeftLed w act
-    → (d : Answers) (is_inner : Bool) (first : First) (parts : Parts) (end : At) → Leads d parts → (r : Reader) (st : Stands) (declared n : ℕ) (v : List (List Conditional)) (c : Conditions) → Holds r c → c.waiting ≡ v → levels_of st ≤ n
-    → n + length (directive_tokens first (all_tokens parts) end) ≤ most_levels → all_kept (stack_of st) ≡ false → EndingLed w act d is_inner first parts end r st declared n v c false
+    → (d : Answers) (is_inner : Bool) (first : First) (parts : Parts) (end : At) → Leads d parts → (r : Reader) (st : Stands)
+    (declared n : ℕ) (v : List (List Conditional)) (c : Conditions) → Holds r c → c.waiting ≡ v → levels_of st ≤ n
+    → n + length (directive_tokens first (all_tokens parts) end) ≤ most_levels → all_kept (stack_of st) ≡ false → EndingLed w act d is_inner
+    first parts end r st declared n v c false
 ending_left w act left_word d is_inner first parts end leads r st declared n v c holds waits few_st few left are =
     let s = stack_of st in
     let x = act s in
@@ -2048,50 +2510,74 @@ ending_left w act left_word d is_inner first parts end leads r st declared n v c
     let told_end : missing ++ [] ≡ alone ++ missing = append-nil missing ∙ ap (λ ps. ps ++ missing) none_lone in
     let adds = are.1.1.0.1 in
     let still : all_kept x ≡ false → Further r r (tokens ++ end ∷ []) places (last_at x now n v) last = λ gone m e.
-    left_led d parts leads r (end ∷ []) x now n v m (alone ++ missing) last e (among_left d (within r) x now parts gone are.1.1.0.0) adds.1 (omega (arith, few, less, sum))
+    left_led d parts leads r (end ∷ []) x now n v m (alone ++ missing) last e (among_left d (within r) x now parts gone are.1.1.0.0) adds.1
+    (omega (arith, few, less, sum))
     (λ m2 e2. told_so r (end ∷ []) m2 [] (missing ++ []) (alone ++ missing) last told_end
-    (left_token r true end [] l.around l.declared l.levels v m2 [] [] last e2 (adds.0 ∙ gone) (semicolon_plain false true end are.1.1.1) (omega (arith, few, less, sum))
+    (left_token r true end [] l.around l.declared l.levels v m2 [] [] last e2 (adds.0 ∙ gone) (semicolon_plain false true end are.1.1.1)
+    (omega (arith, few, less, sum))
     (λ m3 e3. rests r m3 last e3))) in
     let a = awaits.End effect.Nothing in
     let p = directive false place a in
-    let ended : (inside between : List Open) → are_kept inside ≡ true → are_kept between ≡ true → record { inside = inside; between = between } ≡ x
-    → Led r (tokens ++ end ∷ []) (reading false place a c (conditionals inside) (conditionals between) now) [] places last = λ inside between si sb is.
+    let ended : (inside between : List Open) → are_kept inside ≡ true → are_kept between ≡ true →
+    record { inside = inside; between = between } ≡ x
+    → Led r (tokens ++ end ∷ []) (reading false place a c (conditionals inside) (conditionals between) now) [] places last =
+    λ inside between si sb is.
     let all : all_kept x ≡ true = sym (ap all_kept is) ∙ both_kept inside between si sb in
-    within_led d parts leads r (end ∷ []) false place a c c.conditions c.conditions x now n v (reading false place a c (conditionals inside) (conditionals between) now) (alone ++ missing) last
-    (record { base = awaits_it false place a c; stand = AllStay inside between si sb; holds = (refl, refl); waits = waits; is = refl; stack = is; few = omega arith })
-    all (among_kept d (within r) x now parts all are.1.1.0.0) adds.0 (takes_none kept_so (Reads p c.pending c.conditions) adds.1) (reads_none kept_so (Reads p c.pending c.conditions) adds.1) (omega (arith, few, less, sum))
+    within_led d parts leads r (end ∷ []) false place a c c.conditions c.conditions x now n v
+    (reading false place a c (conditionals inside) (conditionals between) now) (alone ++ missing) last
+    (record {
+      base = awaits_it false place a c;
+      stand = AllStay inside between si sb;
+      holds = (refl, refl);
+      waits = waits;
+      is = refl;
+      stack = is;
+      few = omega arith;
+    })
+    all (among_kept d (within r) x now parts all are.1.1.0.0) adds.0 (takes_none kept_so (Reads p c.pending c.conditions) adds.1)
+    (reads_none kept_so (Reads p c.pending c.conditions) adds.1) (omega (arith, few, less, sum))
     (λ base bw bi bb.
     let after = record base { pending = c.pending; conditions = c.conditions } in
     let i = conditionals l.around.inside in
     let b = conditionals l.around.between in
     told_as r end (reading false place a after i b l.declared) [] alone missing last none_lone
-    (acts r end (reading false place a after i b l.declared) (at after i b None l.declared) None (unless_quiet end place) missing last (end_kept effect.Nothing false place end after i b l.declared are.1.1.1)
-    (ended_stands r end.ended (AllStay l.around.inside l.around.between bi bb) l.declared l.levels v after (holds_on r c base holds) bw (omega arith)) (ended_told end.ended (AllStay l.around.inside l.around.between bi bb) l.declared after))) in
-    relaxed r (directive_tokens first tokens end) (stands_at c st declared) [] places (ended_in end.ended l.around) (declared_behind end l.declared) (declared_tokens (directive_tokens first tokens end) declared) l.levels (n + length (directive_tokens first tokens end)) v
+    (acts r end (reading false place a after i b l.declared) (at after i b None l.declared) None (unless_quiet end place) missing last
+    (end_kept effect.Nothing false place end after i b l.declared are.1.1.1)
+    (ended_stands r end.ended (AllStay l.around.inside l.around.between bi bb) l.declared l.levels v after (holds_on r c base holds) bw
+    (omega arith)) (ended_told end.ended (AllStay l.around.inside l.around.between bi bb) l.declared after))) in
+    relaxed r (directive_tokens first tokens end) (stands_at c st declared) [] places (ended_in end.ended l.around)
+    (declared_behind end l.declared) (declared_tokens (directive_tokens first tokens end) declared) l.levels
+    (n + length (directive_tokens first tokens end)) v
     (last_declared first tokens end declared) (omega (arith, less, sum))
-    (left_word r r is_inner (within r) first (tokens ++ end ∷ []) st declared n v c places last holds waits few_st (omega (arith, few, less, sum)) left are.1.0 are.0 still ended)
+    (left_word r r is_inner (within r) first (tokens ++ end ∷ []) st declared n v c places last holds waits few_st
+    (omega (arith, few, less, sum)) left are.1.0 are.0 still ended)
 
-turning_leads : (d : Answers) (is_inner : Bool) (first : First) (parts : Parts) (end : At) → Leads d parts → StandLeads d (Turning is_inner first parts end)
+turning_leads : (d : Answers) (is_inner : Bool) (first : First) (parts : Parts) (end : At) → Leads d parts →
+    StandLeads d (Turning is_inner first parts end)
 turning_leads d is_inner first parts end leads r st declared n v c holds waits few_st are takes few = go (all_kept (stack_of st)) refl are
   where
     go : (k : Bool) → all_kept (stack_of st) ≡ k → EndingLed word.Ifnot turned d is_inner first parts end r st declared n v c k
     go true e =
         kept_only (λ x. EndingLed word.Ifnot turned d is_inner first parts end r x declared n v c true)
-        (ending_kept word.Ifnot turned effect.Turns (λ t place inner x. refl) turns_last d is_inner first parts end leads r declared n v c holds waits few) st e
+        (ending_kept word.Ifnot turned effect.Turns (λ t place inner x. refl) turns_last d is_inner first parts end leads r declared n v c
+        holds waits few) st e
     go false e = ending_left word.Ifnot turned turns_left d is_inner first parts end leads r st declared n v c holds waits few_st few e
 
-closing_leads : (d : Answers) (is_inner : Bool) (first : First) (parts : Parts) (end : At) → Leads d parts → StandLeads d (Closing is_inner first parts end)
+closing_leads : (d : Answers) (is_inner : Bool) (first : First) (parts : Parts) (end : At) → Leads d parts →
+    StandLeads d (Closing is_inner first parts end)
 closing_leads d is_inner first parts end leads r st declared n v c holds waits few_st are takes few = go (all_kept (stack_of st)) refl are
   where
     go : (k : Bool) → all_kept (stack_of st) ≡ k → EndingLed word.Endif closed d is_inner first parts end r st declared n v c k
     go true e =
         kept_only (λ x. EndingLed word.Endif closed d is_inner first parts end r x declared n v c true)
-        (ending_kept word.Endif closed effect.Closes (λ t place inner x. refl) closes_last d is_inner first parts end leads r declared n v c holds waits few) st e
+        (ending_kept word.Endif closed effect.Closes (λ t place inner x. refl) closes_last d is_inner first parts end leads r declared n v c
+        holds waits few) st e
     go false e = ending_left word.Endif closed closes_left d is_inner first parts end leads r st declared n v c holds waits few_st few e
 
 -- what is opened more in a side that is left out is left out
 more_left : (is_inner : Bool) (x : Open) (s : Around) → all_kept s ≡ false → all_kept (opened_more is_inner x s) ≡ false
-more_left is_inner x s left = of_both (λ (y : Around). all_kept y ≡ false) (is_inner && are_kept s.between) (record s { inside = x ∷ s.inside }) (record s { between = x ∷ s.between }) (λ _. inside_so x.stays) (λ _. between_so x.stays)
+more_left is_inner x s left = of_both (λ (y : Around). all_kept y ≡ false) (is_inner && are_kept s.between)
+    (record s { inside = x ∷ s.inside }) (record s { between = x ∷ s.between }) (λ _. inside_so x.stays) (λ _. between_so x.stays)
   where
     inside_so : (b : Bool) → (b && are_kept s.inside) && are_kept s.between ≡ false
     inside_so true = left
@@ -2113,20 +2599,26 @@ AskingIs d is_within is_inner wanted first parts end declared s k =
     IsFirst k is_inner is_within (asking wanted) first
     × (NoneInsideFirst k is_inner first s
     × ((AreParts d (among is_within x) x now parts × StayAs d x parts)
-    × (IsPlain k true end × (IsAsked k d first (kept_sides d x parts) end (declared_tokens (all_tokens parts) now) × NoneInsideBehind k is_inner end (behind_parts d x parts)))))
+    × (IsPlain k true end × (IsAsked k d first (kept_sides d x parts) end (declared_tokens (all_tokens parts) now) × NoneInsideBehind k
+    is_inner end (behind_parts d x parts)))))
 
-abbrev AskingLed : Answers → Bool → Bool → First → Parts → At → Reader → Stands → ℕ → ℕ → List (List Conditional) → Conditions → Bool → Type 0
+abbrev AskingLed : Answers → Bool → Bool → First → Parts → At → Reader → Stands → ℕ → ℕ → List (List Conditional) → Conditions → Bool →
+    Type 0
 AskingLed d is_inner wanted first parts end r st declared n v c k =
     let s = stack_of st in
     let act : Around → Around = opened_more is_inner (asked_open d wanted first parts end s) in
     let toks = directive_tokens first (all_tokens parts) end in
     AskingIs d (within r) is_inner wanted first parts end declared s k
-    → Led r toks (stands_at c st declared) [] (told_parts d (cond k s (act s)) parts ++ missing_in end.ended (cond k (act (behind_parts d s parts)) (behind_parts d (act s) parts)))
-    (last_at (ended_in end.ended (cond k (act (behind_parts d s parts)) (behind_parts d (act s) parts))) (declared_tokens toks declared) (n + length toks) v)
+    → Led r toks (stands_at c st declared) [] (told_parts d (cond k s (act s)) parts ++ missing_in end.ended
+    (cond k (act (behind_parts d s parts)) (behind_parts d (act s) parts)))
+    (last_at (ended_in end.ended (cond k (act (behind_parts d s parts)) (behind_parts d (act s) parts))) (declared_tokens toks declared)
+    (n + length toks) v)
 
-asking_kept : (d : Answers) (is_inner wanted : Bool) (first : First) (parts : Parts) (end : At) → Leads d parts → (r : Reader) (declared n : ℕ) (v : List (List Conditional)) (c : Conditions) → Holds r c → c.waiting ≡ v
+asking_kept : (d : Answers) (is_inner wanted : Bool) (first : First) (parts : Parts) (end : At) → Leads d parts →
+    (r : Reader) (declared n : ℕ) (v : List (List Conditional)) (c : Conditions) → Holds r c → c.waiting ≡ v
     → n + length (directive_tokens first (all_tokens parts) end) ≤ most_levels
-    → (inside between : List Open) (si : are_kept inside ≡ true) (sb : are_kept between ≡ true) → AskingLed d is_inner wanted first parts end r (AllStay inside between si sb) declared n v c true
+    → (inside between : List Open) (si : are_kept inside ≡ true) (sb : are_kept between ≡ true) → AskingLed d is_inner wanted first parts
+    end r (AllStay inside between si sb) declared n v c true
 asking_kept d is_inner wanted first parts end leads r declared n v c holds waits few inside between si sb are =
     let s : Around = record { inside = inside; between = between } in
     let tokens = all_tokens parts in
@@ -2157,8 +2649,17 @@ asking_kept d is_inner wanted first parts end leads r declared n v c holds waits
     let taken_last = last_taken kept_so end begun_so condition.are_taken in
     let rest : Led r (tokens ++ end ∷ []) start [] places last =
     within_led d parts leads r (end ∷ []) is_inner place a c (begun_so ∷ c.conditions) (read ∷ c.conditions) s now n v start missing last
-    (record { base = awaits_it is_inner place a (with_condition begun_so c); stand = AllStay inside between si sb; holds = (refl, refl); waits = waits; is = refl; stack = refl; few = omega arith })
-    all (among_kept d (within r) s now parts all are.1.1.0.0) are.1.1.0.1 (takes_condition kept_so end begun_so is_inner wanted place c.pending c.conditions condition.are_taken)
+    (record {
+      base = awaits_it is_inner place a (with_condition begun_so c);
+      stand = AllStay inside between si sb;
+      holds = (refl, refl);
+      waits = waits;
+      is = refl;
+      stack = refl;
+      few = omega arith;
+    })
+    all (among_kept d (within r) s now parts all are.1.1.0.0) are.1.1.0.1
+    (takes_condition kept_so end begun_so is_inner wanted place c.pending c.conditions condition.are_taken)
     (read_condition kept_so p c.pending begun_so c.conditions) (omega (arith, few, less, sum))
     (λ base bw bi bb.
     let after = record base { pending = c.pending; conditions = c.conditions } in
@@ -2166,18 +2667,26 @@ asking_kept d is_inner wanted first parts end leads r declared n v c holds waits
     let b = conditionals l.around.between in
     let said = cond end.site.is_quiet None (told_by place whole verdict.finding) in
     let opened_now : Bool → Conditions = λ x. record (opened_at is_inner x place after i b l.declared) { said = said } in
-    acts r end (reading is_inner place a (with_condition read after) i b l.declared) (opened_now stays) None (unless_quiet end place) missing last
+    acts r end (reading is_inner place a (with_condition read after) i b l.declared) (opened_now stays) None (unless_quiet end place)
+    missing last
     (next_ends is_inner wanted place end read after i b l.declared are.1.1.1.0.no_hash taken_last.0 taken_last.1
     ∙ ap (λ x. ended_so (opened_now x) None (unless_quiet end place)) agrees)
-    (opened_stands r is_inner stays place end l.around.inside l.around.between l.declared m v after (holds_on r c base holds) bw bi bb are.1.1.1.1.1)
+    (opened_stands r is_inner stays place end l.around.inside l.around.between l.declared m v after (holds_on r c base holds) bw bi bb
+    are.1.1.1.1.1)
     (opened_told is_inner stays place end l.around.inside l.around.between l.declared after bi bb)) in
-    relaxed r (directive_tokens first tokens end) (at c inner among_now None declared) [] places last.around (declared_behind end l.declared) (declared_tokens (directive_tokens first tokens end) declared) m m v
+    relaxed r (directive_tokens first tokens end) (at c inner among_now None declared) [] places last.around
+    (declared_behind end l.declared) (declared_tokens (directive_tokens first tokens end) declared) m m v
     (last_declared first tokens end declared) (omega arith)
-    (begins_kept r r is_inner (asking wanted) a first.sign first.word (tokens ++ end ∷ []) c (with_condition begun_so c) inner among_now declared places last holds are.0.begins are.0.is (mids_of is_inner (within r) (asking wanted) first s are.0 are.1.0)
-    (λ x. begun_asking is_inner wanted first.word.token place c inner among_now x (asking_fits wanted first.word.token place are.0.is)) rest)
+    (begins_kept r r is_inner (asking wanted) a first.sign first.word (tokens ++ end ∷ []) c (with_condition begun_so c) inner among_now
+    declared places last holds are.0.begins are.0.is (mids_of is_inner (within r) (asking wanted) first s are.0 are.1.0)
+    (λ x. begun_asking is_inner wanted first.word.token place c inner among_now x (asking_fits wanted first.word.token place are.0.is))
+    rest)
 
-asking_left : (d : Answers) (is_inner wanted : Bool) (first : First) (parts : Parts) (end : At) → Leads d parts → (r : Reader) (st : Stands) (declared n : ℕ) (v : List (List Conditional)) (c : Conditions) → Holds r c → c.waiting ≡ v → levels_of st ≤ n
-    → n + length (directive_tokens first (all_tokens parts) end) ≤ most_levels → all_kept (stack_of st) ≡ false → AskingLed d is_inner wanted first parts end r st declared n v c false
+asking_left : (d : Answers) (is_inner wanted : Bool) (first : First) (parts : Parts) (end : At) → Leads d parts →
+    (r : Reader) (st : Stands) (declared n : ℕ) (v : List (List Conditional)) (c : Conditions) → Holds r c → c.waiting ≡ v →
+    levels_of st ≤ n
+    → n + length (directive_tokens first (all_tokens parts) end) ≤ most_levels → all_kept (stack_of st) ≡ false → AskingLed d is_inner
+    wanted first parts end r st declared n v c false
 asking_left d is_inner wanted first parts end leads r st declared n v c holds waits few_st few left are =
     let s = stack_of st in
     let more = asked_open d wanted first parts end s in
@@ -2192,21 +2701,28 @@ asking_left d is_inner wanted first parts end leads r st declared n v c holds wa
     let missing = missing_in end.ended l.around in
     let places = told_parts d x parts ++ missing in
     let toks = directive_tokens first tokens end in
-    relaxed r toks (stands_at c st declared) [] places (ended_in end.ended l.around) (declared_behind end l.declared) (declared_tokens toks declared) l.levels (n + length toks) v
+    relaxed r toks (stands_at c st declared) [] places (ended_in end.ended l.around) (declared_behind end l.declared)
+    (declared_tokens toks declared) l.levels (n + length toks) v
     (last_declared first tokens end declared) (omega (arith, less, sum))
-    (opens_left r r is_inner (within r) (asking wanted) first (tokens ++ end ∷ []) more st declared n v c places last holds waits few_st (omega (arith, few, less, sum)) left are.1.0 are.0 (λ m b. asking_stays wanted m b) (asking_level wanted)
+    (opens_left r r is_inner (within r) (asking wanted) first (tokens ++ end ∷ []) more st declared n v c places last holds waits few_st
+    (omega (arith, few, less, sum)) left are.1.0 are.0 (λ m b. asking_stays wanted m b) (asking_level wanted)
     (λ m e.
-    left_led d parts leads r (end ∷ []) x now (n + 1) v m missing last e (among_left d (within r) x now parts gone are.1.1.0.0) are.1.1.1.1.0 (omega (arith, few, less, sum))
+    left_led d parts leads r (end ∷ []) x now (n + 1) v m missing last e (among_left d (within r) x now parts gone are.1.1.0.0)
+    are.1.1.1.1.0 (omega (arith, few, less, sum))
     (λ m2 e2. told_so r (end ∷ []) m2 [] (missing ++ []) missing last (append-nil missing)
-    (left_token r true end [] l.around l.declared l.levels v m2 [] [] last e2 (are.1.1.0.1 ∙ gone) are.1.1.1.0 (omega (arith, few, less, sum))
+    (left_token r true end [] l.around l.declared l.levels v m2 [] [] last e2 (are.1.1.0.1 ∙ gone) are.1.1.1.0
+    (omega (arith, few, less, sum))
     (λ m3 e3. rests r m3 last e3)))))
 
-asking_leads : (d : Answers) (is_inner wanted : Bool) (first : First) (parts : Parts) (end : At) → Leads d parts → StandLeads d (Asking is_inner wanted first parts end)
-asking_leads d is_inner wanted first parts end leads r st declared n v c holds waits few_st are takes few = go (all_kept (stack_of st)) refl are
+asking_leads : (d : Answers) (is_inner wanted : Bool) (first : First) (parts : Parts) (end : At) → Leads d parts →
+    StandLeads d (Asking is_inner wanted first parts end)
+asking_leads d is_inner wanted first parts end leads r st declared n v c holds waits few_st are takes few =
+    go (all_kept (stack_of st)) refl are
   where
     go : (k : Bool) → all_kept (stack_of st) ≡ k → AskingLed d is_inner wanted first parts end r st declared n v c k
     go true e =
-        kept_only (λ x. AskingLed d is_inner wanted first parts end r x declared n v c true) (asking_kept d is_inner wanted first parts end leads r declared n v c holds waits few) st e
+        kept_only (λ x. AskingLed d is_inner wanted first parts end r x declared n v c true)
+        (asking_kept d is_inner wanted first parts end leads r declared n v c holds waits few) st e
     go false e = asking_left d is_inner wanted first parts end leads r st declared n v c holds waits few_st few e
 
 -- One with a name
@@ -2224,12 +2740,14 @@ OpeningIs d is_within is_inner if_declared first before name behind end declared
     × (NoneInsideFirst k is_inner first s
     × ((AreParts d (among is_within x) x now before × AddsNone d x before)
     × ((IsName k name × ((declared_before name.token.bytes later name.out.names ≡ d.is_declared name) × (all_kept y ≡ all_kept x)))
-    × ((AreParts d (among is_within y) y (declared_behind name later) behind × AddsNone d y behind) × (IsSemicolon end × NoneInsideBehind k is_inner end (behind_parts d y behind))))))
+    × ((AreParts d (among is_within y) y (declared_behind name later) behind × AddsNone d y behind) ×
+    (IsSemicolon end × NoneInsideBehind k is_inner end (behind_parts d y behind))))))
 
 abbrev opening_tokens : First → Parts → At → Parts → At → List At
 opening_tokens first before name behind end = first_tokens first (all_tokens before ++ name ∷ (all_tokens behind ++ end ∷ []))
 
-abbrev OpeningLed : Answers → Bool → Bool → First → Parts → At → Parts → At → Reader → Stands → ℕ → ℕ → List (List Conditional) → Conditions → Bool → Type 0
+abbrev OpeningLed : Answers → Bool → Bool → First → Parts → At → Parts → At → Reader → Stands → ℕ → ℕ → List (List Conditional) →
+    Conditions → Bool → Type 0
 OpeningLed d is_inner if_declared first before name behind end r st declared n v c k =
     let s = stack_of st in
     let act : Around → Around = opened_more is_inner (named_open d if_declared first name) in
@@ -2238,11 +2756,15 @@ OpeningLed d is_inner if_declared first before name behind end r st declared n v
     OpeningIs d (within r) is_inner if_declared first before name behind end declared s k
     → Led r toks (stands_at c st declared) []
     (told_parts d x before ++ (missing_in name.ended (behind_parts d x before) ++ (told_parts d (behind_name d before name x) behind
-    ++ missing_in end.ended (cond k (act (behind_parts d (behind_name d before name s) behind)) (behind_parts d (behind_name d before name (act s)) behind)))))
-    (last_at (ended_in end.ended (cond k (act (behind_parts d (behind_name d before name s) behind)) (behind_parts d (behind_name d before name (act s)) behind))) (declared_tokens toks declared) (n + length toks) v)
+    ++ missing_in end.ended (cond k (act (behind_parts d (behind_name d before name s) behind))
+    (behind_parts d (behind_name d before name (act s)) behind)))))
+    (last_at (ended_in end.ended (cond k (act (behind_parts d (behind_name d before name s) behind))
+    (behind_parts d (behind_name d before name (act s)) behind))) (declared_tokens toks declared) (n + length toks) v)
 
 opening_declared : (first : First) (before : Parts) (name : At) (behind : Parts) (end : At) (declared : ℕ)
-    → declared_behind end (declared_tokens (all_tokens behind) (declared_behind name (declared_tokens (all_tokens before) (declared_first first declared)))) ≡ declared_tokens (opening_tokens first before name behind end) declared
+    → declared_behind end (declared_tokens (all_tokens behind) (declared_behind name
+    (declared_tokens (all_tokens before) (declared_first first declared)))) ≡ declared_tokens
+    (opening_tokens first before name behind end) declared
 opening_declared first before name behind end declared =
     let now = declared_first first declared in
     let rest = all_tokens behind ++ end ∷ [] in
@@ -2250,10 +2772,14 @@ opening_declared first before name behind end declared =
     ∙ sym (declared_both (all_tokens before) (name ∷ rest) now)
     ∙ declared_behind_first first (all_tokens before ++ name ∷ rest) declared
 
-opening_kept : (d : Answers) (is_inner if_declared : Bool) (first : First) (before : Parts) (name : At) (behind : Parts) (end : At) → Leads d before → Leads d behind → (r : Reader) (declared n : ℕ) (v : List (List Conditional)) (c : Conditions) → Holds r c → c.waiting ≡ v
+opening_kept : (d : Answers) (is_inner if_declared : Bool) (first : First) (before : Parts) (name : At) (behind : Parts) (end : At) →
+    Leads d before → Leads d behind → (r : Reader) (declared n : ℕ) (v : List (List Conditional)) (c : Conditions) → Holds r c →
+    c.waiting ≡ v
     → n + length (opening_tokens first before name behind end) ≤ most_levels
-    → (inside between : List Open) (si : are_kept inside ≡ true) (sb : are_kept between ≡ true) → OpeningLed d is_inner if_declared first before name behind end r (AllStay inside between si sb) declared n v c true
-opening_kept d is_inner if_declared first before name behind end leads_before leads_behind r declared n v c holds waits few inside between si sb are =
+    → (inside between : List Open) (si : are_kept inside ≡ true) (sb : are_kept between ≡ true) → OpeningLed d is_inner if_declared first
+    before name behind end r (AllStay inside between si sb) declared n v c true
+opening_kept d is_inner if_declared first before name behind end leads_before leads_behind r declared n v c holds waits few inside between
+    si sb are =
     let s : Around = record { inside = inside; between = between } in
     let all = both_kept inside between si sb in
     let place = begins first in
@@ -2285,42 +2811,66 @@ opening_kept d is_inner if_declared first before name behind end leads_before le
     let adds_behind = are.1.1.1.1.0.1 in
     let all_behind_name : all_kept y ≡ true = are.1.1.1.0.1.1 ∙ all in
     let further : (base : Conditions) → base.waiting ≡ v → are_kept l.around.inside ≡ true → are_kept l.around.between ≡ true
-    → Led r (name ∷ rest_behind) (reading is_inner place waits_name (record base { pending = c.pending; conditions = c.conditions }) (conditionals l.around.inside) (conditionals l.around.between) l.declared) [] places_name last = λ base bw bi bb.
+    → Led r (name ∷ rest_behind) (reading is_inner place waits_name (record base { pending = c.pending; conditions = c.conditions })
+    (conditionals l.around.inside) (conditionals l.around.between) l.declared) [] places_name last = λ base bw bi bb.
     let after = record base { pending = c.pending; conditions = c.conditions } in
     let i = conditionals l.around.inside in
     let b = conditionals l.around.between in
     let named_so = reading is_inner place waits_end after i b l.declared in
     let p = directive is_inner place waits_end in
     let there = ended_behind name.ended named_so in
-    passes r name rest_behind (reading is_inner place waits_name after i b l.declared) named_so there [] (missing_in name.ended l.around) places_behind last (name_kept is_inner if_declared place name after i b l.declared are.1.1.1.0.0.is) refl
+    passes r name rest_behind (reading is_inner place waits_name after i b l.declared) named_so there [] (missing_in name.ended l.around)
+    places_behind last (name_kept is_inner if_declared place name after i b l.declared are.1.1.1.0.0.is) refl
     (ended_told name.ended (AllStay l.around.inside l.around.between bi bb) l.declared (awaits_it is_inner place waits_end after))
-    (within_led d behind leads_behind r (end ∷ []) is_inner place waits_end after after.conditions after.conditions y later l.levels v there missing last
-    (ended_stands (Reads p after.pending after.conditions) name.ended (AllStay l.around.inside l.around.between bi bb) l.declared l.levels v (awaits_it is_inner place waits_end after) (refl, refl) bw (omega arith))
+    (within_led d behind leads_behind r (end ∷ []) is_inner place waits_end after after.conditions after.conditions y later l.levels v there
+    missing last
+    (ended_stands (Reads p after.pending after.conditions) name.ended (AllStay l.around.inside l.around.between bi bb) l.declared l.levels v
+    (awaits_it is_inner place waits_end after) (refl, refl) bw (omega arith))
     all_behind_name (among_kept d (within r) y later behind all_behind_name are.1.1.1.1.0.0) adds_behind.0
-    (takes_none (kept_sides d y behind) (Reads p after.pending after.conditions) adds_behind.1) (reads_none (kept_sides d y behind) (Reads p after.pending after.conditions) adds_behind.1) (omega (arith, few, less, sum, sum_behind))
+    (takes_none (kept_sides d y behind) (Reads p after.pending after.conditions) adds_behind.1)
+    (reads_none (kept_sides d y behind) (Reads p after.pending after.conditions) adds_behind.1)
+    (omega (arith, few, less, sum, sum_behind))
     (λ base2 bw2 bi2 bb2.
     let last_base = record base2 { pending = after.pending; conditions = after.conditions } in
     let i2 = conditionals l2.around.inside in
     let b2 = conditionals l2.around.between in
-    acts r end (reading is_inner place waits_end last_base i2 b2 l2.declared) (opened_at is_inner stays place last_base i2 b2 l2.declared) None (unless_quiet end place) missing last
+    acts r end (reading is_inner place waits_end last_base i2 b2 l2.declared) (opened_at is_inner stays place last_base i2 b2 l2.declared)
+    None (unless_quiet end place) missing last
     (end_kept (effect.Opens is_so) is_inner place end last_base i2 b2 l2.declared are.1.1.1.1.1.0
     ∙ ap (λ x. ended_so (opened_at is_inner x place last_base i2 b2 l2.declared) None (unless_quiet end place)) agrees)
-    (opened_stands r is_inner stays place end l2.around.inside l2.around.between l2.declared m v last_base (holds_on r c base2 holds) bw2 bi2 bb2 are.1.1.1.1.1.1)
+    (opened_stands r is_inner stays place end l2.around.inside l2.around.between l2.declared m v last_base (holds_on r c base2 holds) bw2
+    bi2 bb2 are.1.1.1.1.1.1)
     (opened_told is_inner stays place end l2.around.inside l2.around.between l2.declared last_base bi2 bb2))) in
     let p_name = directive is_inner place waits_name in
     let rest : Led r (all_tokens before ++ name ∷ rest_behind) start [] places last =
-    within_led d before leads_before r (name ∷ rest_behind) is_inner place waits_name c c.conditions c.conditions s now n v start places_name last
-    (record { base = awaits_it is_inner place waits_name c; stand = AllStay inside between si sb; holds = (refl, refl); waits = waits; is = refl; stack = refl; few = omega arith })
+    within_led d before leads_before r (name ∷ rest_behind) is_inner place waits_name c c.conditions c.conditions s now n v start
+    places_name last
+    (record {
+      base = awaits_it is_inner place waits_name c;
+      stand = AllStay inside between si sb;
+      holds = (refl, refl);
+      waits = waits;
+      is =
+          refl;
+      stack = refl;
+      few = omega arith;
+    })
     all (among_kept d (within r) s now before all are.1.1.0.0) adds.0
-    (takes_none (kept_sides d s before) (Reads p_name c.pending c.conditions) adds.1) (reads_none (kept_sides d s before) (Reads p_name c.pending c.conditions) adds.1) (omega (arith, few, less, sum)) further in
-    relaxed r toks (at c inner among_now None declared) [] places last.around (declared_behind end l2.declared) (declared_tokens toks declared) m m v
+    (takes_none (kept_sides d s before) (Reads p_name c.pending c.conditions) adds.1)
+    (reads_none (kept_sides d s before) (Reads p_name c.pending c.conditions) adds.1) (omega (arith, few, less, sum)) further in
+    relaxed r toks (at c inner among_now None declared) [] places last.around (declared_behind end l2.declared)
+    (declared_tokens toks declared) m m v
     (opening_declared first before name behind end declared) (omega arith)
-    (begins_kept r r is_inner (opening if_declared) waits_name first.sign first.word (all_tokens before ++ name ∷ rest_behind) c c inner among_now declared places last holds are.0.begins are.0.is (mids_of is_inner (within r) (opening if_declared) first s are.0 are.1.0)
+    (begins_kept r r is_inner (opening if_declared) waits_name first.sign first.word (all_tokens before ++ name ∷ rest_behind) c c inner
+    among_now declared places last holds are.0.begins are.0.is (mids_of is_inner (within r) (opening if_declared) first s are.0 are.1.0)
     (λ x. begun_opening is_inner if_declared first.word.token place (at c inner among_now None x)) rest)
 
-opening_left : (d : Answers) (is_inner if_declared : Bool) (first : First) (before : Parts) (name : At) (behind : Parts) (end : At) → Leads d before → Leads d behind → (r : Reader) (st : Stands) (declared n : ℕ) (v : List (List Conditional)) (c : Conditions)
-    → Holds r c → c.waiting ≡ v → levels_of st ≤ n → n + length (opening_tokens first before name behind end) ≤ most_levels → all_kept (stack_of st) ≡ false → OpeningLed d is_inner if_declared first before name behind end r st declared n v c false
-opening_left d is_inner if_declared first before name behind end leads_before leads_behind r st declared n v c holds waits few_st few left are =
+opening_left : (d : Answers) (is_inner if_declared : Bool) (first : First) (before : Parts) (name : At) (behind : Parts) (end : At) →
+    Leads d before → Leads d behind → (r : Reader) (st : Stands) (declared n : ℕ) (v : List (List Conditional)) (c : Conditions)
+    → Holds r c → c.waiting ≡ v → levels_of st ≤ n → n + length (opening_tokens first before name behind end) ≤ most_levels → all_kept
+    (stack_of st) ≡ false → OpeningLed d is_inner if_declared first before name behind end r st declared n v c false
+opening_left d is_inner if_declared first before name behind end leads_before leads_behind r st declared n v c holds waits few_st few left
+    are =
     let s = stack_of st in
     let more = named_open d if_declared first name in
     let x = opened_more is_inner more s in
@@ -2345,66 +2895,99 @@ opening_left d is_inner if_declared first before name behind end leads_before le
     let gone_behind : all_kept y ≡ false = are.1.1.1.0.1.1 ∙ gone in
     let name_is = are.1.1.1.0.0 in
     let from_name : Further r r (name ∷ rest_behind) places_name l last = λ m e.
-    left_token r true name rest_behind l.around l.declared l.levels v m [] places_behind last e (adds.0 ∙ gone) (name_plain true name name_is.is (name_is.no_word refl)) (omega (arith, few, less, sum))
+    left_token r true name rest_behind l.around l.declared l.levels v m [] places_behind last e (adds.0 ∙ gone)
+    (name_plain true name name_is.is (name_is.no_word refl)) (omega (arith, few, less, sum))
     (λ m2 e2.
-    left_led d behind leads_behind r (end ∷ []) y later l.levels v m2 missing last e2 (among_left d (within r) y later behind gone_behind are.1.1.1.1.0.0) adds_behind.1 (omega (arith, few, less, sum, sum_behind))
+    left_led d behind leads_behind r (end ∷ []) y later l.levels v m2 missing last e2
+    (among_left d (within r) y later behind gone_behind are.1.1.1.1.0.0) adds_behind.1 (omega (arith, few, less, sum, sum_behind))
     (λ m3 e3. told_so r (end ∷ []) m3 [] (missing ++ []) missing last (append-nil missing)
-    (left_token r true end [] l2.around l2.declared l2.levels v m3 [] [] last e3 (adds_behind.0 ∙ gone_behind) (semicolon_plain false true end are.1.1.1.1.1.0) (omega (arith, few, less, sum, sum_behind))
+    (left_token r true end [] l2.around l2.declared l2.levels v m3 [] [] last e3 (adds_behind.0 ∙ gone_behind)
+    (semicolon_plain false true end are.1.1.1.1.1.0) (omega (arith, few, less, sum, sum_behind))
     (λ m4 e4. rests r m4 last e4)))) in
-    relaxed r toks (stands_at c st declared) [] places (ended_in end.ended l2.around) (declared_behind end l2.declared) (declared_tokens toks declared) l2.levels (n + length toks) v
+    relaxed r toks (stands_at c st declared) [] places (ended_in end.ended l2.around) (declared_behind end l2.declared)
+    (declared_tokens toks declared) l2.levels (n + length toks) v
     (opening_declared first before name behind end declared) (omega (arith, less, sum, sum_behind))
-    (opens_left r r is_inner (within r) (opening if_declared) first (all_tokens before ++ name ∷ rest_behind) more st declared n v c places last holds waits few_st (omega (arith, few, less, sum)) left are.1.0 are.0 (λ m b. opening_stays if_declared m b) (opening_level if_declared)
-    (λ m e. left_led d before leads_before r (name ∷ rest_behind) x now (n + 1) v m places_name last e (among_left d (within r) x now before gone are.1.1.0.0) adds.1 (omega (arith, few, less, sum)) from_name))
+    (opens_left r r is_inner (within r) (opening if_declared) first (all_tokens before ++ name ∷ rest_behind) more st declared n v c places
+    last holds waits few_st (omega (arith, few, less, sum)) left are.1.0 are.0 (λ m b. opening_stays if_declared m b)
+    (opening_level if_declared)
+    (λ m e. left_led d before leads_before r (name ∷ rest_behind) x now (n + 1) v m places_name last e
+    (among_left d (within r) x now before gone are.1.1.0.0) adds.1 (omega (arith, few, less, sum)) from_name))
 
-opening_leads : (d : Answers) (is_inner if_declared : Bool) (first : First) (before : Parts) (name : At) (behind : Parts) (end : At) → Leads d before → Leads d behind → StandLeads d (Opening is_inner if_declared first before name behind end)
-opening_leads d is_inner if_declared first before name behind end leads_before leads_behind r st declared n v c holds waits few_st are takes few = go (all_kept (stack_of st)) refl are
+opening_leads : (d : Answers) (is_inner if_declared : Bool) (first : First) (before : Parts) (name : At) (behind : Parts) (end : At) →
+    Leads d before → Leads d behind → StandLeads d (Opening is_inner if_declared first before name behind end)
+opening_leads d is_inner if_declared first before name behind end leads_before leads_behind r st declared n v c holds waits few_st are takes
+    few = go (all_kept (stack_of st)) refl are
   where
     go : (k : Bool) → all_kept (stack_of st) ≡ k → OpeningLed d is_inner if_declared first before name behind end r st declared n v c k
     go true e =
         kept_only (λ x. OpeningLed d is_inner if_declared first before name behind end r x declared n v c true)
         (opening_kept d is_inner if_declared first before name behind end leads_before leads_behind r declared n v c holds waits few) st e
-    go false e = opening_left d is_inner if_declared first before name behind end leads_before leads_behind r st declared n v c holds waits few_st few e
+    go false e = opening_left d is_inner if_declared first before name behind end leads_before leads_behind r st declared n v c holds waits
+        few_st few e
 
 -- A word alone in a side that is left out
 
-passes_on : (r : Reader) (first : First) (st : Stands) (s : Around) (declared n m : ℕ) (v : List (List Conditional)) (c : Conditions) → m ≤ n + length (first_tokens first [])
-    → (Further r r [] [] (last_at s (declared_first first declared) m v) (last_at s (declared_first first declared) m v) → Led r (first_tokens first []) (stands_at c st declared) [] [] (last_at s (declared_first first declared) m v))
-    → Led r (first_tokens first []) (stands_at c st declared) [] [] (last_at s (declared_tokens (first_tokens first []) declared) (n + length (first_tokens first [])) v)
+passes_on : (r : Reader) (first : First) (st : Stands) (s : Around) (declared n m : ℕ) (v : List (List Conditional)) (c : Conditions) →
+    m ≤ n + length (first_tokens first [])
+    → (Further r r [] [] (last_at s (declared_first first declared) m v) (last_at s (declared_first first declared) m v) → Led r
+    (first_tokens first []) (stands_at c st declared) [] [] (last_at s (declared_first first declared) m v))
+    → Led r (first_tokens first []) (stands_at c st declared) [] []
+    (last_at s (declared_tokens (first_tokens first []) declared) (n + length (first_tokens first [])) v)
 passes_on r first st s declared n m v c few led =
     let last = last_at s (declared_first first declared) m v in
-    relaxed r (first_tokens first []) (stands_at c st declared) [] [] s (declared_first first declared) (declared_tokens (first_tokens first []) declared) m (n + length (first_tokens first [])) v
+    relaxed r (first_tokens first []) (stands_at c st declared) [] [] s (declared_first first declared)
+    (declared_tokens (first_tokens first []) declared) m (n + length (first_tokens first [])) v
     (declared_behind_first first [] declared) few (led (λ x e. rests r x last e))
 
-passed_ending : (w : ConditionalWord) (act : Around → Around) → LeftLed w act → (r : Reader) (is_inner : Bool) (first : First) (st : Stands) (declared n : ℕ) (v : List (List Conditional)) (c : Conditions) → Holds r c → c.waiting ≡ v → levels_of st ≤ n
-    → IsFirst false is_inner (within r) w first × (NoneInside is_inner (stack_of st) × ((all_kept (stack_of st) ≡ false) × (all_kept (act (stack_of st)) ≡ false))) → n + length (first_tokens first []) ≤ most_levels
-    → Led r (first_tokens first []) (stands_at c st declared) [] [] (last_at (act (stack_of st)) (declared_tokens (first_tokens first []) declared) (n + length (first_tokens first [])) v)
+passed_ending : (w : ConditionalWord) (act : Around → Around) → LeftLed w act →
+    (r : Reader) (is_inner : Bool) (first : First) (st : Stands) (declared n : ℕ) (v : List (List Conditional)) (c : Conditions) →
+    Holds r c → c.waiting ≡ v → levels_of st ≤ n
+    → IsFirst false is_inner (within r) w first ×
+    (NoneInside is_inner (stack_of st) × ((all_kept (stack_of st) ≡ false) × (all_kept (act (stack_of st)) ≡ false))) → n + length
+    (first_tokens first []) ≤ most_levels
+    → Led r (first_tokens first []) (stands_at c st declared) [] []
+    (last_at (act (stack_of st)) (declared_tokens (first_tokens first []) declared) (n + length (first_tokens first [])) v)
 passed_ending w act left_word r is_inner first st declared n v c holds waits few_st are few =
     let s = act (stack_of st) in
     let last = last_at s (declared_first first declared) n v in
     let less = fewer first [] in
     passes_on r first st s declared n n v c (omega arith)
-    (λ further. left_word r r is_inner (within r) first [] st declared n v c [] last holds waits few_st (omega (arith, few, less)) are.1.1.0 are.1.0 are.0 (λ _. further)
-    (λ inside between si sb is. absurd (let never : true ≡ false = sym (both_kept inside between si sb) ∙ ap all_kept is ∙ are.1.1.1 in cc)))
+    (λ further. left_word r r is_inner (within r) first [] st declared n v c [] last holds waits few_st (omega (arith, few, less)) are.1.1.0
+    are.1.0 are.0 (λ _. further)
+    (λ inside between si sb is. absurd (let never : true ≡ false = sym (both_kept inside between si sb) ∙ ap all_kept is ∙ are.1.1.1 in
+    cc)))
 
 passed_opening : (w : ConditionalWord) → ((m : ℕ) (b : Bool) → ends_side b m (Some w) ≡ false) → ((m : ℕ) → level_behind (Some w) m ≡ suc m)
-    → (r : Reader) (is_inner : Bool) (first : First) (st : Stands) (declared n : ℕ) (v : List (List Conditional)) (c : Conditions) → Holds r c → c.waiting ≡ v → levels_of st ≤ n
-    → IsFirst false is_inner (within r) w first × (NoneInside is_inner (stack_of st) × ((all_kept (stack_of st) ≡ false) × (all_kept (opened_more is_inner (first_side first true true) (stack_of st)) ≡ false))) → n + length (first_tokens first []) ≤ most_levels
-    → Led r (first_tokens first []) (stands_at c st declared) [] [] (last_at (opened_more is_inner (first_side first true true) (stack_of st)) (declared_tokens (first_tokens first []) declared) (n + length (first_tokens first [])) v)
+    → (r : Reader) (is_inner : Bool) (first : First) (st : Stands) (declared n : ℕ) (v : List (List Conditional)) (c : Conditions) → Holds r
+    c → c.waiting ≡ v → levels_of st ≤ n
+    → IsFirst false is_inner (within r) w first ×
+    (NoneInside is_inner (stack_of st) × ((all_kept (stack_of st) ≡ false) × (all_kept
+    (opened_more is_inner (first_side first true true) (stack_of st)) ≡ false))) → n + length (first_tokens first []) ≤ most_levels
+    → Led r (first_tokens first []) (stands_at c st declared) [] []
+    (last_at (opened_more is_inner (first_side first true true) (stack_of st)) (declared_tokens (first_tokens first []) declared)
+    (n + length (first_tokens first [])) v)
 passed_opening w stays level r is_inner first st declared n v c holds waits few_st are few =
     let more = first_side first true true in
     let s = opened_more is_inner more (stack_of st) in
     let last = last_at s (declared_first first declared) (n + 1) v in
     let less = fewer first [] in
     passes_on r first st s declared n (n + 1) v c (omega (arith, less))
-    (λ further. opens_left r r is_inner (within r) w first [] more st declared n v c [] last holds waits few_st (omega (arith, few, less)) are.1.1.0 are.1.0 are.0 stays level further)
+    (λ further. opens_left r r is_inner (within r) w first [] more st declared n v c [] last holds waits few_st (omega (arith, few, less))
+    are.1.1.0 are.1.0 are.0 stays level further)
 
 passed_leads : (d : Answers) (is_inner : Bool) (w : ConditionalWord) (first : First) → StandLeads d (Passed is_inner w first)
-passed_leads d is_inner word.Ifnot first r st declared n v c holds waits few_st are takes few = passed_ending word.Ifnot turned turns_left r is_inner first st declared n v c holds waits few_st are few
-passed_leads d is_inner word.Endif first r st declared n v c holds waits few_st are takes few = passed_ending word.Endif closed closes_left r is_inner first st declared n v c holds waits few_st are few
-passed_leads d is_inner word.Ifdef first r st declared n v c holds waits few_st are takes few = passed_opening word.Ifdef (λ m b. opening_stays true m b) (opening_level true) r is_inner first st declared n v c holds waits few_st are few
-passed_leads d is_inner word.Ifndef first r st declared n v c holds waits few_st are takes few = passed_opening word.Ifndef (λ m b. opening_stays false m b) (opening_level false) r is_inner first st declared n v c holds waits few_st are few
-passed_leads d is_inner word.Iftrue first r st declared n v c holds waits few_st are takes few = passed_opening word.Iftrue (λ m b. asking_stays true m b) (asking_level true) r is_inner first st declared n v c holds waits few_st are few
-passed_leads d is_inner word.Iffalse first r st declared n v c holds waits few_st are takes few = passed_opening word.Iffalse (λ m b. asking_stays false m b) (asking_level false) r is_inner first st declared n v c holds waits few_st are few
+passed_leads d is_inner word.Ifnot first r st declared n v c holds waits few_st are takes few =
+    passed_ending word.Ifnot turned turns_left r is_inner first st declared n v c holds waits few_st are few
+passed_leads d is_inner word.Endif first r st declared n v c holds waits few_st are takes few =
+    passed_ending word.Endif closed closes_left r is_inner first st declared n v c holds waits few_st are few
+passed_leads d is_inner word.Ifdef first r st declared n v c holds waits few_st are takes few = passed_opening word.Ifdef
+    (λ m b. opening_stays true m b) (opening_level true) r is_inner first st declared n v c holds waits few_st are few
+passed_leads d is_inner word.Ifndef first r st declared n v c holds waits few_st are takes few = passed_opening word.Ifndef
+    (λ m b. opening_stays false m b) (opening_level false) r is_inner first st declared n v c holds waits few_st are few
+passed_leads d is_inner word.Iftrue first r st declared n v c holds waits few_st are takes few = passed_opening word.Iftrue
+    (λ m b. asking_stays true m b) (asking_level true) r is_inner first st declared n v c holds waits few_st are few
+passed_leads d is_inner word.Iffalse first r st declared n v c holds waits few_st are takes few = passed_opening word.Iffalse
+    (λ m b. asking_stays false m b) (asking_level false) r is_inner first st declared n v c holds waits few_st are few
 
 -- All parts
 
@@ -2413,7 +2996,8 @@ part_from d part leads r s declared n v c e are takes few =
     let P : Around → Type 0 = λ x. IsPart d (within r) x declared part → TakesAll r (kept_of part x)
     → Led r (part_tokens part) (stands_at e.base e.stand declared) (kept_of part x) (told_of d part x) (last_part d part x declared n v) in
     let led : P s = subst P e.stack (λ are_so takes_so. leads r e.stand declared n v e.base e.holds e.waits e.few are_so takes_so few) in
-    subst (λ (x : Conditions). Led r (part_tokens part) x (kept_of part s) (told_of d part s) (last_part d part s declared n v)) (sym e.is) (led are takes)
+    subst (λ (x : Conditions). Led r (part_tokens part) x (kept_of part s) (told_of d part s) (last_part d part s declared n v)) (sym e.is)
+    (led are takes)
 
 none_leads : (d : Answers) → Leads d NoParts
 none_leads d r s declared n v c e are takes few =
@@ -2430,10 +3014,13 @@ then_leads d part parts leads_part leads r s declared n v c e are takes few =
     let there = all_behind toks c in
     let q = read_on kept_so r in
     let l2 = last_behind d parts l.around l.declared l.levels v in
-    let second = leads q l.around l.declared l.levels v there first.ends (subst (λ b. AreParts d b l.around l.declared parts) (sym (within_same kept_so r)) are.1) both.1 (omega (arith, few, sum)) in
-    relaxed r (toks ++ all_tokens parts) c (kept_so ++ kept_sides d l.around parts) (told_of d part s ++ told_parts d l.around parts) l2.around l2.declared (declared_tokens (toks ++ all_tokens parts) declared) l2.levels (n + length (toks ++ all_tokens parts)) v
+    let second = leads q l.around l.declared l.levels v there first.ends
+    (subst (λ b. AreParts d b l.around l.declared parts) (sym (within_same kept_so r)) are.1) both.1 (omega (arith, few, sum)) in
+    relaxed r (toks ++ all_tokens parts) c (kept_so ++ kept_sides d l.around parts) (told_of d part s ++ told_parts d l.around parts)
+    l2.around l2.declared (declared_tokens (toks ++ all_tokens parts) declared) l2.levels (n + length (toks ++ all_tokens parts)) v
     (sym (declared_both toks (all_tokens parts) declared)) (omega (arith, sum))
-    (joined r toks (all_tokens parts) c kept_so (kept_sides d l.around parts) (told_of d part s) (told_parts d l.around parts) l l2 first second)
+    (joined r toks (all_tokens parts) c kept_so (kept_sides d l.around parts) (told_of d part s) (told_parts d l.around parts) l l2 first
+    second)
 
 mutual
   part_led : (d : Answers) (part : Part) → PartLeads d part
@@ -2441,12 +3028,17 @@ mutual
   part_led d (Signed is_inner sign t) = part_from d (Signed is_inner sign t) (signed_leads d is_inner sign t)
   part_led d (Before is_inner sign part) = part_from d (Before is_inner sign part) (before_leads d is_inner sign part (part_led d part))
   part_led d (Fronted sign parts t) = part_from d (Fronted sign parts t) (fronted_leads d sign parts t (led d parts))
-  part_led d (FrontedWord sign parts part) = part_from d (FrontedWord sign parts part) (word_leads d sign parts part (led d parts) (part_led d part))
+  part_led d (FrontedWord sign parts part) =
+      part_from d (FrontedWord sign parts part) (word_leads d sign parts part (led d parts) (part_led d part))
   part_led d (Opening is_inner if_declared first before name behind end) =
-      part_from d (Opening is_inner if_declared first before name behind end) (opening_leads d is_inner if_declared first before name behind end (led d before) (led d behind))
-  part_led d (Asking is_inner wanted first parts end) = part_from d (Asking is_inner wanted first parts end) (asking_leads d is_inner wanted first parts end (led d parts))
-  part_led d (Turning is_inner first parts end) = part_from d (Turning is_inner first parts end) (turning_leads d is_inner first parts end (led d parts))
-  part_led d (Closing is_inner first parts end) = part_from d (Closing is_inner first parts end) (closing_leads d is_inner first parts end (led d parts))
+      part_from d (Opening is_inner if_declared first before name behind end)
+      (opening_leads d is_inner if_declared first before name behind end (led d before) (led d behind))
+  part_led d (Asking is_inner wanted first parts end) =
+      part_from d (Asking is_inner wanted first parts end) (asking_leads d is_inner wanted first parts end (led d parts))
+  part_led d (Turning is_inner first parts end) =
+      part_from d (Turning is_inner first parts end) (turning_leads d is_inner first parts end (led d parts))
+  part_led d (Closing is_inner first parts end) =
+      part_from d (Closing is_inner first parts end) (closing_leads d is_inner first parts end (led d parts))
   part_led d (Passed is_inner w first) = part_from d (Passed is_inner w first) (passed_leads d is_inner w first)
 
   pub led : (d : Answers) (parts : Parts) → Leads d parts
@@ -2463,11 +3055,14 @@ open_of r last c e =
       between = ap (λ (x : Conditions). x.among) e.is ∙ all.between ∙ ap (λ (s : Around). conditionals (outer s.between)) e.stack;
     }
 
-told_all : (files : FileNames) (cs : List Conditional) (around : List Open) (r : Reported) → cs ≡ conditionals (outer around) → with_all_lone files (reverse cs) r ≡ with_all_at files (unended around) r
+told_all : (files : FileNames) (cs : List Conditional) (around : List Open) (r : Reported) → cs ≡ conditionals (outer around) →
+    with_all_lone files (reverse cs) r ≡ with_all_at files (unended around) r
 told_all files cs around r e =
-    told_at files (reverse cs) r ∙ ap (λ xs. with_all_at files (map place_of (reverse xs)) r) e ∙ sym (ap (λ ps. with_all_at files ps r) (unended_is around))
+    told_at files (reverse cs) r ∙ ap (λ xs. with_all_at files (map place_of (reverse xs)) r) e
+    ∙ sym (ap (λ ps. with_all_at files ps r) (unended_is around))
 
-pub told_both : (files : FileNames) (first second : List Place) (r : Reported) → with_all_at files (first ++ second) r ≡ with_all_at files second (with_all_at files first r)
+pub told_both : (files : FileNames) (first second : List Place) (r : Reported) →
+    with_all_at files (first ++ second) r ≡ with_all_at files second (with_all_at files first r)
 told_both files [] second r = refl
 told_both files (p ∷ first) second r = told_both files first second (with_lone files p r)
 
@@ -2483,7 +3078,16 @@ one_side_is_kept d parts c clear file =
     let few = file.few in
     let kept_so = kept_sides d none_around parts in
     let all = led d parts Hands none_around c.declared 0 c.waiting c
-    (record { base = c; stand = AllStay [] [] refl refl; holds = clear.none_pending; waits = refl; is = sym is; stack = refl; few = omega arith })
+    (record {
+      base = c;
+      stand = AllStay [] [] refl refl;
+      holds = clear.none_pending;
+      waits = refl;
+      is = sym is;
+      stack = refl;
+      few = omega
+          arith;
+    })
     file.are_parts (all_taken kept_so) (omega (arith, few)) in
     let l = last_behind d parts none_around c.declared 0 c.waiting in
     let last = l.around in
@@ -2495,7 +3099,8 @@ one_side_is_kept d parts c clear file =
       told = all.tells;
       in_file = λ end files r is_last.
           let now = (judged_at end behind).now in
-          let same = end_stays end behind is_last (ap (λ (x : Conditions). x.pending) ends.is ∙ ends.holds) (ap (λ (x : Conditions). x.sign) ends.is) in
+          let same = end_stays end behind is_last (ap (λ (x : Conditions). x.pending) ends.is ∙ ends.holds)
+          (ap (λ (x : Conditions). x.sign) ends.is) in
           ap (λ r. with_all_lone files (reverse now.among) r) (told_all files now.inner last.inside r (same.1 ∙ open_so.inside))
           ∙ told_all files now.among last.between (with_all_at files (unended last.inside) r) (same.0 ∙ open_so.between)
           ∙ sym (told_both files (unended last.inside) (unended last.between) r);

@@ -31,7 +31,8 @@ use Rattle.inf_unit.proofs.Cases.{of_both}
 
 -- Sides
 
-pub none_is : (inner among : List Conditional) → is_none_open (latest_among inner among) ≡ is_lone word.Endif (second_sides (inner ++ among))
+pub none_is : (inner among : List Conditional) →
+    is_none_open (latest_among inner among) ≡ is_lone word.Endif (second_sides (inner ++ among))
 none_is [] [] = refl
 none_is [] (x ∷ among) = refl
 none_is (x ∷ inner) among = refl
@@ -41,12 +42,14 @@ second_is [] [] = refl
 second_is [] (x ∷ among) = refl
 second_is (x ∷ inner) among = refl
 
-turned_is : (inner among : List Conditional) (c : Conditions) → sides (turned_by inner (record c { among = among; inner = inner })) ≡ sides_behind word.Ifnot (second_sides (inner ++ among))
+turned_is : (inner among : List Conditional) (c : Conditions) →
+    sides (turned_by inner (record c { among = among; inner = inner })) ≡ sides_behind word.Ifnot (second_sides (inner ++ among))
 turned_is [] [] c = refl
 turned_is [] (x ∷ among) c = refl
 turned_is (x ∷ inner) among c = refl
 
-closed_is : (inner among : List Conditional) (c : Conditions) → sides (closed_by inner (record c { among = among; inner = inner })) ≡ sides_behind word.Endif (second_sides (inner ++ among))
+closed_is : (inner among : List Conditional) (c : Conditions) →
+    sides (closed_by inner (record c { among = among; inner = inner })) ≡ sides_behind word.Endif (second_sides (inner ++ among))
 closed_is [] [] c = refl
 closed_is [] (x ∷ among) c = refl
 closed_is (x ∷ inner) among c = refl
@@ -66,7 +69,8 @@ lone_closes : (among : List Bool) → is_lone word.Endif among ≡ true → amon
 lone_closes [] e = refl
 lone_closes (is_second ∷ among) e = cc
 
-opened_sides : (is_kept inner : Bool) (p : Pending) (c : Conditions) → p.is_inner ≡ inner → (inner ≡ false → c.inner ≡ []) → sides (opened is_kept p c) ≡ false ∷ sides c
+opened_sides : (is_kept inner : Bool) (p : Pending) (c : Conditions) → p.is_inner ≡ inner → (inner ≡ false → c.inner ≡ []) →
+    sides (opened is_kept p c) ≡ false ∷ sides c
 opened_sides is_kept true p c e none =
     let new : Conditional = record { place = p.place; is_second = false } in
     ap (λ b. second_sides (cond b (new ∷ c.inner) c.inner ++ cond b c.among (new ∷ c.among))) e
@@ -77,15 +81,18 @@ opened_sides is_kept false p c e none =
     ∙ ap (λ inner. false ∷ second_sides (inner ++ c.among)) (sym (none refl))
 
 -- with all that are opened inside a directive
-changed_inner : (changes : List Change) (c : Conditions) → StandInside true changes → sides (all_changed changes c) ≡ all_sides_behind changes (sides c)
+changed_inner : (changes : List Change) (c : Conditions) → StandInside true changes →
+    sides (all_changed changes c) ≡ all_sides_behind changes (sides c)
 changed_inner [] c inside = refl
 changed_inner (Opens is_kept p ∷ changes) c inside =
-    changed_inner changes (opened is_kept p c) inside.1 ∙ ap (all_sides_behind changes) (opened_sides is_kept true p c inside.0 (λ never. cc))
+    changed_inner changes (opened is_kept p c) inside.1
+    ∙ ap (all_sides_behind changes) (opened_sides is_kept true p c inside.0 (λ never. cc))
 changed_inner (Turns ∷ changes) c inside = changed_inner changes (turned c) inside ∙ ap (all_sides_behind changes) (turned_sides c)
 changed_inner (Closes ∷ changes) c inside = changed_inner changes (closed c) inside ∙ ap (all_sides_behind changes) (closed_sides c)
 
 -- or all between directives
-changed_among : (changes : List Change) (c : Conditions) → c.inner ≡ [] → StandInside false changes → sides (all_changed changes c) ≡ all_sides_behind changes (sides c)
+changed_among : (changes : List Change) (c : Conditions) → c.inner ≡ [] → StandInside false changes →
+    sides (all_changed changes c) ≡ all_sides_behind changes (sides c)
 changed_among [] c none inside = refl
 changed_among (Opens is_kept p ∷ changes) c none inside =
     changed_among changes (opened is_kept p c)
@@ -96,13 +103,15 @@ changed_among (Turns ∷ changes) c none inside =
 changed_among (Closes ∷ changes) c none inside =
     changed_among changes (closed c) (ap (λ i. (closed_by i c).inner) none ∙ none) inside ∙ ap (all_sides_behind changes) (closed_sides c)
 
-changed_so : (inner : Bool) (changes : List Change) (c : Conditions) → c.inner ≡ [] → StandInside inner changes → sides (all_changed changes c) ≡ all_sides_behind changes (sides c)
+changed_so : (inner : Bool) (changes : List Change) (c : Conditions) → c.inner ≡ [] → StandInside inner changes →
+    sides (all_changed changes c) ≡ all_sides_behind changes (sides c)
 changed_so true changes c none inside = changed_inner changes c inside
 changed_so false changes c none inside = changed_among changes c none inside
 
 -- The semicolon of a directive
 
-pub ended_is : (e : Effect) (w : ConditionalWord) (site : Site) (out : Out) (t : SourceToken) (p : Pending) (c : Conditions) (at : IsEndOf w p t c) → awaits_of w ≡ awaits.End e
+pub ended_is : (e : Effect) (w : ConditionalWord) (site : Site) (out : Out) (t : SourceToken) (p : Pending) (c : Conditions)
+    (at : IsEndOf w p t c) → awaits_of w ≡ awaits.End e
     → judged site out t c ≡ effected e site.is_quiet p (record c { pending = at.others })
 ended_is e w site out t p c at waits =
     let quiet = site.is_quiet in
@@ -120,7 +129,8 @@ ifnot_acts site out t p c at =
     let read : Conditions = record c { pending = at.others } in
     let left : LeftOut = record { is_inner = not (is_none_open c.inner); levels = 0 } in
     ap (λ (b : Behind). sides b.now) (ended_is effect.Turns word.Ifnot site out t p c at refl)
-    ∙ of_both (λ (b : Behind). sides b.now ≡ sides_behind word.Ifnot (sides c)) (is_second (latest c)) (unmatched site.is_quiet p.place read)
+    ∙ of_both (λ (b : Behind). sides b.now ≡ sides_behind word.Ifnot (sides c)) (is_second (latest c))
+    (unmatched site.is_quiet p.place read)
     (passed (record (turned read) { left_out = Some left }))
     (λ e. lone_turns (sides c) (sym (second_is c.inner c.among) ∙ e))
     (λ _. turned_sides read)
@@ -129,7 +139,8 @@ pub endif_acts : Acts word.Endif
 endif_acts site out t p c at =
     let read : Conditions = record c { pending = at.others } in
     ap (λ (b : Behind). sides b.now) (ended_is effect.Closes word.Endif site out t p c at refl)
-    ∙ of_both (λ (b : Behind). sides b.now ≡ sides_behind word.Endif (sides c)) (is_none_open (latest c)) (unmatched site.is_quiet p.place read) (passed (closed read))
+    ∙ of_both (λ (b : Behind). sides b.now ≡ sides_behind word.Endif (sides c)) (is_none_open (latest c))
+    (unmatched site.is_quiet p.place read) (passed (closed read))
     (λ e. lone_closes (sides c) (sym (none_is c.inner c.among) ∙ e))
     (λ _. closed_sides read)
 
@@ -144,20 +155,23 @@ sides_follow = record {
 -- A lone directive
 
 -- whose effect is so
-lone_effected : (w : ConditionalWord) (site : Site) (out : Out) (t : SourceToken) (p : Pending) (c : Conditions) (at : IsEndOf w p t c) → is_lone w (sides c) ≡ true → site.is_quiet ≡ false
+lone_effected : (w : ConditionalWord) (site : Site) (out : Out) (t : SourceToken) (p : Pending) (c : Conditions) (at : IsEndOf w p t c) →
+    is_lone w (sides c) ≡ true → site.is_quiet ≡ false
     → judged site out t c ≡ lone_behind at.others p.place c
 lone_effected word.Ifnot site out t p c at has_none told =
     let read : Conditions = record c { pending = at.others } in
     let left : LeftOut = record { is_inner = not (is_none_open c.inner); levels = 0 } in
     ended_is effect.Turns word.Ifnot site out t p c at refl
     ∙ ap (λ quiet. effected effect.Turns quiet p read) told
-    ∙ ap (λ b. let x = cond b (unmatched false p.place read) (passed (record (turned read) { left_out = Some left })) in record { now = x.now; judged = record x.judged { ended = Some p.place } })
+    ∙ ap (λ b. let x = cond b (unmatched false p.place read) (passed (record (turned read) { left_out = Some left })) in
+    record { now = x.now; judged = record x.judged { ended = Some p.place } })
     (second_is c.inner c.among ∙ has_none)
 lone_effected word.Endif site out t p c at has_none told =
     let read : Conditions = record c { pending = at.others } in
     ended_is effect.Closes word.Endif site out t p c at refl
     ∙ ap (λ quiet. effected effect.Closes quiet p read) told
-    ∙ ap (λ b. let x = cond b (unmatched false p.place read) (passed (closed read)) in record { now = x.now; judged = record x.judged { ended = Some p.place } })
+    ∙ ap (λ b. let x = cond b (unmatched false p.place read) (passed (closed read)) in
+    record { now = x.now; judged = record x.judged { ended = Some p.place } })
     (none_is c.inner c.among ∙ has_none)
 lone_effected word.Ifdef site out t p c at has_none told = cc
 lone_effected word.Ifndef site out t p c at has_none told = cc
@@ -166,7 +180,8 @@ lone_effected word.Iffalse site out t p c at has_none told = cc
 
 pub lones_are_judged : LonesAreJudged
 lones_are_judged site out t c place at =
-    lone_effected at.word site out t at.directive c at.ends at.has_none at.is_told ∙ ap (λ place. lone_behind at.ends.others place c) at.begins
+    lone_effected at.word site out t at.directive c at.ends at.has_none at.is_told
+    ∙ ap (λ place. lone_behind at.ends.others place c) at.begins
 
 pub lones_are_told : LonesAreTold
 lones_are_told files site out t c place s at = ap (λ (b : Behind). judged_taken files t b.judged s) (lones_are_judged site out t c place at)
@@ -198,10 +213,12 @@ told_by_quiet false at place e = (refl, ap (λ o. unwrap_or o at) e)
 
 asked_first_lone : (wanted is_inner : Bool) (t : SourceToken) (c : Conditions) → (asked_first wanted t is_inner c).judged.unmatched ≡ None
 asked_first_lone wanted is_inner t c =
-    of_both (λ (b : Behind). b.judged.unmatched ≡ None) (fits grammar known (atom_of t) condition_begun.stack) (passed (asking t.place is_inner wanted (condition_took t condition_begun) c)) (unfit c)
+    of_both (λ (b : Behind). b.judged.unmatched ≡ None) (fits grammar known (atom_of t) condition_begun.stack)
+    (passed (asking t.place is_inner wanted (condition_took t condition_begun) c)) (unfit c)
     (λ _. refl) (λ _. refl)
 
-begun_lone : (w : ConditionalWord) (t : SourceToken) (place : Place) (is_inner : Bool) (c : Conditions) → (begun w t place is_inner c).judged.unmatched ≡ None
+begun_lone : (w : ConditionalWord) (t : SourceToken) (place : Place) (is_inner : Bool) (c : Conditions) →
+    (begun w t place is_inner c).judged.unmatched ≡ None
 begun_lone word.Ifdef t place is_inner c = refl
 begun_lone word.Ifndef t place is_inner c = refl
 begun_lone word.Iftrue t place is_inner c = asked_first_lone true is_inner (record t { place = place }) c
@@ -213,11 +230,13 @@ front_lone : (o : Option ConditionalWord) (t : SourceToken) (c : Conditions) →
 front_lone None t c = refl
 front_lone (Some w) t c = begun_lone w t t.place false c
 
-behind_front_lone : (o : Option ConditionalWord) (t : SourceToken) (p : Pending) (c : Conditions) → (behind_front o t p c).judged.unmatched ≡ None
+behind_front_lone : (o : Option ConditionalWord) (t : SourceToken) (p : Pending) (c : Conditions) →
+    (behind_front o t p c).judged.unmatched ≡ None
 behind_front_lone None t p c = refl
 behind_front_lone (Some w) t p c = begun_lone w t p.place p.is_inner c
 
-named_lone : (k : TokenKind) (bytes : List ℕ) (if_declared : Bool) (out : Out) (p : Pending) (c : Conditions) → (named k bytes if_declared out p c).judged.unmatched ≡ None
+named_lone : (k : TokenKind) (bytes : List ℕ) (if_declared : Bool) (out : Out) (p : Pending) (c : Conditions) →
+    (named k bytes if_declared out p c).judged.unmatched ≡ None
 named_lone kind.Name bytes if_declared out p c = refl
 named_lone (kind.Number n) bytes if_declared out p c = refl
 named_lone kind.Text bytes if_declared out p c = refl
@@ -227,28 +246,34 @@ named_lone (kind.Mark x) bytes if_declared out p c = refl
 named_lone (kind.Bad x) bytes if_declared out p c = refl
 named_lone kind.End bytes if_declared out p c = refl
 
-went_on_lone : (wanted quiet : Bool) (out : Out) (t : SourceToken) (k : Condition) (p : Pending) (c : Conditions) → (went_on wanted quiet out t k p c).judged.unmatched ≡ None
+went_on_lone : (wanted quiet : Bool) (out : Out) (t : SourceToken) (k : Condition) (p : Pending) (c : Conditions) →
+    (went_on wanted quiet out t k p c).judged.unmatched ≡ None
 went_on_lone wanted quiet out t k p c =
     of_both (λ (b : Behind). b.judged.unmatched ≡ None) (is_whole k) (decided (verdict_of c.declared out k) wanted quiet k p c)
     (taken (asking p.place p.is_inner wanted k (saying quiet (too_much c.longest t k) (tokens_counted quiet k c))))
     (λ _. refl) (λ _. refl)
 
-asked_lone : (ks : List Condition) (wanted quiet : Bool) (out : Out) (t : SourceToken) (p : Pending) (c : Conditions) → (asked ks wanted quiet out t p c).judged.unmatched ≡ None
+asked_lone : (ks : List Condition) (wanted quiet : Bool) (out : Out) (t : SourceToken) (p : Pending) (c : Conditions) →
+    (asked ks wanted quiet out t p c).judged.unmatched ≡ None
 asked_lone [] wanted quiet out t p c = refl
 asked_lone (k ∷ ks) wanted quiet out t p c =
     let read : Conditions = record c { conditions = ks } in
-    of_both (λ (b : Behind). b.judged.unmatched ≡ None) (fits grammar known (atom_of t) k.stack) (went_on wanted quiet out t (condition_took t k) p read) (unfit read)
+    of_both (λ (b : Behind). b.judged.unmatched ≡ None) (fits grammar known (atom_of t) k.stack)
+    (went_on wanted quiet out t (condition_took t k) p read) (unfit read)
     (λ _. went_on_lone wanted quiet out t (condition_took t k) p read) (λ _. refl)
 
 -- behind its semicolon
-effected_lone : (e : Effect) (quiet : Bool) (t : SourceToken) (p : Pending) (others : List Pending) (c : Conditions) (place : Place) → c.pending ≡ p ∷ others → p.awaits ≡ awaits.End e
-    → is_mark mark.Hash t.kind ≡ false → is_mark mark.Semicolon t.kind ≡ true → Tells c quiet t place (effected e quiet p (record c { pending = others }))
+effected_lone : (e : Effect) (quiet : Bool) (t : SourceToken) (p : Pending) (others : List Pending) (c : Conditions) (place : Place) →
+    c.pending ≡ p ∷ others → p.awaits ≡ awaits.End e
+    → is_mark mark.Hash t.kind ≡ false → is_mark mark.Semicolon t.kind ≡ true → Tells c quiet t place
+    (effected e quiet p (record c { pending = others }))
 effected_lone (effect.Opens is_kept) quiet t p others c place read waits no_hash last = none_some place
 effected_lone effect.Nothing quiet t p others c place read waits no_hash last = none_some place
 effected_lone effect.Turns quiet t p others c place read waits no_hash last =
     let here : Conditions = record c { pending = others } in
     let left : LeftOut = record { is_inner = not (is_none_open c.inner); levels = 0 } in
-    of_both (Tells c quiet t place) (is_second (latest c)) (unmatched quiet p.place here) (passed (record (turned here) { left_out = Some left }))
+    of_both (Tells c quiet t place) (is_second (latest c)) (unmatched quiet p.place here)
+    (passed (record (turned here) { left_out = Some left }))
     (λ e told.
     let q = told_by_quiet quiet p.place place told in
     record {
@@ -283,23 +308,30 @@ effected_lone effect.Closes quiet t p others c place read waits no_hash last =
     })
     (λ _. none_some place)
 
-awaited_lone : (a : Awaits) (quiet : Bool) (out : Out) (t : SourceToken) (p : Pending) (others : List Pending) (c : Conditions) (place : Place) → c.pending ≡ p ∷ others → p.awaits ≡ a
+awaited_lone : (a : Awaits) (quiet : Bool) (out : Out) (t : SourceToken) (p : Pending) (others : List Pending) (c : Conditions)
+    (place : Place) → c.pending ≡ p ∷ others → p.awaits ≡ a
     → is_mark mark.Hash t.kind ≡ false → Tells c quiet t place (awaited a quiet out t p (record c { pending = others }))
-awaited_lone awaits.Word quiet out t p others c place read waits no_hash = λ told. none_some place (sym (behind_front_lone (word_of t) t p (record c { pending = others })) ∙ told)
-awaited_lone (awaits.Name if_declared) quiet out t p others c place read waits no_hash = λ told. none_some place (sym (named_lone t.kind t.bytes if_declared out p (record c { pending = others })) ∙ told)
-awaited_lone (awaits.Condition wanted) quiet out t p others c place read waits no_hash = λ told. none_some place (sym (asked_lone c.conditions wanted quiet out t p (record c { pending = others })) ∙ told)
+awaited_lone awaits.Word quiet out t p others c place read waits no_hash =
+    λ told. none_some place (sym (behind_front_lone (word_of t) t p (record c { pending = others })) ∙ told)
+awaited_lone (awaits.Name if_declared) quiet out t p others c place read waits no_hash =
+    λ told. none_some place (sym (named_lone t.kind t.bytes if_declared out p (record c { pending = others })) ∙ told)
+awaited_lone (awaits.Condition wanted) quiet out t p others c place read waits no_hash =
+    λ told. none_some place (sym (asked_lone c.conditions wanted quiet out t p (record c { pending = others })) ∙ told)
 awaited_lone (awaits.End e) quiet out t p others c place read waits no_hash =
     let here : Conditions = record c { pending = others } in
     of_both (Tells c quiet t place) (is_mark mark.Semicolon t.kind) (effected e quiet p here) (unfit here)
     (λ last. effected_lone e quiet t p others c place read waits no_hash last) (λ _. none_some place)
 
-offered_to_lone : (ps : List Pending) (front quiet : Bool) (out : Out) (t : SourceToken) (c : Conditions) (place : Place) → c.pending ≡ ps → is_mark mark.Hash t.kind ≡ false
+offered_to_lone : (ps : List Pending) (front quiet : Bool) (out : Out) (t : SourceToken) (c : Conditions) (place : Place) → c.pending ≡ ps →
+    is_mark mark.Hash t.kind ≡ false
     → Tells c quiet t place (offered_to ps front quiet out t c)
 offered_to_lone [] front quiet out t c place read no_hash =
-    of_both (Tells c quiet t place) front (at_front (word_of t) t c) (kept c) (λ _ told. none_some place (sym (front_lone (word_of t) t c) ∙ told)) (λ _. none_some place)
+    of_both (Tells c quiet t place) front (at_front (word_of t) t c) (kept c)
+    (λ _ told. none_some place (sym (front_lone (word_of t) t c) ∙ told)) (λ _. none_some place)
 offered_to_lone (p ∷ ps) front quiet out t c place read no_hash = awaited_lone p.awaits quiet out t p ps c place read refl no_hash
 
-offered_lone : (front quiet : Bool) (out : Out) (t : SourceToken) (c : Conditions) (place : Place) → Tells c quiet t place (offered front quiet out t c)
+offered_lone : (front quiet : Bool) (out : Out) (t : SourceToken) (c : Conditions) (place : Place) →
+    Tells c quiet t place (offered front quiet out t c)
 offered_lone front quiet out t c place =
     of_both (Tells c quiet t place) (is_mark mark.Hash t.kind) (passed (held front t.place c)) (offered_to c.pending front quiet out t c)
     (λ _. none_some place) (λ no_hash. offered_to_lone c.pending front quiet out t c place refl no_hash)
@@ -315,7 +347,8 @@ no_end (kind.Bad x) last end = cc
 no_end kind.End last end = cc
 
 -- behind a `#` that was held back nothing is being read any more
-sign_lone : (o : Option ConditionalWord) (at : Place) (quiet : Bool) (out : Out) (t : SourceToken) (c : Conditions) (place : Place) → (behind_sign o at quiet out t c).judged.unmatched ≡ Some place → ⊥
+sign_lone : (o : Option ConditionalWord) (at : Place) (quiet : Bool) (out : Out) (t : SourceToken) (c : Conditions) (place : Place) →
+    (behind_sign o at quiet out t c).judged.unmatched ≡ Some place → ⊥
 sign_lone None at quiet out t c place told =
     let found = offered_lone false quiet out t (given_up (record c { sign = None })) place told in
     let never : [] ≡ found.directive ∷ found.others = found.is_read in cc
@@ -324,22 +357,35 @@ sign_lone (Some w) at quiet out t c place told = none_some place (sym (begun_lon
 pub only_lones_are : OnlyLonesAre
 only_lones_are site out t c place = by_left c.left_out refl
   where
-    by_sign : (o : Option Place) → c.sign ≡ o → c.left_out ≡ None → (judged_by None o site out t c).judged.unmatched ≡ Some place → IsLone site t c place
+    by_sign : (o : Option Place) → c.sign ≡ o → c.left_out ≡ None → (judged_by None o site out t c).judged.unmatched ≡ Some place →
+        IsLone site t c place
     by_sign (Some at) e left told = absurd (sign_lone (word_of t) at site.is_quiet out t c place told)
     by_sign None e left told =
         let found = offered_lone (site.is_between && is_none_pending c.pending) site.is_quiet out t c place told in
         record {
           word = found.word;
           directive = found.directive;
-          ends = record { all_kept = left; no_sign = e; others = found.others; is_read = found.is_read; waits = found.waits; no_hash = found.no_hash; is_last = found.is_last };
+          ends = record {
+            all_kept = left;
+            no_sign = e;
+            others = found.others;
+            is_read = found.is_read;
+            waits = found.waits;
+            no_hash =
+                found.no_hash;
+            is_last = found.is_last;
+          };
           has_none = found.has_none;
           is_told = found.is_told;
           begins = found.begins;
         }
 
-    by_left : (o : Option LeftOut) → c.left_out ≡ o → (judged_by o c.sign site out t c).judged.unmatched ≡ Some place → IsLone site t c place
+    by_left : (o : Option LeftOut) → c.left_out ≡ o → (judged_by o c.sign site out t c).judged.unmatched ≡ Some place →
+        IsLone site t c place
     by_left (Some side) e =
-        of_both (λ (b : Behind). b.judged.unmatched ≡ Some place → IsLone site t c place) (is_end t.kind) (offered false site.is_quiet out t (record c { left_out = None; sign = None })) (passed (passed_by (word_of t) t side c))
-        (λ end told. absurd (no_end t.kind (offered_lone false site.is_quiet out t (record c { left_out = None; sign = None }) place told).is_last end))
+        of_both (λ (b : Behind). b.judged.unmatched ≡ Some place → IsLone site t c place) (is_end t.kind)
+        (offered false site.is_quiet out t (record c { left_out = None; sign = None })) (passed (passed_by (word_of t) t side c))
+        (λ end told. absurd (no_end t.kind (offered_lone false site.is_quiet out t (record c { left_out = None; sign = None }) place
+        told).is_last end))
         (λ _. none_some place)
     by_left None e = by_sign c.sign refl e

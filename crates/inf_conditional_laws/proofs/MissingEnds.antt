@@ -52,7 +52,8 @@ one_more : (n : ℕ) (places : List Place) → drop n (drop 1 places) ≡ drop (
 one_more n [] = dropped n [] refl
 one_more n (p ∷ places) = refl
 
-left_behind : (changes : List Change) (places : List Place) → pushed changes places ≡ reverse (never_closed changes) ++ drop (taken changes) places
+left_behind : (changes : List Change) (places : List Place) →
+    pushed changes places ≡ reverse (never_closed changes) ++ drop (taken changes) places
 left_behind [] places = refl
 left_behind (Opens is_kept p ∷ changes) places = left_behind changes (p.place ∷ places) ∙ go (taken changes) (closed_is 0 changes)
   where
@@ -72,7 +73,8 @@ left_behind (Closes ∷ changes) places =
 
 in_order : (changes : List Change) → reverse (pushed changes []) ≡ never_closed changes
 in_order changes =
-    ap reverse (left_behind changes [] ∙ ap (λ ps. reverse (never_closed changes) ++ ps) (dropped (taken changes) [] refl) ∙ append-nil (reverse (never_closed changes)))
+    ap reverse (left_behind changes [] ∙ ap (λ ps. reverse (never_closed changes) ++ ps) (dropped (taken changes) [] refl) ∙ append-nil
+    (reverse (never_closed changes)))
     ∙ reverse-reverse (never_closed changes)
 
 -- Conditionals by their places
@@ -100,7 +102,8 @@ pub told_at : (files : FileNames) (cs : List Conditional) (r : Reported) → wit
 told_at files [] r = refl
 told_at files (c ∷ cs) r = told_at files cs (with_lone files c.place r)
 
-told_reversed : (files : FileNames) (cs : List Conditional) (changes : List Change) (r : Reported) → map place_of cs ≡ pushed changes [] → with_all_lone files (reverse cs) r ≡ with_all_at files (never_closed changes) r
+told_reversed : (files : FileNames) (cs : List Conditional) (changes : List Change) (r : Reported) → map place_of cs ≡ pushed changes [] →
+    with_all_lone files (reverse cs) r ≡ with_all_at files (never_closed changes) r
 told_reversed files cs changes r e =
     told_at files (reverse cs) r ∙ ap (λ ps. with_all_at files ps r) (reversed_places cs ∙ ap reverse e ∙ in_order changes)
 
@@ -110,7 +113,8 @@ record Among (changes : List Change) (c : Conditions) (places : List Place) : Ty
   among : map place_of (all_changed changes c).among ≡ pushed changes places
   inner : (all_changed changes c).inner ≡ []
 
-among_is : (changes : List Change) (c : Conditions) (places : List Place) → map place_of c.among ≡ places → c.inner ≡ [] → StandInside false changes → Among changes c places
+among_is : (changes : List Change) (c : Conditions) (places : List Place) → map place_of c.among ≡ places → c.inner ≡ [] →
+    StandInside false changes → Among changes c places
 among_is [] c places e none inside = record { among = e; inner = none }
 among_is (Opens is_kept p ∷ changes) c places e none inside =
     let new : Conditional = record { place = p.place; is_second = false } in
@@ -124,16 +128,19 @@ among_is (Turns ∷ changes) c places e none inside =
     record { among = rest.among; inner = rest.inner }
 among_is (Closes ∷ changes) c places e none inside =
     let rest = among_is changes (closed c) (drop 1 places)
-    (ap (λ i. map place_of (closed_by i c).among) none ∙ dropped_places c.among ∙ ap (drop 1) e) (ap (λ i. (closed_by i c).inner) none ∙ none) inside in
+    (ap (λ i. map place_of (closed_by i c).among) none ∙ dropped_places c.among ∙ ap (drop 1) e)
+    (ap (λ i. (closed_by i c).inner) none ∙ none) inside in
     record { among = rest.among; inner = rest.inner }
 
 -- Inside a directive
 
-inner_is : (changes : List Change) (c : Conditions) (places : List Place) → map place_of c.inner ≡ places → StandInside true changes → map place_of (all_changed changes c).inner ≡ pushed changes places
+inner_is : (changes : List Change) (c : Conditions) (places : List Place) → map place_of c.inner ≡ places → StandInside true changes →
+    map place_of (all_changed changes c).inner ≡ pushed changes places
 inner_is [] c places e inside = e
 inner_is (Opens is_kept p ∷ changes) c places e inside =
     let new : Conditional = record { place = p.place; is_second = false } in
-    inner_is changes (opened is_kept p c) (p.place ∷ places) (ap (λ b. map place_of (cond b (new ∷ c.inner) c.inner)) inside.0 ∙ ap (λ ps. p.place ∷ ps) e) inside.1
+    inner_is changes (opened is_kept p c) (p.place ∷ places)
+    (ap (λ b. map place_of (cond b (new ∷ c.inner) c.inner)) inside.0 ∙ ap (λ ps. p.place ∷ ps) e) inside.1
 inner_is (Turns ∷ changes) c places e inside = inner_is changes (turned c) places (go c.inner refl ∙ e) inside
   where
     go : (i : List Conditional) → c.inner ≡ i → map place_of (turned_by i c).inner ≡ map place_of c.inner

@@ -31,30 +31,36 @@ use Rattle.inf_conditional_laws.proofs.Sides.{inside, one_more, sign_behind, tok
 
 -- The conditionals behind a turn
 
-answered_conditions : (a : Request) (sources : Sources) (o : Choices) (s : State) → is_inclusion a ≡ false → (answered a sources o s).conditions ≡ s.conditions
+answered_conditions : (a : Request) (sources : Sources) (o : Choices) (s : State) → is_inclusion a ≡ false →
+    (answered a sources o s).conditions ≡ s.conditions
 answered_conditions (Include text unit) sources o s none = cc
 answered_conditions End sources o s none = refl
 answered_conditions Nothing sources o s none = refl
 
-carried_out_conditions : (sources : Sources) (o : Choices) (s : State) → is_mode_ended s.reading.mode ≡ false → is_inclusion s.work.asked ≡ false → (carried_out sources o s).conditions ≡ s.conditions
+carried_out_conditions : (sources : Sources) (o : Choices) (s : State) → is_mode_ended s.reading.mode ≡ false →
+    is_inclusion s.work.asked ≡ false → (carried_out sources o s).conditions ≡ s.conditions
 carried_out_conditions sources o s going none =
     of_both (λ (x : State). x.conditions ≡ s.conditions) s.work.report.counts.is_over s
     (cond (is_mode_ended s.reading.mode) (left s) (answered s.work.asked sources o (asked_nothing s)))
     (λ _. refl)
-    (λ _. ap (λ b. (cond b (left s) (answered s.work.asked sources o (asked_nothing s))).conditions) going ∙ answered_conditions s.work.asked sources o (asked_nothing s) none)
+    (λ _. ap (λ b. (cond b (left s) (answered s.work.asked sources o (asked_nothing s))).conditions) going ∙ answered_conditions
+    s.work.asked sources o (asked_nothing s) none)
 
 pub rested_conditions : (s : State) → (rested s).conditions ≡ ended_behind (ends_there s) s.conditions
 rested_conditions s = go (has_ended s) (is_resting s)
   where
-    go : (b r : Bool) → (cond b s (cond r (piece_closed s) s)).conditions ≡ ended_behind (cond b None (cond r (Some s.work.output.names.declared) None)) s.conditions
+    go : (b r : Bool) → (cond b s (cond r (piece_closed s) s)).conditions ≡ ended_behind
+        (cond b None (cond r (Some s.work.output.names.declared) None)) s.conditions
     go true r = refl
     go false true = refl
     go false false = refl
 
-turn_conditions : (sources : Sources) (o : Choices) (s : State) → is_mode_ended (stepped s).reading.mode ≡ false → is_inclusion (stepped s).work.asked ≡ false
+turn_conditions : (sources : Sources) (o : Choices) (s : State) → is_mode_ended (stepped s).reading.mode ≡ false →
+    is_inclusion (stepped s).work.asked ≡ false
     → (turn sources o s).conditions ≡ going_on (at_turn sources o s) s.conditions
 turn_conditions sources o s going none =
-    rested_conditions (carried_out sources o (stepped s)) ∙ ap (ended_behind (ends_there (carried_out sources o (stepped s)))) (carried_out_conditions sources o (stepped s) going none)
+    rested_conditions (carried_out sources o (stepped s))
+    ∙ ap (ended_behind (ends_there (carried_out sources o (stepped s)))) (carried_out_conditions sources o (stepped s) going none)
 
 -- What it hands on
 
@@ -86,8 +92,10 @@ turns_hand_on sources o (suc n) s stay =
     let b = judged (site_of s.reading) s.work.output t s.conditions in
     let tokens = at_turns sources o n next in
     map-append shown (given_by s) (given_in sources o n next)
-    ∙ ap (λ hs. hs ++ map shown (given_in sources o n next)) (all_shown s.nesting.names b.judged t (said_told b.now.said s.nesting.names (stand_of s)))
-    ∙ ap (λ hs. handed_on b.judged t ++ hs) (turns_hand_on sources o n next stay.1.1 ∙ ap (all_handed_on tokens) (turn_conditions sources o s stay.0 stay.1.0))
+    ∙ ap (λ hs. hs ++ map shown (given_in sources o n next))
+    (all_shown s.nesting.names b.judged t (said_told b.now.said s.nesting.names (stand_of s)))
+    ∙ ap (λ hs. handed_on b.judged t ++ hs) (turns_hand_on sources o n next stay.1.1 ∙ ap (all_handed_on tokens)
+    (turn_conditions sources o s stay.0 stay.1.0))
 
 pub turns_keep_sides : TurnsKeepSides
 turns_keep_sides d sources o n s parts stay are_these clear file =
@@ -95,7 +103,8 @@ turns_keep_sides d sources o n s parts stay are_these clear file =
     ∙ ap (λ tokens. all_handed_on tokens s.conditions) are_these
     ∙ (one_side_is_kept d parts s.conditions clear file).handed_on
 
-turned_conditions : (sources : Sources) (o : Choices) (n : ℕ) (s : State) → StayInOne sources o n s → (turned sources o n s).conditions ≡ all_behind (at_turns sources o n s) s.conditions
+turned_conditions : (sources : Sources) (o : Choices) (n : ℕ) (s : State) → StayInOne sources o n s →
+    (turned sources o n s).conditions ≡ all_behind (at_turns sources o n s) s.conditions
 turned_conditions sources o zero s stay = refl
 turned_conditions sources o (suc n) s stay =
     let next = turn sources o s in
@@ -121,15 +130,18 @@ record Still (sources : Sources) (o : Choices) (s : State) (side : LeftOut) : Ty
   none_given : given_by s ≡ []
   reading : (turn sources o s).reading ≡ s.reading
   asked : (turn sources o s).work.asked ≡ Nothing
-  left_out : (turn sources o s).conditions.left_out ≡ Some (record side { levels = level_behind (word_of (token_of s.nesting.cursor)) side.levels })
+  left_out : (turn sources o s).conditions.left_out ≡ Some
+      (record side { levels = level_behind (word_of (token_of s.nesting.cursor)) side.levels })
   second : is_second (latest (turn sources o s).conditions) ≡ is_second (latest s.conditions)
 
-carried_out_asked : (sources : Sources) (o : Choices) (s : State) → is_mode_ended s.reading.mode ≡ false → s.work.asked ≡ Nothing → (carried_out sources o s).work.asked ≡ Nothing
+carried_out_asked : (sources : Sources) (o : Choices) (s : State) → is_mode_ended s.reading.mode ≡ false → s.work.asked ≡ Nothing →
+    (carried_out sources o s).work.asked ≡ Nothing
 carried_out_asked sources o s going none =
     of_both (λ (x : State). x.work.asked ≡ Nothing) s.work.report.counts.is_over s
     (cond (is_mode_ended s.reading.mode) (left s) (answered s.work.asked sources o (asked_nothing s)))
     (λ _. none)
-    (λ _. ap (λ b. (cond b (left s) (answered s.work.asked sources o (asked_nothing s))).work.asked) going ∙ ap (λ a. (answered a sources o (asked_nothing s)).work.asked) none)
+    (λ _. ap (λ b. (cond b (left s) (answered s.work.asked sources o (asked_nothing s))).work.asked) going ∙ ap
+    (λ a. (answered a sources o (asked_nothing s)).work.asked) none)
 
 rested_asked : (s : State) → (rested s).work.asked ≡ s.work.asked
 rested_asked s = go (has_ended s) (is_resting s)
@@ -140,14 +152,17 @@ rested_asked s = go (has_ended s) (is_resting s)
     go false false = refl
 
 none_ends : (s : State) → is_resting s ≡ false → ends_there s ≡ None
-none_ends s not_resting = ap (λ r. cond (has_ended s) None (cond r (Some s.work.output.names.declared) None)) not_resting ∙ go None (has_ended s)
+none_ends s not_resting =
+    ap (λ r. cond (has_ended s) None (cond r (Some s.work.output.names.declared) None)) not_resting ∙ go None (has_ended s)
   where
     go : (e : Option ℕ) (b : Bool) → cond b e e ≡ e
     go e true = refl
     go e false = refl
 
-still : (sources : Sources) (o : Choices) (s : State) (side : LeftOut) → s.conditions.left_out ≡ Some side → (site_of s.reading).is_between ≡ false → is_mode_ended s.reading.mode ≡ false
-    → s.work.asked ≡ Nothing → side.levels + 1 ≤ most_levels → StayIn (is_second (latest s.conditions)) side.levels (as_event (at_turn sources o s) ∷ []) → Still sources o s side
+still : (sources : Sources) (o : Choices) (s : State) (side : LeftOut) → s.conditions.left_out ≡ Some side →
+    (site_of s.reading).is_between ≡ false → is_mode_ended s.reading.mode ≡ false
+    → s.work.asked ≡ Nothing → side.levels + 1 ≤ most_levels → StayIn (is_second (latest s.conditions)) side.levels
+    (as_event (at_turn sources o s) ∷ []) → Still sources o s side
 still sources o s side left_out inner going none few stay =
     let c = s.conditions in
     let t = token_of s.nesting.cursor in
@@ -166,9 +181,12 @@ still sources o s side left_out inner going none few stay =
     let goes_on : is_mode_ended (stepped s).reading.mode ≡ false = ap (λ (r : Reading). is_mode_ended r.mode) read ∙ going in
     let h = carried_out sources o (stepped s) in
     let h_read : h.reading ≡ s.reading = carried_out_reading sources o (stepped s) goes_on ∙ read in
-    let not_resting : is_resting h ≡ false = ap (λ (r : Reading). (site_of r).is_between && is_none_pending h.conditions.pending) h_read ∙ ap (λ x. x && is_none_pending h.conditions.pending) inner in
+    let not_resting : is_resting h ≡ false =
+    ap (λ (r : Reading). (site_of r).is_between && is_none_pending h.conditions.pending) h_read
+    ∙ ap (λ x. x && is_none_pending h.conditions.pending) inner in
     let conditions : (turn sources o s).conditions ≡ silent now =
-    turn_conditions sources o s goes_on (ap is_inclusion asked_so) ∙ ap (λ e. ended_behind e (silent b.now)) (none_ends h not_resting) ∙ ap silent now_so in
+    turn_conditions sources o s goes_on (ap is_inclusion asked_so) ∙ ap (λ e. ended_behind e (silent b.now)) (none_ends h not_resting)
+    ∙ ap silent now_so in
     record {
       none_given = ap (λ j. given_of files j t stand) judged_so;
       reading = turn_reading sources o s goes_on ∙ read;
@@ -184,8 +202,10 @@ turns_cut_inner_sides sources o (suc n) s side left_out inner going none few sta
     let level = level_behind (word_of (token_of s.nesting.cursor)) side.levels in
     let one = still sources o s side left_out inner going none (omega (arith, few)) (stay.0, (stay.1.0, tt)) in
     let all =
-    turns_cut_inner_sides sources o n next (record side { levels = level }) one.left_out (ap (λ (r : Reading). (site_of r).is_between) one.reading ∙ inner)
-    (ap (λ (r : Reading). is_mode_ended r.mode) one.reading ∙ going) one.asked (omega (arith, few, one_more (word_of (token_of s.nesting.cursor)) side.levels))
+    turns_cut_inner_sides sources o n next (record side { levels = level }) one.left_out
+    (ap (λ (r : Reading). (site_of r).is_between) one.reading ∙ inner)
+    (ap (λ (r : Reading). is_mode_ended r.mode) one.reading ∙ going) one.asked
+    (omega (arith, few, one_more (word_of (token_of s.nesting.cursor)) side.levels))
     (subst (λ b. StayIn b level (map as_event (at_turns sources o n next))) (sym one.second) stay.1.1) in
     record {
       none_given = ap (λ gs. gs ++ given_in sources o n next) one.none_given ∙ all.none_given;

@@ -35,7 +35,8 @@ last_is word.Ifndef second = refl
 last_is word.Iftrue second = refl
 last_is word.Iffalse second = refl
 
-pub ends_as : (w : ConditionalWord) (level : ℕ) (second b : Bool) → ends_side second level (Some w) ≡ b → ((level == 0) && ends_at w second) ≡ b
+pub ends_as : (w : ConditionalWord) (level : ℕ) (second b : Bool) → ends_side second level (Some w) ≡ b →
+    ((level == 0) && ends_at w second) ≡ b
 ends_as w level second b e = ap (λ (last : Bool). (level == 0) && last) (last_is w second) ∙ e
 
 -- levels are counted so
@@ -67,22 +68,28 @@ abbrev pub sign_behind : Option ConditionalWord → SourceToken → Option Place
 sign_behind None t = cond (is_mark mark.Hash t.kind) (Some t.place) None
 sign_behind (Some w) t = None
 
-passed_is : (o : Option ConditionalWord) (t : SourceToken) (c : Conditions) (side : LeftOut) (level : ℕ) (sign : Option Place) (declared : ℕ)
+passed_is : (o : Option ConditionalWord) (t : SourceToken) (c : Conditions) (side : LeftOut) (level : ℕ) (sign : Option Place)
+    (declared : ℕ)
     → ends_side (is_second (latest c)) level o ≡ false → level + 1 ≤ most_levels
-    → passed_by o t (record side { levels = level }) (inside c side level sign declared) ≡ inside c side (level_behind o level) (sign_behind o t) declared
+    → passed_by o t (record side { levels = level }) (inside c side level sign declared) ≡ inside c side (level_behind o level)
+    (sign_behind o t) declared
 passed_is None t c side level sign declared e few = refl
 passed_is (Some w) t c side level sign declared e few =
     let here = inside c side level sign declared in
-    ap (λ (b : Bool). cond b (awaiting (unwrap_or sign t.place) false (awaits.End effect.Nothing) (record (ended_by w here) { left_out = None; sign = None }))
+    ap (λ (b : Bool). cond b (awaiting (unwrap_or sign t.place) false (awaits.End effect.Nothing)
+    (record (ended_by w here) { left_out = None; sign = None }))
     (inside c side (levels_behind w level) None declared)) (ends_as w level (is_second (latest c)) false e)
     ∙ ap (λ (n : ℕ). inside c side n None declared) (level_is w level few)
 
-pub token_is : (site : Site) (out : Out) (t : SourceToken) (c : Conditions) (side : LeftOut) (level : ℕ) (sign : Option Place) (declared : ℕ)
+pub token_is : (site : Site) (out : Out) (t : SourceToken) (c : Conditions) (side : LeftOut) (level : ℕ) (sign : Option Place)
+    (declared : ℕ)
     → is_end t.kind ≡ false → ends_side (is_second (latest c)) level (word_of t) ≡ false → level + 1 ≤ most_levels
-    → judged site out t (inside c side level sign declared) ≡ passed (inside c side (level_behind (word_of t) level) (sign_behind (word_of t) t) declared)
+    → judged site out t (inside c side level sign declared) ≡ passed
+    (inside c side (level_behind (word_of t) level) (sign_behind (word_of t) t) declared)
 token_is site out t c side level sign declared going e few =
     let here = inside c side level sign declared in
-    ap (λ (b : Bool). cond b (offered false site.is_quiet out t (record here { left_out = None; sign = None })) (passed (passed_by (word_of t) t (record side { levels = level }) here))) going
+    ap (λ (b : Bool). cond b (offered false site.is_quiet out t (record here { left_out = None; sign = None }))
+    (passed (passed_by (word_of t) t (record side { levels = level }) here))) going
     ∙ ap passed (passed_is (word_of t) t c side level sign declared e few)
 
 piece_is : (c : Conditions) (side : LeftOut) (level : ℕ) (sign : Option Place) (declared now : ℕ) → side.is_inner ≡ false → c.inner ≡ []
@@ -99,7 +106,8 @@ record Cut (events : List Event) (c : Conditions) (side : LeftOut) (level : ℕ)
   declared_now : ℕ
   leads : behind_all events (inside c side level sign declared) ≡ inside c side (level_after events level) sign_now declared_now
 
-cut_from : (events : List Event) (c : Conditions) (side : LeftOut) (level : ℕ) (sign : Option Place) (declared : ℕ) → side.is_inner ≡ false → c.inner ≡ []
+cut_from : (events : List Event) (c : Conditions) (side : LeftOut) (level : ℕ) (sign : Option Place) (declared : ℕ) →
+    side.is_inner ≡ false → c.inner ≡ []
     → level + length events ≤ most_levels → StayIn (is_second (latest c)) level events → Cut events c side level sign declared
 cut_from [] c side level sign declared outer empty few stay = record { all = tt; sign_now = sign; declared_now = declared; leads = refl }
 cut_from (Token site out t ∷ events) c side level sign declared outer empty few stay =
@@ -107,7 +115,8 @@ cut_from (Token site out t ∷ events) c side level sign declared outer empty fe
     let here = inside c side level sign declared in
     let next = inside c side (level_behind o level) (sign_behind o t) declared in
     let one = token_is site out t c side level sign declared stay.0 stay.1.0 (omega (arith, few)) in
-    let rest = cut_from events c side (level_behind o level) (sign_behind o t) declared outer empty (omega (arith, few, one_more o level)) stay.1.1 in
+    let rest =
+    cut_from events c side (level_behind o level) (sign_behind o t) declared outer empty (omega (arith, few, one_more o level)) stay.1.1 in
     let moved : behind (Token site out t) here ≡ next = ap (λ (b : Behind). b.now) one in
     record {
       all = (ap (λ (b : Behind). b.judged) one, subst (λ (x : Conditions). AllCut events x) (sym moved) rest.all);
@@ -142,17 +151,21 @@ sides_are_cut events c side left_out at few stay =
 
 -- The token that ends it
 
-ending : (o : Option ConditionalWord) (t : SourceToken) (c : Conditions) (side : LeftOut) → ends_side (is_second (latest c)) side.levels o ≡ true → (passed_by o t side c).left_out ≡ None
+ending : (o : Option ConditionalWord) (t : SourceToken) (c : Conditions) (side : LeftOut) →
+    ends_side (is_second (latest c)) side.levels o ≡ true → (passed_by o t side c).left_out ≡ None
 ending None t c side e = cc
 ending (Some w) t c side e =
-    ap (λ (b : Bool). (cond b (awaiting (unwrap_or c.sign t.place) false (awaits.End effect.Nothing) (record (ended_by w c) { left_out = None; sign = None }))
-    (record c { left_out = Some (record side { levels = levels_behind w side.levels }); sign = None })).left_out) (ends_as w side.levels (is_second (latest c)) true e)
+    ap (λ (b : Bool). (cond b (awaiting (unwrap_or c.sign t.place) false (awaits.End effect.Nothing)
+    (record (ended_by w c) { left_out = None; sign = None }))
+    (record c { left_out = Some (record side { levels = levels_behind w side.levels }); sign = None })).left_out)
+    (ends_as w side.levels (is_second (latest c)) true e)
 
 pub sides_end : SidesEnd
 sides_end site out t c side left_out going e =
     let is : judged site out t c ≡ passed (passed_by (word_of t) t side c) =
     ap (λ (o : Option LeftOut). judged_by o c.sign site out t c) left_out
-    ∙ ap (λ (b : Bool). cond b (offered false site.is_quiet out t (record c { left_out = None; sign = None })) (passed (passed_by (word_of t) t side c))) going in
+    ∙ ap (λ (b : Bool). cond b (offered false site.is_quiet out t (record c { left_out = None; sign = None }))
+    (passed (passed_by (word_of t) t side c))) going in
     record {
       is_cut = ap (λ (b : Behind). b.judged) is;
       kept_on = ap (λ (b : Behind). b.now.left_out) is ∙ ending (word_of t) t c side e;
@@ -165,17 +178,20 @@ abbrev clear : Conditions → Conditions
 clear c = record c { left_out = None; sign = None; pending = [] }
 
 -- the word of a directive with a name
-word_step : (flag : Bool) (site : Site) (out : Out) (w : SourceToken) (o : ConditionalWord) (c : Conditions) → site.is_between ≡ true → w.kind ≡ kind.Name → word_of w ≡ Some o
+word_step : (flag : Bool) (site : Site) (out : Out) (w : SourceToken) (o : ConditionalWord) (c : Conditions) → site.is_between ≡ true →
+    w.kind ≡ kind.Name → word_of w ≡ Some o
     → awaits_of o ≡ awaits.Name flag → judged site out w (clear c) ≡ passed (awaiting w.place false (awaits.Name flag) (clear c))
 word_step flag site out w o c between is_name is awaits =
     let here = clear c in
-    ap (λ (k : TokenKind). cond (is_mark mark.Hash k) (passed (held (site.is_between && true) w.place here)) (cond (site.is_between && true) (at_front (word_of w) w here) (kept here))) is_name
+    ap (λ (k : TokenKind). cond (is_mark mark.Hash k) (passed (held (site.is_between && true) w.place here))
+    (cond (site.is_between && true) (at_front (word_of w) w here) (kept here))) is_name
     ∙ ap (λ (b : Bool). cond (b && true) (at_front (word_of w) w here) (kept here)) between
     ∙ ap (λ (x : Option ConditionalWord). at_front x w here) is
     ∙ ap (λ (a : Awaits). begun_by a w false here) awaits
 
 -- its semicolon
-end_step : (k : Bool) (site : Site) (out : Out) (t : SourceToken) (p : Pending) (c : Conditions) → is_mark mark.Hash t.kind ≡ false → is_mark mark.Semicolon t.kind ≡ true
+end_step : (k : Bool) (site : Site) (out : Out) (t : SourceToken) (p : Pending) (c : Conditions) → is_mark mark.Hash t.kind ≡ false →
+    is_mark mark.Semicolon t.kind ≡ true
     → judged site out t (record (clear c) { pending = record p { awaits = awaits.End (effect.Opens k) } ∷ [] })
     ≡ effected (effect.Opens k) site.is_quiet (record p { awaits = awaits.End (effect.Opens k) }) (clear c)
 end_step k site out t p c no_hash is =
@@ -192,11 +208,14 @@ first_side flag o waits first second third out w end name place c at is_name is 
     ∙ ap (λ s. record c { sign = s; pending = [] }) (sym at.no_sign)
     ∙ ap (λ ps. record c { pending = ps }) (sym at.none_pending) in
     let kept_so = is_kept flag out c.declared name in
-    let word_now : behind (Token first out w) here ≡ awaiting w.place false (awaits.Name flag) here = ap (λ (b : Behind). b.now) (word_step flag first out w o c at.between is_name is waits) in
+    let word_now : behind (Token first out w) here ≡ awaiting w.place false (awaits.Name flag) here =
+    ap (λ (b : Behind). b.now) (word_step flag first out w o c at.between is_name is waits) in
     let p : Pending = record { place = w.place; is_inner = false; awaits = awaits.End (effect.Opens kept_so) } in
-    let ended : behind (Token third out end) (record here { pending = p ∷ [] }) ≡ (effected (effect.Opens kept_so) third.is_quiet p here).now =
+    let ended : behind (Token third out end) (record here { pending = p ∷ [] }) ≡
+    (effected (effect.Opens kept_so) third.is_quiet p here).now =
     ap (λ (b : Behind). b.now) (end_step kept_so third out end p c no_hash semicolon) in
-    let all : behind_all (directive first second third out w name place end) c ≡ (effected (effect.Opens kept_so) third.is_quiet p here).now =
+    let all : behind_all (directive first second third out w name place end) c ≡
+    (effected (effect.Opens kept_so) third.is_quiet p here).now =
     ap (behind_all (directive first second third out w name place end)) (sym cleared)
     ∙ ap (behind_all (Token second out (record { kind = kind.Name; bytes = name; place = place }) ∷ Token third out end ∷ [])) word_now
     ∙ ended in
@@ -222,4 +241,5 @@ values_decide site out t wanted p k c at =
     ∙ ap (λ ks. (asked ks wanted quiet out t p read).now.left_out) at.is_condition
     ∙ ap (λ b. (cond b (went_on wanted quiet out t whole p here) (unfit here)).now.left_out) at.goes_on
     ∙ ap (λ b. (cond b (decided (verdict_of here.declared out whole) wanted quiet whole p here)
-    (taken (asking p.place p.is_inner wanted whole (saying quiet (too_much here.longest t whole) (tokens_counted quiet whole here))))).now.left_out) at.is_last
+    (taken (asking p.place p.is_inner wanted whole
+    (saying quiet (too_much here.longest t whole) (tokens_counted quiet whole here))))).now.left_out) at.is_last

@@ -1,4 +1,5 @@
--- Which side of a conditional is left out that stands inside a directive, where a word of a conditional has a `#` before it, and how far the side goes.
+-- Which side of a conditional is left out that stands inside a directive, where a word of a conditional has a `#` before it, and how far
+-- the side goes.
 use Rattle.std.specs.Prelude.{◌≡◌, ◌≤◌, ◌+◌, ◌&&◌, ℕ, List, [], ◌∷◌, length, Bool, true, false, not, if◌then◌else◌, Some, None, unwrap_or}
 use Rattle.inf_names.specs.Symbols.{declared_before}
 use Rattle.inf_output.specs.Output.{Out}
@@ -27,7 +28,8 @@ NoneEnds [] = Unit {0}
 NoneEnds (Token site out t ∷ events) = NoneEnds events
 NoneEnds (Piece declared ∷ events) = ⊥
 
--- A side that is left out inside a directive is cut up to the token that ends it: no token is kept, whatever it is, nor is a `#` before a word of
+-- A side that is left out inside a directive is cut up to the token that ends it: no token is kept, whatever it is, nor is a `#` before a
+-- word of
 -- a conditional. No file has as many levels as are counted at most.
 abbrev pub InnerSidesAreCut : Type 0
 InnerSidesAreCut = (events : List Event) (c : Conditions) (side : LeftOut) → c.left_out ≡ Some side → NoneEnds events
@@ -47,7 +49,8 @@ pub record EndsSideBy (w : ConditionalWord) (t : SourceToken) (c now : Condition
   pub follows : sides now ≡ sides_behind w (sides c)
 
 abbrev pub WordsEndSides : Type 0
-WordsEndSides = (site : Site) (out : Out) (t : SourceToken) (w : ConditionalWord) (c : Conditions) (side : LeftOut) → c.left_out ≡ Some side → is_end t.kind ≡ false → word_of t ≡ Some w
+WordsEndSides = (site : Site) (out : Out) (t : SourceToken) (w : ConditionalWord) (c : Conditions) (side : LeftOut) → c.left_out ≡ Some side
+    → is_end t.kind ≡ false → word_of t ≡ Some w
     → ends_side (is_second (latest c)) side.levels (Some w) ≡ true → EndsSideBy w t c (judged site out t c).now (judged site out t c).judged
 
 -- Its semicolon is not handed on either, and behind it all is read as before the side.
@@ -56,8 +59,10 @@ semicolon_behind is_quiet place others c =
     record { now = record c { pending = others }; judged = record none_handed { ended = if is_quiet then None else Some place } }
 
 abbrev pub SemicolonsEndThem : Type 0
-SemicolonsEndThem = (site : Site) (out : Out) (t : SourceToken) (place : Place) (others : List Pending) (c : Conditions) → c.left_out ≡ None → c.sign ≡ None → c.pending ≡ ending place ∷ others
-    → is_mark mark.Hash t.kind ≡ false → is_mark mark.Semicolon t.kind ≡ true → judged site out t c ≡ semicolon_behind site.is_quiet place others c
+SemicolonsEndThem = (site : Site) (out : Out) (t : SourceToken) (place : Place) (others : List Pending) (c : Conditions) → c.left_out ≡ None
+    → c.sign ≡ None → c.pending ≡ ending place ∷ others
+    → is_mark mark.Hash t.kind ≡ false → is_mark mark.Semicolon t.kind ≡ true → judged site out t c ≡ semicolon_behind site.is_quiet place
+    others c
 
 -- Which side is left out
 
@@ -84,15 +89,20 @@ pub record OpenedInside (place : Place) (is_kept : Bool) (c now : Conditions) : 
   pub no_sign : now.sign ≡ None
   pub left_out : now.left_out ≡ (if is_kept then None else Some (record { is_inner = true; levels = 0 }))
 
--- The first side of `#Ifdef` is kept where a directive before the one around it declared the name, and that of `#Ifndef` where none did. No token of
+-- The first side of `#Ifdef` is kept where a directive before the one around it declared the name, and that of `#Ifndef` where none did. No
+-- token of
 -- the directive is handed on.
 abbrev pub InnerFirstSides : ConditionalWord → (Bool → Bool) → Type 0
-InnerFirstSides directive_word is_kept = (zeroth first second third : Site) (out : Out) (hash w end : SourceToken) (name : List ℕ) (place : Place) (c : Conditions)
-    → IsInside zeroth c → is_mark mark.Hash hash.kind ≡ true → word_of w ≡ Some directive_word → is_mark mark.Semicolon end.kind ≡ true → is_mark mark.Hash end.kind ≡ false
+InnerFirstSides directive_word is_kept =
+    (zeroth first second third : Site) (out : Out) (hash w end : SourceToken) (name : List ℕ) (place : Place) (c : Conditions)
+    → IsInside zeroth c → is_mark mark.Hash hash.kind ≡ true → word_of w ≡ Some directive_word → is_mark mark.Semicolon end.kind ≡ true →
+    is_mark mark.Hash end.kind ≡ false
     → NoneHandedOn (signed zeroth first second third out hash w name place end) c
-    × OpenedInside hash.place (is_kept (declared_before name c.declared out.names)) c (behind_all (signed zeroth first second third out hash w name place end) c)
+    × OpenedInside hash.place (is_kept (declared_before name c.declared out.names)) c
+    (behind_all (signed zeroth first second third out hash w name place end) c)
 
--- Where an `Ifnot` is not lone, and the first side of the latest conditional was kept, its second side is left out, inside the directive where the
+-- Where an `Ifnot` is not lone, and the first side of the latest conditional was kept, its second side is left out, inside the directive
+-- where the
 -- conditional was opened inside it.
 pub record TurnsTo (site : Site) (p : Pending) (c : Conditions) (b : Behind) : Type 0 where
   pub is_cut : b.judged ≡ record none_handed { ended = if site.is_quiet then None else Some p.place }
@@ -100,7 +110,8 @@ pub record TurnsTo (site : Site) (p : Pending) (c : Conditions) (b : Behind) : T
   pub follows : sides b.now ≡ sides_behind word.Ifnot (sides c)
 
 abbrev pub SecondSides : Type 0
-SecondSides = (site : Site) (out : Out) (t : SourceToken) (p : Pending) (c : Conditions) → IsEndOf word.Ifnot p t c → is_lone word.Ifnot (sides c) ≡ false → TurnsTo site p c (judged site out t c)
+SecondSides = (site : Site) (out : Out) (t : SourceToken) (p : Pending) (c : Conditions) → IsEndOf word.Ifnot p t c → is_lone word.Ifnot
+    (sides c) ≡ false → TurnsTo site p c (judged site out t c)
 
 pub record InnerSidesAgree : Type 0 where
   pub of_ifdef : InnerFirstSides word.Ifdef (λ b. b)

@@ -81,7 +81,8 @@ abbrev pub all_behind : List At → Conditions → Conditions
 all_behind [] c = c
 all_behind (t ∷ tokens) c = all_behind tokens (going_on t c)
 
--- and what is told of it: where directives begin that are without their other end, and at the end of a directive where those do that were opened
+-- and what is told of it: where directives begin that are without their other end, and at the end of a directive where those do that were
+-- opened
 -- inside of it
 abbrev pub lone_places : Option Place → List Place
 lone_places None = []
@@ -96,7 +97,8 @@ ended_places (Some declared) inner = places (reverse inner)
 
 abbrev pub all_told : List At → Conditions → List Place
 all_told [] c = []
-all_told (t ∷ tokens) c = lone_places (judged_at t c).judged.unmatched ++ (ended_places t.ended (judged_at t c).now.inner ++ all_told tokens (going_on t c))
+all_told (t ∷ tokens) c =
+    lone_places (judged_at t c).judged.unmatched ++ (ended_places t.ended (judged_at t c).now.inner ++ all_told tokens (going_on t c))
 
 -- What stands in a file
 
@@ -119,11 +121,16 @@ signed_tokens (Some sign) tokens = sign ∷ tokens
 abbrev pub first_tokens : First → List At → List At
 first_tokens first tokens = signed_tokens first.sign (first.word ∷ tokens)
 
--- A token that belongs to no conditional directive, alone or behind a `#`; a `#` before another one, with which a part begins; a `#` that begins a
--- directive, with parts before the next token of that, or before the word of a conditional one, which is given with the same `#`; a directive with
--- a name, which opens a conditional, where the name is to be declared or not, and one with a condition, which is to be true or not; and an `Ifnot`
--- and an `Endif`, each with its semicolon. A directive stands inside another one or between the others, and parts stand between the tokens of a
--- conditional one: before and behind its name, among those of its condition, and before its semicolon. In a side that is left out the word of a
+-- A token that belongs to no conditional directive, alone or behind a `#`; a `#` before another one, with which a part begins; a `#` that
+-- begins a
+-- directive, with parts before the next token of that, or before the word of a conditional one, which is given with the same `#`; a
+-- directive with
+-- a name, which opens a conditional, where the name is to be declared or not, and one with a condition, which is to be true or not; and an
+-- `Ifnot`
+-- and an `Endif`, each with its semicolon. A directive stands inside another one or between the others, and parts stand between the tokens
+-- of a
+-- conditional one: before and behind its name, among those of its condition, and before its semicolon. In a side that is left out the word
+-- of a
 -- directive may stand alone, whatever comes behind it.
 mutual
   pub data Part : Type 0 where
@@ -186,7 +193,8 @@ condition_behind (t ∷ tokens) k = condition_behind tokens (condition_took t k)
 abbrev pub whole_condition : First → List SourceToken → At → Condition
 whole_condition first tokens end = condition_took end.token (condition_behind tokens (condition_took (placed_word first) condition_begun))
 
--- what is told of each name at its place, whether one of the directives before declared it, and of each condition, whether it is true behind its last
+-- what is told of each name at its place, whether one of the directives before declared it, and of each condition, whether it is true
+-- behind its last
 -- token
 pub record Answers : Type 0 where
   pub is_declared : At → Bool
@@ -216,13 +224,15 @@ are_kept (x ∷ around) = x.stays && are_kept around
 abbrev pub all_kept : Around → Bool
 all_kept s = are_kept s.inside && are_kept s.between
 
--- One is opened more, whose first side stays where its name was declared or its condition is true, or where not. It belongs to the directive in
+-- One is opened more, whose first side stays where its name was declared or its condition is true, or where not. It belongs to the
+-- directive in
 -- which it was opened, unless that stands in a side that is left out between directives.
 abbrev pub first_side : First → Bool → Bool → Open
 first_side first wanted is_so = record { place = begins first; is_second = false; stays = if wanted then is_so else not is_so }
 
 abbrev pub opened_more : Bool → Open → Around → Around
-opened_more is_inner x s = if is_inner && are_kept s.between then record s { inside = x ∷ s.inside } else record s { between = x ∷ s.between }
+opened_more is_inner x s =
+    if is_inner && are_kept s.between then record s { inside = x ∷ s.inside } else record s { between = x ∷ s.between }
 
 -- the other side of the latest conditional begins, if it was in its first one; of both sides one stays
 abbrev pub other_side : Open → Open
@@ -287,7 +297,8 @@ abbrev mutual
       (λ x. behind_parts answers (ended_in name.ended (behind_parts answers x before)) behind) s)
   behind_part answers (Asking is_inner wanted first within end) s =
       ended_in end.ended
-      (acted (opened_more is_inner (first_side first wanted (answers.is_true (whole_condition first (kept_sides answers s within) end) end)))
+      (acted (opened_more is_inner (first_side first wanted (answers.is_true (whole_condition first (kept_sides answers s within) end)
+      end)))
       (λ x. behind_parts answers x within) s)
   behind_part answers (Turning is_inner first within end) s = ended_in end.ended (acted turned (λ x. behind_parts answers x within) s)
   behind_part answers (Closing is_inner first within end) s = ended_in end.ended (acted closed (λ x. behind_parts answers x within) s)
@@ -308,7 +319,8 @@ opening_parts answers is_inner if_declared first name s =
 
 abbrev pub asking_parts : Answers → Bool → Bool → First → Parts → At → Around → Around
 asking_parts answers is_inner wanted first within end s =
-    before_parts (opened_more is_inner (first_side first wanted (answers.is_true (whole_condition first (kept_sides answers s within) end) end))) s
+    before_parts (opened_more is_inner (first_side first wanted (answers.is_true (whole_condition first (kept_sides answers s within) end)
+    end))) s
 
 -- and here behind its name
 abbrev pub behind_name : Answers → Parts → At → Around → Around
@@ -324,7 +336,8 @@ abbrev pub missing_in : Option ℕ → Around → List Place
 missing_in None s = []
 missing_in (Some declared) s = unended s.inside
 
--- where directives begin that have no conditional to turn or to end, of those that are kept and do not end among tokens that are passed over
+-- where directives begin that have no conditional to turn or to end, of those that are kept and do not end among tokens that are passed
+-- over
 abbrev pub seconds : List Open → List Bool
 seconds around = map (λ (x : Open). x.is_second) around
 
@@ -352,15 +365,18 @@ abbrev mutual
       ++ (told_parts answers (behind_name answers before name x) behind
       ++ missing_in end.ended (acted act (λ y. behind_parts answers (behind_name answers before name y) behind) s)))
   told_of answers (Asking is_inner wanted first within end) s =
-      let act : Around → Around = opened_more is_inner (first_side first wanted (answers.is_true (whole_condition first (kept_sides answers s within) end) end)) in
+      let act : Around → Around =
+      opened_more is_inner (first_side first wanted (answers.is_true (whole_condition first (kept_sides answers s within) end) end)) in
       told_parts answers (asking_parts answers is_inner wanted first within end s) within
       ++ missing_in end.ended (acted act (λ y. behind_parts answers y within) s)
   told_of answers (Turning is_inner first within end) s =
       told_parts answers (before_parts turned s) within
-      ++ (lone_at word.Ifnot first end (acting answers within s) ++ missing_in end.ended (acted turned (λ y. behind_parts answers y within) s))
+      ++ (lone_at word.Ifnot first end (acting answers within s) ++ missing_in end.ended
+      (acted turned (λ y. behind_parts answers y within) s))
   told_of answers (Closing is_inner first within end) s =
       told_parts answers (before_parts closed s) within
-      ++ (lone_at word.Endif first end (acting answers within s) ++ missing_in end.ended (acted closed (λ y. behind_parts answers y within) s))
+      ++ (lone_at word.Endif first end (acting answers within s) ++ missing_in end.ended
+      (acted closed (λ y. behind_parts answers y within) s))
   told_of answers (Passed is_inner w first) s = []
 
   pub told_parts : Answers → Around → Parts → List Place
@@ -394,7 +410,8 @@ pub record IsSignedPlain (t : At) : Type 0 where
   pub no_hash : is_mark mark.Hash t.token.kind ≡ false
   pub goes_on : is_end t.token.kind ≡ false
 
--- Where a directive is kept, between the others, it begins with a `#` or without, and inside of one with it. Among the tokens of a conditional
+-- Where a directive is kept, between the others, it begins with a `#` or without, and inside of one with it. Among the tokens of a
+-- conditional
 -- one all stand inside, wherever reading stands.
 abbrev pub Begins : Bool → Bool → Bool → Option At → At → Type 0
 Begins true false false None w = w.site.is_between ≡ true
@@ -445,7 +462,8 @@ opening if_declared = if if_declared then word.Ifdef else word.Ifndef
 abbrev pub asking : Bool → ConditionalWord
 asking wanted = if wanted then word.Iftrue else word.Iffalse
 
--- Between directives no conditional is open that was opened inside one: none before a directive that stands there, and none behind it, where its
+-- Between directives no conditional is open that was opened inside one: none before a directive that stands there, and none behind it,
+-- where its
 -- first side may be left out.
 abbrev pub NoneInside : Bool → Around → Type 0
 NoneInside false s = s.inside ≡ []
@@ -476,14 +494,16 @@ AreTaken (t ∷ tokens) end k =
 
 pub record IsCondition (answers : Answers) (first : First) (tokens : List SourceToken) (end : At) (declared : ℕ) : Type 0 where
   pub are_taken : AreTaken tokens end (condition_took (placed_word first) condition_begun)
-  pub agrees : (verdict_of declared end.out (whole_condition first tokens end)).is_true ≡ answers.is_true (whole_condition first tokens end) end
+  pub agrees : (verdict_of declared end.out (whole_condition first tokens end)).is_true ≡ answers.is_true (whole_condition first tokens end)
+      end
 
 -- where it is kept, and else nothing is
 abbrev pub IsAsked : Bool → Answers → First → List SourceToken → At → ℕ → Type 0
 IsAsked true answers first tokens end declared = IsCondition answers first tokens end declared
 IsAsked false answers first tokens end declared = tokens ≡ []
 
--- Behind parts between the tokens of a directive these are kept or left out as before, and elsewhere than in a condition none of the parts is kept.
+-- Behind parts between the tokens of a directive these are kept or left out as before, and elsewhere than in a condition none of the parts
+-- is kept.
 abbrev pub StayAs : Answers → Around → Parts → Type 0
 StayAs answers s parts = all_kept (behind_parts answers s parts) ≡ all_kept s
 
@@ -494,12 +514,14 @@ AddsNone answers s parts = StayAs answers s parts × (kept_sides answers s parts
 abbrev pub among : Bool → Around → Bool
 among is_within s = all_kept s || is_within
 
--- parts of a file, or of a directive, and what is told of their names and conditions, by how many names are declared by the directives before
+-- parts of a file, or of a directive, and what is told of their names and conditions, by how many names are declared by the directives
+-- before
 abbrev mutual
   pub IsPart : Answers → Bool → Around → ℕ → Part → Type 0
   IsPart answers is_within s declared (Plain t) = IsPlain (all_kept s) is_within t
   IsPart answers is_within s declared (Signed is_inner sign t) =
-      Begins (all_kept s) is_inner is_within (Some sign) t × (NoneInside is_inner s × (IsSignedPlain t × (is_within ≡ true → all_kept s ≡ false)))
+      Begins (all_kept s) is_inner is_within (Some sign) t ×
+      (NoneInside is_inner s × (IsSignedPlain t × (is_within ≡ true → all_kept s ≡ false)))
   IsPart answers is_within s declared (Before is_inner sign part) =
       Begins (all_kept s) is_inner is_within (Some sign) sign
       × (NoneInside is_inner s
@@ -508,7 +530,8 @@ abbrev mutual
   IsPart answers is_within s declared (Fronted sign within t) =
       (all_kept s ≡ true)
       × (Begins true false is_within (Some sign) sign
-      × (NoneInside false s × ((AreParts answers true s (declared_behind sign declared) within × AddsNone answers s within) × IsSignedPlain t)))
+      × (NoneInside false s × ((AreParts answers true s (declared_behind sign declared) within × AddsNone answers s within) × IsSignedPlain
+      t)))
   IsPart answers is_within s declared (FrontedWord sign within part) =
       let x = behind_parts answers s within in
       let now = declared_behind sign declared in
@@ -526,7 +549,8 @@ abbrev mutual
       IsFirst (all_kept s) is_inner is_within (opening if_declared) first
       × (NoneInsideFirst (all_kept s) is_inner first s
       × ((AreParts answers (among is_within x) x now before × AddsNone answers x before)
-      × ((IsName (all_kept s) name × ((declared_before name.token.bytes later name.out.names ≡ answers.is_declared name) × (all_kept y ≡ all_kept x)))
+      × ((IsName (all_kept s) name × ((declared_before name.token.bytes later name.out.names ≡ answers.is_declared name) ×
+      (all_kept y ≡ all_kept x)))
       × ((AreParts answers (among is_within y) y (declared_behind name later) behind × AddsNone answers y behind)
       × (IsSemicolon end × NoneInsideBehind (all_kept s) is_inner end (behind_parts answers y behind))))))
   IsPart answers is_within s declared (Asking is_inner wanted first within end) =
@@ -549,7 +573,8 @@ abbrev mutual
       × (NoneInsideFirst (all_kept s) is_inner first s
       × ((AreParts answers (among is_within x) x (declared_first first declared) within × AddsNone answers x within) × IsSemicolon end))
   IsPart answers is_within s declared (Passed is_inner w first) =
-      IsFirst false is_inner is_within w first × (NoneInside is_inner s × ((all_kept s ≡ false) × (all_kept (passed_by is_inner first w s) ≡ false)))
+      IsFirst false is_inner is_within w first × (NoneInside is_inner s × ((all_kept s ≡ false) ×
+      (all_kept (passed_by is_inner first w s) ≡ false)))
 
   pub AreParts : Answers → Bool → Around → ℕ → Parts → Type 0
   AreParts answers is_within s declared NoParts = Unit {0}
@@ -568,15 +593,19 @@ pub record IsClear (c : Conditions) : Type 0 where
   pub no_sign : c.sign ≡ None
   pub none_said : c.said ≡ None
 
--- Of each conditional one side is kept: just these tokens are handed on, each as one that is kept, and just these directives are told to be without
--- their other end, in this order: where they end, or where the directive does in which they were opened; and where the file does then, or the
+-- Of each conditional one side is kept: just these tokens are handed on, each as one that is kept, and just these directives are told to be
+-- without
+-- their other end, in this order: where they end, or where the directive does in which they were opened; and where the file does then, or
+-- the
 -- directive at hand. No file has as many levels as are counted at most.
 pub record KeepsSides (answers : Answers) (parts : Parts) (c : Conditions) : Type 0 where
   pub handed_on : all_handed_on (all_tokens parts) c ≡ map as_kept (kept_sides answers none_around parts)
   pub told : all_told (all_tokens parts) c ≡ told_parts answers none_around parts
   pub in_file : (end : At) (files : FileNames) (r : Reported) → is_end end.token.kind ≡ true
-      → let s = behind_parts answers none_around parts in file_told files (judged_at end (all_behind (all_tokens parts) c)).now r ≡ with_all_at files (unended s.inside ++ unended s.between) r
-  pub in_directive : (files : FileNames) (r : Reported) → let s = behind_parts answers none_around parts in piece_told files (all_behind (all_tokens parts) c) r ≡ with_all_at files (unended s.inside) r
+      → let s = behind_parts answers none_around parts in file_told files (judged_at end (all_behind (all_tokens parts) c)).now r ≡
+      with_all_at files (unended s.inside ++ unended s.between) r
+  pub in_directive : (files : FileNames) (r : Reported) → let s = behind_parts answers none_around parts in piece_told files
+      (all_behind (all_tokens parts) c) r ≡ with_all_at files (unended s.inside) r
 
 -- a file with such conditionals, by what is told of its names and conditions
 pub record IsFile (answers : Answers) (declared : ℕ) (parts : Parts) : Type 0 where
@@ -584,4 +613,5 @@ pub record IsFile (answers : Answers) (declared : ℕ) (parts : Parts) : Type 0 
   pub few : length (all_tokens parts) ≤ most_levels
 
 abbrev pub OneSideIsKept : Type 0
-OneSideIsKept = (answers : Answers) (parts : Parts) (c : Conditions) → IsClear c → IsFile answers c.declared parts → KeepsSides answers parts c
+OneSideIsKept =
+    (answers : Answers) (parts : Parts) (c : Conditions) → IsClear c → IsFile answers c.declared parts → KeepsSides answers parts c

@@ -20,7 +20,8 @@ use Rattle.inf_conditional_laws.specs.MissingEnds.{Change, Closes, Opens, StandI
 
 -- Sides
 
--- of the conditionals that are open, the latest first, whether each is in its second side: first those that were opened inside the directive at
+-- of the conditionals that are open, the latest first, whether each is in its second side: first those that were opened inside the
+-- directive at
 -- hand, and then those between directives
 abbrev pub second_sides : List Conditional → List Bool
 second_sides cs = map (λ (x : Conditional). x.is_second) cs
@@ -56,7 +57,8 @@ pub record IsEndOf (w : ConditionalWord) (p : Pending) (t : SourceToken) (c : Co
 
 -- the word acts, whether it is lone or not
 abbrev pub Acts : ConditionalWord → Type 0
-Acts w = (site : Site) (out : Out) (t : SourceToken) (p : Pending) (c : Conditions) → IsEndOf w p t c → sides (judged site out t c).now ≡ sides_behind w (sides c)
+Acts w = (site : Site) (out : Out) (t : SourceToken) (p : Pending) (c : Conditions) → IsEndOf w p t c → sides (judged site out t c).now ≡
+    sides_behind w (sides c)
 
 -- what changes do, one after the other
 abbrev pub all_sides_behind : List Change → List Bool → List Bool
@@ -68,8 +70,10 @@ all_sides_behind (Closes ∷ changes) sides = all_sides_behind changes (sides_be
 pub record SidesFollow : Type 0 where
   pub of_ifnot : Acts word.Ifnot
   pub of_endif : Acts word.Endif
-  pub of_openings : (is_kept : Bool) (p : Pending) (c : Conditions) → (p.is_inner ≡ false → c.inner ≡ []) → sides (opened is_kept p c) ≡ false ∷ sides c
-  pub of_changes : (inner : Bool) (changes : List Change) (c : Conditions) → c.inner ≡ [] → StandInside inner changes → sides (all_changed changes c) ≡ all_sides_behind changes (sides c)
+  pub of_openings : (is_kept : Bool) (p : Pending) (c : Conditions) → (p.is_inner ≡ false → c.inner ≡ []) →
+      sides (opened is_kept p c) ≡ false ∷ sides c
+  pub of_changes : (inner : Bool) (changes : List Change) (c : Conditions) → c.inner ≡ [] → StandInside inner changes →
+      sides (all_changed changes c) ≡ all_sides_behind changes (sides c)
 
 -- Lone ones
 
@@ -84,14 +88,17 @@ pub record IsLone (site : Site) (t : SourceToken) (c : Conditions) (place : Plac
 
 -- It changes nothing, and no token of it is handed on.
 abbrev pub lone_behind : List Pending → Place → Conditions → Behind
-lone_behind others place c = record { now = record c { pending = others }; judged = record none_handed { unmatched = Some place; ended = Some place } }
+lone_behind others place c =
+    record { now = record c { pending = others }; judged = record none_handed { unmatched = Some place; ended = Some place } }
 
 abbrev pub LonesAreJudged : Type 0
-LonesAreJudged = (site : Site) (out : Out) (t : SourceToken) (c : Conditions) (place : Place) (unmatched : IsLone site t c place) → judged site out t c ≡ lone_behind unmatched.ends.others place c
+LonesAreJudged = (site : Site) (out : Out) (t : SourceToken) (c : Conditions) (place : Place) (unmatched : IsLone site t c place) → judged
+    site out t c ≡ lone_behind unmatched.ends.others place c
 
 -- No other token tells of one.
 abbrev pub OnlyLonesAre : Type 0
-OnlyLonesAre = (site : Site) (out : Out) (t : SourceToken) (c : Conditions) (place : Place) → (judged site out t c).judged.unmatched ≡ Some place → IsLone site t c place
+OnlyLonesAre = (site : Site) (out : Out) (t : SourceToken) (c : Conditions) (place : Place) → (judged site out t c).judged.unmatched ≡ Some
+    place → IsLone site t c place
 
 -- It is told where it begins, and it is a unit that has ended, as any other conditional directive is.
 abbrev pub lone_message : FileNames → Place → ReaderState → ReaderState
@@ -99,5 +106,6 @@ lone_message files place s =
     record s { work = record s.work { report = with_error (location files place) (location files place) LoneConditional s.work.report } }
 
 abbrev pub LonesAreTold : Type 0
-LonesAreTold = (files : FileNames) (site : Site) (out : Out) (t : SourceToken) (c : Conditions) (place : Place) (s : ReaderState) → IsLone site t c place
+LonesAreTold = (files : FileNames) (site : Site) (out : Out) (t : SourceToken) (c : Conditions) (place : Place) (s : ReaderState) → IsLone
+    site t c place
     → judged_taken files t (judged site out t c).judged s ≡ unit_ended (Some place) files (lone_message files place s)

@@ -6,7 +6,8 @@ use Rattle.inf_conditionals.specs.Ends.{file_told, piece_told, with_lone}
 use Rattle.inf_conditionals.specs.Open.{Conditions, closed, opened, turned}
 use Rattle.inf_conditionals.specs.declared.pending.Pending.{Pending}
 
--- What conditional directives do, one after the other: one opens a conditional, whose first side is kept or not; an `Ifnot` begins its second side;
+-- What conditional directives do, one after the other: one opens a conditional, whose first side is kept or not; an `Ifnot` begins its
+-- second side;
 -- an `Endif` closes it, also one that is found where a side is left out.
 pub data Change : Type 0 where
   Opens : (is_kept : Bool) (directive : Pending) → Change
@@ -51,5 +52,7 @@ with_all_at files (p ∷ places) r = with_all_at files places (with_lone files p
 
 -- At the end of a file, and at that of a directive, just these are told.
 pub record MissingEndsAreTold : Type 0 where
-  pub of_files : (files : FileNames) (changes : List Change) (c : Conditions) (r : Reported) → c.among ≡ [] → c.inner ≡ [] → StandInside false changes → file_told files (all_changed changes c) r ≡ with_all_at files (never_closed changes) r
-  pub of_directives : (files : FileNames) (changes : List Change) (c : Conditions) (r : Reported) → c.inner ≡ [] → StandInside true changes → piece_told files (all_changed changes c) r ≡ with_all_at files (never_closed changes) r
+  pub of_files : (files : FileNames) (changes : List Change) (c : Conditions) (r : Reported) → c.among ≡ [] → c.inner ≡ [] →
+      StandInside false changes → file_told files (all_changed changes c) r ≡ with_all_at files (never_closed changes) r
+  pub of_directives : (files : FileNames) (changes : List Change) (c : Conditions) (r : Reported) → c.inner ≡ [] →
+      StandInside true changes → piece_told files (all_changed changes c) r ≡ with_all_at files (never_closed changes) r

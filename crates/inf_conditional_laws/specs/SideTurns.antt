@@ -23,7 +23,13 @@ ends_there s = if has_ended s then None else if is_resting s then Some s.work.ou
 -- what comes to the conditionals by a turn, and by so many
 abbrev pub at_turn : Sources → Choices → State → At
 at_turn sources o s =
-    record { site = site_of s.reading; out = s.work.output; token = token_of s.nesting.cursor; ended = ends_there (carried_out sources o (stepped s)) }
+    record {
+      site = site_of s.reading;
+      out = s.work.output;
+      token = token_of s.nesting.cursor;
+      ended = ends_there
+          (carried_out sources o (stepped s));
+    }
 
 abbrev pub at_turns : Sources → Choices → ℕ → State → List At
 at_turns sources o zero s = []
@@ -38,7 +44,8 @@ is_inclusion Nothing = false
 abbrev pub StayInOne : Sources → Choices → ℕ → State → Type 0
 StayInOne sources o zero s = Unit {0}
 StayInOne sources o (suc n) s =
-    (is_mode_ended (stepped s).reading.mode ≡ false) × ((is_inclusion (stepped s).work.asked ≡ false) × StayInOne sources o n (turn sources o s))
+    (is_mode_ended (stepped s).reading.mode ≡ false) ×
+    ((is_inclusion (stepped s).work.asked ≡ false) × StayInOne sources o n (turn sources o s))
 
 -- what is handed on, without whether a name is that of a class
 abbrev pub shown : Given → Handing
@@ -47,17 +54,21 @@ shown (Unfit t) = record { handed = handed.Unfit; token = t }
 
 -- Turns hand on what conditionals do.
 abbrev pub TurnsHandOn : Type 0
-TurnsHandOn = (sources : Sources) (o : Choices) (n : ℕ) (s : State) → StayInOne sources o n s → map shown (given_in sources o n s) ≡ all_handed_on (at_turns sources o n s) s.conditions
+TurnsHandOn = (sources : Sources) (o : Choices) (n : ℕ) (s : State) → StayInOne sources o n s → map shown (given_in sources o n s) ≡
+    all_handed_on (at_turns sources o n s) s.conditions
 
 -- Where the tokens of so many turns are those of a file with such conditionals, just the tokens are handed on that its sides keep.
 abbrev pub TurnsKeepSides : Type 0
-TurnsKeepSides = (answers : Answers) (sources : Sources) (o : Choices) (n : ℕ) (s : State) (parts : Parts) → StayInOne sources o n s → at_turns sources o n s ≡ all_tokens parts
+TurnsKeepSides = (answers : Answers) (sources : Sources) (o : Choices) (n : ℕ) (s : State) (parts : Parts) → StayInOne sources o n s →
+    at_turns sources o n s ≡ all_tokens parts
     → IsClear s.conditions → IsFile answers s.conditions.declared parts
     → map shown (given_in sources o n s) ≡ map as_kept (kept_sides answers none_around parts)
 
--- Where the file ends with the next turn, just those conditionals are told that are open, in order, but for what was opened in a side that is left out.
+-- Where the file ends with the next turn, just those conditionals are told that are open, in order, but for what was opened in a side that
+-- is left out.
 abbrev pub TurnsTellMissingEnds : Type 0
-TurnsTellMissingEnds = (answers : Answers) (sources : Sources) (o : Choices) (n : ℕ) (s : State) (parts : Parts) → StayInOne sources o n s → at_turns sources o n s ≡ all_tokens parts
+TurnsTellMissingEnds = (answers : Answers) (sources : Sources) (o : Choices) (n : ℕ) (s : State) (parts : Parts) → StayInOne sources o n s →
+    at_turns sources o n s ≡ all_tokens parts
     → IsClear s.conditions → IsFile answers s.conditions.declared parts
     → is_end (token_of (turned sources o n s).nesting.cursor).kind ≡ true
     → let last = stepped (turned sources o n s) in let around = behind_parts answers none_around parts in
@@ -78,7 +89,8 @@ pub record StandsStill (sources : Sources) (o : Choices) (n : ℕ) (s : State) :
   pub reading : (turned sources o n s).reading ≡ s.reading
 
 abbrev pub TurnsCutInnerSides : Type 0
-TurnsCutInnerSides = (sources : Sources) (o : Choices) (n : ℕ) (s : State) (side : LeftOut) → s.conditions.left_out ≡ Some side → (site_of s.reading).is_between ≡ false
+TurnsCutInnerSides = (sources : Sources) (o : Choices) (n : ℕ) (s : State) (side : LeftOut) → s.conditions.left_out ≡ Some side →
+    (site_of s.reading).is_between ≡ false
     → is_mode_ended s.reading.mode ≡ false → s.work.asked ≡ Nothing → side.levels + n ≤ most_levels
     → StayIn (is_second (latest s.conditions)) side.levels (map as_event (at_turns sources o n s))
     → StandsStill sources o n s

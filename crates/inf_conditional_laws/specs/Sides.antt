@@ -23,7 +23,8 @@ use Rattle.inf_conditionals.specs.Judging.{judged, none_handed}
 use Rattle.inf_conditionals.specs.Open.{Conditions, is_second, latest, most_levels}
 use Rattle.inf_conditionals.specs.Words.{word_of}
 
--- What comes to the conditionals of a file: a token at a site, where names are known; and the end of a directive, behind which so many names
+-- What comes to the conditionals of a file: a token at a site, where names are known; and the end of a directive, behind which so many
+-- names
 -- are declared.
 pub data Event : Type 0 where
   Token : (site : Site) (out : Out) (token : SourceToken) → Event
@@ -88,7 +89,8 @@ pub record StaysLeftOut (c now : Conditions) (side : LeftOut) (level : ℕ) : Ty
   pub waiting : now.waiting ≡ c.waiting
   pub pending : now.pending ≡ c.pending
 
--- A side that is left out between directives is cut up to the token that ends it: no token is kept, whatever it is, and wherever among them a
+-- A side that is left out between directives is cut up to the token that ends it: no token is kept, whatever it is, and wherever among them
+-- a
 -- directive is taken to end. No file has as many levels as are counted at most.
 abbrev pub SidesAreCut : Type 0
 SidesAreCut = (events : List Event) (c : Conditions) (side : LeftOut) → c.left_out ≡ Some side → (side.is_inner ≡ false) × (c.inner ≡ [])
@@ -126,9 +128,12 @@ opened_at place is_kept c now =
 
 -- The first side of `Ifdef` is kept where a directive before this one declared the name, and that of `Ifndef` where none did.
 abbrev pub FirstSides : ConditionalWord → (Bool → Bool) → Type 0
-FirstSides directive_word is_kept = (first second third : Site) (out : Out) (w end : SourceToken) (name : List ℕ) (place : Place) (c : Conditions)
-    → IsBetween first c → w.kind ≡ kind.Name → word_of w ≡ Some directive_word → is_mark mark.Semicolon end.kind ≡ true → is_mark mark.Hash end.kind ≡ false
-    → opened_at w.place (is_kept (declared_before name c.declared out.names)) c (behind_all (directive first second third out w name place end) c)
+FirstSides directive_word is_kept =
+    (first second third : Site) (out : Out) (w end : SourceToken) (name : List ℕ) (place : Place) (c : Conditions)
+    → IsBetween first c → w.kind ≡ kind.Name → word_of w ≡ Some directive_word → is_mark mark.Semicolon end.kind ≡ true → is_mark mark.Hash
+    end.kind ≡ false
+    → opened_at w.place (is_kept (declared_before name c.declared out.names)) c
+    (behind_all (directive first second third out w name place end) c)
 
 pub record SidesAgree : Type 0 where
   pub of_ifdef : FirstSides word.Ifdef (λ b. b)
@@ -151,9 +156,12 @@ pub record IsLastOf (t : SourceToken) (wanted : Bool) (p : Pending) (k : Conditi
 abbrev pub is_wanted : Bool → Bool → Bool
 is_wanted wanted is_true = if wanted then is_true else not is_true
 
--- The first side of `Iftrue` is kept where its condition is true, and that of `Iffalse` where it is not, by the names that were declared by the directives
+-- The first side of `Iftrue` is kept where its condition is true, and that of `Iffalse` where it is not, by the names that were declared by
+-- the directives
 -- before.
 abbrev pub ValuesDecide : Type 0
-ValuesDecide = (site : Site) (out : Out) (t : SourceToken) (wanted : Bool) (p : Pending) (k : Condition) (c : Conditions) → IsLastOf t wanted p k c
+ValuesDecide =
+    (site : Site) (out : Out) (t : SourceToken) (wanted : Bool) (p : Pending) (k : Condition) (c : Conditions) → IsLastOf t wanted p k c
     → (judged site out t c).now.left_out
-    ≡ (if is_wanted wanted (verdict_of c.declared out (condition_took t k)).is_true then None else Some (record { is_inner = p.is_inner; levels = 0 }))
+    ≡ (if is_wanted wanted (verdict_of c.declared out (condition_took t k)).is_true then None else Some
+    (record { is_inner = p.is_inner; levels = 0 }))

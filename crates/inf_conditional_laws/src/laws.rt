@@ -6,7 +6,8 @@ ghost use Rattle.inf_conditional_laws.specs.LoneEnds.{LonesAreJudged, LonesAreTo
 ghost use Rattle.inf_conditional_laws.specs.SideTurns.{ReadingsStartClear, TurnsCutInnerSides, TurnsHandOn, TurnsKeepSides, TurnsTellMissingEnds};
 ghost use Rattle.inf_conditional_laws.specs.Sides.{SidesAgree, SidesAreCut, SidesEnd, ValuesDecide};
 
-/// The side of a conditional that is left out is cut, up to the `Ifnot` or `Endif` of its own level, by the levels that the other four words
+/// The side of a conditional that is left out is cut, up to the `Ifnot` or `Endif` of its own level, by the levels that the other four
+/// words
 /// open and `Endif` ends, and so is what ends it. Of `Ifdef` it is the first side where no directive before declared the name, of `Ifndef`
 /// where one did; of `Iftrue` where the condition is false, of `Iffalse` where it is true.
 pub fn sides_are_cut()
@@ -16,8 +17,10 @@ pub fn sides_are_cut()
     ensures values { ValuesDecide }
 {}
 
-/// A side that is left out inside a directive, of a conditional whose words have a `#` before them, is cut in the same way: no token of it is handed
-/// on, nor the `#` of the word that ends it, and the turns of a reading leave the directive as it stands. The first side is left out as between
+/// A side that is left out inside a directive, of a conditional whose words have a `#` before them, is cut in the same way: no token of it
+/// is handed
+/// on, nor the `#` of the word that ends it, and the turns of a reading leave the directive as it stands. The first side is left out as
+/// between
 /// directives, and the second one where the first was kept.
 pub fn inner_sides_are_cut()
     ensures cut { InnerSidesAreCut }
@@ -27,8 +30,10 @@ pub fn inner_sides_are_cut()
     ensures turns { TurnsCutInnerSides }
 {}
 
-/// An `Endif` is told to be without its other end where no conditional is open, and an `Ifnot` where none is, or the latest is in its second side. It
-/// is told where the directive begins, but for one among tokens that are passed over, and no other token tells of one. What is open is told by the
+/// An `Endif` is told to be without its other end where no conditional is open, and an `Ifnot` where none is, or the latest is in its
+/// second side. It
+/// is told where the directive begins, but for one among tokens that are passed over, and no other token tells of one. What is open is told
+/// by the
 /// words: four open a conditional in its first side, `Ifnot` turns the latest to its second one, and `Endif` closes it.
 pub fn lone_ends_are_told()
     ensures judged { LonesAreJudged }
@@ -37,10 +42,14 @@ pub fn lone_ends_are_told()
     ensures follow { SidesFollow }
 {}
 
-/// Of each conditional, between the directives of a file or inside of one, one side is kept, also in the condition of another one and between the tokens
-/// of its other directives, to any depth: a token is handed on exactly where of each conditional around it the side stays that it is in, and no token of
-/// a conditional directive is; its condition is what is kept of it. So do the turns of a reading from its start, as long as no file ends and none is
-/// included. Where the file ends behind them, just those conditionals are told that are open, in order, but for what was opened in a side that is left
+/// Of each conditional, between the directives of a file or inside of one, one side is kept, also in the condition of another one and
+/// between the tokens
+/// of its other directives, to any depth: a token is handed on exactly where of each conditional around it the side stays that it is in,
+/// and no token of
+/// a conditional directive is; its condition is what is kept of it. So do the turns of a reading from its start, as long as no file ends
+/// and none is
+/// included. Where the file ends behind them, just those conditionals are told that are open, in order, but for what was opened in a side
+/// that is left
 /// out.
 pub fn one_side_is_kept()
     ensures kept { OneSideIsKept }
@@ -50,7 +59,8 @@ pub fn one_side_is_kept()
     ensures start { ReadingsStartClear }
 {}
 
-/// Where a conditional must end, at the end of its file or of the directive in which it was opened, those are told that no `Endif` of their own level
+/// Where a conditional must end, at the end of its file or of the directive in which it was opened, those are told that no `Endif` of their
+/// own level
 /// closes, in the order in which they were opened.
 pub fn missing_ends_are_told()
     ensures { MissingEndsAreTold }

@@ -49,24 +49,29 @@ to_offered_condition wanted q out bytes place k p c =
 to_asked : (conditions : List Condition) (wanted q : Bool) (out : Out) (bytes : List ℕ) (place : Place) (p : Pending) (c : Conditions)
     → IsForwarded (asked conditions wanted q out (end_of bytes place) p c).judged
 to_asked [] wanted q out bytes place p c = as_unfit _ refl
-to_asked (k ∷ conditions) wanted q out bytes place p c = to_offered_condition wanted q out bytes place k p (record c { conditions = conditions })
+to_asked (k ∷ conditions) wanted q out bytes place p c =
+    to_offered_condition wanted q out bytes place k p (record c { conditions = conditions })
 
-to_awaited : (a : Awaits) (q : Bool) (out : Out) (bytes : List ℕ) (place : Place) (p : Pending) (c : Conditions) → IsForwarded (awaited a q out (end_of bytes place) p c).judged
+to_awaited : (a : Awaits) (q : Bool) (out : Out) (bytes : List ℕ) (place : Place) (p : Pending) (c : Conditions) →
+    IsForwarded (awaited a q out (end_of bytes place) p c).judged
 to_awaited awaits.Word q out bytes place p c = as_kept _ refl
 to_awaited (awaits.Name b) q out bytes place p c = as_unfit _ refl
 to_awaited (awaits.Condition wanted) q out bytes place p c = to_asked c.conditions wanted q out bytes place p c
 to_awaited (awaits.End e) q out bytes place p c = as_unfit _ refl
 
-to_offered : (ps : List Pending) (front q : Bool) (out : Out) (bytes : List ℕ) (place : Place) (c : Conditions) → IsForwarded (offered_to ps front q out (end_of bytes place) c).judged
+to_offered : (ps : List Pending) (front q : Bool) (out : Out) (bytes : List ℕ) (place : Place) (c : Conditions) →
+    IsForwarded (offered_to ps front q out (end_of bytes place) c).judged
 to_offered [] true q out bytes place c = as_kept _ refl
 to_offered [] false q out bytes place c = as_kept _ refl
 to_offered (p ∷ ps) front q out bytes place c = to_awaited p.awaits q out bytes place p (record c { pending = ps })
 
 end_by : (side : Option LeftOut) (sign : Option Place) (site : Site) (out : Out) (bytes : List ℕ) (place : Place) (c : Conditions)
     → IsForwarded (judged_by side sign site out (end_of bytes place) c).judged
-end_by (Some side) sign site out bytes place c = to_offered c.pending false site.is_quiet out bytes place (record c { left_out = None; sign = None })
+end_by (Some side) sign site out bytes place c =
+    to_offered c.pending false site.is_quiet out bytes place (record c { left_out = None; sign = None })
 end_by None (Some at) site out bytes place c = as_kept _ refl
 end_by None None site out bytes place c = to_offered c.pending _ site.is_quiet out bytes place c
 
-pub end_is_handed : (site : Site) (out : Out) (bytes : List ℕ) (place : Place) (c : Conditions) → IsForwarded (judged site out (end_of bytes place) c).judged
+pub end_is_handed : (site : Site) (out : Out) (bytes : List ℕ) (place : Place) (c : Conditions) →
+    IsForwarded (judged site out (end_of bytes place) c).judged
 end_is_handed site out bytes place c = end_by c.left_out c.sign site out bytes place c

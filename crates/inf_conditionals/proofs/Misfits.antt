@@ -52,7 +52,8 @@ record IsOut (atom : ℕ) : Type 0 where
   classes : (class : ℕ) → has (grammar.atoms_of class) atom ≡ false
   rules : (rule : ℕ) → has (known.begins rule) atom ≡ false
 
-out : (atom : ℕ) → agree_below (λ class. has (grammar.atoms_of class) atom) never 128 ≡ true → agree_below (λ rule. has (known.begins rule) atom) never 251 ≡ true → has 0 atom ≡ false → IsOut atom
+out : (atom : ℕ) → agree_below (λ class. has (grammar.atoms_of class) atom) never 128 ≡ true →
+    agree_below (λ rule. has (known.begins rule) atom) never 251 ≡ true → has 0 atom ≡ false → IsOut atom
 out atom c r z = record {
   classes = λ class. elim (cases_lt class 128) [
     | inl l ↦ agree_below_at (λ n. has (grammar.atoms_of n) atom) never 128 class c l

@@ -79,7 +79,8 @@ verdict_by number found = record { is_true = is_true_by number found; finding = 
 
 abbrev pub verdict_with : List Operand → Condition → Verdict
 verdict_with operands k =
-    verdict_by (number_of (map tree_in (trees_of Constant 0 operands k.unit.gathering.symbols))) (judged Constant 0 operands k.unit.gathering.symbols)
+    verdict_by (number_of (map tree_in (trees_of Constant 0 operands k.unit.gathering.symbols)))
+    (judged Constant 0 operands k.unit.gathering.symbols)
 
 -- where so many names were declared by the directives before
 abbrev pub verdict_of : ℕ → Out → Condition → Verdict

@@ -110,16 +110,24 @@ begun word t place is_inner c = begun_by (awaits_of word) (record t { place = pl
 
 -- behind a `#` at the front of a piece: another directive than a conditional one is kept, with its `#`
 abbrev pub behind_front : Option ConditionalWord → SourceToken → Pending → Conditions → Behind
-behind_front None t p c = record { now = c; judged = record none_handed { sign = Some (record { place = p.place; handed = handed.Kept }); token = Some handed.Kept } }
+behind_front None t p c = record {
+  now = c;
+  judged = record none_handed {
+    sign = Some (record { place = p.place; handed = handed.Kept });
+    token = Some handed.Kept;
+  };
+}
 behind_front (Some word) t p c = begun word t p.place p.is_inner c
 
 -- whether the first side is kept, which is so where the name of these bytes was declared by the directives before the one at hand,
 -- or where it was not
 abbrev pub is_kept : Bool → Out → ℕ → List ℕ → Bool
-is_kept if_declared o declared bytes = if if_declared then declared_before bytes declared o.names else not (declared_before bytes declared o.names)
+is_kept if_declared o declared bytes =
+    if if_declared then declared_before bytes declared o.names else not (declared_before bytes declared o.names)
 
 abbrev pub named : TokenKind → List ℕ → Bool → Out → Pending → Conditions → Behind
-named kind.Name bytes if_declared o p c = passed (awaiting p.place p.is_inner (awaits.End (effect.Opens (is_kept if_declared o c.declared bytes))) c)
+named kind.Name bytes if_declared o p c =
+    passed (awaiting p.place p.is_inner (awaits.End (effect.Opens (is_kept if_declared o c.declared bytes))) c)
 named _ bytes if_declared o p c = unfit c
 
 -- A token of a condition
@@ -191,7 +199,15 @@ abbrev pub behind_sign : Option ConditionalWord → Place → Bool → Out → S
 behind_sign (Some word) place is_quiet o t c = begun word t place true (record c { sign = None })
 behind_sign None place is_quiet o t c =
     let b = offered false is_quiet o t (given_up (record c { sign = None })) in
-    record b { judged = record b.judged { sign = Some (record { place = place; handed = if is_none_pending c.pending then handed.Kept else handed.Unfit }) } }
+    record b {
+      judged = record b.judged {
+        sign = Some (record {
+          place = place;
+          handed = if is_none_pending c.pending then handed.Kept else
+              handed.Unfit;
+        });
+      };
+    }
 
 -- A token of a side that is left out
 

@@ -13,7 +13,8 @@ use Rattle.inf_unit.specs.Units.{long_at}
 use Rattle.inf_conditionals.specs.Condition.{Condition}
 use Rattle.inf_conditionals.specs.Operands.{actions_added}
 
--- That nothing is wrong with it: then the actions of its leaves appear. An error, of a directive that begins at a place; the first token that it has more
+-- That nothing is wrong with it: then the actions of its leaves appear. An error, of a directive that begins at a place; the first token
+-- that it has more
 -- than it may have; and a bracket that stands too deep in others.
 pub data Said : Type 0 where
   Right : (tokens : List SourceToken) (leaves : List Leaf) → Said

@@ -62,7 +62,8 @@ impl Condition {
     /// Takes the next token of its directive, if it fits. Answers whether it does.
     pub(crate) fn take(&mut self, token: &SourceToken<'_>) -> Result<bool, AllocError>
         ensures fits { IfOk result (λ is_taken. is_taken ≡ fits grammar known (atom_of (spelled token.now)) (condition self.old).stack) }
-        ensures taken { IfOk result (λ is_taken. is_taken ≡ true → condition self.new ≡ condition_took (spelled token.now) (condition self.old)) }
+        ensures taken { IfOk result (λ is_taken. is_taken ≡ true → condition self.new ≡ condition_took (spelled token.now)
+            (condition self.old)) }
     {
         self.actions.clear();
         if !self.machine.read(atom_at(token, false), &mut self.actions)? {

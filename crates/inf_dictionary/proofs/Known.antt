@@ -40,7 +40,8 @@ known_with total text word other (e ∷ words) = go (order text e.0) refl (known
 
   go : (o : Ordering) → order text e.0 ≡ o
       → lookup (is_at (order other)) (insert_entry order words text word) ≡ cond (is_eq (order other text)) (Some word) rest
-      → lookup (is_at (order other)) (match_ordering o ((text, word) ∷ e ∷ words) ((e.0, word) ∷ words) (e ∷ insert_entry order words text word))
+      → lookup (is_at (order other)) (match_ordering o ((text, word) ∷ e ∷ words) ((e.0, word) ∷ words)
+      (e ∷ insert_entry order words text word))
       ≡ cond (is_eq (order other text)) (Some word) (cond (is_eq (order other e.0)) (Some e.1) rest)
   go Less h below = refl
   go Equal h below =

@@ -44,8 +44,10 @@ rank_is text (first ∷ texts) zero within parts =
     ((λ k d from to. absurd (omega (arith, to))), (λ k d from to. parts.1 (suc k) d (omega arith) (omega (arith, to)))))
 rank_is text (first ∷ texts) (suc i) within parts =
     let below : is_below first text ≡ true = parts.0 0 first (omega arith) (omega arith) in
-    let rest : i ≡ rank_of text texts = rank_is text texts i (omega (arith, within))
-    ((λ k d from to. parts.0 (suc k) d (omega arith) (omega (arith, to))), (λ k d from to. parts.1 (suc k) d (omega (arith, from)) (omega (arith, to)))) in
+    let rest : i ≡ rank_of text texts = rank_is text texts i (omega (arith, within)) (
+      (λ k d from to. parts.0 (suc k) d (omega arith) (omega (arith, to))),
+      (λ k d from to. parts.1 (suc k) d (omega (arith, from)) (omega (arith, to))),
+    ) in
     rw below (omega (arith, rest))
 
 pub later_is_above : (texts : List Text) → AreRising texts → (i j : ℕ) (d : Text) → i < j → j < length texts
@@ -61,7 +63,8 @@ pub rank_at : IsTotalOrder order → (text : Text) (texts : List Text) (i : ℕ)
     → ((d : Text) → slice_index_or texts i d ≡ text) → rank_of text texts ≡ i
 rank_at total text texts i rising within is = sym (rank_is text texts i (omega (arith, within)) (before, behind)) where
   before : AllWithin (λ other. is_below other text ≡ true) texts 0 i
-  before k d from to = ap is_lt (subst (λ y. order (slice_index_or texts k d) y ≡ Less) (is d) (later_is_above texts rising k i d to within))
+  before k d from to =
+      ap is_lt (subst (λ y. order (slice_index_or texts k d) y ≡ Less) (is d) (later_is_above texts rising k i d to within))
 
   behind : AllWithin (λ other. is_below other text ≡ false) texts i (length texts)
   behind k d from to = elim (cases_lt i k) [

@@ -67,7 +67,8 @@ is_of_other_verb word how = are_other (verb_in_word word) (verb_in how)
 -- as there may be
 abbrev pub add_fault : Option Word → WordUse → Words → Option AddFault
 add_fault word how words =
-    if is_of_other_verb word how then Some fault.OtherVerb else if is_none word && nat_le words.limit (length words.list) then Some fault.Full else None
+    if is_of_other_verb word how then Some fault.OtherVerb else if is_none word && nat_le words.limit (length words.list) then Some
+    fault.Full else None
 
 -- whether a text cannot become that of a word of a new verb, where some stand before: the word is one of a verb's, or is among these
 unfoldable pub is_misfit : List (Text × Word) → List (Text × Unit {0}) → Text → Bool
@@ -77,7 +78,8 @@ is_misfit words before text = is_some (verb_of text words) || is_some (lookup (i
 abbrev pub first_misfit : List (Text × Word) → ℕ → List (Text × Unit {0}) → List Text → Option ℕ
 first_misfit words place before [] = None
 first_misfit words place before (text ∷ texts) =
-    if is_misfit words before text then Some place else first_misfit words (place + 1) (insert_entry (slice_cmp nat_cmp) before text tt) texts
+    if is_misfit words before text then Some place else first_misfit words (place + 1) (insert_entry (slice_cmp nat_cmp) before text tt)
+    texts
 
 -- As it is written (Z-Machine Standard 1.1, section 13.2 to 13.4; Inform Technical Manual, section 8.5).
 

@@ -99,6 +99,7 @@ pushed_parts count parts s = record s {
   place = s.place + leaf_count_of_all parts;
 }
 
-pub list_joined : (a : Source) (parts sources : List Source) → joined (length parts) (all_sources (a ∷ parts) sources) ≡ list_of a parts ∷ sources
+pub list_joined : (a : Source) (parts sources : List Source) →
+    joined (length parts) (all_sources (a ∷ parts) sources) ≡ list_of a parts ∷ sources
 list_joined a [] sources = refl
 list_joined a (b ∷ parts) sources = ap (over_two Then) (list_joined b parts (a ∷ sources))

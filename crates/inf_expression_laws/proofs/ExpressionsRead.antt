@@ -36,35 +36,41 @@ record Read (f : Frame) (items : List Item) (seen : List ℕ) (u : Unit) (tokens
   at : At f u (length seen) tokens
 
 -- what is gathered changes nothing else
-at_gathered : {f : Frame} {u : Unit} {count : ℕ} {tokens : List SourceToken} (g : Gathering) → At f u count tokens → At f (record u { gathering = g }) count tokens
+at_gathered : {f : Frame} {u : Unit} {count : ℕ} {tokens : List SourceToken} (g : Gathering) → At f u count tokens →
+    At f (record u { gathering = g }) count tokens
 at_gathered g a = record { all = a.all; long = a.long; outer = a.outer; begun = a.begun; early = a.early; ready = a.ready; few = a.few }
 
-at_sure : {f : Frame} {u : Unit} {count : ℕ} {tokens : List SourceToken} → At f u count tokens → At f (record u { is_sure = true }) count tokens
+at_sure : {f : Frame} {u : Unit} {count : ℕ} {tokens : List SourceToken} → At f u count tokens →
+    At f (record u { is_sure = true }) count tokens
 at_sure a = record { all = a.all; long = a.long; outer = a.outer; begun = a.begun; early = a.early; ready = a.ready; few = a.few }
 
 few_seen : {f : Frame} {u : Unit} {count : ℕ} {tokens : List SourceToken} → At f u count tokens → count < 4294967295
 few_seen {f} {u} {count} {tokens} a = omega (arith, a.few, ap length a.all, length-append u.tokens tokens, a.long)
 
 -- what each kind of step makes of it
-front_by : {f : Frame} {seen : List ℕ} {g : Gathering} (rest : List Item) (op : Unary) (c : Change) (o : Option (ℕ × ℕ)) → sign_in_front op ≡ o → IsOneOf c (front_changes o) →
+front_by : {f : Frame} {seen : List ℕ} {g : Gathering} (rest : List Item) (op : Unary) (c : Change) (o : Option (ℕ × ℕ)) →
+    sign_in_front op ≡ o → IsOneOf c (front_changes o) →
     Stands f (c.old ++ rest) seen g → Stands f (c.now ++ rest) seen (with_prefix op g)
 front_by rest op c None e m s = elim m [ ]
 front_by rest op c (Some sign) e first s = front_stands op e s
 front_by rest op c (Some sign) e (later m) s = elim m [ ]
 
-suffix_by : {f : Frame} {seen : List ℕ} {g : Gathering} (rest : List Item) (op : Unary) (c : Change) (o : Option (ℕ × ℕ)) → sign_behind op ≡ o → IsOneOf c (suffix_changes o) →
+suffix_by : {f : Frame} {seen : List ℕ} {g : Gathering} (rest : List Item) (op : Unary) (c : Change) (o : Option (ℕ × ℕ)) →
+    sign_behind op ≡ o → IsOneOf c (suffix_changes o) →
     Stands f (c.old ++ rest) seen g → Stands f (c.now ++ rest) seen (with_suffix op g)
 suffix_by rest op c None e m s = elim m [ ]
 suffix_by rest op c (Some sign) e first s = suffix_stands op e s
 suffix_by rest op c (Some sign) e (later m) s = elim m [ ]
 
-between_by : {f : Frame} {seen : List ℕ} {g : Gathering} (rest : List Item) (op : Binary) (c : Change) (o : Option (ℕ × ℕ)) → sign_between op ≡ o → (op ≡ binary.Comma → false ≡ true) → IsOneOf c (between_changes o) →
+between_by : {f : Frame} {seen : List ℕ} {g : Gathering} (rest : List Item) (op : Binary) (c : Change) (o : Option (ℕ × ℕ)) →
+    sign_between op ≡ o → (op ≡ binary.Comma → false ≡ true) → IsOneOf c (between_changes o) →
     Stands f (c.old ++ rest) seen g → Stands f (c.now ++ rest) seen (with_two op g)
 between_by rest op c None e n m s = elim m [ ]
 between_by rest op c (Some sign) e n first s = two_stands op e n s
 between_by rest op c (Some sign) e n (later m) s = elim m [ ]
 
-test_by : {f : Frame} {seen : List ℕ} {g : Gathering} (rest : List Item) (op : Binary) (c : Change) (o : Option ℕ) → sign_of_test op ≡ o → IsOneOf c (test_changes o) →
+test_by : {f : Frame} {seen : List ℕ} {g : Gathering} (rest : List Item) (op : Binary) (c : Change) (o : Option ℕ) → sign_of_test op ≡ o →
+    IsOneOf c (test_changes o) →
     Stands f (c.old ++ rest) seen g → Stands f (c.now ++ rest) seen (with_test op g)
 test_by rest op c None e m s = elim m [ ]
 test_by rest op c (Some signs) e first s = test_stands op e s
@@ -85,15 +91,19 @@ two_by rest binary.Call c m s = elim m [ ]
 two_by rest binary.Then c m s = elim m [ ]
 two_by rest binary.To c m s = elim m [ ]
 
-stepped_stands : {f : Frame} {seen : List ℕ} (rest : List Item) (s : Option Step) (c : Change) → IsOneOf c (step_changes s) → (u : Unit) (tokens : List SourceToken) →
+stepped_stands : {f : Frame} {seen : List ℕ} (rest : List Item) (s : Option Step) (c : Change) → IsOneOf c (step_changes s) →
+    (u : Unit) (tokens : List SourceToken) →
     Read f (c.old ++ rest) seen u tokens → Read f (c.now ++ rest) seen (stepped s u) tokens
 stepped_stands rest None c m u tokens r = elim m [ ]
 stepped_stands rest (Some step.Leaf) c first u tokens r = record { stands = leaf_stands u tokens r.at r.stands; at = at_gathered _ r.at }
 stepped_stands rest (Some step.Leaf) c (later m) u tokens r = elim m [ ]
-stepped_stands rest (Some step.Action) c first u tokens r = record { stands = action_stands u tokens r.at r.stands; at = at_gathered _ r.at }
+stepped_stands rest (Some step.Action) c first u tokens r =
+    record { stands = action_stands u tokens r.at r.stands; at = at_gathered _ r.at }
 stepped_stands rest (Some step.Action) c (later m) u tokens r = elim m [ ]
-stepped_stands rest (Some (step.Prefix op)) c m u tokens r = record { stands = front_by rest op c (sign_in_front op) refl m r.stands; at = at_gathered _ r.at }
-stepped_stands rest (Some (step.Suffix op)) c m u tokens r = record { stands = suffix_by rest op c (sign_behind op) refl m r.stands; at = at_gathered _ r.at }
+stepped_stands rest (Some (step.Prefix op)) c m u tokens r =
+    record { stands = front_by rest op c (sign_in_front op) refl m r.stands; at = at_gathered _ r.at }
+stepped_stands rest (Some (step.Suffix op)) c m u tokens r =
+    record { stands = suffix_by rest op c (sign_behind op) refl m r.stands; at = at_gathered _ r.at }
 stepped_stands rest (Some (step.Two op)) c m u tokens r = record { stands = two_by rest op c m r.stands; at = at_gathered _ r.at }
 stepped_stands rest (Some step.Comma) c first u tokens r = record { stands = comma_stands r.stands; at = at_gathered _ r.at }
 stepped_stands rest (Some step.Comma) c (later m) u tokens r = elim m [ ]
@@ -101,37 +111,47 @@ stepped_stands rest (Some step.List) c first u tokens r = record { stands = list
 stepped_stands rest (Some step.List) c (later m) u tokens r = elim m [ ]
 stepped_stands rest (Some step.Part) c first u tokens r = record { stands = one_stands r.stands; at = at_gathered _ r.at }
 stepped_stands rest (Some step.Part) c (later first) u tokens r = record { stands = one_stands r.stands; at = at_gathered _ r.at }
-stepped_stands rest (Some step.Part) c (later (later first)) u tokens r = record { stands = more_stands (few_seen r.at) r.stands; at = at_gathered _ r.at }
-stepped_stands rest (Some step.Part) c (later (later (later first))) u tokens r = record { stands = more_stands (few_seen r.at) r.stands; at = at_gathered _ r.at }
+stepped_stands rest (Some step.Part) c (later (later first)) u tokens r =
+    record { stands = more_stands (few_seen r.at) r.stands; at = at_gathered _ r.at }
+stepped_stands rest (Some step.Part) c (later (later (later first))) u tokens r =
+    record { stands = more_stands (few_seen r.at) r.stands; at = at_gathered _ r.at }
 stepped_stands rest (Some step.Part) c (later (later (later (later m)))) u tokens r = elim m [ ]
 stepped_stands rest (Some step.Call) c first u tokens r = record { stands = call_stands r.stands; at = at_gathered _ r.at }
 stepped_stands rest (Some step.Call) c (later m) u tokens r = elim m [ ]
-stepped_stands rest (Some (step.Test op)) c m u tokens r = record { stands = test_by rest op c (sign_of_test op) refl m r.stands; at = at_gathered _ r.at }
-stepped_stands rest (Some step.Bracket) c first u tokens r = record { stands = opened_stands u tokens r.at r.stands; at = at_gathered _ r.at }
+stepped_stands rest (Some (step.Test op)) c m u tokens r =
+    record { stands = test_by rest op c (sign_of_test op) refl m r.stands; at = at_gathered _ r.at }
+stepped_stands rest (Some step.Bracket) c first u tokens r =
+    record { stands = opened_stands u tokens r.at r.stands; at = at_gathered _ r.at }
 stepped_stands rest (Some step.Bracket) c (later m) u tokens r = elim m [ ]
 stepped_stands rest (Some step.Bracketed) c first u tokens r = record { stands = bracketed_stands r.stands; at = at_gathered _ r.at }
 stepped_stands rest (Some step.Bracketed) c (later first) u tokens r = record { stands = closing_stands r.stands; at = at_gathered _ r.at }
 stepped_stands rest (Some step.Bracketed) c (later (later m)) u tokens r = elim m [ ]
 
 -- an action
-acts : {f : Frame} {seen : List ℕ} (rest : List Item) (a : Action) (c : Change) → IsOneOf c (step_changes (step_of a)) → (u : Unit) (tokens : List SourceToken) →
+acts : {f : Frame} {seen : List ℕ} (rest : List Item) (a : Action) (c : Change) → IsOneOf c (step_changes (step_of a)) →
+    (u : Unit) (tokens : List SourceToken) →
     Read f (c.old ++ rest) seen u tokens → Read f (c.now ++ rest) seen (acted a u) tokens
 acts {f} {seen} rest a c m u tokens r = by_step (step_of a) refl m
   where
     by_step : (o : Option Step) → step_of a ≡ o → IsOneOf c (step_changes o) → Read f (c.now ++ rest) seen (acted a u) tokens
     by_step None e n = elim n [ ]
-    by_step (Some s) e n = subst (λ v. Read f (c.now ++ rest) seen v tokens) (sym (acted_step a s u e)) (stepped_stands rest (Some s) c n u tokens r)
+    by_step (Some s) e n =
+        subst (λ v. Read f (c.now ++ rest) seen v tokens) (sym (acted_step a s u e)) (stepped_stands rest (Some s) c n u tokens r)
 
 -- A token
 last_of : {A : Type 0} (xs ys : List A) (y : A) → slice_get (xs ++ y ∷ ys) (length xs) ≡ Some y
 last_of [] ys y = refl
 last_of (x ∷ xs) ys y = last_of xs ys y
 
-taken_ready : (t : SourceToken) (u : Unit) → u.is_over ≡ false → taken t u ≡ record u { tokens = u.tokens ++ t ∷ []; depth = depth_behind t.kind u.depth }
-taken_ready t u e = cond-false u.is_over (record u { is_over = false }) (record u { tokens = u.tokens ++ t ∷ []; depth = depth_behind t.kind u.depth }) e
+taken_ready : (t : SourceToken) (u : Unit) → u.is_over ≡ false →
+    taken t u ≡ record u { tokens = u.tokens ++ t ∷ []; depth = depth_behind t.kind u.depth }
+taken_ready t u e =
+    cond-false u.is_over (record u { is_over = false }) (record u { tokens = u.tokens ++ t ∷ []; depth = depth_behind t.kind u.depth }) e
 
-with_token : {f : Frame} {items : List Item} {seen : List ℕ} {u : Unit} (t : SourceToken) (tokens : List SourceToken) (atom : ℕ) → IsSeen atom t → Read f items seen u (t ∷ tokens) →
-    ((other : List Item) → Stands f other (seen ++ atom ∷ []) u.gathering → Read f other (seen ++ atom ∷ []) (taken t u) tokens) × Known f (f.order + length seen) atom
+with_token : {f : Frame} {items : List Item} {seen : List ℕ} {u : Unit} (t : SourceToken) (tokens : List SourceToken) (atom : ℕ) →
+    IsSeen atom t → Read f items seen u (t ∷ tokens) →
+    ((other : List Item) → Stands f other (seen ++ atom ∷ []) u.gathering → Read f other (seen ++ atom ∷ []) (taken t u) tokens) × Known f
+    (f.order + length seen) atom
 with_token {f} {items} {seen} {u} t tokens atom is r =
     let a = r.at in (
       λ other s. subst (λ v. Read f other (seen ++ atom ∷ []) v tokens) (sym (taken_ready t u a.ready)) (record {
@@ -148,13 +168,15 @@ with_token {f} {items} {seen} {u} t tokens atom is r =
       }),
       record {
         seen = t.kind;
-        is = ap (option_map (λ (x : SourceToken). x.kind)) (ap (λ n. slice_get f.all n) (sym a.long) ∙ ap (λ ts. slice_get ts (length u.tokens)) a.all ∙ last_of u.tokens tokens t);
+        is = ap (option_map (λ (x : SourceToken). x.kind))
+            (ap (λ n. slice_get f.all n) (sym a.long) ∙ ap (λ ts. slice_get ts (length u.tokens)) a.all ∙ last_of u.tokens tokens t);
         mark = is;
       },
     )
 
 -- where nothing is left to be read
-at_end : {f : Frame} {symbols : List (Symbol Action)} {items target : List Item} → symbols ≡ [] → Passes items symbols target → {seen : List ℕ} {g : Gathering} → Stands f items seen g → Stands f target seen g
+at_end : {f : Frame} {symbols : List (Symbol Action)} {items target : List Item} → symbols ≡ [] → Passes items symbols target →
+    {seen : List ℕ} {g : Gathering} → Stands f items seen g → Stands f target seen g
 at_end e (typed.done w) s = weakened s w
 at_end e (typed.token p) s = cc
 at_end e (typed.close w h p) s = cc
@@ -162,19 +184,23 @@ at_end e (typed.sure p) s = cc
 at_end e (typed.act c rest one w p) s = cc
 at_end e (typed.rule c rest is w p) s = cc
 
-reads : {symbols left : List (Symbol Action)} {atoms : List ℕ} {events : List (Event Action)} → Leads grammar symbols atoms events left → left ≡ [] →
-    {f : Frame} {items target : List Item} {seen : List ℕ} → Passes items symbols target → (u : Unit) (tokens : List SourceToken) → AreSeen atoms tokens →
+reads : {symbols left : List (Symbol Action)} {atoms : List ℕ} {events : List (Event Action)} → Leads grammar symbols atoms events left →
+    left ≡ [] →
+    {f : Frame} {items target : List Item} {seen : List ℕ} → Passes items symbols target → (u : Unit) (tokens : List SourceToken) → AreSeen
+    atoms tokens →
     Read f items seen u tokens → Read f target (seen ++ atoms) (read_by events tokens u) []
 reads here e {f = f} {target = target} {seen = seen} p u [] a r =
     subst (λ s. Read f target s u []) (sym (append-nil seen)) (record { stands = at_end e p r.stands; at = r.at })
 reads here e p u (t ∷ tokens) a r = cc
 reads (token h l) e (typed.token p) u [] a r = cc
-reads (token {atom = atom} {atoms = atoms} {events = events} h l) e {f = f} {target = target} {seen = seen} (typed.token p) u (t ∷ tokens) a r =
+reads (token {atom = atom} {atoms = atoms} {events = events} h l) e {f = f} {target = target} {seen = seen} (typed.token p) u (t ∷ tokens) a
+    r =
     let n = with_token t tokens atom a.0 r in
     subst (λ s. Read f target s (read_by events tokens (taken t u)) []) (append_assoc seen (atom ∷ []) atoms)
     (reads l e p (taken t u) tokens a.1 (n.0 _ (read seen atom r.stands h n.1)))
 reads (token h l) e (typed.close w i p) u [] a r = cc
-reads (token {atom = atom} {atoms = atoms} {events = events} h l) e {f = f} {target = target} {seen = seen} (typed.close w i p) u (t ∷ tokens) a r =
+reads (token {atom = atom} {atoms = atoms} {events = events} h l) e {f = f} {target = target} {seen = seen} (typed.close w i p) u
+    (t ∷ tokens) a r =
     let n = with_token t tokens atom a.0 r in
     subst (λ s. Read f target s (read_by events tokens (taken t u)) []) (append_assoc seen (atom ∷ []) atoms)
     (reads l e p (taken t u) tokens a.1 (n.0 _ (closed_stands atom (has_within _ _ atom i h) (weakened r.stands w))))
@@ -194,7 +220,8 @@ only_whole {f} (whole _ atoms a _ start w) = (a, moved (omega arith) refl w, ref
 abbrev frame : Unit → List SourceToken → Frame
 frame u tokens = record { outer = u.outer; begun = u.begun; all = u.tokens ++ tokens; order = length u.tokens; base = u.gathering }
 
-at_start : (u : Unit) (tokens : List SourceToken) → u.is_over ≡ false → u.begun ≤ length u.tokens → length (u.tokens ++ tokens) < 4294967295 → At (frame u tokens) u 0 tokens
+at_start : (u : Unit) (tokens : List SourceToken) → u.is_over ≡ false → u.begun ≤ length u.tokens →
+    length (u.tokens ++ tokens) < 4294967295 → At (frame u tokens) u 0 tokens
 at_start u tokens ready early few = record {
   all = refl;
   long = omega arith;
@@ -208,6 +235,7 @@ at_start u tokens ready early few = record {
 pub expressions_are_read : ExpressionsAreRead
 expressions_are_read symbols level form atoms events t u tokens seen ready early few =
     let p = form_passes symbols level form in
-    let r = reads t refl {f = frame u tokens} {seen = []} p u tokens seen (record { stands = start; at = at_start u tokens ready early few }) in
+    let r =
+    reads t refl {f = frame u tokens} {seen = []} p u tokens seen (record { stands = start; at = at_start u tokens ready early few }) in
     let w = only_whole r.stands in
     (w.0, w.1, w.2, sym (append-nil (read_by events tokens u).tokens) ∙ sym r.at.all)

@@ -51,7 +51,8 @@ fits (Parts level signs) (Any other_level other_signs) = same_list level signs o
 fits (Any level signs) (Any other_level other_signs) = same_list level signs other_level other_signs
 fits _ _ = false
 
-same_as : (P : ℕ → ℕ → Type 0) (level signs other_level other_signs : ℕ) → same_list level signs other_level other_signs ≡ true → P level signs → P other_level other_signs
+same_as : (P : ℕ → ℕ → Type 0) (level signs other_level other_signs : ℕ) → same_list level signs other_level other_signs ≡ true →
+    P level signs → P other_level other_signs
 same_as P level signs other_level other_signs e p =
     let both = and_parts (level == other_level) (signs == other_signs) e in
     subst (λ s. P other_level s) (eqb-true signs other_signs both.1) (subst (λ l. P l signs) (eqb-true level other_level both.0) p)
@@ -97,15 +98,18 @@ fits_sound (Parts level signs) (Whole other_level) e = cc
 fits_sound (Parts level signs) Opened e = cc
 fits_sound (Parts level signs) Closing e = cc
 fits_sound (Parts level signs) NoneYet e = cc
-fits_sound (Parts level signs) (Parts other_level other_signs) e = same_as (λ l s. Fits (Parts level signs) (Parts l s)) level signs other_level other_signs e parts
-fits_sound (Parts level signs) (Any other_level other_signs) e = same_as (λ l s. Fits (Parts level signs) (Any l s)) level signs other_level other_signs e some
+fits_sound (Parts level signs) (Parts other_level other_signs) e =
+    same_as (λ l s. Fits (Parts level signs) (Parts l s)) level signs other_level other_signs e parts
+fits_sound (Parts level signs) (Any other_level other_signs) e =
+    same_as (λ l s. Fits (Parts level signs) (Any l s)) level signs other_level other_signs e some
 fits_sound (Any level signs) (Sign other_set) e = cc
 fits_sound (Any level signs) (Whole other_level) e = cc
 fits_sound (Any level signs) Opened e = cc
 fits_sound (Any level signs) Closing e = cc
 fits_sound (Any level signs) NoneYet e = cc
 fits_sound (Any level signs) (Parts other_level other_signs) e = cc
-fits_sound (Any level signs) (Any other_level other_signs) e = same_as (λ l s. Fits (Any level signs) (Any l s)) level signs other_level other_signs e any
+fits_sound (Any level signs) (Any other_level other_signs) e =
+    same_as (λ l s. Fits (Any level signs) (Any l s)) level signs other_level other_signs e any
 
 abbrev pub all_fit : List Item → List Item → Bool
 all_fit [] [] = true
@@ -116,7 +120,8 @@ pub all_fit_sound : (xs ys : List Item) → all_fit xs ys ≡ true → Within xs
 all_fit_sound [] [] e = bottom
 all_fit_sound [] (y ∷ ys) e = cc
 all_fit_sound (x ∷ xs) [] e = cc
-all_fit_sound (x ∷ xs) (y ∷ ys) e = let both = and_parts (fits x y) (all_fit xs ys) e in item (fits_sound x y both.0) (all_fit_sound xs ys both.1)
+all_fit_sound (x ∷ xs) (y ∷ ys) e =
+    let both = and_parts (fits x y) (all_fit xs ys) e in item (fits_sound x y both.0) (all_fit_sound xs ys both.1)
 
 -- Items on the top are taken away, where they are these or cases of them.
 abbrev pub and_then : {A B : Type 0} → (A → Option B) → Option A → Option B
@@ -177,6 +182,7 @@ pub all_popped_sound : (ys items rest : List Item) → all_popped ys items ≡ S
 all_popped_sound [] items rest e = subst (λ r. Within items r) (same_Some items rest e) (within_same items)
 all_popped_sound (y ∷ ys) items rest e = by_first (λ left q. all_popped_sound ys left rest q) (popped y items) refl e
   where
-    by_first : ((left : List Item) → all_popped ys left ≡ Some rest → Within left (ys ++ rest)) → (o : Option (List Item)) → popped y items ≡ o → and_then (all_popped ys) o ≡ Some rest → Within items (y ∷ (ys ++ rest))
+    by_first : ((left : List Item) → all_popped ys left ≡ Some rest → Within left (ys ++ rest)) → (o : Option (List Item)) →
+        popped y items ≡ o → and_then (all_popped ys) o ≡ Some rest → Within items (y ∷ (ys ++ rest))
     by_first others None p q = cc
     by_first others (Some left) p q = within_trans (popped_sound y items left p) (item (fits_same y) (others left q))

@@ -38,7 +38,8 @@ in_front_of [] ys at l = absurd (omega (arith, l))
 in_front_of (x ∷ xs) ys zero l = refl
 in_front_of (x ∷ xs) ys (suc at) l = in_front_of xs ys at (omega (arith, l))
 
-pub kind_kept : (f : Frame) (u : Unit) (count : ℕ) (tokens : List SourceToken) → At f u count tokens → (at : ℕ) → at < length u.tokens → kind_at u.tokens at ≡ kind_at f.all at
+pub kind_kept : (f : Frame) (u : Unit) (count : ℕ) (tokens : List SourceToken) → At f u count tokens → (at : ℕ) → at < length u.tokens →
+    kind_at u.tokens at ≡ kind_at f.all at
 kind_kept f u count tokens a at l =
     ap (option_map (λ (t : SourceToken). t.kind)) (sym (in_front_of u.tokens tokens at l) ∙ ap (λ ts. slice_get ts at) (sym a.all))
 
@@ -54,7 +55,8 @@ alone_is : (f : Frame) (u : Unit) (count : ℕ) (tokens : List SourceToken) → 
     is_alone at u ≡ (is_first n f.outer && is_some_mark mark.At (kind_at f.all f.begun))
 alone_is f u count tokens a some at n e i =
     is_first (e i) (a.outer i)
-    && (ap (λ b. is_some_mark mark.At (kind_at u.tokens b)) a.begun ∙ ap (is_some_mark mark.At) (kind_kept f u count tokens a f.begun (omega (arith, a.long, a.early, some)))) i
+    && (ap (λ b. is_some_mark mark.At (kind_at u.tokens b)) a.begun ∙ ap (is_some_mark mark.At)
+    (kind_kept f u count tokens a f.begun (omega (arith, a.long, a.early, some)))) i
 
 -- what a token that is a leaf by itself is read as
 leaf_is : (f : Frame) (n : ℕ) (k : TokenKind) → kind_at f.all n ≡ Some k →
@@ -73,10 +75,12 @@ leaf_stands {f} u tokens a (read seen atom s h k) =
     let at = last_leaf u in
     let count : length (seen ++ atom ∷ []) ≡ length seen + 1 = length-append seen (atom ∷ []) in
     let last : at ≡ n = omega (arith, a.long, count) in
-    let kind : kind_at u.tokens at ≡ Some k.seen = kind_kept f u (length (seen ++ atom ∷ [])) tokens a at (omega (arith, a.long, count)) ∙ ap (kind_at f.all) last ∙ k.is in
+    let kind : kind_at u.tokens at ≡ Some k.seen =
+    kind_kept f u (length (seen ++ atom ∷ [])) tokens a at (omega (arith, a.long, count)) ∙ ap (kind_at f.all) last ∙ k.is in
     let order_last : order at ≡ n = order_is at (omega (arith, within_all f u (length (seen ++ atom ∷ [])) tokens a)) ∙ last in
     let told = alone_is f u (length (seen ++ atom ∷ [])) tokens a (omega (arith, count)) at n last in
-    let one : gained f (Leaf n n (length g.leaves)) g ≡ with_leaf n n (told_leaf (is_first n f.outer && is_some_mark mark.At (kind_at f.all f.begun)) (leaf_of n k.seen)) g =
+    let one : gained f (Leaf n n (length g.leaves)) g ≡ with_leaf n n
+    (told_leaf (is_first n f.outer && is_some_mark mark.At (kind_at f.all f.begun)) (leaf_of n k.seen)) g =
     (λ i. record {
       leaves = g.leaves ++ leaf_is f n k.seen k.is i ∷ [];
       symbols = g.symbols ++ symbol.Leaf n n (length g.leaves) ∷ [];
@@ -84,7 +88,8 @@ leaf_stands {f} u tokens a (read seen atom s h k) =
       counts = g.counts;
       brackets = g.brackets;
     }) in
-    let other : with_last at (is_alone at u) (kind_at u.tokens at) g ≡ with_leaf n n (told_leaf (is_first n f.outer && is_some_mark mark.At (kind_at f.all f.begun)) (leaf_of n k.seen)) g =
+    let other : with_last at (is_alone at u) (kind_at u.tokens at) g ≡ with_leaf n n
+    (told_leaf (is_first n f.outer && is_some_mark mark.At (kind_at f.all f.begun)) (leaf_of n k.seen)) g =
     ap (λ o. with_last at (is_alone at u) o g) kind
     ∙ (λ i. with_leaf (order_last i) (order_last i) (told_leaf (told i) (leaf_of (last i) k.seen)) g) in
     placed refl (one ∙ sym other) (whole seen (atom ∷ []) (Leaf n n (length g.leaves)) g s (operand h))
@@ -95,28 +100,34 @@ only_mark m atom h = by_test (atom == mark_atom m) refl
   where
     by_test : (b : Bool) → (atom == mark_atom m) ≡ b → atom ≡ mark_atom m
     by_test true e = eqb-true atom (mark_atom m) e
-    by_test false e = absurd (both_ways (has (of_mark m) atom) (ap (λ b. b == 1) (bit_at-pow_other (mark_atom m) atom (eqb-false atom (mark_atom m) e))) h)
+    by_test false e = absurd (both_ways (has (of_mark m) atom) (ap (λ b. b == 1) (bit_at-pow_other (mark_atom m) atom
+        (eqb-false atom (mark_atom m) e))) h)
 
 pub action_stands : {f : Frame} {rest : List Item} {seen : List ℕ} (u : Unit) (tokens : List SourceToken) → At f u (length seen) tokens →
     Stands f (Sign operand_names ∷ Sign (of_mark mark.DoubleHash) ∷ rest) seen u.gathering →
-    Stands f (Whole primaries ∷ rest) seen (with_leaf (order (marked_from u.tokens (last_leaf u))) (order (last_leaf u)) (leaf.Action (last_leaf u)) u.gathering)
+    Stands f (Whole primaries ∷ rest) seen (with_leaf (order (marked_from u.tokens (last_leaf u))) (order (last_leaf u))
+    (leaf.Action (last_leaf u)) u.gathering)
 action_stands {f} u tokens a (read _ atom (read seen sign s l j) h k) =
     let g = u.gathering in
     let n = f.order + length seen in
     let at = last_leaf u in
-    let count : length ((seen ++ sign ∷ []) ++ atom ∷ []) ≡ length seen + 2 = omega (arith, length-append (seen ++ sign ∷ []) (atom ∷ []), length-append seen (sign ∷ [])) in
+    let count : length ((seen ++ sign ∷ []) ++ atom ∷ []) ≡ length seen + 2 =
+    omega (arith, length-append (seen ++ sign ∷ []) (atom ∷ []), length-append seen (sign ∷ [])) in
     let last : at ≡ suc n = omega (arith, a.long, count) in
     let before : at - 1 ≡ n = omega (arith, last) in
-    let order_last : order at ≡ suc n = order_is at (omega (arith, within_all f u (length ((seen ++ sign ∷ []) ++ atom ∷ [])) tokens a)) ∙ last in
+    let order_last : order at ≡ suc n =
+    order_is at (omega (arith, within_all f u (length ((seen ++ sign ∷ []) ++ atom ∷ [])) tokens a)) ∙ last in
     let hash : kind_at u.tokens (at - 1) ≡ Some (kind.Mark mark.DoubleHash) =
     kind_kept f u (length ((seen ++ sign ∷ []) ++ atom ∷ [])) tokens a (at - 1) (omega (arith, a.long, count))
     ∙ ap (kind_at f.all) before
     ∙ j.is
     ∙ ap Some (j.mark mark.DoubleHash (only_mark mark.DoubleHash sign l)) in
     let begun : marked_from u.tokens at ≡ n = cond-true (is_sign (kind_at u.tokens (at - 1))) (at - 1) at (ap is_sign hash) ∙ before in
-    let order_first : order (marked_from u.tokens at) ≡ n = ap order begun ∙ order_is n (omega (arith, last, within_all f u (length ((seen ++ sign ∷ []) ++ atom ∷ [])) tokens a)) in
+    let order_first : order (marked_from u.tokens at) ≡ n =
+    ap order begun ∙ order_is n (omega (arith, last, within_all f u (length ((seen ++ sign ∷ []) ++ atom ∷ [])) tokens a)) in
     let leaf_of_name : leaf_read f.outer f.begun f.all n (suc n) ≡ leaf.Action at =
-    cond-false (n == suc n) (told_leaf (is_first (suc n) f.outer && is_some_mark mark.At (kind_at f.all f.begun)) (leaf_of (suc n) (kind_in (kind_at f.all (suc n))))) (leaf.Action (suc n)) (ne_eqb n (suc n) (omega arith))
+    cond-false (n == suc n) (told_leaf (is_first (suc n) f.outer && is_some_mark mark.At (kind_at f.all f.begun))
+    (leaf_of (suc n) (kind_in (kind_at f.all (suc n))))) (leaf.Action (suc n)) (ne_eqb n (suc n) (omega arith))
     ∙ ap leaf.Action (sym last) in
     placed (sym (append_assoc seen (sign ∷ []) (atom ∷ []))) (λ i. record {
       leaves = g.leaves ++ leaf_of_name i ∷ [];
@@ -128,11 +139,13 @@ action_stands {f} u tokens a (read _ atom (read seen sign s l j) h k) =
     (whole seen (sign ∷ atom ∷ []) (Leaf n (suc n) (length g.leaves)) g s (action l h))
 
 pub opened_stands : {f : Frame} {rest : List Item} {seen : List ℕ} (u : Unit) (tokens : List SourceToken) → At f u (length seen) tokens →
-    Stands f (Sign opening_sign ∷ rest) seen u.gathering → Stands f (Opened ∷ rest) seen (with_bracket (order (length u.tokens - 1)) u.gathering)
+    Stands f (Sign opening_sign ∷ rest) seen u.gathering → Stands f (Opened ∷ rest) seen
+    (with_bracket (order (length u.tokens - 1)) u.gathering)
 opened_stands {f} u tokens a (read seen atom s h k) =
     let g = u.gathering in
     let n = f.order + length seen in
     let count : length (seen ++ atom ∷ []) ≡ length seen + 1 = length-append seen (atom ∷ []) in
     let last : length u.tokens - 1 ≡ n = omega (arith, a.long, count) in
-    let order_last : order (length u.tokens - 1) ≡ n = order_is (length u.tokens - 1) (omega (arith, within_all f u (length (seen ++ atom ∷ [])) tokens a)) ∙ last in
+    let order_last : order (length u.tokens - 1) ≡ n =
+    order_is (length u.tokens - 1) (omega (arith, within_all f u (length (seen ++ atom ∷ [])) tokens a)) ∙ last in
     placed refl (ap (λ o. with_bracket o g) (sym order_last)) (opened seen atom g s h)

@@ -18,7 +18,8 @@ can_end_append : (xs ys : List (Symbol Action)) → can_end known (xs ++ ys) ≡
 can_end_append [] ys = refl
 can_end_append (Token class ∷ xs) ys = refl
 can_end_append (Act a ∷ xs) ys = can_end_append xs ys
-can_end_append (Rule rule ∷ xs) ys = ap (λ b. known.is_empty rule && b) (can_end_append xs ys) ∙ regroup (known.is_empty rule) (can_end known xs) (can_end known ys)
+can_end_append (Rule rule ∷ xs) ys =
+    ap (λ b. known.is_empty rule && b) (can_end_append xs ys) ∙ regroup (known.is_empty rule) (can_end known xs) (can_end known ys)
   where
     regroup : (a b c : Bool) → (a && (b && c)) ≡ ((a && b) && c)
     regroup true b c = refl
@@ -38,24 +39,29 @@ ended (action l) = ended l
 ended (row {rule} {r} {symbols} m free l) =
     let both = and_parts (can_end known r.parts) (can_end known symbols) (sym (can_end_append r.parts symbols) ∙ ended l) in
     and_from (known.is_empty rule) (can_end known symbols)
-    (by_empty (known.is_empty rule) (decided_parts grammar known rule (language_is_decided rule)).empties (empty_counts known (grammar.rows_of rule) r m both.0)) both.1
+    (by_empty (known.is_empty rule) (decided_parts grammar known rule (language_is_decided rule)).empties
+    (empty_counts known (grammar.rows_of rule) r m both.0)) both.1
   where
-    by_empty : (b : Bool) → empty_rows known (grammar.rows_of rule) ≡ (if b then 1 else 0) → 1 ≤ empty_rows known (grammar.rows_of rule) → b ≡ true
+    by_empty : (b : Bool) → empty_rows known (grammar.rows_of rule) ≡ (if b then 1 else 0) → 1 ≤ empty_rows known (grammar.rows_of rule) →
+        b ≡ true
     by_empty true e l = refl
     by_empty false e l = absurd (omega (arith, e, l))
 
 -- so its events are those of the rows that can be empty
-same_empty : {symbols : List (Symbol Action)} {events others : List (Event Action)} → Leads grammar symbols [] events [] → Leads grammar symbols [] others [] → events ≡ others
+same_empty : {symbols : List (Symbol Action)} {events others : List (Event Action)} → Leads grammar symbols [] events [] →
+    Leads grammar symbols [] others [] → events ≡ others
 same_empty here here = refl
 same_empty (action {a = a} l) (action k) = ap (λ es. Did a ∷ es) (same_empty l k)
 same_empty (row {rule = rule} {r = r} {symbols = symbols} m free l) (row {r = s} {events = others} n clear k) =
     let first = and_parts (can_end known r.parts) (can_end known symbols) (sym (can_end_append r.parts symbols) ∙ ended l) in
     let second = and_parts (can_end known s.parts) (can_end known symbols) (sym (can_end_append s.parts symbols) ∙ ended k) in
     let same : s.parts ≡ r.parts =
-    sym (empty_is_chosen known (grammar.rows_of rule) s n second.0 (at_most_one rule)) ∙ empty_is_chosen known (grammar.rows_of rule) r m first.0 (at_most_one rule) in
+    sym (empty_is_chosen known (grammar.rows_of rule) s n second.0 (at_most_one rule))
+    ∙ empty_is_chosen known (grammar.rows_of rule) r m first.0 (at_most_one rule) in
     same_empty l (subst (λ parts. Leads grammar (parts ++ symbols) [] others []) same k)
 
-pub same_events : (rule : ℕ) (atoms : List ℕ) (events others : List (Event Action)) → IsText grammar (Rule rule ∷ []) atoms events → IsText grammar (Rule rule ∷ []) atoms others → events ≡ others
+pub same_events : (rule : ℕ) (atoms : List ℕ) (events others : List (Event Action)) → IsText grammar (Rule rule ∷ []) atoms events →
+    IsText grammar (Rule rule ∷ []) atoms others → events ≡ others
 same_events rule atoms events others t u =
     let one = (texts_are_taken grammar known rule atoms events language_is_decided).0 t in
     let two = (texts_are_taken grammar known rule atoms others language_is_decided).0 u in

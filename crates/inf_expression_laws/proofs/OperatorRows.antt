@@ -74,61 +74,75 @@ free [] = tt
 free (atom ∷ atoms) = has_zero atom
 
 -- Tails that are empty
-pub no_expression_tail : {K : List (Symbol Action)} {atoms : List ℕ} {events : List (Event Action)} → IsText grammar K atoms events → IsText grammar (expression_tail ∷ K) atoms events
+pub no_expression_tail : {K : List (Symbol Action)} {atoms : List ℕ} {events : List (Event Action)} → IsText grammar K atoms events →
+    IsText grammar (expression_tail ∷ K) atoms events
 unfolding grammar
 no_expression_tail l = row (later first) (free _) l
 
-pub no_logic_tail : {K : List (Symbol Action)} {atoms : List ℕ} {events : List (Event Action)} → IsText grammar K atoms events → IsText grammar (logic_tail ∷ K) atoms events
+pub no_logic_tail : {K : List (Symbol Action)} {atoms : List ℕ} {events : List (Event Action)} → IsText grammar K atoms events →
+    IsText grammar (logic_tail ∷ K) atoms events
 unfolding grammar
 no_logic_tail l = row (later first) (free _) l
 
-pub no_sum_tail : {K : List (Symbol Action)} {atoms : List ℕ} {events : List (Event Action)} → IsText grammar K atoms events → IsText grammar (sum_tail ∷ K) atoms events
+pub no_sum_tail : {K : List (Symbol Action)} {atoms : List ℕ} {events : List (Event Action)} → IsText grammar K atoms events →
+    IsText grammar (sum_tail ∷ K) atoms events
 unfolding grammar
 no_sum_tail l = row (later first) (free _) l
 
-pub no_term_tail : {K : List (Symbol Action)} {atoms : List ℕ} {events : List (Event Action)} → IsText grammar K atoms events → IsText grammar (term_tail ∷ K) atoms events
+pub no_term_tail : {K : List (Symbol Action)} {atoms : List ℕ} {events : List (Event Action)} → IsText grammar K atoms events →
+    IsText grammar (term_tail ∷ K) atoms events
 unfolding grammar
 no_term_tail l = row (later first) (free _) l
 
-pub no_array_tail : {K : List (Symbol Action)} {atoms : List ℕ} {events : List (Event Action)} → IsText grammar K atoms events → IsText grammar (array_tail ∷ K) atoms events
+pub no_array_tail : {K : List (Symbol Action)} {atoms : List ℕ} {events : List (Event Action)} → IsText grammar K atoms events →
+    IsText grammar (array_tail ∷ K) atoms events
 unfolding grammar
 no_array_tail l = row (later first) (free _) l
 
-pub no_step_tail : {K : List (Symbol Action)} {atoms : List ℕ} {events : List (Event Action)} → IsText grammar K atoms events → IsText grammar (step_tail ∷ K) atoms events
+pub no_step_tail : {K : List (Symbol Action)} {atoms : List ℕ} {events : List (Event Action)} → IsText grammar K atoms events →
+    IsText grammar (step_tail ∷ K) atoms events
 unfolding grammar
 no_step_tail l = row (later first) (free _) l
 
-pub no_address_tail : {K : List (Symbol Action)} {atoms : List ℕ} {events : List (Event Action)} → IsText grammar K atoms events → IsText grammar (address_tail ∷ K) atoms events
+pub no_address_tail : {K : List (Symbol Action)} {atoms : List ℕ} {events : List (Event Action)} → IsText grammar K atoms events →
+    IsText grammar (address_tail ∷ K) atoms events
 unfolding grammar
 no_address_tail l = row (later first) (free _) l
 
-pub no_call_1 : {K : List (Symbol Action)} {atoms : List ℕ} {events : List (Event Action)} → IsText grammar K atoms events → IsText grammar (call_1 ∷ K) atoms events
+pub no_call_1 : {K : List (Symbol Action)} {atoms : List ℕ} {events : List (Event Action)} → IsText grammar K atoms events →
+    IsText grammar (call_1 ∷ K) atoms events
 unfolding grammar
 no_call_1 l = row (later first) (free _) l
 
-pub no_call_2 : {K : List (Symbol Action)} {atoms : List ℕ} {events : List (Event Action)} → IsText grammar K atoms events → IsText grammar (call_2 ∷ K) atoms events
+pub no_call_2 : {K : List (Symbol Action)} {atoms : List ℕ} {events : List (Event Action)} → IsText grammar K atoms events →
+    IsText grammar (call_2 ∷ K) atoms events
 unfolding grammar
 no_call_2 l = row (later first) (free _) l
 
-pub no_tested_1 : {K : List (Symbol Action)} {atoms : List ℕ} {events : List (Event Action)} → IsText grammar K atoms events → IsText grammar (tested_1 ∷ K) atoms events
+pub no_tested_1 : {K : List (Symbol Action)} {atoms : List ℕ} {events : List (Event Action)} → IsText grammar K atoms events →
+    IsText grammar (tested_1 ∷ K) atoms events
 unfolding grammar
 no_tested_1 l = row (later first) (free _) l
 
-pub no_test_tail : {K : List (Symbol Action)} {atoms : List ℕ} {events : List (Event Action)} → IsText grammar K atoms events → IsText grammar (test_tail ∷ K) atoms events
+pub no_test_tail : {K : List (Symbol Action)} {atoms : List ℕ} {events : List (Event Action)} → IsText grammar K atoms events →
+    IsText grammar (test_tail ∷ K) atoms events
 unfolding grammar
 no_test_tail l = row first (free _) (row (later first) (free _) l)
 
-pub no_assign_tail : {K : List (Symbol Action)} {atoms : List ℕ} {events : List (Event Action)} → IsText grammar K atoms events → IsText grammar (assign_tail ∷ K) atoms events
+pub no_assign_tail : {K : List (Symbol Action)} {atoms : List ℕ} {events : List (Event Action)} → IsText grammar K atoms events →
+    IsText grammar (assign_tail ∷ K) atoms events
 unfolding grammar
 no_assign_tail l = row first (free _) (row (later first) (free _) l)
 
-pub no_post_tail : {K : List (Symbol Action)} {atoms : List ℕ} {events : List (Event Action)} → NotCalled atoms → IsText grammar K atoms events → IsText grammar (post_tail ∷ K) atoms events
+pub no_post_tail : {K : List (Symbol Action)} {atoms : List ℕ} {events : List (Event Action)} → NotCalled atoms →
+    IsText grammar K atoms events → IsText grammar (post_tail ∷ K) atoms events
 unfolding grammar
 no_post_tail n l = row (later (later first)) n l
 
 -- Signs that are no opening bracket
 pub apart : (signs : ℕ) → bit_and signs opening_sign ≡ 0 → (atom : ℕ) → has signs atom ≡ true → has opening_sign atom ≡ false
-apart signs e atom h = by_both (has signs atom) (has opening_sign atom) h (sym (has_and signs opening_sign atom) ∙ ap (λ set. has set atom) e ∙ has_zero atom)
+apart signs e atom h =
+    by_both (has signs atom) (has opening_sign atom) h (sym (has_and signs opening_sign atom) ∙ ap (λ set. has set atom) e ∙ has_zero atom)
   where
     by_both : (x y : Bool) → x ≡ true → (x && y) ≡ false → y ≡ false
     by_both true y h n = n
@@ -140,8 +154,11 @@ pub record Between (op : Binary) (level signs : ℕ) : Type 0 where
   pub act : Action
   pub effect : (s : State) → stepped (step_of act) s ≡ record s { sources = over_two (Two op) s.sources }
   pub no_call : bit_and signs opening_sign ≡ 0
-  pub enters : (K : List (Symbol Action)) (rest : List ℕ) (events : List (Event Action)) (atom : ℕ) → has signs atom ≡ true → IsText grammar (begin (suc level) ++ Act act ∷ (loop level ++ K)) rest events → IsText grammar (loop level ++ K) (atom ∷ rest) (Took atom ∷ events)
-  pub closes : (K : List (Symbol Action)) (rest : List ℕ) (events : List (Event Action)) → (level ≤ 12 → NotCalled rest) → IsText grammar K rest events → IsText grammar (loop (suc level) ++ K) rest events
+  pub enters : (K : List (Symbol Action)) (rest : List ℕ) (events : List (Event Action)) (atom : ℕ) → has signs atom ≡ true →
+      IsText grammar (begin (suc level) ++ Act act ∷ (loop level ++ K)) rest events →
+      IsText grammar (loop level ++ K) (atom ∷ rest) (Took atom ∷ events)
+  pub closes : (K : List (Symbol Action)) (rest : List ℕ) (events : List (Event Action)) → (level ≤ 12 → NotCalled rest) →
+      IsText grammar K rest events → IsText grammar (loop (suc level) ++ K) rest events
 
 commas_entry : Between binary.Comma written.commas (of_mark mark.Comma)
 unfolding grammar
@@ -325,7 +342,8 @@ pub record InFront (op : Unary) (level signs : ℕ) : Type 0 where
   pub act : Action
   pub effect : (s : State) → stepped (step_of act) s ≡ record s { sources = over_one (in_front_of op) s.sources }
   pub no_loop : loop level ≡ []
-  pub enters : (K : List (Symbol Action)) (rest : List ℕ) (events : List (Event Action)) (atom : ℕ) → has signs atom ≡ true → IsText grammar (begin level ++ Act act ∷ K) rest events → IsText grammar (begin level ++ K) (atom ∷ rest) (Took atom ∷ events)
+  pub enters : (K : List (Symbol Action)) (rest : List ℕ) (events : List (Event Action)) (atom : ℕ) → has signs atom ≡ true →
+      IsText grammar (begin level ++ Act act ∷ K) rest events → IsText grammar (begin level ++ K) (atom ∷ rest) (Took atom ∷ events)
 
 not_entry : InFront unary.Not written.denials (of_mark mark.LogicalNot)
 unfolding grammar
@@ -395,7 +413,8 @@ pub record Behind (op : Unary) (level signs : ℕ) : Type 0 where
   pub act : Action
   pub effect : (s : State) → stepped (step_of act) s ≡ record s { sources = over_one (Suffix op) s.sources }
   pub no_call : bit_and signs opening_sign ≡ 0
-  pub enters : (K : List (Symbol Action)) (rest : List ℕ) (events : List (Event Action)) (atom : ℕ) → has signs atom ≡ true → IsText grammar (loop level ++ K) rest events → IsText grammar (loop level ++ K) (atom ∷ rest) (Took atom ∷ Did act ∷ events)
+  pub enters : (K : List (Symbol Action)) (rest : List ℕ) (events : List (Event Action)) (atom : ℕ) → has signs atom ≡ true →
+      IsText grammar (loop level ++ K) rest events → IsText grammar (loop level ++ K) (atom ∷ rest) (Took atom ∷ Did act ∷ events)
 
 up_behind_entry : Behind (unary.Behind stepping.Up) written.steps_behind (of_mark mark.Increment)
 unfolding grammar
@@ -436,7 +455,9 @@ pub record Tested (op : Binary) (signs : ℕ) : Type 0 where
   pub act : Action
   pub effect : (s : State) → stepped (step_of act) s ≡ record s { sources = tested_by op s.counts s.sources; counts = behind s.counts }
   pub no_call : bit_and signs opening_sign ≡ 0
-  pub enters : (K : List (Symbol Action)) (rest : List ℕ) (events : List (Event Action)) (atom : ℕ) → has signs atom ≡ true → IsText grammar (sum ∷ !part ∷ tested_1 ∷ Act act ∷ K) rest events → IsText grammar (test_tail ∷ K) (atom ∷ rest) (Took atom ∷ Did does.Count ∷ events)
+  pub enters : (K : List (Symbol Action)) (rest : List ℕ) (events : List (Event Action)) (atom : ℕ) → has signs atom ≡ true →
+      IsText grammar (sum ∷ !part ∷ tested_1 ∷ Act act ∷ K) rest events →
+      IsText grammar (test_tail ∷ K) (atom ∷ rest) (Took atom ∷ Did does.Count ∷ events)
 
 equal_entry : Tested (binary.Test test.Equal) (of_mark mark.Equal)
 unfolding grammar
@@ -444,7 +465,8 @@ equal_entry = record {
   act = does.Equal;
   effect = λ s. refl;
   no_call = refl;
-  enters = λ K rest events atom h l. row first (has_zero atom) (row first (has_zero atom) (row first (has_zero atom) (token h (row first (free rest) (action l)))));
+  enters = λ K rest events atom h l. row first (has_zero atom)
+      (row first (has_zero atom) (row first (has_zero atom) (token h (row first (free rest) (action l)))));
 }
 
 unequal_entry : Tested (binary.Fails test.Equal) (of_mark mark.NotEqual)
@@ -453,7 +475,8 @@ unequal_entry = record {
   act = does.Unequal;
   effect = λ s. refl;
   no_call = refl;
-  enters = λ K rest events atom h l. row first (has_zero atom) (row first (has_zero atom) (row (later first) (has_zero atom) (token h (row first (free rest) (action l)))));
+  enters = λ K rest events atom h l. row first (has_zero atom)
+      (row first (has_zero atom) (row (later first) (has_zero atom) (token h (row first (free rest) (action l)))));
 }
 
 less_entry : Tested (binary.Test test.Less) (of_mark mark.Less)
@@ -462,7 +485,8 @@ less_entry = record {
   act = does.Less;
   effect = λ s. refl;
   no_call = refl;
-  enters = λ K rest events atom h l. row first (has_zero atom) (row first (has_zero atom) (row (later (later first)) (has_zero atom) (token h (row first (free rest) (action l)))));
+  enters = λ K rest events atom h l. row first (has_zero atom)
+      (row first (has_zero atom) (row (later (later first)) (has_zero atom) (token h (row first (free rest) (action l)))));
 }
 
 greater_entry : Tested (binary.Test test.Greater) (of_mark mark.Greater)
@@ -471,7 +495,8 @@ greater_entry = record {
   act = does.Greater;
   effect = λ s. refl;
   no_call = refl;
-  enters = λ K rest events atom h l. row first (has_zero atom) (row first (has_zero atom) (row (later (later (later first))) (has_zero atom) (token h (row first (free rest) (action l)))));
+  enters = λ K rest events atom h l. row first (has_zero atom)
+      (row first (has_zero atom) (row (later (later (later first))) (has_zero atom) (token h (row first (free rest) (action l)))));
 }
 
 at_most_entry : Tested (binary.Test test.AtMost) (of_mark mark.LessOrEqual)
@@ -480,7 +505,8 @@ at_most_entry = record {
   act = does.LessOrEqual;
   effect = λ s. refl;
   no_call = refl;
-  enters = λ K rest events atom h l. row first (has_zero atom) (row first (has_zero atom) (row (later (later (later (later first)))) (has_zero atom) (token h (row first (free rest) (action l)))));
+  enters = λ K rest events atom h l. row first (has_zero atom)
+      (row first (has_zero atom) (row (later (later (later (later first)))) (has_zero atom) (token h (row first (free rest) (action l)))));
 }
 
 at_least_entry : Tested (binary.Test test.AtLeast) (of_mark mark.GreaterOrEqual)
@@ -489,7 +515,9 @@ at_least_entry = record {
   act = does.GreaterOrEqual;
   effect = λ s. refl;
   no_call = refl;
-  enters = λ K rest events atom h l. row first (has_zero atom) (row first (has_zero atom) (row (later (later (later (later (later first))))) (has_zero atom) (token h (row first (free rest) (action l)))));
+  enters = λ K rest events atom h l. row first (has_zero atom)
+      (row first (has_zero atom) (row (later (later (later (later (later first))))) (has_zero atom)
+      (token h (row first (free rest) (action l)))));
 }
 
 has_entry : Tested (binary.Test test.Has) (of_word (codes "has"))
@@ -498,7 +526,9 @@ has_entry = record {
   act = does.Has;
   effect = λ s. refl;
   no_call = refl;
-  enters = λ K rest events atom h l. row first (has_zero atom) (row first (has_zero atom) (row (later (later (later (later (later (later first)))))) (has_zero atom) (token h (row first (free rest) (action l)))));
+  enters = λ K rest events atom h l. row first (has_zero atom)
+      (row first (has_zero atom) (row (later (later (later (later (later (later first)))))) (has_zero atom)
+      (token h (row first (free rest) (action l)))));
 }
 
 hasnt_entry : Tested (binary.Fails test.Has) (of_word (codes "hasnt"))
@@ -507,7 +537,9 @@ hasnt_entry = record {
   act = does.HasNot;
   effect = λ s. refl;
   no_call = refl;
-  enters = λ K rest events atom h l. row first (has_zero atom) (row first (has_zero atom) (row (later (later (later (later (later (later (later first))))))) (has_zero atom) (token h (row first (free rest) (action l)))));
+  enters = λ K rest events atom h l. row first (has_zero atom)
+      (row first (has_zero atom) (row (later (later (later (later (later (later (later first))))))) (has_zero atom)
+      (token h (row first (free rest) (action l)))));
 }
 
 in_entry : Tested (binary.Test test.In) (of_word (codes "in"))
@@ -516,7 +548,9 @@ in_entry = record {
   act = does.In;
   effect = λ s. refl;
   no_call = refl;
-  enters = λ K rest events atom h l. row first (has_zero atom) (row first (has_zero atom) (row (later (later (later (later (later (later (later (later first)))))))) (has_zero atom) (token h (row first (free rest) (action l)))));
+  enters = λ K rest events atom h l. row first (has_zero atom)
+      (row first (has_zero atom) (row (later (later (later (later (later (later (later (later first)))))))) (has_zero atom)
+      (token h (row first (free rest) (action l)))));
 }
 
 notin_entry : Tested (binary.Fails test.In) (of_word (codes "notin"))
@@ -525,7 +559,9 @@ notin_entry = record {
   act = does.NotIn;
   effect = λ s. refl;
   no_call = refl;
-  enters = λ K rest events atom h l. row first (has_zero atom) (row first (has_zero atom) (row (later (later (later (later (later (later (later (later (later first))))))))) (has_zero atom) (token h (row first (free rest) (action l)))));
+  enters = λ K rest events atom h l. row first (has_zero atom)
+      (row first (has_zero atom) (row (later (later (later (later (later (later (later (later (later first))))))))) (has_zero atom)
+      (token h (row first (free rest) (action l)))));
 }
 
 ofclass_entry : Tested (binary.Test test.OfClass) (of_word (codes "ofclass"))
@@ -534,7 +570,9 @@ ofclass_entry = record {
   act = does.OfClass;
   effect = λ s. refl;
   no_call = refl;
-  enters = λ K rest events atom h l. row first (has_zero atom) (row first (has_zero atom) (row (later (later (later (later (later (later (later (later (later (later first)))))))))) (has_zero atom) (token h (row first (free rest) (action l)))));
+  enters = λ K rest events atom h l. row first (has_zero atom)
+      (row first (has_zero atom) (row (later (later (later (later (later (later (later (later (later (later first)))))))))) (has_zero atom)
+      (token h (row first (free rest) (action l)))));
 }
 
 provides_entry : Tested (binary.Test test.Provides) (of_word (codes "provides"))
@@ -543,7 +581,9 @@ provides_entry = record {
   act = does.Provides;
   effect = λ s. refl;
   no_call = refl;
-  enters = λ K rest events atom h l. row first (has_zero atom) (row first (has_zero atom) (row (later (later (later (later (later (later (later (later (later (later (later first))))))))))) (has_zero atom) (token h (row first (free rest) (action l)))));
+  enters = λ K rest events atom h l. row first (has_zero atom)
+      (row first (has_zero atom) (row (later (later (later (later (later (later (later (later (later (later (later first)))))))))))
+      (has_zero atom) (token h (row first (free rest) (action l)))));
 }
 
 tested_at : {op : Binary} {signs other_signs : ℕ} → Some signs ≡ Some other_signs → Tested op signs → Tested op other_signs

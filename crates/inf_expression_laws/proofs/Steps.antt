@@ -24,7 +24,8 @@ three xs ys z zs = sym (append_assoc (xs ++ ys) (z ∷ []) zs ∙ append_assoc x
 two : (xs : List ℕ) (z : ℕ) (zs : List ℕ) → xs ++ z ∷ zs ≡ (xs ++ z ∷ []) ++ zs
 two xs z zs = sym (append_assoc xs (z ∷ []) zs)
 
-pub placed : {f : Frame} {items : List Item} {seen other_seen : List ℕ} {g other : Gathering} → seen ≡ other_seen → g ≡ other → Stands f items seen g → Stands f items other_seen other
+pub placed : {f : Frame} {items : List Item} {seen other_seen : List ℕ} {g other : Gathering} → seen ≡ other_seen → g ≡ other →
+    Stands f items seen g → Stands f items other_seen other
 placed {f} {items} {seen} {other_seen} {g} {other} e h s = subst (λ x. Stands f items other_seen x) h (subst (λ x. Stands f items x g) e s)
 
 -- How many tokens stand before the next one
@@ -38,7 +39,8 @@ to_left : {A : Type 0} (xs ys zs : List A) → xs ++ (ys ++ zs) ≡ (xs ++ ys) +
 to_left xs ys zs = sym (append_assoc xs ys zs)
 
 -- An operator in front
-pub front_stands : {f : Frame} {level signs : ℕ} {rest : List Item} {seen : List ℕ} {g : Gathering} (op : Unary) → sign_in_front op ≡ Some (level, signs) →
+pub front_stands : {f : Frame} {level signs : ℕ} {rest : List Item} {seen : List ℕ} {g : Gathering} (op : Unary) →
+    sign_in_front op ≡ Some (level, signs) →
     Stands f (Whole level ∷ Sign signs ∷ rest) seen g → Stands f (Whole level ∷ rest) seen (with_prefix op g)
 front_stands {f} {level} {signs} op e (whole _ atoms a g (read seen sign s h k) w) =
     let o : f.order + length (seen ++ sign ∷ []) ≡ suc (f.order + length seen) = length_one f.order seen sign in
@@ -54,7 +56,8 @@ front_stands {f} {level} {signs} op e (whole _ atoms a g (read seen sign s h k) 
     (whole seen (sign ∷ atoms) (Prefix (f.order + length seen) op a) g s (in_front signs e h (moved o refl w)))
 
 -- and behind
-pub suffix_stands : {f : Frame} {level signs : ℕ} {rest : List Item} {seen : List ℕ} {g : Gathering} (op : Unary) → sign_behind op ≡ Some (level, signs) →
+pub suffix_stands : {f : Frame} {level signs : ℕ} {rest : List Item} {seen : List ℕ} {g : Gathering} (op : Unary) →
+    sign_behind op ≡ Some (level, signs) →
     Stands f (Sign signs ∷ Whole level ∷ rest) seen g → Stands f (Whole level ∷ rest) seen (with_suffix op g)
 suffix_stands {f} {level} {signs} op e (read _ sign (whole seen atoms a g s w) h k) =
     placed (to_left seen atoms (sign ∷ [])) (λ i. record {
@@ -70,7 +73,8 @@ suffix_stands {f} {level} {signs} op e (read _ sign (whole seen atoms a g s w) h
 four : {A : Type 0} (xs ys zs ws : List A) → xs ++ ((ys ++ zs) ++ ws) ≡ ((xs ++ ys) ++ zs) ++ ws
 four xs ys zs ws = to_left xs (ys ++ zs) ws ∙ ap (λ l. l ++ ws) (to_left xs ys zs)
 
-both_gained : (f : Frame) (a b : Source) (op : Binary) (last : List Symbol) (g : Gathering) → symbols_behind (is_open g.brackets) op b ≡ last →
+both_gained : (f : Frame) (a b : Source) (op : Binary) (last : List Symbol) (g : Gathering) →
+    symbols_behind (is_open g.brackets) op b ≡ last →
     gained f (Two op a b) g ≡ record g {
       leaves = (g.leaves ++ leaves_of f.outer f.begun f.all a) ++ leaves_of f.outer f.begun f.all b;
       symbols = ((g.symbols ++ symbols_of (is_open g.brackets) a) ++ symbols_of (is_open g.brackets) b) ++ last;
@@ -78,7 +82,8 @@ both_gained : (f : Frame) (a b : Source) (op : Binary) (last : List Symbol) (g :
     }
 both_gained f a b op last g e i = record {
   leaves = to_left g.leaves (leaves_of f.outer f.begun f.all a) (leaves_of f.outer f.begun f.all b) i;
-  symbols = (four g.symbols (symbols_of (is_open g.brackets) a) (symbols_of (is_open g.brackets) b) (symbols_behind (is_open g.brackets) op b)
+  symbols =
+      (four g.symbols (symbols_of (is_open g.brackets) a) (symbols_of (is_open g.brackets) b) (symbols_behind (is_open g.brackets) op b)
       ∙ ap (λ l. ((g.symbols ++ symbols_of (is_open g.brackets) a) ++ symbols_of (is_open g.brackets) b) ++ l) e) i;
   firsts = first_of a ∷ g.firsts;
   counts = g.counts;
@@ -91,7 +96,8 @@ second : (f : Frame) {level : ℕ} (a : Source) {b : Source} (g : Gathering) {ri
     Written level (suc ((f.order + length seen) + length left)) (length g.leaves + leaf_count a) right b
 second f a g seen left sign w = moved (length_next f.order seen left sign) (gained_leaves f a g) w
 
-between_symbols : (in_brackets : Bool) (op : Binary) (b : Source) (level signs : ℕ) → sign_between op ≡ Some (level, signs) → (op ≡ binary.Comma → false ≡ true) →
+between_symbols : (in_brackets : Bool) (op : Binary) (b : Source) (level signs : ℕ) → sign_between op ≡ Some (level, signs) →
+    (op ≡ binary.Comma → false ≡ true) →
     symbols_behind in_brackets op b ≡ symbol.Two op ∷ []
 between_symbols in_brackets (binary.Operation o) b level signs e n = refl
 between_symbols in_brackets (binary.Property p) b level signs e n = refl
@@ -105,14 +111,18 @@ between_symbols in_brackets binary.Call b level signs e n = cc
 between_symbols in_brackets binary.Then b level signs e n = cc
 between_symbols in_brackets binary.To b level signs e n = cc
 
-pub two_stands : {f : Frame} {level signs : ℕ} {rest : List Item} {seen : List ℕ} {g : Gathering} (op : Binary) → sign_between op ≡ Some (level, signs) →
-    (op ≡ binary.Comma → false ≡ true) → Stands f (Whole (suc level) ∷ Sign signs ∷ Whole level ∷ rest) seen g → Stands f (Whole level ∷ rest) seen (with_two op g)
+pub two_stands : {f : Frame} {level signs : ℕ} {rest : List Item} {seen : List ℕ} {g : Gathering} (op : Binary) →
+    sign_between op ≡ Some (level, signs) →
+    (op ≡ binary.Comma → false ≡ true) → Stands f (Whole (suc level) ∷ Sign signs ∷ Whole level ∷ rest) seen g → Stands f
+    (Whole level ∷ rest) seen (with_two op g)
 two_stands {f} {level} {signs} op e n (whole _ right b _ (read _ sign (whole seen left a g s w) h k) v) =
-    placed (three seen left sign right) (both_gained f a b op (symbol.Two op ∷ []) g (between_symbols (is_open g.brackets) op b level signs e n))
+    placed (three seen left sign right) (both_gained f a b op (symbol.Two op ∷ []) g
+    (between_symbols (is_open g.brackets) op b level signs e n))
     (whole seen (left ++ sign ∷ right) (Two op a b) g s (between signs sign left right e w h (second f a g seen left sign v)))
 
 pub assign_stands : {f : Frame} {rest : List Item} {seen : List ℕ} {g : Gathering} →
-    Stands f (Whole assignments ∷ Sign (of_mark mark.Assign) ∷ Whole connections ∷ rest) seen g → Stands f (Whole assignments ∷ rest) seen (with_two binary.Assign g)
+    Stands f (Whole assignments ∷ Sign (of_mark mark.Assign) ∷ Whole connections ∷ rest) seen g → Stands f (Whole assignments ∷ rest) seen
+    (with_two binary.Assign g)
 assign_stands {f} (whole _ right b _ (read _ sign (whole seen left a g s w) h k) v) =
     placed (three seen left sign right) (both_gained f a b binary.Assign (symbol.Two binary.Assign ∷ []) g refl)
     (whole seen (left ++ sign ∷ right) (Two binary.Assign a b) g s (assigned sign left right w h (second f a g seen left sign v)))
@@ -125,10 +135,12 @@ pub comma_stands : {f : Frame} {rest : List Item} {seen : List ℕ} {g : Gatheri
     Stands f (Whole assignments ∷ Sign comma_sign ∷ Whole commas ∷ rest) seen g → Stands f (Whole commas ∷ rest) seen (with_comma g)
 comma_stands {f} (whole _ right b _ (read _ sign (whole seen left a g s w) h k) v) =
     placed (three seen left sign right) (both_gained f a b binary.Comma (comma g.brackets ∷ []) g (comma_is g.brackets b))
-    (whole seen (left ++ sign ∷ right) (Two binary.Comma a b) g s (between comma_sign sign left right refl w h (second f a g seen left sign v)))
+    (whole seen (left ++ sign ∷ right) (Two binary.Comma a b) g s
+    (between comma_sign sign left right refl w h (second f a g seen left sign v)))
 
 -- What is gathered of calls, tests and parts
-more_gained : (f : Frame) (a : Source) (sources : List Source) (b : Source) (g : Gathering) → length (a ∷ (sources ++ b ∷ [])) ≡ counted (length (a ∷ sources)) →
+more_gained : (f : Frame) (a : Source) (sources : List Source) (b : Source) (g : Gathering) →
+    length (a ∷ (sources ++ b ∷ [])) ≡ counted (length (a ∷ sources)) →
     with_parts f (a ∷ (sources ++ b ∷ [])) g ≡ with_part (gained f b (with_parts f (a ∷ sources) g))
 more_gained f a sources b g e =
     ap (λ n. record (all_gained f (a ∷ (sources ++ b ∷ [])) g) { counts = n ∷ g.counts }) e
@@ -150,8 +162,10 @@ call_gained f a b sources g e i =
     let list = all_gained_list f b sources one in
     record {
       leaves = (to_left g.leaves (leaves_of f.outer f.begun f.all a) (leaves_of f.outer f.begun f.all (list_of b sources)) ∙ sym list.0) i;
-      symbols = (four g.symbols (symbols_of (is_open g.brackets) a) (symbols_of (is_open g.brackets) (list_of b sources)) (symbol.Call (suc (joints (list_of b sources))) ∷ [])
-          ∙ ap (λ n. ((g.symbols ++ symbols_of (is_open g.brackets) a) ++ symbols_of (is_open g.brackets) (list_of b sources)) ++ symbol.Call (suc n) ∷ []) e
+      symbols = (four g.symbols (symbols_of (is_open g.brackets) a) (symbols_of (is_open g.brackets) (list_of b sources))
+          (symbol.Call (suc (joints (list_of b sources))) ∷ [])
+          ∙ ap (λ n. ((g.symbols ++ symbols_of (is_open g.brackets) a) ++ symbols_of (is_open g.brackets) (list_of b sources)) ++
+          symbol.Call (suc n) ∷ []) e
           ∙ ap (λ l. l ++ symbol.Call (suc (length sources)) ∷ []) (sym list.1)) i;
       firsts = sym (all_gained_firsts f (b ∷ sources) one) i;
       counts = g.counts;
@@ -173,7 +187,8 @@ test_symbols in_brackets binary.Then list signs e = cc
 test_symbols in_brackets binary.To list signs e = cc
 
 test_gained : (f : Frame) (a b : Source) (sources : List Source) (op : Binary) (signs : ℕ) (g : Gathering) → sign_of_test op ≡ Some signs →
-    joints (list_of b sources) ≡ length sources → gained f (Two op a (list_of b sources)) g ≡ with_test op (with_parts f (b ∷ sources) (gained f a g))
+    joints (list_of b sources) ≡ length sources → gained f (Two op a (list_of b sources)) g ≡ with_test op
+    (with_parts f (b ∷ sources) (gained f a g))
 test_gained f a b sources op signs g e j i =
     let one = gained f a g in
     let list = all_gained_list f b sources one in
@@ -181,7 +196,8 @@ test_gained f a b sources op signs g e j i =
     test_symbols (is_open g.brackets) op (list_of b sources) signs e ∙ ap (λ n. symbol.List n ∷ symbol.Two op ∷ []) (j ∙ omega arith) in
     record {
       leaves = (to_left g.leaves (leaves_of f.outer f.begun f.all a) (leaves_of f.outer f.begun f.all (list_of b sources)) ∙ sym list.0) i;
-      symbols = (four g.symbols (symbols_of (is_open g.brackets) a) (symbols_of (is_open g.brackets) (list_of b sources)) (symbols_behind (is_open g.brackets) op (list_of b sources))
+      symbols = (four g.symbols (symbols_of (is_open g.brackets) a) (symbols_of (is_open g.brackets) (list_of b sources))
+          (symbols_behind (is_open g.brackets) op (list_of b sources))
           ∙ ap (λ l. ((g.symbols ++ symbols_of (is_open g.brackets) a) ++ symbols_of (is_open g.brackets) (list_of b sources)) ++ l) last
           ∙ ap (λ l. l ++ symbol.List (length (b ∷ sources) - 1) ∷ symbol.Two op ∷ []) (sym list.1)) i;
       firsts = sym (all_gained_firsts f (b ∷ sources) one) i;
@@ -189,15 +205,18 @@ test_gained f a b sources op signs g e j i =
       brackets = sym (all_gained_rest f (b ∷ sources) one).1 i;
     }
 
-call_seen : (seen atoms : List ℕ) (left right : ℕ) → seen ++ ((atoms ++ left ∷ []) ++ right ∷ []) ≡ ((seen ++ atoms) ++ left ∷ []) ++ right ∷ []
+call_seen : (seen atoms : List ℕ) (left right : ℕ) →
+    seen ++ ((atoms ++ left ∷ []) ++ right ∷ []) ≡ ((seen ++ atoms) ++ left ∷ []) ++ right ∷ []
 call_seen seen atoms left right = four seen atoms (left ∷ []) (right ∷ [])
 
-given_seen : (seen atoms given : List ℕ) (left right : ℕ) → seen ++ (((atoms ++ left ∷ []) ++ given) ++ right ∷ []) ≡ (((seen ++ atoms) ++ left ∷ []) ++ given) ++ right ∷ []
+given_seen : (seen atoms given : List ℕ) (left right : ℕ) →
+    seen ++ (((atoms ++ left ∷ []) ++ given) ++ right ∷ []) ≡ (((seen ++ atoms) ++ left ∷ []) ++ given) ++ right ∷ []
 given_seen seen atoms given left right =
     to_left seen ((atoms ++ left ∷ []) ++ given) (right ∷ []) ∙ ap (λ l. l ++ right ∷ []) (four seen atoms (left ∷ []) given)
 
 -- Lists
-pub list_stands : {f : Frame} {rest : List Item} {seen : List ℕ} {g : Gathering} → Stands f rest seen g → Stands f (NoneYet ∷ rest) seen (with_list g)
+pub list_stands : {f : Frame} {rest : List Item} {seen : List ℕ} {g : Gathering} → Stands f rest seen g →
+    Stands f (NoneYet ∷ rest) seen (with_list g)
 list_stands {g = g} s = none_yet g s
 
 pub one_stands : {f : Frame} {level signs : ℕ} {rest : List Item} {seen : List ℕ} {g : Gathering} →
@@ -210,7 +229,16 @@ pub more_stands : {f : Frame} {level signs : ℕ} {rest : List Item} {seen : Lis
 more_stands {f} {level} {signs} few (whole _ right b _ (read _ sign (parts seen left a sources g s l) h k) w) =
     let count : length (a ∷ (sources ++ b ∷ [])) ≡ counted (length (a ∷ sources)) =
     omega (arith, length-append sources (b ∷ []))
-    ∙ sym (cond_false_count (length (a ∷ sources)) (omega (arith, few, parts_have_tokens l, length-append ((seen ++ left) ++ sign ∷ []) right, length-append (seen ++ left) (sign ∷ []), length-append seen left))) in
+    ∙ sym (cond_false_count (length (a ∷ sources))
+    (omega (
+      arith,
+      few,
+      parts_have_tokens l,
+      length-append ((seen ++ left) ++ sign ∷ []) right,
+      length-append (seen ++ left)
+          (sign ∷ []),
+      length-append seen left,
+    ))) in
     placed (three seen left sign right) (more_gained f a sources b g count)
     (parts seen (left ++ sign ∷ right) a (sources ++ b ∷ []) g s
     (more sign left right (a ∷ sources) b l h (moved (length_next f.order seen left sign) (all_gained_leaves f (a ∷ sources) g) w)))
@@ -220,7 +248,8 @@ more_stands {f} {level} {signs} few (whole _ right b _ (read _ sign (parts seen 
 
 -- A call
 pub call_stands : {f : Frame} {rest : List Item} {seen : List ℕ} {g : Gathering} →
-    Stands f (Sign closing_sign ∷ Any assignments comma_sign ∷ Sign opening_sign ∷ Whole members ∷ rest) seen g → Stands f (Whole members ∷ rest) seen (with_call g)
+    Stands f (Sign closing_sign ∷ Any assignments comma_sign ∷ Sign opening_sign ∷ Whole members ∷ rest) seen g → Stands f
+    (Whole members ∷ rest) seen (with_call g)
 call_stands {f} (read _ right (nothing (none_yet _ (read _ left (whole seen atoms a g s w) h k))) r q) =
     placed (call_seen seen atoms left right) (alone_gained f a g)
     (whole seen ((atoms ++ left ∷ []) ++ right ∷ []) (Alone a) g s (alone left right atoms w h r))

@@ -41,37 +41,47 @@ rest_is {xs = xs} e = ap rest_of e
     rest_of [] = []
     rest_of (y ∷ ys) = ys
 
-under : (top : List (Symbol Action)) {below other : List (Symbol Action)} → ((atoms : List ℕ) (events : List (Event Action)) → IsText grammar below atoms events → IsText grammar other atoms events) →
-    {all : List (Symbol Action)} {atoms : List ℕ} {events : List (Event Action)} → Leads grammar all atoms events [] → all ≡ top ++ below → IsText grammar (top ++ other) atoms events
+under : (top : List (Symbol Action)) {below other : List (Symbol Action)} →
+    ((atoms : List ℕ) (events : List (Event Action)) → IsText grammar below atoms events → IsText grammar other atoms events) →
+    {all : List (Symbol Action)} {atoms : List ℕ} {events : List (Event Action)} → Leads grammar all atoms events [] → all ≡ top ++ below →
+    IsText grammar (top ++ other) atoms events
 under [] {other = other} f {atoms = atoms} {events = events} l e = f atoms events (subst (λ s. Leads grammar s atoms events []) e l)
 under (s ∷ top) f here e = cc
 under (s ∷ top) {other = other} f (token {class = class} {atom = atom} {atoms = atoms} {events = events} h l) e =
     subst (λ x. IsText grammar (x ∷ (top ++ other)) (atom ∷ atoms) (Took atom ∷ events)) (head_is e) (token h (under top f l (rest_is e)))
 under (s ∷ top) {other = other} f (action {a = a} {atoms = atoms} {events = events} l) e =
     subst (λ x. IsText grammar (x ∷ (top ++ other)) atoms (Did a ∷ events)) (head_is e) (action (under top f l (rest_is e)))
-under (s ∷ top) {below = below} {other = other} f (row {rule = rule} {r = r} {symbols = symbols} {atoms = atoms} {events = events} m clear l) e =
-    let on = under (r.parts ++ top) {below = below} {other = other} f l (ap (λ x. r.parts ++ x) (rest_is e) ∙ sym (append_assoc r.parts top below)) in
-    subst (λ x. IsText grammar (x ∷ (top ++ other)) atoms events) (head_is e) (row m clear (subst (λ x. IsText grammar x atoms events) (append_assoc r.parts top other) on))
+under (s ∷ top) {below = below} {other = other} f
+    (row {rule = rule} {r = r} {symbols = symbols} {atoms = atoms} {events = events} m clear l) e =
+    let on = under (r.parts ++ top) {below = below} {other = other} f l
+    (ap (λ x. r.parts ++ x) (rest_is e) ∙ sym (append_assoc r.parts top below)) in
+    subst (λ x. IsText grammar (x ∷ (top ++ other)) atoms events) (head_is e)
+    (row m clear (subst (λ x. IsText grammar x atoms events) (append_assoc r.parts top other) on))
 
 -- What may be assigned to is read as the row of assignments has it.
 after_unary_on : {K : List (Symbol Action)} (atoms : List ℕ) (events : List (Event Action)) →
-    IsText grammar (array_tail ∷ term_tail ∷ sum_tail ∷ test_tail ∷ logic_tail ∷ assign_tail ∷ K) atoms events → IsText grammar (after_unary ∷ K) atoms events
+    IsText grammar (array_tail ∷ term_tail ∷ sum_tail ∷ test_tail ∷ logic_tail ∷ assign_tail ∷ K) atoms events → IsText grammar
+    (after_unary ∷ K) atoms events
 unfolding grammar
 after_unary_on atoms events l = row first (free atoms) l
 
 after_prim_on : {K : List (Symbol Action)} (atoms : List ℕ) (events : List (Event Action)) →
-    IsText grammar (post_tail ∷ address_tail ∷ step_tail ∷ array_tail ∷ term_tail ∷ sum_tail ∷ test_tail ∷ logic_tail ∷ assign_tail ∷ K) atoms events → IsText grammar (after_prim ∷ K) atoms events
+    IsText grammar (post_tail ∷ address_tail ∷ step_tail ∷ array_tail ∷ term_tail ∷ sum_tail ∷ test_tail ∷ logic_tail ∷ assign_tail ∷ K)
+    atoms events → IsText grammar (after_prim ∷ K) atoms events
 unfolding grammar
 after_prim_on atoms events l =
     row first (free atoms) (under (post_tail ∷ address_tail ∷ step_tail ∷ []) after_unary_on l refl)
 
 from_neg : {K : List (Symbol Action)} {atoms : List ℕ} {events : List (Event Action)} →
-    IsText grammar (neg ∷ array_tail ∷ term_tail ∷ sum_tail ∷ test_tail ∷ logic_tail ∷ assign_tail ∷ K) atoms events → IsText grammar (assign ∷ K) atoms events
+    IsText grammar (neg ∷ array_tail ∷ term_tail ∷ sum_tail ∷ test_tail ∷ logic_tail ∷ assign_tail ∷ K) atoms events → IsText grammar
+    (assign ∷ K) atoms events
 unfolding grammar
-from_neg (row first clear (token {atom = atom} h l)) = row (later (later first)) (has_zero atom) (token h (under (neg ∷ !negate ∷ []) after_unary_on l refl))
+from_neg (row first clear (token {atom = atom} h l)) =
+    row (later (later first)) (has_zero atom) (token h (under (neg ∷ !negate ∷ []) after_unary_on l refl))
 from_neg {atoms = atoms} (row (later first) clear (row first plain l)) =
     row (later first) (free atoms) (row (later (later first)) (free atoms) (under (step_prefix ∷ []) after_unary_on l refl))
-from_neg {atoms = atoms} (row (later first) clear (row (later first) plain (row first wide l))) = row first (free atoms) (under (prim ∷ []) after_prim_on l refl)
+from_neg {atoms = atoms} (row (later first) clear (row (later first) plain (row first wide l))) =
+    row first (free atoms) (under (prim ∷ []) after_prim_on l refl)
 from_neg (row (later first) clear (row (later first) plain (row (later m) wide l))) = elim m [ ]
 from_neg (row (later first) clear (row (later (later m)) plain l)) = elim m [ ]
 from_neg (row (later (later m)) clear l) = elim m [ ]
@@ -79,15 +89,18 @@ from_neg (row (later (later m)) clear l) = elim m [ ]
 from_sum : {K : List (Symbol Action)} {atoms : List ℕ} {events : List (Event Action)} →
     IsText grammar (sum ∷ test_tail ∷ logic_tail ∷ assign_tail ∷ K) atoms events → IsText grammar (assign ∷ K) atoms events
 unfolding grammar
-from_sum (row first clear (row first plain (row first wide (token {atom = atom} h l)))) = row (later first) (has_zero atom) (row (later first) (has_zero atom) (token h l))
+from_sum (row first clear (row first plain (row first wide (token {atom = atom} h l)))) =
+    row (later first) (has_zero atom) (row (later first) (has_zero atom) (token h l))
 from_sum (row first clear (row first plain (row (later first) wide l))) = from_neg l
 from_sum (row first clear (row first plain (row (later (later m)) wide l))) = elim m [ ]
 from_sum (row first clear (row (later m) plain l)) = elim m [ ]
 from_sum (row (later m) clear l) = elim m [ ]
 
-as_assign : {K : List (Symbol Action)} {atoms : List ℕ} {events : List (Event Action)} → IsText grammar (logic ∷ assign_tail ∷ K) atoms events → IsText grammar (assign ∷ K) atoms events
+as_assign : {K : List (Symbol Action)} {atoms : List ℕ} {events : List (Event Action)} →
+    IsText grammar (logic ∷ assign_tail ∷ K) atoms events → IsText grammar (assign ∷ K) atoms events
 unfolding grammar
-as_assign (row first clear (row first plain (token {atom = atom} h l))) = row (later first) (has_zero atom) (row first (has_zero atom) (token h l))
+as_assign (row first clear (row first plain (token {atom = atom} h l))) =
+    row (later first) (has_zero atom) (row first (has_zero atom) (token h l))
 as_assign (row first clear (row (later first) plain l)) = from_sum l
 as_assign (row first clear (row (later (later m)) plain l)) = elim m [ ]
 as_assign (row (later m) clear l) = elim m [ ]
@@ -97,25 +110,40 @@ as_assign (row (later m) clear l) = elim m [ ]
 record Climb (level : ℕ) (K : List (Symbol Action)) (rest : List ℕ) (events : List (Event Action)) : Type 0 where
   under : List (Symbol Action)
   after : IsText grammar (loop (suc level) ++ under) rest events
-  back : (atoms : List ℕ) (all : List (Event Action)) → IsText grammar (begin (suc level) ++ under) atoms all → IsText grammar (begin level ++ K) atoms all
+  back : (atoms : List ℕ) (all : List (Event Action)) → IsText grammar (begin (suc level) ++ under) atoms all →
+      IsText grammar (begin level ++ K) atoms all
 
-climb : (level : ℕ) → level < 14 → (K : List (Symbol Action)) (rest : List ℕ) (events : List (Event Action)) → (level ≤ 12 → NotCalled rest) → IsText grammar (loop level ++ K) rest events → Climb level K rest events
+climb : (level : ℕ) → level < 14 → (K : List (Symbol Action)) (rest : List ℕ) (events : List (Event Action)) →
+    (level ≤ 12 → NotCalled rest) → IsText grammar (loop level ++ K) rest events → Climb level K rest events
 unfolding grammar
 climb zero less K rest events q l = record { under = expression_tail ∷ K; after = l; back = λ atoms all l. row first (free atoms) l }
-climb (suc zero) less K rest events q l = record { under = assign_tail ∷ K; after = no_logic_tail (no_assign_tail l); back = λ atoms all l. as_assign l }
+climb (suc zero) less K rest events q l =
+    record { under = assign_tail ∷ K; after = no_logic_tail (no_assign_tail l); back = λ atoms all l. as_assign l }
 climb (suc (suc zero)) less K rest events q l = record { under = logic_tail ∷ K; after = l; back = λ atoms all l. row first (free atoms) l }
-climb (suc (suc (suc zero))) less K rest events q l = record { under = K; after = l; back = λ atoms all l. row (later first) (free atoms) l }
-climb (suc (suc (suc (suc zero)))) less K rest events q l = record { under = test_tail ∷ K; after = no_sum_tail (no_test_tail l); back = λ atoms all l. l }
-climb (suc (suc (suc (suc (suc zero))))) less K rest events q l = record { under = sum_tail ∷ K; after = no_term_tail l; back = λ atoms all l. row first (free atoms) l }
-climb (suc (suc (suc (suc (suc (suc zero)))))) less K rest events q l = record { under = term_tail ∷ K; after = l; back = λ atoms all l. row first (free atoms) l }
-climb (suc (suc (suc (suc (suc (suc (suc zero))))))) less K rest events q l = record { under = K; after = no_array_tail l; back = λ atoms all l. row (later first) (free atoms) l }
-climb (suc (suc (suc (suc (suc (suc (suc (suc zero)))))))) less K rest events q l = record { under = array_tail ∷ K; after = l; back = λ atoms all l. l }
-climb (suc (suc (suc (suc (suc (suc (suc (suc (suc zero))))))))) less K rest events q l = record { under = K; after = l; back = λ atoms all l. row (later first) (free atoms) l }
-climb (suc (suc (suc (suc (suc (suc (suc (suc (suc (suc zero)))))))))) less K rest events q l = record { under = K; after = no_step_tail l; back = λ atoms all l. row (later first) (free atoms) l }
-climb (suc (suc (suc (suc (suc (suc (suc (suc (suc (suc (suc zero))))))))))) less K rest events q l = record { under = step_tail ∷ K; after = no_address_tail l; back = λ atoms all l. l }
-climb (suc (suc (suc (suc (suc (suc (suc (suc (suc (suc (suc (suc zero)))))))))))) less K rest events q l = record { under = address_tail ∷ K; after = no_post_tail (q (omega arith)) l; back = λ atoms all l. l }
-climb (suc (suc (suc (suc (suc (suc (suc (suc (suc (suc (suc (suc (suc zero))))))))))))) less K rest events q l = record { under = post_tail ∷ K; after = l; back = λ atoms all l. row first (free atoms) l }
-climb (suc (suc (suc (suc (suc (suc (suc (suc (suc (suc (suc (suc (suc (suc n)))))))))))))) less K rest events q l = absurd (omega (arith, less))
+climb (suc (suc (suc zero))) less K rest events q l =
+    record { under = K; after = l; back = λ atoms all l. row (later first) (free atoms) l }
+climb (suc (suc (suc (suc zero)))) less K rest events q l =
+    record { under = test_tail ∷ K; after = no_sum_tail (no_test_tail l); back = λ atoms all l. l }
+climb (suc (suc (suc (suc (suc zero))))) less K rest events q l =
+    record { under = sum_tail ∷ K; after = no_term_tail l; back = λ atoms all l. row first (free atoms) l }
+climb (suc (suc (suc (suc (suc (suc zero)))))) less K rest events q l =
+    record { under = term_tail ∷ K; after = l; back = λ atoms all l. row first (free atoms) l }
+climb (suc (suc (suc (suc (suc (suc (suc zero))))))) less K rest events q l =
+    record { under = K; after = no_array_tail l; back = λ atoms all l. row (later first) (free atoms) l }
+climb (suc (suc (suc (suc (suc (suc (suc (suc zero)))))))) less K rest events q l =
+    record { under = array_tail ∷ K; after = l; back = λ atoms all l. l }
+climb (suc (suc (suc (suc (suc (suc (suc (suc (suc zero))))))))) less K rest events q l =
+    record { under = K; after = l; back = λ atoms all l. row (later first) (free atoms) l }
+climb (suc (suc (suc (suc (suc (suc (suc (suc (suc (suc zero)))))))))) less K rest events q l =
+    record { under = K; after = no_step_tail l; back = λ atoms all l. row (later first) (free atoms) l }
+climb (suc (suc (suc (suc (suc (suc (suc (suc (suc (suc (suc zero))))))))))) less K rest events q l =
+    record { under = step_tail ∷ K; after = no_address_tail l; back = λ atoms all l. l }
+climb (suc (suc (suc (suc (suc (suc (suc (suc (suc (suc (suc (suc zero)))))))))))) less K rest events q l =
+    record { under = address_tail ∷ K; after = no_post_tail (q (omega arith)) l; back = λ atoms all l. l }
+climb (suc (suc (suc (suc (suc (suc (suc (suc (suc (suc (suc (suc (suc zero))))))))))))) less K rest events q l =
+    record { under = post_tail ∷ K; after = l; back = λ atoms all l. row first (free atoms) l }
+climb (suc (suc (suc (suc (suc (suc (suc (suc (suc (suc (suc (suc (suc (suc n)))))))))))))) less K rest events q l =
+    absurd (omega (arith, less))
 
 -- no level is past the last
 level_bound : {level order place : ℕ} {atoms : List ℕ} {a : Source} → Written level order place atoms a → level ≤ 14
@@ -138,31 +166,59 @@ record LeafText (K : List (Symbol Action)) (rest : List ℕ) (events : List (Eve
   is : step_of act ≡ Some step.Leaf
   leads : IsText grammar (prim ∷ K) (atom ∷ rest) (Took atom ∷ Did act ∷ events)
 
-leaf_text : (K : List (Symbol Action)) (rest : List ℕ) (events : List (Event Action)) (atom : ℕ) → has operands atom ≡ true → IsText grammar K rest events → LeafText K rest events atom
+leaf_text : (K : List (Symbol Action)) (rest : List ℕ) (events : List (Event Action)) (atom : ℕ) → has operands atom ≡ true →
+    IsText grammar K rest events → LeafText K rest events atom
 unfolding grammar
 leaf_text K rest events atom h l =
-    elim (or_cases (has operand_names atom) (has (joined_sets (number ∷ char ∷ word_literal ∷ text ∷ [])) atom) (sym (has_or operand_names (joined_sets (number ∷ char ∷ word_literal ∷ text ∷ [])) atom) ∙ h)) [
+    elim (or_cases (has operand_names atom) (has (joined_sets (number ∷ char ∷ word_literal ∷ text ∷ [])) atom)
+    (sym (has_or operand_names (joined_sets (number ∷ char ∷ word_literal ∷ text ∷ [])) atom) ∙ h)) [
       | inl e ↦ record { act = does.Name; is = refl; leads = row first (has_zero atom) (token e (action l)) }
-      | inr others ↦ elim (or_cases (has number atom) (has (joined_sets (char ∷ word_literal ∷ text ∷ [])) atom) (sym (has_or number (joined_sets (char ∷ word_literal ∷ text ∷ [])) atom) ∙ others)) [
-        | inl e ↦ record { act = does.Number; is = refl; leads = row (later first) (has_zero atom) (row first (has_zero atom) (row first (has_zero atom) (token e (action l)))) }
-        | inr others ↦ elim (or_cases (has char atom) (has (joined_sets (word_literal ∷ text ∷ [])) atom) (sym (has_or char (joined_sets (word_literal ∷ text ∷ [])) atom) ∙ others)) [
-          | inl e ↦ record { act = does.Char; is = refl; leads = row (later first) (has_zero atom) (row first (has_zero atom) (row (later first) (has_zero atom) (token e (action l)))) }
-          | inr others ↦ elim (or_cases (has word_literal atom) (has (joined_sets (text ∷ [])) atom) (sym (has_or word_literal (joined_sets (text ∷ [])) atom) ∙ others)) [
-            | inl e ↦ record { act = does.Word; is = refl; leads = row (later first) (has_zero atom) (row first (has_zero atom) (row (later (later first)) (has_zero atom) (token e (action l)))) }
-            | inr e ↦ record { act = does.Text; is = refl; leads = row (later first) (has_zero atom) (row (later first) (has_zero atom) (token e (action l))) }
+      | inr others ↦ elim (or_cases (has number atom) (has (joined_sets (char ∷ word_literal ∷ text ∷ [])) atom)
+          (sym (has_or number (joined_sets (char ∷ word_literal ∷ text ∷ [])) atom) ∙ others)) [
+            | inl e ↦ record {
+              act = does.Number;
+              is = refl;
+              leads = row (later first) (has_zero atom)
+                  (row first (has_zero atom) (row first (has_zero atom) (token e (action l))));
+            }
+            | inr others ↦ elim (or_cases (has char atom) (has (joined_sets (word_literal ∷ text ∷ [])) atom)
+                (sym (has_or char (joined_sets (word_literal ∷ text ∷ [])) atom) ∙ others)) [
+                  | inl e ↦ record {
+                    act = does.Char;
+                    is = refl;
+                    leads = row (later first) (has_zero atom)
+                        (row first (has_zero atom) (row (later first) (has_zero atom) (token e (action l))));
+                  }
+                  | inr others ↦ elim (or_cases (has word_literal atom) (has (joined_sets (text ∷ [])) atom)
+                      (sym (has_or word_literal (joined_sets (text ∷ [])) atom) ∙ others)) [
+                        | inl e ↦ record {
+                          act = does.Word;
+                          is = refl;
+                          leads = row (later first) (has_zero atom)
+                              (row first (has_zero atom) (row (later (later first)) (has_zero atom) (token e (action l))));
+                        }
+                        | inr e ↦ record {
+                          act = does.Text;
+                          is = refl;
+                          leads = row (later first) (has_zero atom)
+                              (row (later first) (has_zero atom) (token e (action l)));
+                        }
+                      ]
+                ]
           ]
-        ]
-      ]
     ]
 
-action_text : {K : List (Symbol Action)} {rest : List ℕ} {events : List (Event Action)} (sign atom : ℕ) → has (of_mark mark.DoubleHash) sign ≡ true → has operand_names atom ≡ true →
+action_text : {K : List (Symbol Action)} {rest : List ℕ} {events : List (Event Action)} (sign atom : ℕ) →
+    has (of_mark mark.DoubleHash) sign ≡ true → has operand_names atom ≡ true →
     IsText grammar K rest events → IsText grammar (prim ∷ K) (sign ∷ atom ∷ rest) (Took sign ∷ Took atom ∷ Did does.Action ∷ events)
 unfolding grammar
 action_text sign atom h k l =
-    row (later first) (has_zero sign) (row first (has_zero sign) (row (later (later (later first))) (has_zero sign) (token h (token k (action l)))))
+    row (later first) (has_zero sign) (row first (has_zero sign) (row (later (later (later first))) (has_zero sign)
+    (token h (token k (action l)))))
 
 bracket_text : {K : List (Symbol Action)} {rest : List ℕ} {events : List (Event Action)} (left : ℕ) → has opening_sign left ≡ true →
-    IsText grammar (expression ∷ !bracketed ∷ 'close_parenthesis' ∷ K) rest events → IsText grammar (prim ∷ K) (left ∷ rest) (Took left ∷ Did does.Bracket ∷ events)
+    IsText grammar (expression ∷ !bracketed ∷ 'close_parenthesis' ∷ K) rest events → IsText grammar (prim ∷ K) (left ∷ rest)
+    (Took left ∷ Did does.Bracket ∷ events)
 unfolding grammar
 bracket_text left h l =
     row (later first) (has_zero left) (row (later (later first)) (has_zero left) (row first (has_zero left) (token h (action l))))
@@ -173,11 +229,13 @@ unfolding grammar
 closing_text right h l = token h l
 
 call_text : {K : List (Symbol Action)} {rest : List ℕ} {events : List (Event Action)} (left : ℕ) → has opening_sign left ≡ true →
-    IsText grammar (call_1 ∷ 'close_parenthesis' ∷ !call ∷ post_tail ∷ K) rest events → IsText grammar (post_tail ∷ K) (left ∷ rest) (Took left ∷ Did does.Count ∷ events)
+    IsText grammar (call_1 ∷ 'close_parenthesis' ∷ !call ∷ post_tail ∷ K) rest events → IsText grammar (post_tail ∷ K) (left ∷ rest)
+    (Took left ∷ Did does.Count ∷ events)
 unfolding grammar
 call_text left h l = row (later first) (has_zero left) (row first (has_zero left) (token h (action l)))
 
-some_call : {K : List (Symbol Action)} {rest : List ℕ} {events : List (Event Action)} → IsText grammar (assign ∷ !part ∷ call_2 ∷ K) rest events → IsText grammar (call_1 ∷ K) rest events
+some_call : {K : List (Symbol Action)} {rest : List ℕ} {events : List (Event Action)} →
+    IsText grammar (assign ∷ !part ∷ call_2 ∷ K) rest events → IsText grammar (call_1 ∷ K) rest events
 unfolding grammar
 some_call {rest = rest} l = row first (free rest) l
 
@@ -191,7 +249,8 @@ next_test : {K : List (Symbol Action)} {rest : List ℕ} {events : List (Event A
 unfolding grammar
 next_test sign h l = row first (has_zero sign) (token h l)
 
-assigned_text : {K : List (Symbol Action)} {rest : List ℕ} {events : List (Event Action)} (sign : ℕ) → has (of_mark mark.Assign) sign ≡ true →
+assigned_text : {K : List (Symbol Action)} {rest : List ℕ} {events : List (Event Action)} (sign : ℕ) →
+    has (of_mark mark.Assign) sign ≡ true →
     IsText grammar (assign ∷ Act does.Assign ∷ K) rest events → IsText grammar (assign_tail ∷ K) (sign ∷ rest) (Took sign ∷ events)
 unfolding grammar
 assigned_text sign h l = row first (has_zero sign) (row first (has_zero sign) (token h l))
@@ -199,42 +258,54 @@ assigned_text sign h l = row first (has_zero sign) (row first (has_zero sign) (t
 no_call_of : (sign signs : ℕ) → bit_and signs opening_sign ≡ 0 → has signs sign ≡ true → has opening_sign sign ≡ false
 no_call_of sign signs e h = apart signs e sign h
 
-given_atoms : (atoms given : List ℕ) (left right : ℕ) (rest : List ℕ) → atoms ++ left ∷ (given ++ right ∷ rest) ≡ (((atoms ++ left ∷ []) ++ given) ++ right ∷ []) ++ rest
+given_atoms : (atoms given : List ℕ) (left right : ℕ) (rest : List ℕ) →
+    atoms ++ left ∷ (given ++ right ∷ rest) ≡ (((atoms ++ left ∷ []) ++ given) ++ right ∷ []) ++ rest
 given_atoms atoms given left right rest =
     sym (append_assoc atoms (left ∷ []) (given ++ right ∷ rest))
     ∙ sym (append_assoc (atoms ++ left ∷ []) given (right ∷ rest))
     ∙ sym (append_assoc ((atoms ++ left ∷ []) ++ given) (right ∷ []) rest)
 
-alone_atoms : (atoms : List ℕ) (left right : ℕ) (rest : List ℕ) → atoms ++ left ∷ right ∷ rest ≡ ((atoms ++ left ∷ []) ++ right ∷ []) ++ rest
+alone_atoms : (atoms : List ℕ) (left right : ℕ) (rest : List ℕ) →
+    atoms ++ left ∷ right ∷ rest ≡ ((atoms ++ left ∷ []) ++ right ∷ []) ++ rest
 alone_atoms atoms left right rest =
     sym (append_assoc atoms (left ∷ []) (right ∷ rest)) ∙ sym (append_assoc (atoms ++ left ∷ []) (right ∷ []) rest)
 
 -- All of them
 
-record Text (symbols : List (Symbol Action)) (atoms rest : List ℕ) (last : List (Event Action)) (order place : ℕ) (a : Source) : Type 0 where
-  events : List (Event Action) → List (Event Action)
-  leads : IsText grammar symbols (atoms ++ rest) (events last)
-  builds : Builds events order place (length atoms) a
+record Text (symbols : List (Symbol Action)) (atoms rest : List ℕ) (last : List (Event Action)) (order place : ℕ) (a : Source) : Type 0
+  where
+    events : List (Event Action) → List (Event Action)
+    leads : IsText grammar symbols (atoms ++ rest) (events last)
+    builds : Builds events order place (length atoms) a
 
-record ListText (symbols : List (Symbol Action)) (atoms rest : List ℕ) (last : List (Event Action)) (order place : ℕ) (parts : List Source) : Type 0 where
+record ListText (symbols : List (Symbol Action)) (atoms rest : List ℕ) (last : List (Event Action)) (order place : ℕ)
+    (parts : List Source) : Type 0 where
   events : List (Event Action) → List (Event Action)
   leads : IsText grammar symbols (atoms ++ rest) (events last)
   lists : Lists events order place (length atoms) parts
 
-rejoined : {symbols : List (Symbol Action)} {events : List (Event Action)} (left right rest : List ℕ) → IsText grammar symbols (left ++ (right ++ rest)) events → IsText grammar symbols ((left ++ right) ++ rest) events
+rejoined : {symbols : List (Symbol Action)} {events : List (Event Action)} (left right rest : List ℕ) →
+    IsText grammar symbols (left ++ (right ++ rest)) events → IsText grammar symbols ((left ++ right) ++ rest) events
 rejoined {symbols} {events} left right rest l = subst (λ atoms. IsText grammar symbols atoms events) (sym (append_assoc left right rest)) l
 
 mutual
-  written_text : {level order place : ℕ} {atoms : List ℕ} {a : Source} → Written level order place atoms a → (K : List (Symbol Action)) (rest : List ℕ) (last : List (Event Action)) →
+  written_text : {level order place : ℕ} {atoms : List ℕ} {a : Source} → Written level order place atoms a →
+      (K : List (Symbol Action)) (rest : List ℕ) (last : List (Event Action)) →
       (level ≤ 12 → NotCalled rest) → IsText grammar (loop level ++ K) rest last → Text (begin level ++ K) atoms rest last order place a
   written_text (written.operand {order = order} {place = place} {atom = atom} h) K rest last q l =
       let t = leaf_text K rest last atom h l in
       record { events = λ more. Took atom ∷ Did t.act ∷ more; leads = t.leads; builds = leaf_builds t.act t.is order place atom }
   written_text (written.action {order = order} {place = place} {sign = sign} {atom = atom} h k) K rest last q l =
-      record { events = λ more. Took sign ∷ Took atom ∷ Did does.Action ∷ more; leads = action_text sign atom h k l; builds = action_builds order place sign atom }
+      record {
+        events = λ more. Took sign ∷ Took atom ∷ Did does.Action ∷ more;
+        leads = action_text sign atom h k l;
+        builds = action_builds
+            order place sign atom;
+      }
   written_text (written.brackets {order = order} {place = place} {left = left} right atoms {a = a} h w k) K rest last q l =
       let not_called = no_call_of right closing_sign refl k in
-      let t = written_text w (!bracketed ∷ 'close_parenthesis' ∷ K) (right ∷ rest) (Did does.Bracketed ∷ Took right ∷ last) (λ le. not_called) (no_expression_tail (action (closing_text right k l))) in
+      let t = written_text w (!bracketed ∷ 'close_parenthesis' ∷ K) (right ∷ rest) (Did does.Bracketed ∷ Took right ∷ last)
+      (λ le. not_called) (no_expression_tail (action (closing_text right k l))) in
       record {
         events = λ more. Took left ∷ Did does.Bracket ∷ t.events (Did does.Bracketed ∷ Took right ∷ more);
         leads = bracket_text left h (rejoined atoms (right ∷ []) rest t.leads);
@@ -244,10 +315,12 @@ mutual
       let c = climb level (omega (arith, level_bound w)) K rest last q l in
       let t = written_text w c.under rest last (λ le. q (omega (arith, le))) c.after in
       record { events = t.events; leads = c.back _ _ t.leads; builds = t.builds }
-  written_text (written.in_front {level = level} {order = order} {place = place} {sign = sign} signs {atoms = atoms} {op = op} {a = a} e h w) K rest last q l =
+  written_text (written.in_front {level = level} {order = order} {place = place} {sign = sign} signs {atoms = atoms} {op = op} {a = a} e h
+      w) K rest last q l =
       let n = in_front_entry op level signs e in
       let passed : IsText grammar K rest last = subst (λ s. IsText grammar (s ++ K) rest last) n.no_loop l in
-      let t = written_text w (Act n.act ∷ K) rest (Did n.act ∷ last) q (subst (λ s. IsText grammar (s ++ Act n.act ∷ K) rest (Did n.act ∷ last)) (sym n.no_loop) (action passed)) in
+      let t = written_text w (Act n.act ∷ K) rest (Did n.act ∷ last) q
+      (subst (λ s. IsText grammar (s ++ Act n.act ∷ K) rest (Did n.act ∷ last)) (sym n.no_loop) (action passed)) in
       record {
         events = λ more. Took sign ∷ t.events (Did n.act ∷ more);
         leads = n.enters K (atoms ++ rest) (t.events (Did n.act ∷ last)) sign h t.leads;
@@ -255,13 +328,15 @@ mutual
       }
   written_text (written.behind {level = level} {order = order} {place = place} signs sign atoms {op = op} {a = a} e w h) K rest last q l =
       let n = behind_entry op level signs e in
-      let t = written_text w K (sign ∷ rest) (Took sign ∷ Did n.act ∷ last) (λ le. no_call_of sign signs n.no_call h) (n.enters K rest last sign h l) in
+      let t = written_text w K (sign ∷ rest) (Took sign ∷ Did n.act ∷ last) (λ le. no_call_of sign signs n.no_call h)
+      (n.enters K rest last sign h l) in
       record {
         events = λ more. t.events (Took sign ∷ Did n.act ∷ more);
         leads = rejoined atoms (sign ∷ []) rest t.leads;
         builds = suffix_builds op n.act n.effect order place sign atoms a t.events t.builds;
       }
-  written_text (written.between {level = level} {order = order} {place = place} signs sign left right {op = op} {a = a} {b = b} e w h v) K rest last q l =
+  written_text (written.between {level = level} {order = order} {place = place} signs sign left right {op = op} {a = a} {b = b} e w h v) K
+      rest last q l =
       let n = between_entry op level signs e in
       let u = written_text v (Act n.act ∷ (loop level ++ K)) rest (Did n.act ∷ last) (λ le. q (omega (arith, le)))
       (n.closes (Act n.act ∷ (loop level ++ K)) rest (Did n.act ∷ last) q (action l)) in
@@ -274,7 +349,8 @@ mutual
       }
   written_text (written.assigned {order = order} {place = place} sign left right {a = a} {b = b} w h v) K rest last q l =
       let u = written_text v (Act does.Assign ∷ K) rest (Did does.Assign ∷ last) q (action l) in
-      let t = written_text w (assign_tail ∷ K) (sign ∷ (right ++ rest)) (Took sign ∷ u.events (Did does.Assign ∷ last)) (λ le. no_call_of sign (of_mark mark.Assign) refl h)
+      let t = written_text w (assign_tail ∷ K) (sign ∷ (right ++ rest)) (Took sign ∷ u.events (Did does.Assign ∷ last))
+      (λ le. no_call_of sign (of_mark mark.Assign) refl h)
       (no_logic_tail (assigned_text sign h u.leads)) in
       record {
         events = λ more. t.events (Took sign ∷ u.events (Did does.Assign ∷ more));
@@ -284,7 +360,8 @@ mutual
   written_text (written.tested {order = order} {place = place} signs sign left right {op = op} {a = a} b sources e w h v) K rest last q l =
       let n = test_entry op signs e in
       let u = or_text v (Act n.act ∷ K) rest (Did n.act ∷ last) (q (omega arith)) (no_tested_1 (action l)) in
-      let t = written_text w (test_tail ∷ K) (sign ∷ (right ++ rest)) (Took sign ∷ Did does.Count ∷ u.events (Did n.act ∷ last)) (λ le. no_call_of sign signs n.no_call h)
+      let t = written_text w (test_tail ∷ K) (sign ∷ (right ++ rest)) (Took sign ∷ Did does.Count ∷ u.events (Did n.act ∷ last))
+      (λ le. no_call_of sign signs n.no_call h)
       (no_sum_tail (n.enters K (right ++ rest) (u.events (Did n.act ∷ last)) sign h u.leads)) in
       record {
         events = λ more. t.events (Took sign ∷ Did does.Count ∷ u.events (Did n.act ∷ more));
@@ -292,46 +369,66 @@ mutual
         builds = test_builds op n.act n.effect order place sign left right a b sources t.events u.events t.builds u.lists;
       }
   written_text (written.called {order = order} {place = place} left right atoms given {f = f} b sources w h v k) K rest last q l =
-      let u = comma_text v ('close_parenthesis' ∷ !call ∷ post_tail ∷ K) (right ∷ rest) (Took right ∷ Did does.Call ∷ last) (no_call_of right closing_sign refl k)
+      let u = comma_text v ('close_parenthesis' ∷ !call ∷ post_tail ∷ K) (right ∷ rest) (Took right ∷ Did does.Call ∷ last)
+      (no_call_of right closing_sign refl k)
       (no_call_2 (closing_text right k (action l))) in
-      let t = written_text w K (left ∷ (given ++ right ∷ rest)) (Took left ∷ Did does.Count ∷ u.events (Took right ∷ Did does.Call ∷ last)) (λ le. absurd (omega (arith, le)))
+      let t = written_text w K (left ∷ (given ++ right ∷ rest)) (Took left ∷ Did does.Count ∷ u.events (Took right ∷ Did does.Call ∷ last))
+      (λ le. absurd (omega (arith, le)))
       (call_text left h (some_call u.leads)) in
       record {
         events = λ more. t.events (Took left ∷ Did does.Count ∷ u.events (Took right ∷ Did does.Call ∷ more));
-        leads = subst (λ all. IsText grammar (post ∷ K) all (t.events (Took left ∷ Did does.Count ∷ u.events (Took right ∷ Did does.Call ∷ last)))) (given_atoms atoms given left right rest) t.leads;
+        leads = subst (λ all. IsText grammar (post ∷ K) all
+            (t.events (Took left ∷ Did does.Count ∷ u.events (Took right ∷ Did does.Call ∷ last))))
+            (given_atoms atoms given left right rest) t.leads;
         builds = call_builds order place left right atoms given f b sources t.events u.events t.builds u.lists;
       }
   written_text (written.alone {order = order} {place = place} left right atoms {f = f} w h k) K rest last q l =
-      let t = written_text w K (left ∷ right ∷ rest) (Took left ∷ Did does.Count ∷ Took right ∷ Did does.Call ∷ last) (λ le. absurd (omega (arith, le)))
+      let t = written_text w K (left ∷ right ∷ rest) (Took left ∷ Did does.Count ∷ Took right ∷ Did does.Call ∷ last)
+      (λ le. absurd (omega (arith, le)))
       (call_text left h (no_call_1 (closing_text right k (action l)))) in
       record {
         events = λ more. t.events (Took left ∷ Did does.Count ∷ Took right ∷ Did does.Call ∷ more);
-        leads = subst (λ all. IsText grammar (post ∷ K) all (t.events (Took left ∷ Did does.Count ∷ Took right ∷ Did does.Call ∷ last))) (alone_atoms atoms left right rest) t.leads;
+        leads = subst (λ all. IsText grammar (post ∷ K) all (t.events (Took left ∷ Did does.Count ∷ Took right ∷ Did does.Call ∷ last)))
+            (alone_atoms atoms left right rest) t.leads;
         builds = alone_builds order place left right atoms f t.events t.builds;
       }
 
-  or_text : {order place : ℕ} {atoms : List ℕ} {parts : List Source} → Listed sums or_sign order place atoms parts → (K : List (Symbol Action)) (rest : List ℕ) (last : List (Event Action)) →
+  or_text : {order place : ℕ} {atoms : List ℕ} {parts : List Source} → Listed sums or_sign order place atoms parts →
+      (K : List (Symbol Action)) (rest : List ℕ) (last : List (Event Action)) →
       NotCalled rest → IsText grammar (tested_1 ∷ K) rest last → ListText (sum ∷ !part ∷ tested_1 ∷ K) atoms rest last order place parts
   or_text (written.one {order = order} {place = place} {atoms = atoms} {a = a} w) K rest last q l =
       let t = written_text w (!part ∷ tested_1 ∷ K) rest (Did does.Part ∷ last) (λ le. q) (no_sum_tail (action l)) in
-      record { events = λ more. t.events (Did does.Part ∷ more); leads = t.leads; lists = one_lists order place (length atoms) a t.events t.builds }
+      record {
+        events = λ more. t.events (Did does.Part ∷ more);
+        leads = t.leads;
+        lists = one_lists order place (length atoms) a t.events
+            t.builds;
+      }
   or_text (written.more {order = order} {place = place} sign left right sources a f h w) K rest last q l =
       let u = written_text w (!part ∷ tested_1 ∷ K) rest (Did does.Part ∷ last) (λ le. q) (no_sum_tail (action l)) in
-      let t = or_text f K (sign ∷ (right ++ rest)) (Took sign ∷ u.events (Did does.Part ∷ last)) (no_call_of sign or_sign refl h) (next_test sign h u.leads) in
+      let t = or_text f K (sign ∷ (right ++ rest)) (Took sign ∷ u.events (Did does.Part ∷ last)) (no_call_of sign or_sign refl h)
+      (next_test sign h u.leads) in
       record {
         events = λ more. t.events (Took sign ∷ u.events (Did does.Part ∷ more));
         leads = rejoined left (sign ∷ right) rest t.leads;
         lists = more_lists order place sign left right sources a t.events u.events t.lists u.builds;
       }
 
-  comma_text : {order place : ℕ} {atoms : List ℕ} {parts : List Source} → Listed assignments comma_sign order place atoms parts → (K : List (Symbol Action)) (rest : List ℕ) (last : List (Event Action)) →
+  comma_text : {order place : ℕ} {atoms : List ℕ} {parts : List Source} → Listed assignments comma_sign order place atoms parts →
+      (K : List (Symbol Action)) (rest : List ℕ) (last : List (Event Action)) →
       NotCalled rest → IsText grammar (call_2 ∷ K) rest last → ListText (assign ∷ !part ∷ call_2 ∷ K) atoms rest last order place parts
   comma_text (written.one {order = order} {place = place} {atoms = atoms} {a = a} w) K rest last q l =
       let t = written_text w (!part ∷ call_2 ∷ K) rest (Did does.Part ∷ last) (λ le. q) (action l) in
-      record { events = λ more. t.events (Did does.Part ∷ more); leads = t.leads; lists = one_lists order place (length atoms) a t.events t.builds }
+      record {
+        events = λ more. t.events (Did does.Part ∷ more);
+        leads = t.leads;
+        lists = one_lists order place (length atoms) a t.events
+            t.builds;
+      }
   comma_text (written.more {order = order} {place = place} sign left right sources a f h w) K rest last q l =
       let u = written_text w (!part ∷ call_2 ∷ K) rest (Did does.Part ∷ last) (λ le. q) (action l) in
-      let t = comma_text f K (sign ∷ (right ++ rest)) (Took sign ∷ u.events (Did does.Part ∷ last)) (no_call_of sign comma_sign refl h) (next_call sign h u.leads) in
+      let t = comma_text f K (sign ∷ (right ++ rest)) (Took sign ∷ u.events (Did does.Part ∷ last)) (no_call_of sign comma_sign refl h)
+      (next_call sign h u.leads) in
       record {
         events = λ more. t.events (Took sign ∷ u.events (Did does.Part ∷ more));
         leads = rejoined left (sign ∷ right) rest t.leads;

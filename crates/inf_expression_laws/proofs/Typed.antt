@@ -70,7 +70,8 @@ step_changes (Some step.Part) =
     ∷ change (Whole sums ∷ Sign or_sign ∷ Parts sums or_sign ∷ []) (Parts sums or_sign ∷ [])
     ∷ change (Whole assignments ∷ Sign comma_sign ∷ Parts assignments comma_sign ∷ []) (Parts assignments comma_sign ∷ [])
     ∷ []
-step_changes (Some step.Call) = change (Sign closing_sign ∷ Any assignments comma_sign ∷ Sign opening_sign ∷ Whole members ∷ []) (Whole members ∷ []) ∷ []
+step_changes (Some step.Call) =
+    change (Sign closing_sign ∷ Any assignments comma_sign ∷ Sign opening_sign ∷ Whole members ∷ []) (Whole members ∷ []) ∷ []
 step_changes (Some (step.Test op)) = test_changes (sign_of_test op)
 step_changes (Some step.Bracket) = change (Sign opening_sign ∷ []) (Opened ∷ []) ∷ []
 step_changes (Some step.Bracketed) =
@@ -175,17 +176,25 @@ with_token set items = Sign set ∷ items
 abbrev pub passed : List (Symbol Action) → List Item → Option (List Item)
 passed [] items = Some items
 passed (Token class ∷ symbols) items = passed symbols (with_token (grammar.atoms_of class) items)
-passed (Act a ∷ symbols) items = if is_sure a then passed symbols items else and_then (passed symbols) (changed_by_one (step_changes (step_of a)) items)
+passed (Act a ∷ symbols) items =
+    if is_sure a then passed symbols items else and_then (passed symbols) (changed_by_one (step_changes (step_of a)) items)
 passed (Rule rule ∷ symbols) items = and_then (passed symbols) (changed_by (rule_change rule) items)
 
 -- the same as a relation
 pub data Passes : List Item → List (Symbol Action) → List Item → Type 0 where
   done : {items target : List Item} → Within items target → Passes items [] target
-  token : {class : ℕ} {items target : List Item} {symbols : List (Symbol Action)} → Passes (Sign (grammar.atoms_of class) ∷ items) symbols target → Passes items (Token class ∷ symbols) target
-  close : {class : ℕ} {items rest target : List Item} {symbols : List (Symbol Action)} → Within items (Closing ∷ rest) → is_within (grammar.atoms_of class) closing_sign ≡ true → Passes (Whole primaries ∷ rest) symbols target → Passes items (Token class ∷ symbols) target
-  sure : {items target : List Item} {symbols : List (Symbol Action)} → Passes items symbols target → Passes items (Act action.OuterSure ∷ symbols) target
-  act : {a : Action} {items target : List Item} {symbols : List (Symbol Action)} (c : Change) (rest : List Item) → IsOneOf c (step_changes (step_of a)) → Within items (c.old ++ rest) → Passes (c.now ++ rest) symbols target → Passes items (Act a ∷ symbols) target
-  rule : {r : ℕ} {items target : List Item} {symbols : List (Symbol Action)} (c : Change) (rest : List Item) → rule_change r ≡ Some c → Within items (c.old ++ rest) → Passes (c.now ++ rest) symbols target → Passes items (Rule r ∷ symbols) target
+  token : {class : ℕ} {items target : List Item} {symbols : List (Symbol Action)} →
+      Passes (Sign (grammar.atoms_of class) ∷ items) symbols target → Passes items (Token class ∷ symbols) target
+  close : {class : ℕ} {items rest target : List Item} {symbols : List (Symbol Action)} → Within items (Closing ∷ rest) →
+      is_within (grammar.atoms_of class) closing_sign ≡ true → Passes (Whole primaries ∷ rest) symbols target →
+      Passes items (Token class ∷ symbols) target
+  sure : {items target : List Item} {symbols : List (Symbol Action)} → Passes items symbols target →
+      Passes items (Act action.OuterSure ∷ symbols) target
+  act : {a : Action} {items target : List Item} {symbols : List (Symbol Action)} (c : Change) (rest : List Item) →
+      IsOneOf c (step_changes (step_of a)) → Within items (c.old ++ rest) → Passes (c.now ++ rest) symbols target →
+      Passes items (Act a ∷ symbols) target
+  rule : {r : ℕ} {items target : List Item} {symbols : List (Symbol Action)} (c : Change) (rest : List Item) → rule_change r ≡ Some c →
+      Within items (c.old ++ rest) → Passes (c.now ++ rest) symbols target → Passes items (Rule r ∷ symbols) target
 
 -- what a change took from the top, and that the rest stays
 record Took (c : Change) (items next : List Item) : Type 0 where
@@ -196,9 +205,11 @@ record Took (c : Change) (items next : List Item) : Type 0 where
 changed_sound : (c : Change) (items next : List Item) → changed c items ≡ Some next → Took c items next
 changed_sound c items next e = by_rest (all_popped c.old items) refl e
   where
-    by_rest : (o : Option (List Item)) → all_popped c.old items ≡ o → and_then (λ rest. Some (c.now ++ rest)) o ≡ Some next → Took c items next
+    by_rest : (o : Option (List Item)) → all_popped c.old items ≡ o → and_then (λ rest. Some (c.now ++ rest)) o ≡ Some next →
+        Took c items next
     by_rest None p q = cc
-    by_rest (Some rest) p q = record { rest = rest; within = all_popped_sound c.old items rest p; is = sym (same_Some (c.now ++ rest) next q) }
+    by_rest (Some rest) p q =
+        record { rest = rest; within = all_popped_sound c.old items rest p; is = sym (same_Some (c.now ++ rest) next q) }
 
 record TookOne (changes : List Change) (items next : List Item) : Type 0 where
   c : Change
@@ -212,7 +223,8 @@ one_sound (c ∷ changes) items next e = by_first (λ q. one_sound changes items
     further : TookOne changes items next → TookOne (c ∷ changes) items next
     further t = record { c = t.c; one = later t.one; took = t.took }
 
-    by_first : (changed_by_one changes items ≡ Some next → TookOne changes items next) → (o : Option (List Item)) → changed c items ≡ o → or_else o (changed_by_one changes items) ≡ Some next → TookOne (c ∷ changes) items next
+    by_first : (changed_by_one changes items ≡ Some next → TookOne changes items next) → (o : Option (List Item)) → changed c items ≡ o →
+        or_else o (changed_by_one changes items) ≡ Some next → TookOne (c ∷ changes) items next
     by_first others None p q = further (others q)
     by_first others (Some found) p q = record { c = c; one = first; took = changed_sound c items next (p ∙ q) }
 
@@ -230,7 +242,9 @@ passed_token : (class : ℕ) (items target : List Item) (symbols : List (Symbol 
 passed_token class [] target symbols p = token p
 passed_token class (Closing ∷ rest) target symbols p = by_test (is_within (grammar.atoms_of class) closing_sign) refl p
   where
-    by_test : (b : Bool) → is_within (grammar.atoms_of class) closing_sign ≡ b → Passes (if b then Whole primaries ∷ rest else Sign (grammar.atoms_of class) ∷ Closing ∷ rest) symbols target → Passes (Closing ∷ rest) (Token class ∷ symbols) target
+    by_test : (b : Bool) → is_within (grammar.atoms_of class) closing_sign ≡ b →
+        Passes (if b then Whole primaries ∷ rest else Sign (grammar.atoms_of class) ∷ Closing ∷ rest) symbols target →
+        Passes (Closing ∷ rest) (Token class ∷ symbols) target
     by_test true e q = close (within_same (Closing ∷ rest)) e q
     by_test false e q = token q
 passed_token class (Sign set ∷ rest) target symbols p = token p
@@ -240,25 +254,33 @@ passed_token class (NoneYet ∷ rest) target symbols p = token p
 passed_token class (Parts level signs ∷ rest) target symbols p = token p
 passed_token class (Any level signs ∷ rest) target symbols p = token p
 
-pub passed_sound : (symbols : List (Symbol Action)) (items target last : List Item) → passed symbols items ≡ Some last → Within last target → Passes items symbols target
+pub passed_sound : (symbols : List (Symbol Action)) (items target last : List Item) → passed symbols items ≡ Some last →
+    Within last target → Passes items symbols target
 passed_sound [] items target last e w = done (subst (λ l. Within l target) (sym (same_Some items last e)) w)
-passed_sound (Token class ∷ symbols) items target last e w = passed_token class items target symbols (passed_sound symbols (with_token (grammar.atoms_of class) items) target last e w)
+passed_sound (Token class ∷ symbols) items target last e w =
+    passed_token class items target symbols (passed_sound symbols (with_token (grammar.atoms_of class) items) target last e w)
 passed_sound (Act a ∷ symbols) items target last e w =
     by_sure (λ q. passed_sound symbols items target last q w) (λ next q. passed_sound symbols next target last q w) (is_sure a) refl e
   where
-    by_next : ((next : List Item) → passed symbols next ≡ Some last → Passes next symbols target) → (o : Option (List Item)) → changed_by_one (step_changes (step_of a)) items ≡ o → and_then (passed symbols) o ≡ Some last → Passes items (Act a ∷ symbols) target
+    by_next : ((next : List Item) → passed symbols next ≡ Some last → Passes next symbols target) → (o : Option (List Item)) →
+        changed_by_one (step_changes (step_of a)) items ≡ o → and_then (passed symbols) o ≡ Some last →
+        Passes items (Act a ∷ symbols) target
     by_next on None p q = cc
     by_next on (Some next) p q =
         let t = one_sound (step_changes (step_of a)) items next p in
         act t.c t.took.rest t.one t.took.within (subst (λ n. Passes n symbols target) t.took.is (on next q))
 
-    by_sure : (passed symbols items ≡ Some last → Passes items symbols target) → ((next : List Item) → passed symbols next ≡ Some last → Passes next symbols target) → (b : Bool) → is_sure a ≡ b → (if b then passed symbols items else and_then (passed symbols) (changed_by_one (step_changes (step_of a)) items)) ≡ Some last → Passes items (Act a ∷ symbols) target
+    by_sure : (passed symbols items ≡ Some last → Passes items symbols target) →
+        ((next : List Item) → passed symbols next ≡ Some last → Passes next symbols target) → (b : Bool) → is_sure a ≡ b →
+        (if b then passed symbols items else and_then (passed symbols) (changed_by_one (step_changes (step_of a)) items)) ≡ Some last →
+        Passes items (Act a ∷ symbols) target
     by_sure same on true f q = subst (λ x. Passes items (Act x ∷ symbols) target) (sym (only_sure a f)) (sure (same q))
     by_sure same on false f q = by_next on (changed_by_one (step_changes (step_of a)) items) refl q
 passed_sound (Rule r ∷ symbols) items target last e w =
     by_next (λ next q. passed_sound symbols next target last q w) (changed_by (rule_change r) items) refl e
   where
-    by_next : ((next : List Item) → passed symbols next ≡ Some last → Passes next symbols target) → (o : Option (List Item)) → changed_by (rule_change r) items ≡ o → and_then (passed symbols) o ≡ Some last → Passes items (Rule r ∷ symbols) target
+    by_next : ((next : List Item) → passed symbols next ≡ Some last → Passes next symbols target) → (o : Option (List Item)) →
+        changed_by (rule_change r) items ≡ o → and_then (passed symbols) o ≡ Some last → Passes items (Rule r ∷ symbols) target
     by_next on None p q = cc
     by_next on (Some next) p q =
         let t = by_sound (rule_change r) items next p in
@@ -266,7 +288,8 @@ passed_sound (Rule r ∷ symbols) items target last e w =
 
 -- Where fewer cases are left, and what stands below
 
-narrower : {items wider target : List Item} {symbols : List (Symbol Action)} → Within items wider → Passes wider symbols target → Passes items symbols target
+narrower : {items wider target : List Item} {symbols : List (Symbol Action)} → Within items wider → Passes wider symbols target →
+    Passes items symbols target
 narrower w (done v) = done (within_trans w v)
 narrower {items = items} w (token {class = class} {items = wider} {target = target} {symbols = symbols} p) =
     token (narrower {items = Sign (grammar.atoms_of class) ∷ items} (item (fits_same (Sign (grammar.atoms_of class))) w) p)
@@ -275,7 +298,8 @@ narrower w (sure p) = sure (narrower w p)
 narrower w (act c rest one v p) = act c rest one (within_trans w v) p
 narrower w (rule c rest is v p) = rule c rest is (within_trans w v) p
 
-pub joined : {items middle target : List Item} {symbols more : List (Symbol Action)} → Passes items symbols middle → Passes middle more target → Passes items (symbols ++ more) target
+pub joined : {items middle target : List Item} {symbols more : List (Symbol Action)} → Passes items symbols middle →
+    Passes middle more target → Passes items (symbols ++ more) target
 joined (done w) q = narrower w q
 joined (token p) q = token (joined p q)
 joined (close w e p) q = close w e (joined p q)
@@ -283,7 +307,8 @@ joined (sure p) q = sure (joined p q)
 joined (act c rest one w p) q = act c rest one w (joined p q)
 joined (rule c rest is w p) q = rule c rest is w (joined p q)
 
-pub below : {items target : List Item} {symbols : List (Symbol Action)} (under : List Item) → Passes items symbols target → Passes (items ++ under) symbols (target ++ under)
+pub below : {items target : List Item} {symbols : List (Symbol Action)} (under : List Item) → Passes items symbols target →
+    Passes (items ++ under) symbols (target ++ under)
 below under (done w) = done (within_append under w)
 below under (token p) = token (below under p)
 below under (close w e p) = close (within_append under w) e (below under p)
@@ -332,14 +357,17 @@ fit_sound c parts e = by_last (passed parts c.old) refl e
     by_last None p q = cc
     by_last (Some last) p q = passed_sound parts c.old c.now last p (all_fit_sound last c.now q)
 
-one_of_all : (passes : List (Symbol Action) → Bool) (rows : List (Row Action)) (r : Row Action) → IsOneOf r rows → all_rows passes rows ≡ true → passes r.parts ≡ true
+one_of_all : (passes : List (Symbol Action) → Bool) (rows : List (Row Action)) (r : Row Action) → IsOneOf r rows →
+    all_rows passes rows ≡ true → passes r.parts ≡ true
 one_of_all passes [] r m h = elim m [ ]
 one_of_all passes (r ∷ rows) r' first h = (and_parts (passes r.parts) (all_rows passes rows) h).0
 one_of_all passes (y ∷ rows) r (later m) h = one_of_all passes rows r m (and_parts (passes y.parts) (all_rows passes rows) h).1
 
-pub row_passes : (r : ℕ) (c : Change) (row : Row Action) → rule_change r ≡ Some c → IsOneOf row (grammar.rows_of r) → Passes c.old row.parts c.now
+pub row_passes : (r : ℕ) (c : Change) (row : Row Action) → rule_change r ≡ Some c → IsOneOf row (grammar.rows_of r) →
+    Passes c.old row.parts c.now
 row_passes r c row e m =
-    fit_sound c row.parts (one_of_all (row_fits c) (grammar.rows_of r) row m (ap (λ o. rows_fit o (grammar.rows_of r)) (sym e) ∙ typed_rule r))
+    fit_sound c row.parts (one_of_all (row_fits c) (grammar.rows_of r) row m (ap (λ o. rows_fit o (grammar.rows_of r)) (sym e) ∙ typed_rule
+    r))
 
 abbrev all_forms : (Form → Bool) → List Form → Bool
 all_forms is [] = true
@@ -355,7 +383,9 @@ of_all is [] form m h = elim m [ ]
 of_all is (form ∷ some) other first h = (and_parts (is form) (all_forms is some) h).0
 of_all is (y ∷ some) form (later m) h = of_all is some form m (and_parts (is y) (all_forms is some) h).1
 
-pub form_passes : (symbols : List (Symbol Action)) (level : ℕ) → IsOneOf (record { symbols = symbols; level = level }) forms → Passes [] symbols (Whole level ∷ [])
+pub form_passes : (symbols : List (Symbol Action)) (level : ℕ) → IsOneOf (record { symbols = symbols; level = level }) forms →
+    Passes [] symbols (Whole level ∷ [])
 form_passes symbols level m =
     fit_sound (change [] (Whole level ∷ [])) symbols
-    (of_all (λ form. row_fits (change [] (Whole form.level ∷ [])) form.symbols) forms (record { symbols = symbols; level = level }) m forms_typed)
+    (of_all (λ form. row_fits (change [] (Whole form.level ∷ [])) form.symbols) forms (record { symbols = symbols; level = level }) m
+    forms_typed)

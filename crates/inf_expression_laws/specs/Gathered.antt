@@ -79,7 +79,8 @@ kind_in (Some k) = k
 
 abbrev pub leaf_read : Option ℕ → ℕ → List SourceToken → ℕ → ℕ → Gathered
 leaf_read outer begun tokens first at =
-    if first == at then told_leaf (is_first at outer && is_some_mark mark.At (kind_at tokens begun)) (leaf_of at (kind_in (kind_at tokens at))) else leaf.Action at
+    if first == at then told_leaf (is_first at outer && is_some_mark mark.At (kind_at tokens begun))
+    (leaf_of at (kind_in (kind_at tokens at))) else leaf.Action at
 
 -- The leaves of an expression or a list, in the order of their tokens
 abbrev pub leaves_of : Option ℕ → ℕ → List SourceToken → Source → List Gathered

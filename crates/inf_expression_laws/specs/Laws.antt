@@ -65,11 +65,15 @@ forms =
     ∷ form (prefixed ∷ []) assignments
     ∷ form ('minus' ∷ neg ∷ !negate ∷ after_unary ∷ []) assignments
     ∷ form (TEXT ∷ !outer_sure ∷ !text ∷ operator ∷ []) assignments
-    ∷ form ('open_parenthesis' ∷ !bracket ∷ !outer_sure ∷ other_assign ∷ expression_tail ∷ !bracketed ∷ 'close_parenthesis' ∷ after_prim ∷ []) assignments
+    ∷ form ('open_parenthesis' ∷ !bracket ∷ !outer_sure ∷ other_assign ∷ expression_tail ∷ !bracketed ∷ 'close_parenthesis' ∷ after_prim ∷
+    []) assignments
     ∷ form ('open_parenthesis' ∷ !bracket ∷ OPERAND ∷ !name ∷ 'close_parenthesis' ∷ !outer_sure ∷ !bracketed ∷ []) primaries
-    ∷ form ('open_parenthesis' ∷ !bracket ∷ OPERAND ∷ !name ∷ 'close_parenthesis' ∷ !outer_sure ∷ !bracketed ∷ other_operator ∷ []) assignments
-    ∷ form ('open_parenthesis' ∷ !bracket ∷ OPERAND ∷ !name ∷ !outer_sure ∷ operator ∷ expression_tail ∷ !bracketed ∷ 'close_parenthesis' ∷ after_prim ∷ []) assignments
-    ∷ form ('open_parenthesis' ∷ !bracket ∷ OPERAND ∷ !name ∷ !outer_sure ∷ 'comma' ∷ assign ∷ !comma ∷ expression_tail ∷ !bracketed ∷ 'close_parenthesis' ∷ after_prim ∷ []) assignments
+    ∷ form ('open_parenthesis' ∷ !bracket ∷ OPERAND ∷ !name ∷ 'close_parenthesis' ∷ !outer_sure ∷ !bracketed ∷ other_operator ∷ [])
+    assignments
+    ∷ form ('open_parenthesis' ∷ !bracket ∷ OPERAND ∷ !name ∷ !outer_sure ∷ operator ∷ expression_tail ∷ !bracketed ∷ 'close_parenthesis' ∷
+    after_prim ∷ []) assignments
+    ∷ form ('open_parenthesis' ∷ !bracket ∷ OPERAND ∷ !name ∷ !outer_sure ∷ 'comma' ∷ assign ∷ !comma ∷ expression_tail ∷ !bracketed ∷
+    'close_parenthesis' ∷ after_prim ∷ []) assignments
     ∷ []
 
 -- Whatever the tokens of a text of such a form are, they are an expression by the levels of its operators; and taking them, with the

@@ -160,14 +160,17 @@ mutual
     brackets : {order place left : ℕ} (right : ℕ) (atoms : List ℕ) {a : Source} → has opening_sign left ≡ true →
         Written commas (suc order) place atoms a → has closing_sign right ≡ true →
         Written primaries order place (left ∷ (atoms ++ right ∷ [])) (Brackets order a)
-    tighter : {level order place : ℕ} {atoms : List ℕ} {a : Source} → Written (suc level) order place atoms a → Written level order place atoms a
-    in_front : {level order place sign : ℕ} (signs : ℕ) {atoms : List ℕ} {op : Unary} {a : Source} → sign_in_front op ≡ Some (level, signs) →
+    tighter : {level order place : ℕ} {atoms : List ℕ} {a : Source} → Written (suc level) order place atoms a →
+        Written level order place atoms a
+    in_front : {level order place sign : ℕ} (signs : ℕ) {atoms : List ℕ} {op : Unary} {a : Source} →
+        sign_in_front op ≡ Some (level, signs) →
         has signs sign ≡ true → Written level (suc order) place atoms a →
         Written level order place (sign ∷ atoms) (Prefix order op a)
     behind : {level order place : ℕ} (signs sign : ℕ) (atoms : List ℕ) {op : Unary} {a : Source} → sign_behind op ≡ Some (level, signs) →
         Written level order place atoms a → has signs sign ≡ true →
         Written level order place (atoms ++ sign ∷ []) (Suffix op a)
-    between : {level order place : ℕ} (signs sign : ℕ) (left right : List ℕ) {op : Binary} {a b : Source} → sign_between op ≡ Some (level, signs) →
+    between : {level order place : ℕ} (signs sign : ℕ) (left right : List ℕ) {op : Binary} {a b : Source} →
+        sign_between op ≡ Some (level, signs) →
         Written level order place left a → has signs sign ≡ true → Written (suc level) (suc (order + length left)) (place + leaf_count a) right b →
         Written level order place (left ++ sign ∷ right) (Two op a b)
     assigned : {order place : ℕ} (sign : ℕ) (left right : List ℕ) {a b : Source} → Written connections order place left a →
@@ -179,9 +182,11 @@ mutual
         Written tests order place (left ++ sign ∷ right) (Two op a (list_of b sources))
     called : {order place : ℕ} (left right : ℕ) (atoms given : List ℕ) {f : Source} (b : Source) (sources : List Source) →
         Written members order place atoms f → has opening_sign left ≡ true →
-        Listed assignments comma_sign (suc (order + length atoms)) (place + leaf_count f) given (b ∷ sources) → has closing_sign right ≡ true →
+        Listed assignments comma_sign (suc (order + length atoms)) (place + leaf_count f) given (b ∷ sources) → has closing_sign right ≡
+        true →
         Written members order place (((atoms ++ left ∷ []) ++ given) ++ right ∷ []) (Call f (list_of b sources))
-    alone : {order place : ℕ} (left right : ℕ) (atoms : List ℕ) {f : Source} → Written members order place atoms f → has opening_sign left ≡ true →
+    alone : {order place : ℕ} (left right : ℕ) (atoms : List ℕ) {f : Source} → Written members order place atoms f →
+        has opening_sign left ≡ true →
         has closing_sign right ≡ true →
         Written members order place ((atoms ++ left ∷ []) ++ right ∷ []) (Alone f)
 

@@ -26,12 +26,14 @@ use Rattle.inf_expressions.specs.Rooted.{Rooted}
 use Rattle.inf_expressions.specs.Questions.{children_of, constant_of, range_of}
 use Rattle.inf_expressions.specs.Units.{judged, trees_of}
 
--- Operands by place: the numbers 0 to 5; then a variable, a constant known later, the functions `child`, `random` and `indirect`, and `#` with
+-- Operands by place: the numbers 0 to 5; then a variable, a constant known later, the functions `child`, `random` and `indirect`, and `#`
+-- with
 -- an unknown name.
 abbrev operands : List Operand
 operands =
     operand.Known 0 ∷ operand.Known 1 ∷ operand.Known 2 ∷ operand.Known 3 ∷ operand.Known 4 ∷ operand.Known 5 ∷ operand.Variable 1
-    ∷ operand.Later (target.Name 7) ∷ operand.Function function.Child ∷ operand.Function function.Random ∷ operand.Function function.Indirect
+    ∷ operand.Later (target.Name 7) ∷ operand.Function function.Child ∷ operand.Function function.Random ∷ operand.Function
+    function.Indirect
     ∷ operand.Unknown ∷ []
 
 abbrev x : ℕ
@@ -111,7 +113,8 @@ entry_as_target = refl
 property_as_target : found (leaf 10 x ∷ leaf 12 1 ∷ Two (binary.Property property.Value) ∷ leaf 14 2 ∷ Two binary.Assign ∷ []) ≡ None
 property_as_target = refl
 
-address_as_target : found (leaf 10 x ∷ leaf 12 1 ∷ Two (binary.Property property.Address) ∷ leaf 14 2 ∷ Two binary.Assign ∷ []) ≡ Some (wrong_kind 10)
+address_as_target : found (leaf 10 x ∷ leaf 12 1 ∷ Two (binary.Property property.Address) ∷ leaf 14 2 ∷ Two binary.Assign ∷ []) ≡ Some
+    (wrong_kind 10)
 address_as_target = refl
 
 -- What a unit wants.
@@ -130,7 +133,8 @@ no_number : judged wanted.Number 9 operands (leaf 10 later ∷ []) ≡ Some (no_
 no_number = refl
 
 -- operands x, 3 and (1 + 2), but not -K, of which there is code
-operands_of_instruction : judged wanted.Operand 10 operands (leaf 12 x ∷ leaf 13 3 ∷ leaf 15 1 ∷ leaf 17 2 ∷ op operation.Add ∷ Bracketed 14 ∷ []) ≡ None
+operands_of_instruction : judged wanted.Operand 10 operands
+    (leaf 12 x ∷ leaf 13 3 ∷ leaf 15 1 ∷ leaf 17 2 ∷ op operation.Add ∷ Bracketed 14 ∷ []) ≡ None
 operands_of_instruction = refl
 
 no_operand : judged wanted.Operand 10 operands (leaf 12 x ∷ leaf 14 later ∷ Prefix 13 unary.Negate ∷ []) ≡ Some (no_constant 10)
@@ -155,16 +159,20 @@ comma_in_case = refl
 loop : judged wanted.Loop 10 operands (leaf 10 x ∷ leaf 12 5 ∷ Two (binary.Test test.In) ∷ []) ≡ None
 loop = refl
 
-loop_in_brackets : judged wanted.Loop 10 operands (leaf 12 x ∷ Bracketed 11 ∷ leaf 15 5 ∷ Two (binary.Test test.In) ∷ Bracketed 10 ∷ []) ≡ None
+loop_in_brackets : judged wanted.Loop 10 operands (leaf 12 x ∷ Bracketed 11 ∷ leaf 15 5 ∷ Two (binary.Test test.In) ∷ Bracketed 10 ∷ []) ≡
+    None
 loop_in_brackets = refl
 
-loop_of_number : judged wanted.Loop 9 operands (leaf 11 5 ∷ Bracketed 10 ∷ leaf 14 x ∷ Two (binary.Test test.In) ∷ []) ≡ Some (wrong_kind 10)
+loop_of_number : judged wanted.Loop 9 operands (leaf 11 5 ∷ Bracketed 10 ∷ leaf 14 x ∷ Two (binary.Test test.In) ∷ []) ≡ Some
+    (wrong_kind 10)
 loop_of_number = refl
 
-loop_of_number_in : judged wanted.Loop 9 operands (leaf 11 5 ∷ leaf 13 x ∷ Two (binary.Test test.In) ∷ Bracketed 10 ∷ []) ≡ Some (wrong_kind 11)
+loop_of_number_in : judged wanted.Loop 9 operands (leaf 11 5 ∷ leaf 13 x ∷ Two (binary.Test test.In) ∷ Bracketed 10 ∷ []) ≡ Some
+    (wrong_kind 11)
 loop_of_number_in = refl
 
-loop_of_negative : judged wanted.Loop 9 operands (leaf 11 x ∷ Prefix 10 unary.Negate ∷ leaf 13 5 ∷ Two (binary.Test test.In) ∷ []) ≡ Some (wrong_kind 10)
+loop_of_negative : judged wanted.Loop 9 operands (leaf 11 x ∷ Prefix 10 unary.Negate ∷ leaf 13 5 ∷ Two (binary.Test test.In) ∷ []) ≡ Some
+    (wrong_kind 10)
 loop_of_negative = refl
 
 -- Numbers that cannot be.
@@ -226,7 +234,8 @@ least_number = refl
 -- Numbers.
 
 abbrev of : ℕ → ℕ → Operation → List Tree
-of a b o = map (λ (r : Rooted). r.tree) (trees_of wanted.Value 10 (operand.Known a ∷ operand.Known b ∷ []) (leaf 10 0 ∷ leaf 12 1 ∷ op o ∷ []))
+of a b o =
+    map (λ (r : Rooted). r.tree) (trees_of wanted.Value 10 (operand.Known a ∷ operand.Known b ∷ []) (leaf 10 0 ∷ leaf 12 1 ∷ op o ∷ []))
 
 abbrev is : ℕ → List Tree
 is n = tree.Leaf (operand.Known n) ∷ []
@@ -263,7 +272,8 @@ bits = refl
 more_bits : of 12 10 operation.BitOr ≡ is 14
 more_bits = refl
 
-no_entry : of 12 10 operation.Word ≡ tree.Two (binary.Operation operation.Word) (tree.Leaf (operand.Known 12)) (tree.Leaf (operand.Known 10)) ∷ []
+no_entry : of 12 10 operation.Word ≡ tree.Two (binary.Operation operation.Word) (tree.Leaf (operand.Known 12))
+    (tree.Leaf (operand.Known 10)) ∷ []
 no_entry = refl
 
 -- -5, ~5, ~~5
@@ -296,10 +306,12 @@ both = refl
 either : trees (leaf 10 2 ∷ leaf 12 0 ∷ Two binary.Or ∷ []) ≡ is 1
 either = refl
 
-only_one_known : trees (leaf 10 0 ∷ leaf 12 x ∷ Two binary.And ∷ []) ≡ tree.Two binary.And (tree.Leaf (operand.Known 0)) (tree.Leaf (operand.Variable 1)) ∷ []
+only_one_known : trees (leaf 10 0 ∷ leaf 12 x ∷ Two binary.And ∷ []) ≡ tree.Two binary.And (tree.Leaf (operand.Known 0))
+    (tree.Leaf (operand.Variable 1)) ∷ []
 only_one_known = refl
 
-attribute : trees (leaf 10 1 ∷ leaf 12 2 ∷ Two (binary.Test test.Has) ∷ []) ≡ tree.Two (binary.Test test.Has) (tree.Leaf (operand.Known 1)) (tree.Leaf (operand.Known 2)) ∷ []
+attribute : trees (leaf 10 1 ∷ leaf 12 2 ∷ Two (binary.Test test.Has) ∷ []) ≡ tree.Two (binary.Test test.Has) (tree.Leaf (operand.Known 1))
+    (tree.Leaf (operand.Known 2)) ∷ []
 attribute = refl
 
 comma : trees (leaf 10 1 ∷ leaf 12 2 ∷ Comma ∷ []) ≡ tree.Two binary.Comma (tree.Leaf (operand.Known 1)) (tree.Leaf (operand.Known 2)) ∷ []
@@ -308,7 +320,8 @@ comma = refl
 -- Trees.
 
 -- child(x); indirect(K, 1); K(1, 2, 3), a list that leans to the right; K()
-call_of_child : trees (leaf 10 child ∷ leaf 12 x ∷ Call 1 ∷ []) ≡ tree.One (unary.Relative relative.Child) (tree.Leaf (operand.Variable 1)) ∷ []
+call_of_child : trees (leaf 10 child ∷ leaf 12 x ∷ Call 1 ∷ []) ≡ tree.One (unary.Relative relative.Child)
+    (tree.Leaf (operand.Variable 1)) ∷ []
 call_of_child = refl
 
 call_of_indirect :
@@ -319,7 +332,8 @@ call_of_indirect = refl
 call_of_three :
     trees (leaf 10 later ∷ leaf 12 1 ∷ leaf 14 2 ∷ leaf 16 3 ∷ Call 3 ∷ [])
     ≡ tree.Two binary.Call (tree.Leaf (operand.Later (target.Name 7)))
-    (tree.Two binary.Then (tree.Leaf (operand.Known 1)) (tree.Two binary.Then (tree.Leaf (operand.Known 2)) (tree.Leaf (operand.Known 3)))) ∷ []
+    (tree.Two binary.Then (tree.Leaf (operand.Known 1))
+    (tree.Two binary.Then (tree.Leaf (operand.Known 2)) (tree.Leaf (operand.Known 3)))) ∷ []
 call_of_three = refl
 
 call_of_none : trees (leaf 10 later ∷ Call 0 ∷ []) ≡ tree.One unary.Call (tree.Leaf (operand.Later (target.Name 7))) ∷ []
@@ -348,5 +362,6 @@ constant_later = refl
 no_constant_at_all : constant_of (tree.Leaf (operand.Variable 1)) ≡ None
 no_constant_at_all = refl
 
-ends : range_of (tree.Two binary.To (tree.Leaf (operand.Known 1)) (tree.Leaf (operand.Known 2))) ≡ Some (tree.Leaf (operand.Known 1), tree.Leaf (operand.Known 2))
+ends : range_of (tree.Two binary.To (tree.Leaf (operand.Known 1)) (tree.Leaf (operand.Known 2))) ≡ Some
+    (tree.Leaf (operand.Known 1), tree.Leaf (operand.Known 2))
 ends = refl

@@ -12,14 +12,16 @@ joined_from : (trees : List Tree) (front back : List Node) → trees_from trees 
 joined_from trees [] back = refl
 joined_from trees (n ∷ front) back = joined_from (trees ++ tree_of trees n ∷ []) front back
 
-pub trees_pushed : (trees : List Tree) (nodes : List Node) (n : Node) → trees_from trees (nodes ++ n ∷ []) ≡ trees_from trees nodes ++ tree_of (trees_from trees nodes) n ∷ []
+pub trees_pushed : (trees : List Tree) (nodes : List Node) (n : Node) →
+    trees_from trees (nodes ++ n ∷ []) ≡ trees_from trees nodes ++ tree_of (trees_from trees nodes) n ∷ []
 trees_pushed trees nodes n = joined_from trees nodes (n ∷ [])
 
 pub trees_len : (trees : List Tree) (nodes : List Node) → length (trees_from trees nodes) ≡ length trees + length nodes
 trees_len trees [] = omega arith
 trees_len trees (n ∷ nodes) = omega (arith, trees_len (trees ++ tree_of trees n ∷ []) nodes, length-append trees (tree_of trees n ∷ []))
 
-below_joined : (place : ℕ) (front : List Node) (n : Node) → AreBelow place front → IsBelow (place + length front) n → AreBelow place (front ++ n ∷ [])
+below_joined : (place : ℕ) (front : List Node) (n : Node) → AreBelow place front → IsBelow (place + length front) n →
+    AreBelow place (front ++ n ∷ [])
 below_joined place [] n below last = (subst (λ p. IsBelow p n) (omega arith) last, tt)
 below_joined place (m ∷ front) n below last =
     (below.0, below_joined (place + 1) front n below.1 (subst (λ p. IsBelow p n) (omega arith) last))
@@ -27,12 +29,14 @@ below_joined place (m ∷ front) n below last =
 pub below_pushed : (nodes : List Node) (n : Node) → AreBelow 0 nodes → IsBelow (length nodes) n → AreBelow 0 (nodes ++ n ∷ [])
 below_pushed nodes n below last = below_joined 0 nodes n below (subst (λ p. IsBelow p n) (omega arith) last)
 
-below_at : (place : ℕ) (front : List Node) (n : Node) (back : List Node) → AreBelow place (front ++ n ∷ back) → IsBelow (place + length front) n
+below_at : (place : ℕ) (front : List Node) (n : Node) (back : List Node) → AreBelow place (front ++ n ∷ back) →
+    IsBelow (place + length front) n
 below_at place [] n back below = subst (λ p. IsBelow p n) (omega arith) below.0
 below_at place (m ∷ front) n back below = subst (λ p. IsBelow p n) (omega arith) (below_at (place + 1) front n back below.1)
 
 -- What follows leaves a tree as it is.
-kept_at : (trees : List Tree) (back : List Node) (place : ℕ) → place < length trees → tree_at (trees_from trees back) place ≡ tree_at trees place
+kept_at : (trees : List Tree) (back : List Node) (place : ℕ) → place < length trees →
+    tree_at (trees_from trees back) place ≡ tree_at trees place
 kept_at trees [] place within = refl
 kept_at trees (n ∷ back) place within =
     kept_at (trees ++ tree_of trees n ∷ []) back place (omega (arith, length-append trees (tree_of trees n ∷ [])))
@@ -63,7 +67,8 @@ cut_at nodes k n within is =
     ∙ ap (λ back. take k nodes ++ back) (sym (drop-cons nodes k n within))
     ∙ take-append-drop k nodes
 
-pub node_tree : (nodes : List Node) (k : ℕ) (n : Node) → AreBelow 0 nodes → k < length nodes → n ≡ get_or nodes k n → tree_at (trees_from [] nodes) k ≡ tree_of (trees_from [] nodes) n
+pub node_tree : (nodes : List Node) (k : ℕ) (n : Node) → AreBelow 0 nodes → k < length nodes → n ≡ get_or nodes k n →
+    tree_at (trees_from [] nodes) k ≡ tree_of (trees_from [] nodes) n
 node_tree nodes k n below within is =
     let cut = cut_at nodes k n within is in
     let len : length (take k nodes) ≡ k = omega (arith, length-take k nodes) in

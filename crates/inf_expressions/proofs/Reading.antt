@@ -19,7 +19,8 @@ joints joint (suc n) state = joint (joints joint n state)
 pub record Reads {S : Type 0} (act : Symbol → S → S) (joint : S → S) (have : Source → S → S) : Type 0 where
   pub leaf : (first token leaf : ℕ) (state : S) → act (symbol.Leaf first token leaf) state ≡ have (Leaf first token leaf) state
   pub brackets : (order : ℕ) (a : Source) (state : S) → act (symbol.Bracketed order) (have a state) ≡ have (Brackets order a) state
-  pub prefix : (order : ℕ) (op : Unary) (a : Source) (state : S) → act (symbol.Prefix order op) (have a state) ≡ have (Prefix order op a) state
+  pub prefix : (order : ℕ) (op : Unary) (a : Source) (state : S) →
+      act (symbol.Prefix order op) (have a state) ≡ have (Prefix order op a) state
   pub suffix : (op : Unary) (a : Source) (state : S) → act (symbol.Suffix op) (have a state) ≡ have (Suffix op a) state
   pub two : (op : Binary) (a b : Source) (state : S) → act (symbol.Two op) (have b (have a state)) ≡ have (Two op a b) state
   pub next : (a b : Source) (state : S) → joint (have b (have a state)) ≡ have (Then a b) state
@@ -67,7 +68,8 @@ whole : {S : Type 0} {act : Symbol → S → S} {joint : S → S} {have : Source
     ((more : List Symbol) (state : S) → run act ((opened a).0 ++ more) state ≡ run act more (spread have a state)) →
     (rest : List Symbol) (state : S) → run act (postfix a ++ rest) state ≡ run act rest (have a state)
 whole {have = have} reads a opens rest state =
-    closes reads (opened a).0 (opened a).1 rest state (spread have a state) (have a state) (λ more. opens more state) (gathers reads a state)
+    closes reads (opened a).0 (opened a).1 rest state (spread have a state) (have a state) (λ more. opens more state)
+    (gathers reads a state)
 
 -- an expression, and one symbol behind it
 behind : {S : Type 0} {act : Symbol → S → S} {joint : S → S} {have : Source → S → S} (reads : Reads act joint have) (a : Source) →

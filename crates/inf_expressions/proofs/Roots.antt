@@ -10,14 +10,17 @@ use Rattle.inf_expressions.specs.Trees.{Tree, Leaf}
 use Rattle.inf_expressions.specs.Nodes.{tree_at, rooted_at, rooted, AreRoots}
 
 -- One root more, and one less.
-pub rooted_pushed : (trees : List Tree) (roots : List Root) (root : Root) → rooted trees (roots ++ root ∷ []) ≡ rooted_at trees root ∷ rooted trees roots
+pub rooted_pushed : (trees : List Tree) (roots : List Root) (root : Root) →
+    rooted trees (roots ++ root ∷ []) ≡ rooted_at trees root ∷ rooted trees roots
 rooted_pushed trees roots root = simp (map-append, reverse-append)
 
-pub roots_pushed : (trees : List Tree) (roots : List Root) (root : Root) → AreRoots trees roots → root.place < length trees → AreRoots trees (roots ++ root ∷ [])
+pub roots_pushed : (trees : List Tree) (roots : List Root) (root : Root) → AreRoots trees roots → root.place < length trees →
+    AreRoots trees (roots ++ root ∷ [])
 roots_pushed trees [] root all within = (within, tt)
 roots_pushed trees (r ∷ roots) root all within = (all.0, roots_pushed trees roots root all.1 within)
 
-pub roots_popped : (trees : List Tree) (roots : List Root) (root : Root) → AreRoots trees (roots ++ root ∷ []) → AreRoots trees roots × (root.place < length trees)
+pub roots_popped : (trees : List Tree) (roots : List Root) (root : Root) → AreRoots trees (roots ++ root ∷ []) →
+    AreRoots trees roots × (root.place < length trees)
 roots_popped trees [] root all = (tt, all.0)
 roots_popped trees (r ∷ roots) root all = let others = roots_popped trees roots root all.1 in ((all.0, others.0), others.1)
 
@@ -26,22 +29,27 @@ pub roots_after : (trees : List Tree) (t : Tree) (roots : List Root) → AreRoot
 roots_after trees t [] all = tt
 roots_after trees t (root ∷ roots) all = (omega (arith, all.0, length-append trees (t ∷ [])), roots_after trees t roots all.1)
 
-kept_root : (trees : List Tree) (t : Tree) (root : Root) → root.place < length trees → rooted_at (trees ++ t ∷ []) root ≡ rooted_at trees root
-kept_root trees t root within = ap (λ x. record { tree = x; origin = root.origin }) (get_or_append_left trees (t ∷ []) (Leaf (Known 0)) root.place within)
+kept_root : (trees : List Tree) (t : Tree) (root : Root) → root.place < length trees →
+    rooted_at (trees ++ t ∷ []) root ≡ rooted_at trees root
+kept_root trees t root within =
+    ap (λ x. record { tree = x; origin = root.origin }) (get_or_append_left trees (t ∷ []) (Leaf (Known 0)) root.place within)
 
-kept_roots : (trees : List Tree) (t : Tree) (roots : List Root) → AreRoots trees roots → map (rooted_at (trees ++ t ∷ [])) roots ≡ map (rooted_at trees) roots
+kept_roots : (trees : List Tree) (t : Tree) (roots : List Root) → AreRoots trees roots →
+    map (rooted_at (trees ++ t ∷ [])) roots ≡ map (rooted_at trees) roots
 kept_roots trees t [] all = refl
 kept_roots trees t (root ∷ roots) all =
     let here = kept_root trees t root all.0 in
     let others = kept_roots trees t roots all.1 in
     cc
 
-pub rooted_after : (trees : List Tree) (t : Tree) (roots : List Root) → AreRoots trees roots → rooted (trees ++ t ∷ []) roots ≡ rooted trees roots
+pub rooted_after : (trees : List Tree) (t : Tree) (roots : List Root) → AreRoots trees roots →
+    rooted (trees ++ t ∷ []) roots ≡ rooted trees roots
 rooted_after trees t roots all = ap reverse (kept_roots trees t roots all)
 
 -- A new tree, at whose place the latest root stands.
 pub grown : (trees : List Tree) (t : Tree) (roots : List Root) (origin : Origin) → AreRoots trees roots →
-    rooted (trees ++ t ∷ []) (roots ++ record { place = length trees; origin = origin } ∷ []) ≡ record { tree = t; origin = origin } ∷ rooted trees roots
+    rooted (trees ++ t ∷ []) (roots ++ record { place = length trees; origin = origin } ∷ []) ≡ record { tree = t; origin = origin } ∷
+    rooted trees roots
 grown trees t roots origin all =
     let latest : tree_at (trees ++ t ∷ []) (length trees) ≡ t = get_or_push trees t (Leaf (Known 0)) (length trees) refl in
     let others = rooted_after trees t roots all in
@@ -51,7 +59,8 @@ grown trees t roots origin all =
 pub roots_grown : (trees : List Tree) (t : Tree) (roots : List Root) (origin : Origin) → AreRoots trees roots →
     AreRoots (trees ++ t ∷ []) (roots ++ record { place = length trees; origin = origin } ∷ [])
 roots_grown trees t roots origin all =
-    roots_pushed (trees ++ t ∷ []) roots (record { place = length trees; origin = origin }) (roots_after trees t roots all) (omega (arith, length-append trees (t ∷ [])))
+    roots_pushed (trees ++ t ∷ []) roots (record { place = length trees; origin = origin }) (roots_after trees t roots all)
+    (omega (arith, length-append trees (t ∷ [])))
 
 pub ruleset roots_step = (grown, roots_grown, roots_after, rooted_after, rooted_pushed, roots_popped, roots_pushed)
 
@@ -59,5 +68,6 @@ pub ruleset roots_step = (grown, roots_grown, roots_after, rooted_after, rooted_
 pub reversed_roots : (trees : List Tree) (roots : List Root) → map (rooted_at trees) roots ≡ reverse (rooted trees roots)
 reversed_roots trees roots = sym (reverse-reverse (map (rooted_at trees) roots))
 
-pub root_at : (trees : List Tree) (roots : List Root) (number : ℕ) → option_map (rooted_at trees) (slice_get roots number) ≡ slice_get (map (rooted_at trees) roots) number
+pub root_at : (trees : List Tree) (roots : List Root) (number : ℕ) →
+    option_map (rooted_at trees) (slice_get roots number) ≡ slice_get (map (rooted_at trees) roots) number
 root_at trees roots number = sym (slice_get-map (rooted_at trees) roots number)

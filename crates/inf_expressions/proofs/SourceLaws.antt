@@ -34,7 +34,8 @@ call_gained w unit operands n f list g given is joined =
     rw (no, less) (ap (call_joined unit (suc n)) (listed_joints unit n given ∙ joined)
     ∙ ap (λ k. call_joined unit (suc k) (gained unit operands list (gained unit operands f g))) is)
 
-reads_trees : (w : Wanted) (unit : ℕ) (operands : List Operand) → Reads (acted w unit operands) (with_two_of unit binary.Then) (gained unit operands)
+reads_trees : (w : Wanted) (unit : ℕ) (operands : List Operand) →
+    Reads (acted w unit operands) (with_two_of unit binary.Then) (gained unit operands)
 reads_trees w unit operands = record {
   leaf = λ first token leaf g. refl;
   brackets = λ order a g. refl;
@@ -64,7 +65,8 @@ gathered_all w unit operands sources =
     gathered_run w unit operands (postfixes sources) nothing_gathered
     ∙ reading_all (reads_trees w unit operands) sources nothing_gathered
     ∙ gained_all unit operands sources nothing_gathered
-    ∙ ap (λ trees. record { trees = trees; finding = found_in_all unit operands sources None }) (append-nil (reverse (map (meant operands) sources)))
+    ∙ ap (λ trees. record { trees = trees; finding = found_in_all unit operands sources None })
+    (append-nil (reverse (map (meant operands) sources)))
 
 pub trees_are : (w : Wanted) (unit : ℕ) (operands : List Operand) (sources : List Source) →
     trees_of w unit operands (postfixes sources) ≡ map (meant operands) sources
@@ -72,7 +74,8 @@ trees_are w unit operands sources =
     ap (λ (g : Gathered). reverse g.trees) (gathered_all w unit operands sources) ∙ reverse-reverse (map (meant operands) sources)
 
 pub finding_is : (w : Wanted) (unit : ℕ) (operands : List Operand) (sources : List Source) →
-    judged w unit operands (postfixes sources) ≡ roots_finding w unit (map (meant operands) sources) (found_in_all unit operands sources None)
+    judged w unit operands (postfixes sources) ≡ roots_finding w unit (map (meant operands) sources)
+    (found_in_all unit operands sources None)
 finding_is w unit operands sources =
     ap (λ (g : Gathered). roots_finding w unit (reverse g.trees) g.finding) (gathered_all w unit operands sources)
     ∙ ap (λ trees. roots_finding w unit trees (found_in_all unit operands sources None)) (reverse-reverse (map (meant operands) sources))

@@ -92,7 +92,8 @@ most_arguments _ = 7
 -- a call with so many arguments, which are a list
 abbrev pub call_finding : ℕ → ℕ → Seen → Seen → Option Finding → Option Finding
 call_finding unit given callee list found =
-    if nat_lt (most_arguments callee.kind) given then least (value_finding list found) (too_many_arguments unit) else value_finding list found
+    if nat_lt (most_arguments callee.kind) given then least (value_finding list found) (too_many_arguments unit) else value_finding list
+    found
 
 abbrev pub number_finding : ℕ → Kind → Option Finding → Option Finding
 number_finding unit k found = if is_known k then found else least found (no_constant unit)

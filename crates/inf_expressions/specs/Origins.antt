@@ -27,7 +27,8 @@ of_leaf first token leaf operand = record {
 
 -- Brackets begin what stands in them; what it begins with has them only where it is all that stands there.
 abbrev pub bracketed_lead : ℕ → Lead → Lead
-bracketed_lead order lead = record { first = if lead.is_whole then order else lead.first; variable = lead.variable; is_whole = lead.is_whole }
+bracketed_lead order lead =
+    record { first = if lead.is_whole then order else lead.first; variable = lead.variable; is_whole = lead.is_whole }
 
 abbrev pub bracketed : ℕ → Origin → Origin
 bracketed order o = record { first = order; token = o.token; bare = None; lead = bracketed_lead order o.lead }
@@ -38,4 +39,10 @@ prefixed order o = record { first = order; token = o.token; bare = None; lead = 
 
 -- behind an expression stands an operator, or an operator and another expression
 abbrev pub followed : Origin → Origin
-followed o = record { first = o.first; token = o.token; bare = None; lead = record { first = o.lead.first; variable = o.lead.variable; is_whole = false } }
+followed o = record {
+  first = o.first;
+  token = o.token;
+  bare = None;
+  lead =
+      record { first = o.lead.first; variable = o.lead.variable; is_whole = false };
+}

@@ -73,4 +73,5 @@ seen_two _ = (nobody, nobody)
 -- how it is stored
 abbrev pub rooted_code : Coded Operand → Coded Unary → Coded Binary → Coded Origin → Coded Rooted
 rooted_code operand unary binary origin =
-    code_by (Tree × Origin) (coded× (tree_code operand unary binary) origin) (λ r. (r.tree, r.origin)) (λ p. record { tree = p.0; origin = p.1 }) (λ _. refl)
+    code_by (Tree × Origin) (coded× (tree_code operand unary binary) origin) (λ r. (r.tree, r.origin))
+    (λ p. record { tree = p.0; origin = p.1 }) (λ _. refl)

@@ -54,13 +54,18 @@ postfixes (a ∷ sources) = postfix a ++ postfixes sources
 
 -- The tree of an expression, and where its text begins.
 abbrev pub meant : List Operand → Source → Rooted
-meant operands (Leaf first token leaf) = record { tree = tree.Leaf (operand_at operands leaf); origin = of_leaf first token leaf (operand_at operands leaf) }
+meant operands (Leaf first token leaf) =
+    record { tree = tree.Leaf (operand_at operands leaf); origin = of_leaf first token leaf (operand_at operands leaf) }
 meant operands (Brackets order a) = record { tree = (meant operands a).tree; origin = bracketed order (meant operands a).origin }
-meant operands (Prefix order op a) = record { tree = joined_single op (meant operands a).tree; origin = prefixed order (meant operands a).origin }
+meant operands (Prefix order op a) =
+    record { tree = joined_single op (meant operands a).tree; origin = prefixed order (meant operands a).origin }
 meant operands (Suffix op a) = record { tree = joined_single op (meant operands a).tree; origin = followed (meant operands a).origin }
-meant operands (Two op a b) = record { tree = joined op (meant operands a).tree (meant operands b).tree; origin = followed (meant operands a).origin }
-meant operands (Then a b) = record { tree = joined binary.Then (meant operands a).tree (meant operands b).tree; origin = followed (meant operands a).origin }
-meant operands (Call f list) = record { tree = joined binary.Call (meant operands f).tree (meant operands list).tree; origin = followed (meant operands f).origin }
+meant operands (Two op a b) =
+    record { tree = joined op (meant operands a).tree (meant operands b).tree; origin = followed (meant operands a).origin }
+meant operands (Then a b) =
+    record { tree = joined binary.Then (meant operands a).tree (meant operands b).tree; origin = followed (meant operands a).origin }
+meant operands (Call f list) =
+    record { tree = joined binary.Call (meant operands f).tree (meant operands list).tree; origin = followed (meant operands f).origin }
 meant operands (Alone f) = record { tree = joined_single unary.Call (meant operands f).tree; origin = followed (meant operands f).origin }
 
 -- What is found of it, beside what was found before, in a unit that begins at an order.
@@ -72,9 +77,11 @@ found_in unit operands (Suffix op a) found = unary_finding op (seen (meant opera
 found_in unit operands (Two op a b) found =
     two_finding op unit (seen (meant operands a)) (seen (meant operands b)) (found_in unit operands b (found_in unit operands a found))
 found_in unit operands (Then a b) found =
-    two_finding binary.Then unit (seen (meant operands a)) (seen (meant operands b)) (found_in unit operands b (found_in unit operands a found))
+    two_finding binary.Then unit (seen (meant operands a)) (seen (meant operands b))
+    (found_in unit operands b (found_in unit operands a found))
 found_in unit operands (Call f list) found =
-    call_finding unit (suc (opened list).1) (seen (meant operands f)) (seen (meant operands list)) (found_in unit operands list (found_in unit operands f found))
+    call_finding unit (suc (opened list).1) (seen (meant operands f)) (seen (meant operands list))
+    (found_in unit operands list (found_in unit operands f found))
 found_in unit operands (Alone f) found = unary_finding unary.Call (seen (meant operands f)) (found_in unit operands f found)
 
 abbrev pub found_in_all : ℕ → List Operand → List Source → Option Finding → Option Finding

@@ -39,7 +39,8 @@ with_unary_of op front g = record { trees = with_unary op front g.trees; finding
 
 -- in a unit that begins at an order
 abbrev pub with_two_of : ℕ → Binary → Gathered → Gathered
-with_two_of unit op g = record { trees = with_two op g.trees; finding = two_finding op unit (seen_two g.trees).0 (seen_two g.trees).1 g.finding }
+with_two_of unit op g =
+    record { trees = with_two op g.trees; finding = two_finding op unit (seen_two g.trees).0 (seen_two g.trees).1 g.finding }
 
 -- a list of the latest trees: so many joints, from the last one on
 abbrev pub listed : ℕ → ℕ → Gathered → Gathered
@@ -89,9 +90,11 @@ trees_of w unit operands symbols = reverse (gathered w unit operands symbols not
 
 -- the least of what is found of a unit
 abbrev pub judged : Wanted → ℕ → List Operand → List Symbol → Option Finding
-judged w unit operands symbols = roots_finding w unit (trees_of w unit operands symbols) (gathered w unit operands symbols nothing_gathered).finding
+judged w unit operands symbols =
+    roots_finding w unit (trees_of w unit operands symbols) (gathered w unit operands symbols nothing_gathered).finding
 
 -- how it is stored
 abbrev pub gathered_code : Coded Operand → Coded Unary → Coded Binary → Coded Origin → Coded Finding → Coded Gathered
 gathered_code operand unary binary origin finding =
-    code_by (List Rooted × Option Finding) (coded× (coded_list (rooted_code operand unary binary origin)) (coded_option finding)) (λ g. (g.trees, g.finding)) (λ p. record { trees = p.0; finding = p.1 }) (λ _. refl)
+    code_by (List Rooted × Option Finding) (coded× (coded_list (rooted_code operand unary binary origin)) (coded_option finding))
+    (λ g. (g.trees, g.finding)) (λ p. record { trees = p.0; finding = p.1 }) (λ _. refl)

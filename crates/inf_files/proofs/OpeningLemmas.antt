@@ -61,7 +61,8 @@ source_got sources name asked whole (Some bytes) there same got =
     some_same : (x y : List ℕ) → Some x ≡ Some y → x ≡ y
     some_same x y e = cc
 
-pub source_taken : (sources : BTreeMap (String Global) (Vec ℕ Global)) (name asked whole : List ℕ) (found : Option (Bor (Vec ℕ Global))) (bytes : Bor (Vec ℕ Global))
+pub source_taken : (sources : BTreeMap (String Global) (Vec ℕ Global)) (name asked whole : List ℕ) (found : Option (Bor (Vec ℕ Global)))
+    (bytes : Bor (Vec ℕ Global))
     → sources_of (kept_in sources) name ≡ Some whole → asked ≡ name → option_copied found ≡ get_by_text sources asked
     → found ≡ Some bytes → bytes.now.items ≡ whole
 source_taken sources name asked whole found bytes there same got is =
@@ -134,7 +135,8 @@ abbrev pub left_of : Sources → Opened → List ℕ
 left_of sources o = drop o.given (unwrap_or (sources (string_bytes o.name)) [])
 
 after_some : (given : List ℕ) (name : List ℕ) (read_out : Bool) (bytes : List ℕ) → 0 < length bytes
-    → after_bytes (record { name = name; given = given; is_read_out = read_out }) bytes ≡ record { name = name; given = given ++ bytes; is_read_out = read_out }
+    → after_bytes (record { name = name; given = given; is_read_out = read_out }) bytes ≡
+    record { name = name; given = given ++ bytes; is_read_out = read_out }
 after_some given name read_out [] some = absurd (omega arith)
 after_some given name read_out (b ∷ bytes) some = refl
 
@@ -175,15 +177,19 @@ is_opening sources opens places are place o within at = rw at (are.each place o 
 
 -- a read of the innermost source
 pub gives_innermost : (sources : Sources) (opens : List Opened) (places : List ℕ) (place : ℕ) (o : Opened) (count : ℕ) (bytes : List ℕ)
-    → 0 < length places → place ≡ get_or places (length places - 1) 0 → place < length opens → o ≡ get_or opens place o → IsOpening sources o
+    → 0 < length places → place ≡ get_or places (length places - 1) 0 → place < length opens → o ≡ get_or opens place o → IsOpening sources
+    o
     → count ≤ length (left_of sources o) → (count ≡ 0 → length (left_of sources o) ≡ 0) → bytes ≡ take count (left_of sources o)
-    → GivesInnermost sources (openings_of sources opens places) (openings_of sources (slice_set opens place (given_more o count)) places) bytes
+    → GivesInnermost sources (openings_of sources opens places) (openings_of sources (slice_set opens place (given_more o count)) places)
+    bytes
 gives_innermost sources opens places place o count bytes some last within at is enough end_only are_bytes = record {
   outer = take (length places - 1) places;
   place = place;
   before = opening_of sources o;
   innermost = up_to_last places place some last;
-  was_opened = slice_get-map (opening_of sources) opens place ∙ ap (option_map (opening_of sources)) (slice_get-get_or opens place o within ∙ ap Some (sym at));
+  was_opened =
+      slice_get-map (opening_of sources) opens place
+      ∙ ap (option_map (opening_of sources)) (slice_get-get_or opens place o within ∙ ap Some (sym at));
   gives = gives_next sources o count bytes is enough end_only are_bytes;
   after = rw (are_bytes, ← opening_of-given sources o count enough, map-set (opening_of sources) opens place (given_more o count));
 }

@@ -8,7 +8,8 @@ use Rattle.inf_expressions.specs.declared.operators.Binary.TheVariants as binary
 use Rattle.inf_gathering.specs.declared.gathering.Leaf.{Leaf}
 use Rattle.inf_gathering.specs.declared.gathering.Leaf.TheVariants as leaf
 
--- The leaves of the unit's expressions, their symbols, each operator behind its parts; the order of the first token of each expression that is whole, the latest
+-- The leaves of the unit's expressions, their symbols, each operator behind its parts; the order of the first token of each expression that
+-- is whole, the latest
 -- first; of each list that is open how many parts it has; and the order of each opening bracket that is open, the latest first.
 pub record Gathering : Type 0 where
   pub leaves : List Leaf
@@ -100,14 +101,16 @@ with_bracket order g = record g { brackets = order ∷ g.brackets }
 
 abbrev pub closed_by : List ℕ → Gathering → Gathering
 closed_by [] g = g
-closed_by (order ∷ brackets) g = record g { symbols = g.symbols ++ symbol.Bracketed order ∷ []; firsts = beginning order g.firsts; brackets = brackets }
+closed_by (order ∷ brackets) g =
+    record g { symbols = g.symbols ++ symbol.Bracketed order ∷ []; firsts = beginning order g.firsts; brackets = brackets }
 
 abbrev pub with_closed_bracket : Gathering → Gathering
 with_closed_bracket g = closed_by g.brackets g
 
 -- The bracket that was opened last, with the latest leaf in it, is a print rule. One of the language is no expression.
 abbrev pub without_leaf : Gathering → Gathering
-without_leaf g = record g { leaves = take (length g.leaves - 1) g.leaves; symbols = take (length g.symbols - 1) g.symbols; firsts = drop 1 g.firsts }
+without_leaf g =
+    record g { leaves = take (length g.leaves - 1) g.leaves; symbols = take (length g.symbols - 1) g.symbols; firsts = drop 1 g.firsts }
 
 abbrev pub with_rule : Bool → Gathering → Gathering
 with_rule is_own g =

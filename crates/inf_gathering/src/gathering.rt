@@ -23,7 +23,8 @@ pub enum Leaf {
     System(usize),
 }
 
-/// What a unit gathered of its expressions so far: leaves, and symbols in the order of the grammar's actions, each operator behind its parts.
+/// What a unit gathered of its expressions so far: leaves, and symbols in the order of the grammar's actions, each operator behind its
+/// parts.
 ///
 /// Each call that takes memory refuses only where none was left.
 #[derive(Drop)]

@@ -34,13 +34,20 @@ row_view row = record { begins = set_number row.begins; parts = reverse (cut row
 
 abbrev pub rule_view : CodeRule → RuleView
 rule_view rule =
-    record { begins = set_number rule.begins; is_empty = rule.is_empty; rows = map row_view (cut rule.rows all_rows); other = reverse (cut rule.other all_parts) }
+    record {
+      begins = set_number rule.begins;
+      is_empty = rule.is_empty;
+      rows = map row_view (cut rule.rows all_rows);
+      other = reverse
+          (cut rule.other all_parts);
+    }
 
 abbrev pub row_of : Row Action → RowView
 row_of row = record { begins = beginning grammar known row.parts; parts = row.parts }
 
 abbrev pub rule_of : List (Row Action) → ℕ → Bool → RuleView
-rule_of rows begins is_empty = record { begins = begins; is_empty = is_empty; rows = map row_of rows; other = passed_row grammar known rows }
+rule_of rows begins is_empty =
+    record { begins = begins; is_empty = is_empty; rows = map row_of rows; other = passed_row grammar known rows }
 
 abbrev pub rules_of : List (List (Row Action)) → List ℕ → List Bool → List RuleView
 rules_of [] _ _ = []
@@ -58,7 +65,8 @@ rules_same = refl
 
 -- At a place of the tables
 
-class_at : (sets : List Set) (ns : List ℕ) → map set_number sets ≡ ns → (at : ℕ) (d : Set) → at < length sets → set_number (get_or sets at d) ≡ get_or ns at 0
+class_at : (sets : List Set) (ns : List ℕ) → map set_number sets ≡ ns → (at : ℕ) (d : Set) → at < length sets →
+    set_number (get_or sets at d) ≡ get_or ns at 0
 class_at [] ns e at d l = absurd (omega arith)
 class_at (s ∷ sets) [] e at d l = cc
 class_at (s ∷ sets) (n ∷ ns) e zero d l = cc
@@ -92,7 +100,8 @@ record IsRuleOf (rule : CodeRule) (rows : List (Row Action)) (b : ℕ) (e : Bool
   same_rows : map row_view (cut rule.rows all_rows) ≡ map row_of rows
   other : reverse (cut rule.other all_parts) ≡ passed_row grammar known rows
 
-rule_at : (code : List CodeRule) (rs : List (List (Row Action))) (bs : List ℕ) (es : List Bool) → map rule_view code ≡ rules_of rs bs es → (at : ℕ) (d : CodeRule) → at < length code → IsRuleOf (get_or code at d) (get_or rs at []) (get_or bs at 0) (get_or es at false)
+rule_at : (code : List CodeRule) (rs : List (List (Row Action))) (bs : List ℕ) (es : List Bool) → map rule_view code ≡ rules_of rs bs es →
+    (at : ℕ) (d : CodeRule) → at < length code → IsRuleOf (get_or code at d) (get_or rs at []) (get_or bs at 0) (get_or es at false)
 rule_at [] rs bs es e at d l = absurd (omega arith)
 rule_at (c ∷ code) [] bs es e at d l = cc
 rule_at (c ∷ code) (r ∷ rs) [] es e at d l = cc
@@ -138,7 +147,8 @@ only_acts rule = acts_at rules rules_acts rule
 
 -- The row that the program finds is the row that is chosen
 
-pub found_is_chosen : (atom : ℕ) (other : Span) (code : List CodeRow) (rows : List (Row Action)) → map row_view code ≡ map row_of rows → reverse (cut (found atom other code) all_parts) ≡ row_for grammar known atom (reverse (cut other all_parts)) rows
+pub found_is_chosen : (atom : ℕ) (other : Span) (code : List CodeRow) (rows : List (Row Action)) → map row_view code ≡ map row_of rows →
+    reverse (cut (found atom other code) all_parts) ≡ row_for grammar known atom (reverse (cut other all_parts)) rows
 found_is_chosen atom other [] [] e = refl
 found_is_chosen atom other [] (r ∷ rows) e = cc
 found_is_chosen atom other (c ∷ code) [] e = cc
@@ -146,9 +156,12 @@ found_is_chosen atom other (c ∷ code) (r ∷ rows) e =
     let same : row_view c ≡ row_of r = cc in
     let begins : has (set_number c.begins) atom ≡ fits grammar known atom r.parts =
     ap (λ v. has v.begins atom) same ∙ sym (fits_is_begun grammar known atom r.parts) in
-    by_test (has (set_number c.begins) atom) (fits grammar known atom r.parts) begins (ap (λ v. v.parts) same) (found_is_chosen atom other code rows (cc))
+    by_test (has (set_number c.begins) atom) (fits grammar known atom r.parts) begins (ap (λ v. v.parts) same)
+    (found_is_chosen atom other code rows (cc))
   where
-    by_test : (b f : Bool) → b ≡ f → reverse (cut c.parts all_parts) ≡ r.parts → reverse (cut (found atom other code) all_parts) ≡ row_for grammar known atom (reverse (cut other all_parts)) rows → reverse (cut (if b then c.parts else found atom other code) all_parts) ≡ (if f then r.parts else row_for grammar known atom (reverse (cut other all_parts)) rows)
+    by_test : (b f : Bool) → b ≡ f → reverse (cut c.parts all_parts) ≡ r.parts → reverse (cut (found atom other code) all_parts) ≡ row_for
+        grammar known atom (reverse (cut other all_parts)) rows → reverse (cut (if b then c.parts else found atom other code) all_parts) ≡
+        (if f then r.parts else row_for grammar known atom (reverse (cut other all_parts)) rows)
     by_test true true q p r' = p
     by_test false false q p r' = r'
     by_test true false q p r' = cc
@@ -156,7 +169,8 @@ found_is_chosen atom other (c ∷ code) (r ∷ rows) e =
 
 -- What stands for a rule in the program is what the machine puts in its place
 
-pub span_is_way : (atom at : ℕ) (rule : CodeRule) → IsRule rule at → reverse (cut (span_for rule atom) all_parts) ≡ way grammar known atom at
+pub span_is_way : (atom at : ℕ) (rule : CodeRule) → IsRule rule at →
+    reverse (cut (span_for rule atom) all_parts) ≡ way grammar known atom at
 span_is_way atom at rule is = by_begun (has (set_number rule.begins) atom) refl
   where
     rows : List (Row Action)
@@ -164,11 +178,14 @@ span_is_way atom at rule is = by_begun (has (set_number rule.begins) atom) refl
 
     by_begun : (b : Bool) → has (set_number rule.begins) atom ≡ b → reverse (cut (span_for rule atom) all_parts) ≡ way grammar known atom at
     by_begun true e =
-        ap (λ s. reverse (cut s all_parts)) (cond-true (has (set_number rule.begins) atom) (found atom rule.other (cut rule.rows all_rows)) rule.other e)
+        ap (λ s. reverse (cut s all_parts)) (cond-true (has (set_number rule.begins) atom) (found atom rule.other (cut rule.rows all_rows))
+        rule.other e)
         ∙ found_is_chosen atom rule.other (cut rule.rows all_rows) rows is.rows
         ∙ ap (λ other. row_for grammar known atom other rows) is.other
     by_begun false e =
-        let none = ap (λ s. has s atom) (decided_parts grammar known at (language_is_decided at)).whole ∙ ap (λ n. has n atom) (sym is.begins) ∙ e in
-        ap (λ s. reverse (cut s all_parts)) (cond-false (has (set_number rule.begins) atom) (found atom rule.other (cut rule.rows all_rows)) rule.other e)
+        let none =
+        ap (λ s. has s atom) (decided_parts grammar known at (language_is_decided at)).whole ∙ ap (λ n. has n atom) (sym is.begins) ∙ e in
+        ap (λ s. reverse (cut s all_parts)) (cond-false (has (set_number rule.begins) atom) (found atom rule.other (cut rule.rows all_rows))
+        rule.other e)
         ∙ is.other
         ∙ sym (none_chooses_other grammar known atom (passed_row grammar known rows) rows none)

@@ -143,7 +143,8 @@ past_keeps : (b : Bool) (test : List (Symbol Action) → Bool) (rows : List (Row
 past_keeps true test rows e = ap (all_rows test) e
 past_keeps false test rows e = refl
 
-row_of_all : (test : List (Symbol Action) → Bool) (rows : List (Row Action)) (r : Row Action) → IsOneOf r rows → all_rows test rows ≡ true → test r.parts ≡ true
+row_of_all : (test : List (Symbol Action) → Bool) (rows : List (Row Action)) (r : Row Action) → IsOneOf r rows → all_rows test rows ≡ true →
+    test r.parts ≡ true
 row_of_all test [] r m h = elim m [ ]
 row_of_all test (r ∷ rows) r' first h = (and_parts (test r.parts) (all_rows test rows) h).0
 row_of_all test (y ∷ rows) r (later m) h = row_of_all test rows r m (and_parts (test y.parts) (all_rows test rows) h).1
@@ -173,19 +174,22 @@ only_bit k atom h = by_test (atom == k) refl
     by_test true e = eqb-true atom k e
     by_test false e = absurd (both_ways (has (2 ^ k) atom) (ap (λ b. b == 1) (bit_at-pow_other k atom (eqb-false atom k e))) h)
 
-of_class : (class other atom k : ℕ) → (class == other) ≡ true → grammar.atoms_of other ≡ 2 ^ k → has (grammar.atoms_of class) atom ≡ true → atom ≡ k
+of_class : (class other atom k : ℕ) → (class == other) ≡ true → grammar.atoms_of other ≡ 2 ^ k → has (grammar.atoms_of class) atom ≡ true →
+    atom ≡ k
 of_class class other atom k same is f =
     only_bit k atom (sym (ap (λ s. has s atom) (ap grammar.atoms_of (eqb-true class other same) ∙ is)) ∙ f)
 
 -- a token of a class without an atom is another one
-is_other : (class atom other : ℕ) → not (has (grammar.atoms_of class) other) ≡ true → has (grammar.atoms_of class) atom ≡ true → (atom == other) ≡ false
+is_other : (class atom other : ℕ) → not (has (grammar.atoms_of class) other) ≡ true → has (grammar.atoms_of class) atom ≡ true →
+    (atom == other) ≡ false
 is_other class atom other lacks f =
     false_from_ne_true (atom == other) (λ e.
     both_ways (has (grammar.atoms_of class) other) (not-true (has (grammar.atoms_of class) other) lacks)
     (ap (has (grammar.atoms_of class)) (sym (eqb-true atom other e)) ∙ f))
 
 -- a token of a class without brackets opens and closes none
-opens_none : (is_open : Bool) (class atom : ℕ) → has_no_bracket class ≡ true → has (grammar.atoms_of class) atom ≡ true → open_behind is_open atom ≡ is_open
+opens_none : (is_open : Bool) (class atom : ℕ) → has_no_bracket class ≡ true → has (grammar.atoms_of class) atom ≡ true →
+    open_behind is_open atom ≡ is_open
 opens_none is_open class atom h f =
     let both = and_parts (not (has (grammar.atoms_of class) open_atom)) (not (has (grammar.atoms_of class) close_atom)) h in
     ap (λ b. if b then true else if atom == close_atom then false else is_open) (is_other class atom open_atom both.0 f)
@@ -193,7 +197,8 @@ opens_none is_open class atom h f =
 
 -- Symbols joined
 
-plain_append : (rules : ℕ → Bool) (xs ys : List (Symbol Action)) → are_plain rules xs ≡ true → are_plain rules ys ≡ true → are_plain rules (xs ++ ys) ≡ true
+plain_append : (rules : ℕ → Bool) (xs ys : List (Symbol Action)) → are_plain rules xs ≡ true → are_plain rules ys ≡ true →
+    are_plain rules (xs ++ ys) ≡ true
 plain_append rules [] ys h k = k
 plain_append rules (Token class ∷ xs) ys h k =
     let both = and_parts (has_no_bracket class) (are_plain rules xs) h in
@@ -281,7 +286,8 @@ inside_is_in [] h = cc
 inside_is_in (Token class ∷ symbols) h = inside_is_in symbols (and_parts (has_no_bracket class) (are_inside symbols) h).1
 inside_is_in (Act a ∷ symbols) h = by_end (ends_routine a) (λ e. inside_is_in symbols e) h
   where
-    by_end : (b : Bool) → (are_inside symbols ≡ true → is_in_routine symbols ≡ true) → (if b then are_closing symbols else are_inside symbols) ≡ true → (b || is_in_routine symbols) ≡ true
+    by_end : (b : Bool) → (are_inside symbols ≡ true → is_in_routine symbols ≡ true) →
+        (if b then are_closing symbols else are_inside symbols) ≡ true → (b || is_in_routine symbols) ≡ true
     by_end true i e = refl
     by_end false i e = i e
 inside_is_in (Rule rule ∷ symbols) h = inside_is_in symbols (and_parts (inner rule) (are_inside symbols) h).1
@@ -293,15 +299,18 @@ tells false symbols h = plain_is_out symbols h
 -- One token
 
 chosen_passes : (rules : ℕ → Bool) (test : List (Symbol Action) → Bool) → agree_below (keeps rules test) (λ rule. true) 251 ≡ true
-    → (atom rule : ℕ) (symbols : List (Symbol Action)) → rules rule ≡ true → fits grammar known atom (Rule rule ∷ symbols) ≡ true → test (chosen grammar known atom rule) ≡ true
+    → (atom rule : ℕ) (symbols : List (Symbol Action)) → rules rule ≡ true → fits grammar known atom (Rule rule ∷ symbols) ≡ true → test
+    (chosen grammar known atom rule) ≡ true
 chosen_passes rules test all atom rule symbols is f =
     let c = choice grammar known language_is_decided atom rule symbols f in ap test c.is ∙ passes rules test all rule is c.row c.one
 
 -- a rule's row has fewer steps than the rule, and fits
-fewer : (atom rule n : ℕ) (symbols : List (Symbol Action)) → work known atom (Rule rule ∷ symbols) ≤ suc n → fits grammar known atom (Rule rule ∷ symbols) ≡ true → work known atom (chosen grammar known atom rule ++ symbols) ≤ n
+fewer : (atom rule n : ℕ) (symbols : List (Symbol Action)) → work known atom (Rule rule ∷ symbols) ≤ suc n →
+    fits grammar known atom (Rule rule ∷ symbols) ≡ true → work known atom (chosen grammar known atom rule ++ symbols) ≤ n
 fewer atom rule n symbols w f = omega (arith, w, chosen_less grammar known language_is_decided atom rule symbols f)
 
-fits_row : (atom rule : ℕ) (symbols : List (Symbol Action)) → fits grammar known atom (Rule rule ∷ symbols) ≡ true → fits grammar known atom (chosen grammar known atom rule ++ symbols) ≡ true
+fits_row : (atom rule : ℕ) (symbols : List (Symbol Action)) → fits grammar known atom (Rule rule ∷ symbols) ≡ true →
+    fits grammar known atom (chosen grammar known atom rule ++ symbols) ≡ true
 fits_row atom rule symbols f = chosen_fits grammar known language_is_decided atom rule symbols f
 
 no_step : (atom : ℕ) (symbols : List (Symbol Action)) → work known atom symbols ≤ 0 → fits grammar known atom symbols ≡ true → ⊥
@@ -310,7 +319,8 @@ no_step atom symbols w f = omega (arith, w, some_work grammar known language_is_
 abbrev left_of : ℕ → ℕ → List (Symbol Action) → List (Symbol Action)
 left_of atom n symbols = (stepped grammar known atom n symbols).left
 
-closing_on : (atom n : ℕ) (symbols : List (Symbol Action)) → are_closing symbols ≡ true → work known atom symbols ≤ n → fits grammar known atom symbols ≡ true → stands (open_behind true atom) (left_of atom n symbols) ≡ true
+closing_on : (atom n : ℕ) (symbols : List (Symbol Action)) → are_closing symbols ≡ true → work known atom symbols ≤ n →
+    fits grammar known atom symbols ≡ true → stands (open_behind true atom) (left_of atom n symbols) ≡ true
 closing_on atom zero symbols h w f = absurd (no_step atom symbols w f)
 closing_on atom (suc n) [] h w f = cc
 closing_on atom (suc n) (Token class ∷ symbols) h w f =
@@ -319,7 +329,8 @@ closing_on atom (suc n) (Token class ∷ symbols) h w f =
 closing_on atom (suc n) (Act a ∷ symbols) h w f = cc
 closing_on atom (suc n) (Rule rule ∷ symbols) h w f = cc
 
-inside_on : (atom n : ℕ) (symbols : List (Symbol Action)) → are_inside symbols ≡ true → work known atom symbols ≤ n → fits grammar known atom symbols ≡ true → stands (open_behind true atom) (left_of atom n symbols) ≡ true
+inside_on : (atom n : ℕ) (symbols : List (Symbol Action)) → are_inside symbols ≡ true → work known atom symbols ≤ n →
+    fits grammar known atom symbols ≡ true → stands (open_behind true atom) (left_of atom n symbols) ≡ true
 inside_on atom zero symbols h w f = absurd (no_step atom symbols w f)
 inside_on atom (suc n) [] h w f = cc
 inside_on atom (suc n) (Token class ∷ symbols) h w f =
@@ -339,7 +350,8 @@ inside_on atom (suc n) (Rule rule ∷ symbols) h w f =
     inside_on atom n (chosen grammar known atom rule ++ symbols) (inner_inside (chosen grammar known atom rule) symbols plain both.1)
     (fewer atom rule n symbols w f) (fits_row atom rule symbols f)
 
-opening_on : (atom n : ℕ) (symbols : List (Symbol Action)) → are_opening symbols ≡ true → work known atom symbols ≤ n → fits grammar known atom symbols ≡ true → stands (open_behind false atom) (left_of atom n symbols) ≡ true
+opening_on : (atom n : ℕ) (symbols : List (Symbol Action)) → are_opening symbols ≡ true → work known atom symbols ≤ n →
+    fits grammar known atom symbols ≡ true → stands (open_behind false atom) (left_of atom n symbols) ≡ true
 opening_on atom zero symbols h w f = absurd (no_step atom symbols w f)
 opening_on atom (suc n) [] h w f = cc
 opening_on atom (suc n) (Token class ∷ symbols) h w f =
@@ -348,7 +360,8 @@ opening_on atom (suc n) (Token class ∷ symbols) h w f =
 opening_on atom (suc n) (Act a ∷ symbols) h w f = opening_on atom n symbols h (omega (arith, w)) f
 opening_on atom (suc n) (Rule rule ∷ symbols) h w f = cc
 
-outside_on : (atom n : ℕ) (symbols : List (Symbol Action)) → are_plain outer symbols ≡ true → work known atom symbols ≤ n → fits grammar known atom symbols ≡ true → stands (open_behind false atom) (left_of atom n symbols) ≡ true
+outside_on : (atom n : ℕ) (symbols : List (Symbol Action)) → are_plain outer symbols ≡ true → work known atom symbols ≤ n →
+    fits grammar known atom symbols ≡ true → stands (open_behind false atom) (left_of atom n symbols) ≡ true
 outside_on atom zero symbols h w f = absurd (no_step atom symbols w f)
 outside_on atom (suc n) [] h w f = cc
 outside_on atom (suc n) (Token class ∷ symbols) h w f =
@@ -366,11 +379,13 @@ outside_on atom (suc n) (Rule rule ∷ symbols) h w f =
       | inr o ↦ opening_on atom n (parts ++ symbols) (opening_append parts symbols o both.1) w' f'
     ]
 
-calm_on : (atom n : ℕ) (symbols : List (Symbol Action)) → are_calm symbols ≡ true → work known atom symbols ≤ n → fits grammar known atom symbols ≡ true → are_calm (left_of atom n symbols) ≡ true
+calm_on : (atom n : ℕ) (symbols : List (Symbol Action)) → are_calm symbols ≡ true → work known atom symbols ≤ n →
+    fits grammar known atom symbols ≡ true → are_calm (left_of atom n symbols) ≡ true
 calm_on atom zero symbols h w f = absurd (no_step atom symbols w f)
 calm_on atom (suc n) [] h w f = cc
 calm_on atom (suc n) (Token class ∷ symbols) h w f = h
-calm_on atom (suc n) (Act a ∷ symbols) h w f = calm_on atom n symbols (and_parts (not (ends_routine a)) (are_calm symbols) h).1 (omega (arith, w)) f
+calm_on atom (suc n) (Act a ∷ symbols) h w f =
+    calm_on atom n symbols (and_parts (not (ends_routine a)) (are_calm symbols) h).1 (omega (arith, w)) f
 calm_on atom (suc n) (Rule rule ∷ symbols) h w f =
     let both = and_parts (calm rule) (are_calm symbols) h in
     let parts = chosen_passes calm are_calm calm_keep atom rule symbols both.0 f in
@@ -378,7 +393,8 @@ calm_on atom (suc n) (Rule rule ∷ symbols) h w f =
     (fewer atom rule n symbols w f) (fits_row atom rule symbols f)
 
 -- a stack goes on standing as the brackets tell
-stands_on : (is_open : Bool) (atom : ℕ) (symbols : List (Symbol Action)) → stands is_open symbols ≡ true → fits grammar known atom symbols ≡ true → stands (open_behind is_open atom) (taken grammar known atom symbols).left ≡ true
+stands_on : (is_open : Bool) (atom : ℕ) (symbols : List (Symbol Action)) → stands is_open symbols ≡ true →
+    fits grammar known atom symbols ≡ true → stands (open_behind is_open atom) (taken grammar known atom symbols).left ≡ true
 stands_on true atom symbols h f = inside_on atom (work known atom symbols) symbols h (omega arith) f
 stands_on false atom symbols h f = outside_on atom (work known atom symbols) symbols h (omega arith) f
 
@@ -396,9 +412,11 @@ some_behind events (Some r) = refl
 pub record FirstTaken (symbols : List (Symbol Action)) (atom : ℕ) (atoms : List ℕ) : Type 0 where
   pub fits_it : fits grammar known atom symbols ≡ true
   pub goes_on : is_some (read grammar known (taken grammar known atom symbols).left atoms) ≡ true
-  pub tells : is_inside (read grammar known symbols (atom ∷ atoms)) ≡ is_inside (read grammar known (taken grammar known atom symbols).left atoms)
+  pub tells : is_inside (read grammar known symbols (atom ∷ atoms)) ≡ is_inside
+      (read grammar known (taken grammar known atom symbols).left atoms)
 
-pub first_taken : (symbols : List (Symbol Action)) (atom : ℕ) (atoms : List ℕ) → is_some (read grammar known symbols (atom ∷ atoms)) ≡ true → FirstTaken symbols atom atoms
+pub first_taken : (symbols : List (Symbol Action)) (atom : ℕ) (atoms : List ℕ) →
+    is_some (read grammar known symbols (atom ∷ atoms)) ≡ true → FirstTaken symbols atom atoms
 first_taken symbols atom atoms h = by_fit (fits grammar known atom symbols) refl
   where
     events : List (Event Action)
@@ -415,17 +433,21 @@ first_taken symbols atom atoms h = by_fit (fits grammar known atom symbols) refl
     }
     by_fit false e = let none : false ≡ true = sym (ap (λ b. is_some (if b then behind events on else None)) e) ∙ h in cc
 
-follow : (is_open : Bool) (symbols : List (Symbol Action)) (atoms : List ℕ) → stands is_open symbols ≡ true → is_some (read grammar known symbols atoms) ≡ true → is_inside (read grammar known symbols atoms) ≡ open_behind_all is_open atoms
+follow : (is_open : Bool) (symbols : List (Symbol Action)) (atoms : List ℕ) → stands is_open symbols ≡ true →
+    is_some (read grammar known symbols atoms) ≡ true → is_inside (read grammar known symbols atoms) ≡ open_behind_all is_open atoms
 follow is_open symbols [] s h = tells is_open symbols s
 follow is_open symbols (atom ∷ atoms) s h =
     let t = first_taken symbols atom atoms h in
-    t.tells ∙ follow (open_behind is_open atom) (taken grammar known atom symbols).left atoms (stands_on is_open atom symbols s t.fits_it) t.goes_on
+    t.tells
+    ∙ follow (open_behind is_open atom) (taken grammar known atom symbols).left atoms (stands_on is_open atom symbols s t.fits_it) t.goes_on
 
-follow_calm : (symbols : List (Symbol Action)) (atoms : List ℕ) → are_calm symbols ≡ true → is_some (read grammar known symbols atoms) ≡ true → is_inside (read grammar known symbols atoms) ≡ false
+follow_calm : (symbols : List (Symbol Action)) (atoms : List ℕ) → are_calm symbols ≡ true →
+    is_some (read grammar known symbols atoms) ≡ true → is_inside (read grammar known symbols atoms) ≡ false
 follow_calm symbols [] s h = calm_is_out symbols s
 follow_calm symbols (atom ∷ atoms) s h =
     let t = first_taken symbols atom atoms h in
-    t.tells ∙ follow_calm (taken grammar known atom symbols).left atoms (calm_on atom (work known atom symbols) symbols s (omega arith) t.fits_it) t.goes_on
+    t.tells ∙ follow_calm (taken grammar known atom symbols).left atoms
+    (calm_on atom (work known atom symbols) symbols s (omega arith) t.fits_it) t.goes_on
 
 -- The front of a piece
 
@@ -437,7 +459,8 @@ data Begun (atom : ℕ) (left : List (Symbol Action)) : Type 0 where
   AsArray : has arrays atom ≡ true → are_calm left ≡ true → Begun atom left
   AsOther : has arrays atom ≡ false → stands (open_behind false atom) left ≡ true → Begun atom left
 
-array_row_on : (atom n : ℕ) (parts : List (Symbol Action)) → is_array_row parts ≡ true → work known atom parts ≤ n → fits grammar known atom parts ≡ true → Begun atom (left_of atom n parts)
+array_row_on : (atom n : ℕ) (parts : List (Symbol Action)) → is_array_row parts ≡ true → work known atom parts ≤ n →
+    fits grammar known atom parts ≡ true → Begun atom (left_of atom n parts)
 array_row_on atom zero parts h w f = absurd (no_step atom parts w f)
 array_row_on atom (suc n) [] h w f = cc
 array_row_on atom (suc n) (Token class ∷ parts) h w f =
@@ -447,7 +470,8 @@ array_row_on atom (suc n) (Act a ∷ parts) h w f = cc
 array_row_on atom (suc n) (Rule rule ∷ parts) h w f = cc
 
 -- a token that begins what no word of an array begins is none
-no_array : (atom : ℕ) (parts : List (Symbol Action)) → (bit_and (beginning grammar known parts) arrays == 0) ≡ true → fits grammar known atom parts ≡ true → has arrays atom ≡ false
+no_array : (atom : ℕ) (parts : List (Symbol Action)) → (bit_and (beginning grammar known parts) arrays == 0) ≡ true →
+    fits grammar known atom parts ≡ true → has arrays atom ≡ false
 no_array atom parts apart f =
     let none : has (bit_and (beginning grammar known parts) arrays) atom ≡ false =
     ap (λ s. has s atom) (eqb-true (bit_and (beginning grammar known parts) arrays) 0 apart) ∙ has_zero atom in
@@ -458,7 +482,8 @@ no_array atom parts apart f =
     other true y e g = g
     other false y e g = cc
 
-directive_row_on : (atom n : ℕ) (parts : List (Symbol Action)) → is_directive_row parts ≡ true → work known atom parts ≤ n → fits grammar known atom parts ≡ true → Begun atom (left_of atom n parts)
+directive_row_on : (atom n : ℕ) (parts : List (Symbol Action)) → is_directive_row parts ≡ true → work known atom parts ≤ n →
+    fits grammar known atom parts ≡ true → Begun atom (left_of atom n parts)
 directive_row_on atom n parts h w f =
     elim (or_cases (is_array_row parts) (are_outer parts && (bit_and (beginning grammar known parts) arrays == 0)) h) [
       | inl a ↦ array_row_on atom n parts a w f
@@ -473,22 +498,27 @@ directive_row_on atom n parts h w f =
         ]
 
 -- what taking a token of a rule that stands alone leaves
-taken_alone : (atom rule : ℕ) → fits grammar known atom (Rule rule ∷ []) ≡ true → taken grammar known atom (Rule rule ∷ []) ≡ taken grammar known atom (chosen grammar known atom rule)
+taken_alone : (atom rule : ℕ) → fits grammar known atom (Rule rule ∷ []) ≡ true →
+    taken grammar known atom (Rule rule ∷ []) ≡ taken grammar known atom (chosen grammar known atom rule)
 taken_alone atom rule f =
     taken_row grammar known language_is_decided atom rule [] f ∙ ap (taken grammar known atom) (append-nil (chosen grammar known atom rule))
 
-fits_alone : (atom rule : ℕ) → fits grammar known atom (Rule rule ∷ []) ≡ true → fits grammar known atom (chosen grammar known atom rule) ≡ true
+fits_alone : (atom rule : ℕ) → fits grammar known atom (Rule rule ∷ []) ≡ true →
+    fits grammar known atom (chosen grammar known atom rule) ≡ true
 fits_alone atom rule f = sym (ap (fits grammar known atom) (append-nil (chosen grammar known atom rule))) ∙ fits_row atom rule [] f
 
 directive_begun : (atom : ℕ) → fits grammar known atom (Rule 2 ∷ []) ≡ true → Begun atom (taken grammar known atom (Rule 2 ∷ [])).left
 directive_begun atom f =
     let parts : List (Symbol Action) = chosen grammar known atom 2 in
     subst (λ t. Begun atom t.left) (sym (taken_alone atom 2 f))
-    (directive_row_on atom (work known atom parts) parts (chosen_passes (λ rule. rule == 2) is_directive_row directive_keeps atom 2 [] refl f) (omega arith) (fits_alone atom 2 f))
+    (directive_row_on atom (work known atom parts) parts
+    (chosen_passes (λ rule. rule == 2) is_directive_row directive_keeps atom 2 [] refl f) (omega arith) (fits_alone atom 2 f))
 
 -- behind some tokens of a directive, and where there are some
-directive_on : (atom : ℕ) (atoms : List ℕ) → fits grammar known atom (Rule 2 ∷ []) ≡ true → is_some (read grammar known (taken grammar known atom (Rule 2 ∷ [])).left atoms) ≡ true
-    → is_inside (read grammar known (taken grammar known atom (Rule 2 ∷ [])).left atoms) ≡ (not (has arrays atom) && open_behind_all false (atom ∷ atoms))
+directive_on : (atom : ℕ) (atoms : List ℕ) → fits grammar known atom (Rule 2 ∷ []) ≡ true →
+    is_some (read grammar known (taken grammar known atom (Rule 2 ∷ [])).left atoms) ≡ true
+    → is_inside (read grammar known (taken grammar known atom (Rule 2 ∷ [])).left atoms) ≡
+    (not (has arrays atom) && open_behind_all false (atom ∷ atoms))
 directive_on atom atoms f h = by_begun (directive_begun atom f)
   where
     left : List (Symbol Action)
@@ -496,9 +526,11 @@ directive_on atom atoms f h = by_begun (directive_begun atom f)
 
     by_begun : Begun atom left → is_inside (read grammar known left atoms) ≡ (not (has arrays atom) && open_behind_all false (atom ∷ atoms))
     by_begun (AsArray a calm) = follow_calm left atoms calm h ∙ sym (ap (λ b. not b && open_behind_all false (atom ∷ atoms)) a)
-    by_begun (AsOther a s) = follow (open_behind false atom) left atoms s h ∙ sym (ap (λ b. not b && open_behind_all false (atom ∷ atoms)) a)
+    by_begun (AsOther a s) =
+        follow (open_behind false atom) left atoms s h ∙ sym (ap (λ b. not b && open_behind_all false (atom ∷ atoms)) a)
 
-directive_front : (atoms : List ℕ) → is_some (read grammar known (Rule 2 ∷ []) atoms) ≡ true → is_inside (read grammar known (Rule 2 ∷ []) atoms) ≡ (not (begin_array atoms) && open_behind_all false atoms)
+directive_front : (atoms : List ℕ) → is_some (read grammar known (Rule 2 ∷ []) atoms) ≡ true →
+    is_inside (read grammar known (Rule 2 ∷ []) atoms) ≡ (not (begin_array atoms) && open_behind_all false atoms)
 directive_front [] h = refl
 directive_front (atom ∷ atoms) h = let t = first_taken (Rule 2 ∷ []) atom atoms h in t.tells ∙ directive_on atom atoms t.fits_it t.goes_on
 
@@ -533,7 +565,8 @@ hash_begins_none : fits grammar known (mark_atom mark.Hash) (Rule 2 ∷ []) ≡ 
 unfolding grammar known
 hash_begins_none = refl
 
-piece_front : (atoms : List ℕ) → is_some (read grammar known (Rule piece_rule ∷ []) atoms) ≡ true → is_inside (read grammar known (Rule piece_rule ∷ []) atoms) ≡ is_bracket_open atoms
+piece_front : (atoms : List ℕ) → is_some (read grammar known (Rule piece_rule ∷ []) atoms) ≡ true →
+    is_inside (read grammar known (Rule piece_rule ∷ []) atoms) ≡ is_bracket_open atoms
 piece_front [] h = refl
 piece_front (atom ∷ atoms) h =
     let c = choice grammar known language_is_decided atom piece_rule [] t.fits_it in
@@ -551,29 +584,37 @@ piece_front (atom ∷ atoms) h =
     fits_parts : (parts : List (Symbol Action)) → chosen grammar known atom piece_rule ≡ parts → fits grammar known atom parts ≡ true
     fits_parts parts e = sym (ap (fits grammar known atom) e) ∙ fits_alone atom piece_rule t.fits_it
 
-    goes_on : (parts : List (Symbol Action)) → chosen grammar known atom piece_rule ≡ parts → is_some (read grammar known (taken grammar known atom parts).left atoms) ≡ true
+    goes_on : (parts : List (Symbol Action)) → chosen grammar known atom piece_rule ≡ parts →
+        is_some (read grammar known (taken grammar known atom parts).left atoms) ≡ true
     goes_on parts e = sym (ap (λ left. is_some (read grammar known left atoms)) (leaves parts e)) ∙ t.goes_on
 
-    of_parts : (parts : List (Symbol Action)) → chosen grammar known atom piece_rule ≡ parts → is_inside (read grammar known whole atoms) ≡ is_inside (read grammar known (taken grammar known atom parts).left atoms)
+    of_parts : (parts : List (Symbol Action)) → chosen grammar known atom piece_rule ≡ parts →
+        is_inside (read grammar known whole atoms) ≡ is_inside (read grammar known (taken grammar known atom parts).left atoms)
     of_parts parts e = ap (λ left. is_inside (read grammar known left atoms)) (leaves parts e)
 
     no_hash : fits grammar known atom (Rule 2 ∷ []) ≡ true → (atom == mark_atom mark.Hash) ≡ false
     no_hash f = false_from_ne_true (atom == mark_atom mark.Hash) (λ e.
-        both_ways (fits grammar known atom (Rule 2 ∷ [])) (ap (λ a. fits grammar known a (Rule 2 ∷ [])) (eqb-true atom (mark_atom mark.Hash) e) ∙ hash_begins_none) f)
+        both_ways (fits grammar known atom (Rule 2 ∷ []))
+        (ap (λ a. fits grammar known a (Rule 2 ∷ [])) (eqb-true atom (mark_atom mark.Hash) e) ∙ hash_begins_none) f)
 
     or_no : (b : Bool) → b ≡ (b || false)
     or_no true = refl
     or_no false = refl
 
-    by_row : {parts : List (Symbol Action)} → PieceRow parts → chosen grammar known atom piece_rule ≡ parts → is_inside (read grammar known whole atoms) ≡ is_bracket_open (atom ∷ atoms)
+    by_row : {parts : List (Symbol Action)} → PieceRow parts → chosen grammar known atom piece_rule ≡ parts →
+        is_inside (read grammar known whole atoms) ≡ is_bracket_open (atom ∷ atoms)
     by_row (Semicolon p) e =
         let is = e ∙ p in
-        let same : atom ≡ mark_atom mark.Semicolon = only_bit (mark_atom mark.Semicolon) atom (sym (ap (λ s. has s atom) semicolon_is) ∙ fits_parts (Token 0 ∷ []) is) in
-        of_parts (Token 0 ∷ []) is ∙ follow false [] atoms refl (goes_on (Token 0 ∷ []) is) ∙ sym (ap (λ a. is_bracket_open (a ∷ atoms)) same)
+        let same : atom ≡ mark_atom mark.Semicolon =
+        only_bit (mark_atom mark.Semicolon) atom (sym (ap (λ s. has s atom) semicolon_is) ∙ fits_parts (Token 0 ∷ []) is) in
+        of_parts (Token 0 ∷ []) is ∙ follow false [] atoms refl (goes_on (Token 0 ∷ []) is)
+        ∙ sym (ap (λ a. is_bracket_open (a ∷ atoms)) same)
     by_row (Hash p) e =
         let is = e ∙ p in
-        let same : atom ≡ mark_atom mark.Hash = only_bit (mark_atom mark.Hash) atom (sym (ap (λ s. has s atom) hash_is) ∙ fits_parts (Token 1 ∷ Rule 2 ∷ []) is) in
-        of_parts (Token 1 ∷ Rule 2 ∷ []) is ∙ directive_front atoms (goes_on (Token 1 ∷ Rule 2 ∷ []) is) ∙ sym (ap (λ a. is_bracket_open (a ∷ atoms)) same)
+        let same : atom ≡ mark_atom mark.Hash =
+        only_bit (mark_atom mark.Hash) atom (sym (ap (λ s. has s atom) hash_is) ∙ fits_parts (Token 1 ∷ Rule 2 ∷ []) is) in
+        of_parts (Token 1 ∷ Rule 2 ∷ []) is ∙ directive_front atoms (goes_on (Token 1 ∷ Rule 2 ∷ []) is)
+        ∙ sym (ap (λ a. is_bracket_open (a ∷ atoms)) same)
     by_row (Directive p) e =
         let is = e ∙ p in
         let f = fits_parts (Rule 2 ∷ []) is in

@@ -44,4 +44,5 @@ OpenRoutinesAreBracketed =
 -- And so it is of what is left to be read behind tokens that were taken.
 abbrev pub LeftRoutinesAreBracketed : Type 0
 LeftRoutinesAreBracketed =
-    (front : List ℕ) (r : Read Action) → read grammar known (Rule piece_rule ∷ []) front ≡ Some r → is_in_routine r.left ≡ is_bracket_open front
+    (front : List ℕ) (r : Read Action) → read grammar known (Rule piece_rule ∷ []) front ≡ Some r → is_in_routine r.left ≡ is_bracket_open
+    front

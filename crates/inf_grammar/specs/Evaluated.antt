@@ -15,7 +15,8 @@ unfolding grammar known
 all_decided = refl
 
 -- a rule without rows is decided
-no_rows : (g : Grammar Action) (k : Known) (rule : ℕ) → g.rows_of rule ≡ [] → k.begins rule ≡ 0 → k.is_empty rule ≡ false → is_decided g k rule ≡ true
+no_rows : (g : Grammar Action) (k : Known) (rule : ℕ) → g.rows_of rule ≡ [] → k.begins rule ≡ 0 → k.is_empty rule ≡ false →
+    is_decided g k rule ≡ true
 no_rows g k rule r b e = rw (r, b, e) refl
 
 rules_length : length rules ≤ 251

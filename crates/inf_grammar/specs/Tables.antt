@@ -39,7 +39,8 @@ all_parts = parts_of_all rules
 abbrev pub rows_from : ℕ → List (Row Action) → List CodeRow
 rows_from place [] = []
 rows_from place (row ∷ rows) =
-    record { begins = set_of (beginning grammar known row.parts); parts = span place (length row.parts) } ∷ rows_from (place + length row.parts) rows
+    record { begins = set_of (beginning grammar known row.parts); parts = span place (length row.parts) } ∷ rows_from
+    (place + length row.parts) rows
 
 abbrev pub rows_of_all : ℕ → List (List (Row Action)) → List CodeRow
 rows_of_all place [] = []

@@ -105,7 +105,8 @@ impl Machine {
     pub fn read(&mut self, atom: u8, actions: &mut Vec<Action>) -> Result<bool, AllocError>
         ensures fits { IfOk result (λ fits_now. fits_now ≡ fits grammar known atom self.old) }
         ensures left { IfOk result (λ fits_now. fits_now ≡ true → self.new ≡ (taken grammar known atom self.old).left) }
-        ensures actions { IfOk result (λ fits_now. fits_now ≡ true → actions.new.items ≡ actions.old.items ++ (taken grammar known atom self.old).actions) }
+        ensures actions { IfOk result (λ fits_now. fits_now ≡ true → actions.new.items ≡ actions.old.items ++
+            (taken grammar known atom self.old).actions) }
         ensures same { IfOk result (λ fits_now. fits_now ≡ false → self.new ≡ self.old) }
         ensures same_actions { IfOk result (λ fits_now. fits_now ≡ false → actions.new.items ≡ actions.old.items) }
         ensures err { OnErr result (self.new ≡ self.old) }

@@ -39,13 +39,16 @@ use Rattle.inf_conditional_laws.proofs.SideTurns.{all_shown, rested_conditions}
 
 -- Steps one after the other
 
-handed_both : (first second : List Step) (c : Conditions) → handed_by (first ++ second) c ≡ handed_by first c ++ handed_by second (steps_behind first c)
+handed_both : (first second : List Step) (c : Conditions) →
+    handed_by (first ++ second) c ≡ handed_by first c ++ handed_by second (steps_behind first c)
 handed_both [] second c = refl
 handed_both (x ∷ first) second c =
     ap (λ hs. handed_on (judged_at x.at c).judged x.at.token ++ hs) (handed_both first second (step_behind x c))
-    ∙ sym (append_assoc (handed_on (judged_at x.at c).judged x.at.token) (handed_by first (step_behind x c)) (handed_by second (steps_behind first (step_behind x c))))
+    ∙ sym (append_assoc (handed_on (judged_at x.at c).judged x.at.token) (handed_by first (step_behind x c))
+    (handed_by second (steps_behind first (step_behind x c))))
 
-tells_both : (first second : List Step) (c : Conditions) → told_by (first ++ second) c ≡ told_by first c ++ told_by second (steps_behind first c)
+tells_both : (first second : List Step) (c : Conditions) →
+    told_by (first ++ second) c ≡ told_by first c ++ told_by second (steps_behind first c)
 tells_both [] second c = refl
 tells_both (x ∷ first) second c =
     ap (λ ps. told_at x c ++ ps) (tells_both first second (step_behind x c))
@@ -80,14 +83,16 @@ record StepsLed (all : List Step) (c : Conditions) (given : List Handing) (told 
   tells : told_by all c ≡ told
 
 joined : (first second : List Step) (c : Conditions) (given more : List Handing) (told others : List Place)
-    → StepsLed first c given told → StepsLed second (steps_behind first c) more others → StepsLed (first ++ second) c (given ++ more) (told ++ others)
+    → StepsLed first c given told → StepsLed second (steps_behind first c) more others → StepsLed (first ++ second) c (given ++ more)
+    (told ++ others)
 joined first second c given more told others a b = record {
   hands = handed_both first second c ∙ ap (λ hs. hs ++ handed_by second (steps_behind first c)) a.hands ∙ ap (λ hs. given ++ hs) b.hands;
   tells = tells_both first second c ∙ ap (λ ps. ps ++ told_by second (steps_behind first c)) a.tells ∙ ap (λ ps. told ++ ps) b.tells;
 }
 
 -- tokens that stay in their file
-staying_led : (tokens : List At) (c : Conditions) (given : List Handing) (told : List Place) → all_handed_on tokens c ≡ given → all_told tokens c ≡ told → StepsLed (map staying tokens) c given told
+staying_led : (tokens : List At) (c : Conditions) (given : List Handing) (told : List Place) → all_handed_on tokens c ≡ given →
+    all_told tokens c ≡ told → StepsLed (map staying tokens) c given told
 staying_led tokens c given told hands tells = record { hands = hands_staying tokens c ∙ hands; tells = tells_staying tokens c ∙ tells }
 
 -- how a file may end: so its end is handed on there, and nothing is left out or read behind it
@@ -101,7 +106,11 @@ record EndsAs (o : Option Sign) (h : Forwarded) (s : Around) (w : List (List Con
   inner : c.inner ≡ inner_of stand
   among : c.among ≡ among_of stand
   at_end : (end : At) → is_end end.token.kind ≡ true
-      → judged_at end c ≡ record { now = at base (inner_of stand) (among_of stand) None declared; judged = record none_handed { sign = o; token = Some h } }
+      → judged_at end c ≡ record {
+        now = at base (inner_of stand) (among_of stand) None declared;
+        judged = record none_handed
+            { sign = o; token = Some h };
+      }
 
 -- A stretch of a file begins where no side is left out, and nothing is half read.
 record Begun (s : Around) (w : List (List Conditional)) (c : Conditions) : Type 0 where
@@ -113,19 +122,29 @@ record Begun (s : Around) (w : List (List Conditional)) (c : Conditions) : Type 
 
 -- what is open behind it, with how many names and levels
 abbrev stretch_last : Answers → Around → List (List Conditional) → Conditions → Parts → Last
-stretch_last d s w c parts = last_at (behind_parts d s parts) (declared_tokens (all_tokens parts) c.declared) (0 + length (all_tokens parts)) w
+stretch_last d s w c parts =
+    last_at (behind_parts d s parts) (declared_tokens (all_tokens parts) c.declared) (0 + length (all_tokens parts)) w
 
 record Stretch (d : Answers) (s : Around) (w : List (List Conditional)) (c : Conditions) (parts : Parts) : Type 0 where
   led : StepsLed (map staying (all_tokens parts)) c (map as_kept (kept_sides d s parts)) (told_parts d s parts)
   stands : StandsAt Hands (stretch_last d s w c parts) (all_behind (all_tokens parts) c)
 
-stretch : (d : Answers) (s : Around) (w : List (List Conditional)) (c : Conditions) (parts : Parts) → Begun s w c → AreOfAFile d s c.declared parts → Stretch d s w c parts
+stretch : (d : Answers) (s : Around) (w : List (List Conditional)) (c : Conditions) (parts : Parts) → Begun s w c →
+    AreOfAFile d s c.declared parts → Stretch d s w c parts
 stretch d s w c parts b are =
     let few = are.few in
     let tokens = all_tokens parts in
     let kept_so = kept_sides d s parts in
     let start : StandsAt Hands (last_at s c.declared 0 w) c =
-    record { base = c; stand = AllStay s.inside s.between b.inside_kept b.between_kept; holds = b.none_read; waits = b.waits; is = sym b.is; stack = refl; few = omega arith } in
+    record {
+      base = c;
+      stand = AllStay s.inside s.between b.inside_kept b.between_kept;
+      holds = b.none_read;
+      waits = b.waits;
+      is = sym b.is;
+      stack = refl;
+      few = omega arith;
+    } in
     let all = led d parts Hands s c.declared 0 w c start are.are_parts (all_taken kept_so) (omega (arith, few)) in
     let behind = all_behind tokens c in
     let last = stretch_last d s w c parts in
@@ -171,11 +190,14 @@ kept_there (OuterLeft deep x between left sb) s w c base declared stack is waits
 stays_at : (last : Last) (c : Conditions) → StandsAt Hands last c → all_kept last.around ≡ true → StaysAt last.around last.waiting c
 stays_at last c e all = kept_there e.stand last.around last.waiting c e.base last.declared e.stack e.is e.waits e.holds all
 
-begun_in : (e : Option ℕ) (s : Around) (w : List (List Conditional)) (base : Conditions) (declared : ℕ) → are_kept s.inside ≡ true → base.waiting ≡ w → base.pending ≡ []
+begun_in : (e : Option ℕ) (s : Around) (w : List (List Conditional)) (base : Conditions) (declared : ℕ) → are_kept s.inside ≡ true →
+    base.waiting ≡ w → base.pending ≡ []
     → Begun (ended_in e (record s { between = [] })) (conditionals s.between ∷ w)
     (ended_behind e (file_entered (at base (conditionals s.inside) (conditionals s.between) None declared)))
-begun_in None s w base declared kept_so waits none = record { inside_kept = kept_so; between_kept = refl; is = refl; waits = ap (λ x. conditionals s.between ∷ x) waits; none_read = none }
-begun_in (Some now) s w base declared kept_so waits none = record { inside_kept = refl; between_kept = refl; is = refl; waits = ap (λ x. conditionals s.between ∷ x) waits; none_read = none }
+begun_in None s w base declared kept_so waits none =
+    record { inside_kept = kept_so; between_kept = refl; is = refl; waits = ap (λ x. conditionals s.between ∷ x) waits; none_read = none }
+begun_in (Some now) s w base declared kept_so waits none =
+    record { inside_kept = refl; between_kept = refl; is = refl; waits = ap (λ x. conditionals s.between ∷ x) waits; none_read = none }
 
 record Entered (t : At) (s : Around) (w : List (List Conditional)) (c : Conditions) : Type 0 where
   hands : handed_on (judged_at t c).judged t.token ≡ as_kept t.token ∷ []
@@ -185,27 +207,32 @@ record Entered (t : At) (s : Around) (w : List (List Conditional)) (c : Conditio
 entered_at : (t : At) (s : Around) (w : List (List Conditional)) (c : Conditions) → StaysAt s w c → IsPlain true false t → Entered t s w c
 entered_at t s w c st plain =
     let here = at st.base (conditionals s.inside) (conditionals s.between) None st.declared in
-    let keeps = ap (judged_at t) st.is ∙ plain_kept t st.base (conditionals s.inside) (conditionals s.between) st.declared st.none_read plain in
+    let keeps =
+    ap (judged_at t) st.is ∙ plain_kept t st.base (conditionals s.inside) (conditionals s.between) st.declared st.none_read plain in
     record {
       hands = ap (λ (b : Behind). handed_on b.judged t.token) keeps;
       tells =
           ap (λ (b : Behind). lone_places b.judged.unmatched ++ ended_places t.ended (file_entered b.now).inner) keeps
           ∙ ended_told t.ended (AllStay s.inside s.between st.inside_kept st.between_kept) st.declared st.base;
-      begun = subst (λ (b : Behind). Begun (around_included t s) (conditionals s.between ∷ w) (ended_behind t.ended (file_entered (silent b.now)))) (sym keeps)
+      begun = subst (λ (b : Behind). Begun (around_included t s) (conditionals s.between ∷ w)
+          (ended_behind t.ended (file_entered (silent b.now)))) (sym keeps)
           (begun_in t.ended s w st.base st.declared st.inside_kept st.waits st.none_read);
     }
 
 -- and left
 
-end_is_kept : (t : At) (c : Conditions) → is_end t.token.kind ≡ true → c.pending ≡ [] → c.sign ≡ None → judged_at t c ≡ kept (record c { left_out = None; sign = None })
+end_is_kept : (t : At) (c : Conditions) → is_end t.token.kind ≡ true → c.pending ≡ [] → c.sign ≡ None →
+    judged_at t c ≡ kept (record c { left_out = None; sign = None })
 end_is_kept t c is none no_sign = go c.left_out c.sign refl refl no_sign
   where
     cleared : Conditions
     cleared = record c { left_out = None; sign = None }
 
-    go : (side : Option LeftOut) (sign : Option Place) → c.left_out ≡ side → c.sign ≡ sign → sign ≡ None → judged_by side sign t.site t.out t.token c ≡ kept cleared
+    go : (side : Option LeftOut) (sign : Option Place) → c.left_out ≡ side → c.sign ≡ sign → sign ≡ None →
+        judged_by side sign t.site t.out t.token c ≡ kept cleared
     go (Some side) sign is_left is_sign e =
-        ap (λ (b : Bool). cond b (offered false t.site.is_quiet t.out t.token cleared) (passed (passed_by (word_of t.token) t.token side c))) is
+        ap (λ (b : Bool). cond b (offered false t.site.is_quiet t.out t.token cleared)
+        (passed (passed_by (word_of t.token) t.token side c))) is
         ∙ end_kept_so false t.site.is_quiet t.out t.token cleared is none
     go None None is_left is_sign e =
         end_kept_so (t.site.is_between && is_none_pending c.pending) t.site.is_quiet t.out t.token c is none
@@ -229,7 +256,8 @@ ends_kept last c e = record {
 }
 
 -- in the midst of a directive
-ends_unfit : (d : Answers) (outer : List Unfinished) (u : Unfinished) (s : Around) (last : Last) (toks : List At) (alone : List Place) (c : Conditions) → HasWord u → AllBegun d outer u s last toks alone c
+ends_unfit : (d : Answers) (outer : List Unfinished) (u : Unfinished) (s : Around) (last : Last) (toks : List At) (alone : List Place)
+    (c : Conditions) → HasWord u → AllBegun d outer u s last toks alone c
     → EndsAs None handed.Unfit last.around last.waiting (all_behind toks c)
 ends_unfit d outer u s last toks alone c so b =
     let e = b.led.ends in
@@ -245,14 +273,21 @@ ends_unfit d outer u s last toks alone c so b =
       at_end = λ end is_last. unfit_end d s outer u last toks alone c b end so is_last;
     }
 
-ends_cut : (d : Answers) (outer : List Unfinished) (u : Unfinished) (s : Around) (last : Last) (toks : List At) (alone : List Place) (c : Conditions) → AllBegun d outer u s last toks alone c
+ends_cut : (d : Answers) (outer : List Unfinished) (u : Unfinished) (s : Around) (last : Last) (toks : List At) (alone : List Place)
+    (c : Conditions) → AllBegun d outer u s last toks alone c
     → EndsAs (begun_sign u) (begun_handed u) last.around last.waiting (all_behind toks c)
-ends_cut d outer (Unnamed is_inner if_declared first before) s last toks alone c b = ends_unfit d outer (Unnamed is_inner if_declared first before) s last toks alone c tt b
-ends_cut d outer (Named is_inner if_declared first before name behind) s last toks alone c b = ends_unfit d outer (Named is_inner if_declared first before name behind) s last toks alone c tt b
-ends_cut d outer (HasAsked is_inner wanted first parts) s last toks alone c b = ends_unfit d outer (HasAsked is_inner wanted first parts) s last toks alone c tt b
-ends_cut d outer (Turns is_inner hashes first parts) s last toks alone c b = ends_unfit d outer (Turns is_inner hashes first parts) s last toks alone c tt b
-ends_cut d outer (Closes is_inner hashes first parts) s last toks alone c b = ends_unfit d outer (Closes is_inner hashes first parts) s last toks alone c tt b
-ends_cut d outer (FrontingWord sign parts u) s last toks alone c b = ends_unfit d outer (FrontingWord sign parts u) s last toks alone c b.alone b
+ends_cut d outer (Unnamed is_inner if_declared first before) s last toks alone c b =
+    ends_unfit d outer (Unnamed is_inner if_declared first before) s last toks alone c tt b
+ends_cut d outer (Named is_inner if_declared first before name behind) s last toks alone c b =
+    ends_unfit d outer (Named is_inner if_declared first before name behind) s last toks alone c tt b
+ends_cut d outer (HasAsked is_inner wanted first parts) s last toks alone c b =
+    ends_unfit d outer (HasAsked is_inner wanted first parts) s last toks alone c tt b
+ends_cut d outer (Turns is_inner hashes first parts) s last toks alone c b =
+    ends_unfit d outer (Turns is_inner hashes first parts) s last toks alone c tt b
+ends_cut d outer (Closes is_inner hashes first parts) s last toks alone c b =
+    ends_unfit d outer (Closes is_inner hashes first parts) s last toks alone c tt b
+ends_cut d outer (FrontingWord sign parts u) s last toks alone c b =
+    ends_unfit d outer (FrontingWord sign parts u) s last toks alone c b.alone b
 ends_cut d outer (Fronting sign parts) s last toks alone c b =
     let e = b.led.ends in
     record {
@@ -271,12 +306,15 @@ none_ended : (e : Option ℕ) → ended_places e [] ≡ []
 none_ended None = refl
 none_ended (Some now) = refl
 
-begun_behind : (e : Option ℕ) (s : Around) (w : List (List Conditional)) (base : Conditions) (inner among : List Conditional) (declared : ℕ) → are_kept s.between ≡ true
-    → base.waiting ≡ conditionals s.between ∷ w → base.pending ≡ [] → Begun (around_behind s) w (ended_behind e (file_left (at base inner among None declared)))
+begun_behind : (e : Option ℕ) (s : Around) (w : List (List Conditional)) (base : Conditions) (inner among : List Conditional) (declared : ℕ)
+    → are_kept s.between ≡ true
+    → base.waiting ≡ conditionals s.between ∷ w → base.pending ≡ [] → Begun (around_behind s) w
+    (ended_behind e (file_left (at base inner among None declared)))
 begun_behind e s w base inner among declared kept_so waits none =
     subst (λ ws. Begun (around_behind s) w (ended_behind e (file_left_to ws (at base inner among None declared)))) (sym waits) (go e)
   where
-    go : (e : Option ℕ) → Begun (around_behind s) w (ended_behind e (file_left_to (conditionals s.between ∷ w) (at base inner among None declared)))
+    go : (e : Option ℕ) →
+        Begun (around_behind s) w (ended_behind e (file_left_to (conditionals s.between ∷ w) (at base inner among None declared)))
     go None = record { inside_kept = refl; between_kept = kept_so; is = refl; waits = refl; none_read = none }
     go (Some now) = record { inside_kept = refl; between_kept = kept_so; is = refl; waits = refl; none_read = none }
 
@@ -286,7 +324,8 @@ record LeftAt (o : Option Sign) (h : Forwarded) (t : At) (s inner : Around) (w :
   begun : Begun (around_behind s) w (step_behind (leaves t) c)
 
 -- the places that are told at an end
-misses_at : (t : At) (o : Option Sign) (h : Forwarded) (s : Around) (w : List (List Conditional)) (c : Conditions) → EndsAs o h s w c → is_end t.token.kind ≡ true → told_behind Leaves (judged_at t c).now ≡ all_unended s
+misses_at : (t : At) (o : Option Sign) (h : Forwarded) (s : Around) (w : List (List Conditional)) (c : Conditions) → EndsAs o h s w c →
+    is_end t.token.kind ≡ true → told_behind Leaves (judged_at t c).now ≡ all_unended s
 misses_at t o h s w c e is_last =
     let open_so = are_open e.stand in
     let inner = inner_of e.stand in
@@ -296,7 +335,8 @@ misses_at t o h s w c e is_last =
     ∙ ap (λ ps. unended (stack_of e.stand).inside ++ ps) (told_places (stack_of e.stand).between among open_so.between)
     ∙ ap all_unended e.stack
 
-left_at_end : (t : At) (o : Option Sign) (h : Forwarded) (s inner : Around) (w : List (List Conditional)) (c : Conditions) → EndsAs o h inner (conditionals s.between ∷ w) c → are_kept s.between ≡ true
+left_at_end : (t : At) (o : Option Sign) (h : Forwarded) (s inner : Around) (w : List (List Conditional)) (c : Conditions) →
+    EndsAs o h inner (conditionals s.between ∷ w) c → are_kept s.between ≡ true
     → is_end t.token.kind ≡ true → LeftAt o h t s inner w c
 left_at_end t o h s inner w c e kept_so is_last =
     let keeps = e.at_end t is_last in
@@ -304,8 +344,10 @@ left_at_end t o h s inner w c e kept_so is_last =
     record {
       hands = ap (λ (b : Behind). handed_on b.judged t.token) keeps;
       tells =
-          ap (λ (b : Behind). lone_places b.judged.unmatched ++ (told_behind Leaves b.now ++ ended_places t.ended (file_left b.now).inner)) keeps
-          ∙ ap (λ ps. told_behind Leaves at_last ++ ps) (ap (λ ws. ended_places t.ended (file_left_to ws at_last).inner) e.waits ∙ none_ended t.ended)
+          ap (λ (b : Behind). lone_places b.judged.unmatched ++ (told_behind Leaves b.now ++ ended_places t.ended (file_left b.now).inner))
+          keeps
+          ∙ ap (λ ps. told_behind Leaves at_last ++ ps)
+          (ap (λ ws. ended_places t.ended (file_left_to ws at_last).inner) e.waits ∙ none_ended t.ended)
           ∙ append-nil (told_behind Leaves at_last)
           ∙ ap (λ (b : Behind). told_behind Leaves b.now) (sym keeps)
           ∙ misses_at t o h inner (conditionals s.between ∷ w) c e is_last;
@@ -315,12 +357,16 @@ left_at_end t o h s inner w c e kept_so is_last =
 
 -- A token cuts a directive
 
-begun_broken : (e : Option ℕ) (s : Around) (w : List (List Conditional)) (base : Conditions) (declared : ℕ) → are_kept s.inside ≡ true → are_kept s.between ≡ true → base.waiting ≡ w → base.pending ≡ []
+begun_broken : (e : Option ℕ) (s : Around) (w : List (List Conditional)) (base : Conditions) (declared : ℕ) → are_kept s.inside ≡ true →
+    are_kept s.between ≡ true → base.waiting ≡ w → base.pending ≡ []
     → Begun (ended_in e s) w (ended_behind e (at base (conditionals s.inside) (conditionals s.between) None declared))
-begun_broken None s w base declared si sb waits none = record { inside_kept = si; between_kept = sb; is = refl; waits = waits; none_read = none }
-begun_broken (Some now) s w base declared si sb waits none = record { inside_kept = refl; between_kept = sb; is = refl; waits = waits; none_read = none }
+begun_broken None s w base declared si sb waits none =
+    record { inside_kept = si; between_kept = sb; is = refl; waits = waits; none_read = none }
+begun_broken (Some now) s w base declared si sb waits none =
+    record { inside_kept = refl; between_kept = sb; is = refl; waits = waits; none_read = none }
 
-misfit_kept : (d : Answers) (s : Around) (outer : List Unfinished) (u : Unfinished) (misfit : Misfit) → IsMisfit d s outer u misfit → all_kept (behind_all_begun d s outer u) ≡ true
+misfit_kept : (d : Answers) (s : Around) (outer : List Unfinished) (u : Unfinished) (misfit : Misfit) → IsMisfit d s outer u misfit →
+    all_kept (behind_all_begun d s outer u) ≡ true
 misfit_kept d s outer u (Bare t) is = is.0
 misfit_kept d s outer u (Hashed sign t) is = is.0
 
@@ -329,14 +375,16 @@ record MisfitLed (misfit : Misfit) (s : Around) (w : List (List Conditional)) (c
   tells : all_told (misfit_tokens misfit) c ≡ told_misfit misfit s
   begun : Begun (behind_misfit misfit s) w (all_behind (misfit_tokens misfit) c)
 
-misfit_led : (d : Answers) (outer : List Unfinished) (u : Unfinished) (s : Around) (last : Last) (toks : List At) (alone : List Place) (c : Conditions) (misfit : Misfit) → AllBegun d outer u s last toks alone c → IsMisfit d s outer u misfit
+misfit_led : (d : Answers) (outer : List Unfinished) (u : Unfinished) (s : Around) (last : Last) (toks : List At) (alone : List Place)
+    (c : Conditions) (misfit : Misfit) → AllBegun d outer u s last toks alone c → IsMisfit d s outer u misfit
     → all_kept last.around ≡ true → MisfitLed misfit last.around last.waiting (all_behind toks c)
 misfit_led d outer u s last toks alone c (Bare t) b is all =
     let there = all_behind toks c in
     let k = kept_at b.p b.others b.ks last there b.led.ends all in
     let inner = conditionals last.around.inside in
     let among = conditionals last.around.between in
-    let told_here : ended_places t.ended inner ≡ missing_in t.ended last.around = ended_told t.ended (AllStay last.around.inside last.around.between k.inside_kept k.between_kept) last.declared k.base in
+    let told_here : ended_places t.ended inner ≡ missing_in t.ended last.around =
+    ended_told t.ended (AllStay last.around.inside last.around.between k.inside_kept k.between_kept) last.declared k.base in
     let cut = cut_kept d s outer u last toks alone c b t all is.1.0 is.1.1 k.base inner among k.is in
     record {
       hands = ap (λ (x : Behind). handed_on x.judged t.token ++ []) cut;
@@ -351,7 +399,8 @@ misfit_led d outer u s last toks alone c (Hashed sign t) b is all =
     let k = kept_at b.p b.others b.ks last there b.led.ends all in
     let inner = conditionals last.around.inside in
     let among = conditionals last.around.between in
-    let told_here : ended_places t.ended inner ≡ missing_in t.ended last.around = ended_told t.ended (AllStay last.around.inside last.around.between k.inside_kept k.between_kept) last.declared k.base in
+    let told_here : ended_places t.ended inner ≡ missing_in t.ended last.around =
+    ended_told t.ended (AllStay last.around.inside last.around.between k.inside_kept k.between_kept) last.declared k.base in
     let place = sign.token.place in
     let base = record k.base { pending = b.p ∷ b.others; conditions = b.ks } in
     let held_so = ap (judged_at sign) k.is ∙ sign_cut sign base b.p b.others inner among last.declared refl is.1.0.is in
@@ -360,10 +409,13 @@ misfit_led d outer u s last toks alone c (Hashed sign t) b is all =
     let cut = ap (judged_at t) goes ∙ sign_cut_so place t base b.p b.others inner among last.declared is.1.1 in
     record {
       hands =
-          ap (λ (x : Behind). handed_on x.judged sign.token ++ all_handed_on (t ∷ []) (ended_behind sign.ended (silent (judged_at sign there).now))) held_so
+          ap (λ (x : Behind). handed_on x.judged sign.token ++ all_handed_on (t ∷ [])
+          (ended_behind sign.ended (silent (judged_at sign there).now))) held_so
           ∙ ap (λ (x : Behind). handed_on x.judged t.token ++ []) cut;
       tells =
-          ap (λ (x : Behind). lone_places x.judged.unmatched ++ (ended_places sign.ended x.now.inner ++ all_told (t ∷ []) (ended_behind sign.ended (silent (judged_at sign there).now)))) held_so
+          ap (λ (x : Behind). lone_places x.judged.unmatched ++
+          (ended_places sign.ended x.now.inner ++ all_told (t ∷ []) (ended_behind sign.ended (silent (judged_at sign there).now))))
+          held_so
           ∙ ap (λ e. ended_places e inner ++ all_told (t ∷ []) (ended_behind sign.ended (silent (judged_at sign there).now))) is.1.0.goes_on
           ∙ ap (λ (x : Behind). lone_places x.judged.unmatched ++ (ended_places t.ended x.now.inner ++ [])) cut
           ∙ append-nil (ended_places t.ended inner) ∙ told_here;
@@ -379,23 +431,26 @@ record HeldBack (sign : At) (c then : Conditions) : Type 0 where
   tells : told_at (staying sign) c ≡ []
   next : going_on sign c ≡ then
 
-held_back : (sign : At) (c now then : Conditions) → judged_at sign c ≡ passed now → (ended_behind sign.ended (silent now) ≡ then) × (ended_places sign.ended now.inner ≡ []) → HeldBack sign c then
+held_back : (sign : At) (c now then : Conditions) → judged_at sign c ≡ passed now →
+    (ended_behind sign.ended (silent now) ≡ then) × (ended_places sign.ended now.inner ≡ []) → HeldBack sign c then
 held_back sign c now then e both = record {
   hands = ap (λ (b : Behind). handed_on b.judged sign.token) e;
   tells = ap (λ (b : Behind). lone_places b.judged.unmatched ++ ended_places sign.ended b.now.inner) e ∙ both.1;
   next = ap (λ (b : Behind). ended_behind sign.ended (silent b.now)) e ∙ both.0;
 }
 
-held_led : (sign : At) (more : List Step) (c then : Conditions) (given : List Handing) (told : List Place) → HeldBack sign c then → StepsLed more then given told → StepsLed (staying sign ∷ more) c given told
+held_led : (sign : At) (more : List Step) (c then : Conditions) (given : List Handing) (told : List Place) → HeldBack sign c then →
+    StepsLed more then given told → StepsLed (staying sign ∷ more) c given told
 held_led sign more c then given told h rest = record {
   hands = ap (λ hs. hs ++ handed_by more (going_on sign c)) h.hands ∙ ap (handed_by more) h.next ∙ rest.hands;
   tells = ap (λ ps. ps ++ told_by more (going_on sign c)) h.tells ∙ ap (told_by more) h.next ∙ rest.tells;
 }
 
 -- The next one hands it on.
-record LedOn (h : Forwarded) (place : Place) (more : List Step) (held free : Conditions) (given : List Handing) (told : List Place) : Type 0 where
-  led : StepsLed more held (handed_as h (hash place) ++ given) told
-  behind : steps_behind more held ≡ steps_behind more free
+record LedOn (h : Forwarded) (place : Place) (more : List Step) (held free : Conditions) (given : List Handing) (told : List Place) : Type 0
+  where
+    led : StepsLed more held (handed_as h (hash place) ++ given) told
+    behind : steps_behind more held ≡ steps_behind more free
 
 led_on : (h : Forwarded) (place : Place) (more : List Step) (held free : Conditions) (given : List Handing) (told : List Place)
     → ((next : At) → is_mark mark.Hash next.token.kind ≡ true → next.site.is_between ≡ false
@@ -404,17 +459,21 @@ led_on : (h : Forwarded) (place : Place) (more : List Step) (held free : Conditi
 led_on h place [] held free given told frees follows rest = absurd follows
 led_on h place (x ∷ more) held free given told frees follows rest =
     let both = frees x.at follows.0 follows.1 in
-    let same : step_behind x held ≡ step_behind x free = ap (λ (b : Behind). ended_behind x.at.ended (passed_files x.passage (silent b.now))) both.0 in
+    let same : step_behind x held ≡ step_behind x free =
+    ap (λ (b : Behind). ended_behind x.at.ended (passed_files x.passage (silent b.now))) both.0 in
     record {
       led = record {
         hands =
-            ap (λ (b : Behind). handed_on b.judged x.at.token ++ handed_by more (ended_behind x.at.ended (passed_files x.passage (silent b.now)))) both.0
-            ∙ ap (λ (j : Filtered). (handed_as h (hash place) ++ handed_token j.token x.at.token) ++ handed_by more (step_behind x free)) both.1
+            ap (λ (b : Behind). handed_on b.judged x.at.token ++ handed_by more
+            (ended_behind x.at.ended (passed_files x.passage (silent b.now)))) both.0
+            ∙ ap (λ (j : Filtered). (handed_as h (hash place) ++ handed_token j.token x.at.token) ++ handed_by more (step_behind x free))
+            both.1
             ∙ ap (λ hs. hs ++ handed_by more (step_behind x free)) (append-nil (handed_as h (hash place)))
             ∙ ap (λ hs. handed_as h (hash place) ++ hs)
             (sym (ap (λ (j : Filtered). handed_on j x.at.token ++ handed_by more (step_behind x free)) both.1) ∙ rest.hands);
         tells =
-            ap (λ (b : Behind). (lone_places b.judged.unmatched ++ (told_behind x.passage b.now ++ ended_places x.at.ended (passed_files x.passage b.now).inner))
+            ap (λ (b : Behind). (lone_places b.judged.unmatched ++
+            (told_behind x.passage b.now ++ ended_places x.at.ended (passed_files x.passage b.now).inner))
             ++ told_by more (ended_behind x.at.ended (passed_files x.passage (silent b.now)))) both.0
             ∙ rest.tells;
       };
@@ -422,28 +481,35 @@ led_on h place (x ∷ more) held free given told frees follows rest =
     }
 
 -- where reading stands makes no difference to it
-standing_led : (is_between : Bool) (more : List Step) (c : Conditions) (place : Place) (inner among : List Conditional) (declared : ℕ) (given : List Handing) (told : List Place)
-    → StepsLed more (state c (Some place) inner among None declared) given told → StepsLed (standing is_between more) (state c (Some place) inner among None declared) given told
+standing_led : (is_between : Bool) (more : List Step) (c : Conditions) (place : Place) (inner among : List Conditional) (declared : ℕ)
+    (given : List Handing) (told : List Place)
+    → StepsLed more (state c (Some place) inner among None declared) given told → StepsLed (standing is_between more)
+    (state c (Some place) inner among None declared) given told
 standing_led is_between [] c place inner among declared given told is = is
 standing_led is_between (x ∷ more) c place inner among declared given told is = record { hands = is.hands; tells = is.tells }
 
 standing_same : (is_between : Bool) (more : List Step) (c : Conditions) (place : Place) (inner among : List Conditional) (declared : ℕ)
-    → steps_behind (standing is_between more) (state c (Some place) inner among None declared) ≡ steps_behind more (state c (Some place) inner among None declared)
+    → steps_behind (standing is_between more) (state c (Some place) inner among None declared) ≡ steps_behind more
+    (state c (Some place) inner among None declared)
 standing_same is_between [] c place inner among declared = refl
 standing_same is_between (x ∷ more) c place inner among declared = refl
 
 -- inside a directive, and inside a conditional one
-frees_kept : (place : Place) (c : Conditions) (inner among : List Conditional) (declared : ℕ) → c.pending ≡ [] → (next : At) → is_mark mark.Hash next.token.kind ≡ true → next.site.is_between ≡ false
-    → (judged_at next (state c (Some place) inner among None declared) ≡ with_sign handed.Kept place (judged_at next (at (given_up_at c) inner among None declared)))
+frees_kept : (place : Place) (c : Conditions) (inner among : List Conditional) (declared : ℕ) → c.pending ≡ [] → (next : At) →
+    is_mark mark.Hash next.token.kind ≡ true → next.site.is_between ≡ false
+    → (judged_at next (state c (Some place) inner among None declared) ≡ with_sign handed.Kept place
+    (judged_at next (at (given_up_at c) inner among None declared)))
     × ((judged_at next (at (given_up_at c) inner among None declared)).judged ≡ none_handed)
 frees_kept place c inner among declared none next hash inside = (
   hash_freed place next c [] inner among declared none hash inside,
   ap (λ (b : Behind). b.judged) (sign_inner next (given_up_at c) inner among declared (ap (λ b. b && true) inside) hash),
 )
 
-frees_unfit : (place : Place) (c : Conditions) (p : Pending) (others : List Pending) (inner among : List Conditional) (declared : ℕ) → c.pending ≡ p ∷ others → (next : At) → is_mark mark.Hash next.token.kind ≡ true
+frees_unfit : (place : Place) (c : Conditions) (p : Pending) (others : List Pending) (inner among : List Conditional) (declared : ℕ) →
+    c.pending ≡ p ∷ others → (next : At) → is_mark mark.Hash next.token.kind ≡ true
     → next.site.is_between ≡ false
-    → (judged_at next (state c (Some place) inner among None declared) ≡ with_sign handed.Unfit place (judged_at next (at (given_up_at c) inner among None declared)))
+    → (judged_at next (state c (Some place) inner among None declared) ≡ with_sign handed.Unfit place
+    (judged_at next (at (given_up_at c) inner among None declared)))
     × ((judged_at next (at (given_up_at c) inner among None declared)).judged ≡ none_handed)
 frees_unfit place c p others inner among declared some next hash inside = (
   hash_freed place next c (p ∷ others) inner among declared some hash inside,
@@ -451,17 +517,29 @@ frees_unfit place c p others inner among declared some next hash inside = (
 )
 
 -- the end of the file hands it on
-end_frees : (place : Place) (end : At) (c : Conditions) (ps : List Pending) (inner among : List Conditional) (declared : ℕ) → c.pending ≡ ps → is_end end.token.kind ≡ true
+end_frees : (place : Place) (end : At) (c : Conditions) (ps : List Pending) (inner among : List Conditional) (declared : ℕ) →
+    c.pending ≡ ps → is_end end.token.kind ≡ true
     → judged_at end (state c (Some place) inner among None declared)
     ≡ record {
       now = at (given_up_at c) inner among None declared;
-      judged = record none_handed { sign = Some (record { place = place; handed = cond (is_none_pending ps) handed.Kept handed.Unfit }); token = Some handed.Kept };
+      judged = record none_handed {
+        sign = Some (record { place = place; handed = cond (is_none_pending ps) handed.Kept handed.Unfit });
+        token = Some handed.Kept;
+      };
     }
 end_frees place end c ps inner among declared read is_last =
     let here = at (given_up_at c) inner among None declared in
     let signed : List Pending → Behind → Behind = λ ps b.
-    record b { judged = record b.judged { sign = Some (record { place = place; handed = cond (is_none_pending ps) handed.Kept handed.Unfit }) } } in
-    ap (λ o. behind_sign o place end.site.is_quiet end.out end.token (state c (Some place) inner among None declared)) (end_word end.token is_last)
+    record b {
+      judged = record b.judged {
+        sign = Some (record {
+          place = place;
+          handed = cond (is_none_pending ps) handed.Kept handed.Unfit;
+        });
+      };
+    } in
+    ap (λ o. behind_sign o place end.site.is_quiet end.out end.token (state c (Some place) inner among None declared))
+    (end_word end.token is_last)
     ∙ ap (signed c.pending) (end_kept_so false end.site.is_quiet end.out end.token here is_last refl)
     ∙ ap (λ ps. signed ps (kept here)) read
 
@@ -470,14 +548,17 @@ record HashEnds (s : Around) (w : List (List Conditional)) (o : Sign) (sign : At
   held : HeldBack sign c then
   ends : EndsAs (Some o) handed.Kept s w then
 
-hash_last : (s : Around) (w : List (List Conditional)) (sign : At) (c : Conditions) → StaysAt s w c → sign.site.is_between ≡ false → IsSign true sign
+hash_last : (s : Around) (w : List (List Conditional)) (sign : At) (c : Conditions) → StaysAt s w c → sign.site.is_between ≡ false →
+    IsSign true sign
     → HashEnds s w (sign_as handed.Kept sign) sign c
 hash_last s w sign c st outside is =
     let inner = conditionals s.inside in
     let among = conditionals s.between in
     let place = sign.token.place in
     let now = state st.base (Some place) inner among None st.declared in
-    let e = ap (judged_at sign) st.is ∙ sign_inner sign st.base inner among st.declared (ap (λ b. b && is_none_pending st.base.pending) outside) is.is in
+    let e =
+    ap (judged_at sign) st.is
+    ∙ sign_inner sign st.base inner among st.declared (ap (λ b. b && is_none_pending st.base.pending) outside) is.is in
     record {
       then = now;
       held = held_back sign c now now e (ap (λ e. ended_behind e now) is.goes_on, ap (λ e. ended_places e inner) is.goes_on);
@@ -502,9 +583,11 @@ record Passes (signs : List At) (c base : Conditions) (inner among : List Condit
   led : StepsLed (map staying signs) c [] []
   behind : steps_behind (map staying signs) c ≡ state base sign inner among (left_at b m) declared
 
-hashes_pass : (is_inner : Bool) (signs : List At) (c base : Conditions) (sign : Option Place) (inner among : List Conditional) (b : Bool) (m declared : ℕ) → AreHashes is_inner signs → CalmLeft is_inner inner b
+hashes_pass : (is_inner : Bool) (signs : List At) (c base : Conditions) (sign : Option Place) (inner among : List Conditional) (b : Bool)
+    (m declared : ℕ) → AreHashes is_inner signs → CalmLeft is_inner inner b
     → m + length signs ≤ most_levels → c ≡ state base sign inner among (left_at b m) declared → Passes signs c base inner among b m
-hashes_pass is_inner [] c base sign inner among b m declared are calm few is = record { sign = sign; declared = declared; led = record { hands = refl; tells = refl }; behind = is }
+hashes_pass is_inner [] c base sign inner among b m declared are calm few is =
+    record { sign = sign; declared = declared; led = record { hands = refl; tells = refl }; behind = is }
 hashes_pass is_inner (t ∷ signs) c base sign inner among b m declared are calm few is =
     let place = t.token.place in
     let now = state base (Some place) inner among (left_at b m) declared in
@@ -512,23 +595,39 @@ hashes_pass is_inner (t ∷ signs) c base sign inner among b m declared are calm
     let h =
     held_back t c now then (ap (judged_at t) is ∙ sign_left t sign base inner among b m declared are.0.is (omega (arith, few)))
     (mid is_inner t base (Some place) inner among (left_at b m) declared are.0.goes_on (calm_at is_inner inner b m calm)) in
-    let rest = hashes_pass is_inner signs then base (Some place) inner among b m (declared_behind t declared) are.1 calm (omega (arith, few)) refl in
-    record { sign = rest.sign; declared = rest.declared; led = held_led t (map staying signs) c then [] [] h rest.led; behind = ap (steps_behind (map staying signs)) h.next ∙ rest.behind }
+    let rest =
+    hashes_pass is_inner signs then base (Some place) inner among b m (declared_behind t declared) are.1 calm (omega (arith, few)) refl in
+    record {
+      sign = rest.sign;
+      declared = rest.declared;
+      led = held_led t (map staying signs) c then [] [] h rest.led;
+      behind = ap
+          (steps_behind (map staying signs)) h.next ∙ rest.behind;
+    }
 
-end_offered : (end : At) (base : Conditions) (sign : Option Place) (inner among : List Conditional) (b : Bool) (m declared : ℕ) → is_end end.token.kind ≡ true
-    → judged_at end (state base sign inner among (left_at b m) declared) ≡ offered false end.site.is_quiet end.out end.token (at base inner among None declared)
+end_offered : (end : At) (base : Conditions) (sign : Option Place) (inner among : List Conditional) (b : Bool) (m declared : ℕ) →
+    is_end end.token.kind ≡ true
+    → judged_at end (state base sign inner among (left_at b m) declared) ≡ offered false end.site.is_quiet end.out end.token
+    (at base inner among None declared)
 end_offered end base sign inner among b m declared is_last =
     let here = state base sign inner among (left_at b m) declared in
-    ap (λ (x : Bool). cond x (offered false end.site.is_quiet end.out end.token (at base inner among None declared)) (passed (passed_by (word_of end.token) end.token (record { is_inner = b; levels = m }) here))) is_last
+    ap (λ (x : Bool). cond x (offered false end.site.is_quiet end.out end.token (at base inner among None declared))
+    (passed (passed_by (word_of end.token) end.token (record { is_inner = b; levels = m }) here))) is_last
 
-record LeftEnds (o : Option Sign) (h : Forwarded) (s : Around) (w : List (List Conditional)) (signs : List At) (c : Conditions) : Type 0 where
-  led : StepsLed (map staying signs) c [] []
-  ends : EndsAs o h s w (steps_behind (map staying signs) c)
+record LeftEnds (o : Option Sign) (h : Forwarded) (s : Around) (w : List (List Conditional)) (signs : List At) (c : Conditions) : Type 0
+  where
+    led : StepsLed (map staying signs) c [] []
+    ends : EndsAs o h s w (steps_behind (map staying signs) c)
 
-left_ends : (r : Reader) (last : Last) (c : Conditions) (is_inner : Bool) (signs : List At) (o : Option Sign) (h : Forwarded) (e : StandsAt r last c) → all_kept last.around ≡ false → NoneInside is_inner last.around → AreHashes is_inner signs
+left_ends : (r : Reader) (last : Last) (c : Conditions) (is_inner : Bool) (signs : List At) (o : Option Sign) (h : Forwarded)
+    (e : StandsAt r last c) → all_kept last.around ≡ false → NoneInside is_inner last.around → AreHashes is_inner signs
     → last.levels + length signs ≤ most_levels → (free : Conditions) → free.pending ≡ [] → free.waiting ≡ last.waiting
-    → ((declared : ℕ) (end : At) → is_end end.token.kind ≡ true → offered false end.site.is_quiet end.out end.token (at e.base (inner_of e.stand) (among_of e.stand) None declared)
-    ≡ record { now = at free (inner_of e.stand) (among_of e.stand) None declared; judged = record none_handed { sign = o; token = Some h } })
+    → ((declared : ℕ) (end : At) → is_end end.token.kind ≡ true → offered false end.site.is_quiet end.out end.token
+    (at e.base (inner_of e.stand) (among_of e.stand) None declared)
+    ≡ record {
+      now = at free (inner_of e.stand) (among_of e.stand) None declared;
+      judged = record none_handed { sign = o; token = Some h };
+    })
     → LeftEnds o h last.around last.waiting signs c
 left_ends r last c is_inner signs o h e left none are few free none_read waits offers =
     let st = e.stand in
@@ -537,8 +636,10 @@ left_ends r last c is_inner signs o h e left none are few free none_read waits o
     let l = left_so st (ap all_kept e.stack ∙ left) in
     let few_st = e.few in
     let few_m = l.few in
-    let at_here : c ≡ state e.base None inner among (left_at l.b l.m) last.declared = e.is ∙ ap (λ x. at e.base inner among x last.declared) l.is in
-    let p = hashes_pass is_inner signs c e.base None inner among l.b l.m last.declared are (l.calm is_inner (subst (NoneInside is_inner) (sym e.stack) none)) (omega (arith, few, few_st, few_m)) at_here in
+    let at_here : c ≡ state e.base None inner among (left_at l.b l.m) last.declared =
+    e.is ∙ ap (λ x. at e.base inner among x last.declared) l.is in
+    let p = hashes_pass is_inner signs c e.base None inner among l.b l.m last.declared are
+    (l.calm is_inner (subst (NoneInside is_inner) (sym e.stack) none)) (omega (arith, few, few_st, few_m)) at_here in
     record {
       led = p.led;
       ends = record {
@@ -550,19 +651,25 @@ left_ends r last c is_inner signs o h e left none are few free none_read waits o
         stack = e.stack;
         inner = ap (λ (x : Conditions). x.inner) p.behind;
         among = ap (λ (x : Conditions). x.among) p.behind;
-        at_end = λ end is_last. ap (judged_at end) p.behind ∙ end_offered end e.base p.sign inner among l.b l.m p.declared is_last ∙ offers p.declared end is_last;
+        at_end =
+            λ end is_last. ap (judged_at end) p.behind ∙ end_offered end e.base p.sign inner among l.b l.m p.declared is_last
+            ∙ offers p.declared end is_last;
       };
     }
 
-cut_left_unfit : (d : Answers) (outer : List Unfinished) (u : Unfinished) (s : Around) (last : Last) (toks : List At) (alone : List Place) (c : Conditions) (is_inner : Bool) (signs : List At) → HasWord u → AllBegun d outer u s last toks alone c
+cut_left_unfit : (d : Answers) (outer : List Unfinished) (u : Unfinished) (s : Around) (last : Last) (toks : List At) (alone : List Place)
+    (c : Conditions) (is_inner : Bool) (signs : List At) → HasWord u → AllBegun d outer u s last toks alone c
     → all_kept last.around ≡ false → NoneInside is_inner last.around → AreHashes is_inner signs → last.levels + length signs ≤ most_levels
     → LeftEnds None handed.Unfit last.around last.waiting signs (all_behind toks c)
 cut_left_unfit d outer u s last toks alone c is_inner signs so b left none are few =
     let e = b.led.ends in
-    left_ends (Reads b.p b.others b.ks) last (all_behind toks c) is_inner signs None handed.Unfit e left none are few (given_up_at e.base) refl e.waits
-    (λ declared end is_last. unfit_there d s outer u last toks alone c b declared false end (end_is_no_hash end.token.kind is_last) (end_cuts d s outer u end so is_last))
+    left_ends (Reads b.p b.others b.ks) last (all_behind toks c) is_inner signs None handed.Unfit e left none are few (given_up_at e.base)
+    refl e.waits
+    (λ declared end is_last. unfit_there d s outer u last toks alone c b declared false end (end_is_no_hash end.token.kind is_last)
+    (end_cuts d s outer u end so is_last))
 
-cut_left : (d : Answers) (outer : List Unfinished) (u : Unfinished) (s : Around) (last : Last) (toks : List At) (alone : List Place) (c : Conditions) (is_inner : Bool) (signs : List At) → AllBegun d outer u s last toks alone c
+cut_left : (d : Answers) (outer : List Unfinished) (u : Unfinished) (s : Around) (last : Last) (toks : List At) (alone : List Place)
+    (c : Conditions) (is_inner : Bool) (signs : List At) → AllBegun d outer u s last toks alone c
     → all_kept last.around ≡ false → NoneInside is_inner last.around → AreHashes is_inner signs → last.levels + length signs ≤ most_levels
     → LeftEnds (begun_sign u) (begun_handed u) last.around last.waiting signs (all_behind toks c)
 cut_left d outer (Unnamed i if_declared first before) s last toks alone c is_inner signs b left none are few =
@@ -579,12 +686,14 @@ cut_left d outer (FrontingWord sign parts u) s last toks alone c is_inner signs 
     cut_left_unfit d outer (FrontingWord sign parts u) s last toks alone c is_inner signs b.alone b left none are few
 cut_left d outer (Fronting sign parts) s last toks alone c is_inner signs b left none are few =
     let e = b.led.ends in
-    left_ends (Reads b.p b.others b.ks) last (all_behind toks c) is_inner signs (begun_sign (Fronting sign parts)) handed.Kept e left none are few (record e.base { pending = [] }) refl e.waits
+    left_ends (Reads b.p b.others b.ks) last (all_behind toks c) is_inner signs (begun_sign (Fronting sign parts)) handed.Kept e left none
+    are few (record e.base { pending = [] }) refl e.waits
     (λ declared end is_last. front_there d s outer sign parts last toks alone c b declared false end is_last)
 
 -- All files
 
-begun_is_handed : (u : Unfinished) (end : At) → handed_as (begun_handed u) end.token ≡ record { handed = begun_handed u; token = end.token } ∷ []
+begun_is_handed : (u : Unfinished) (end : At) →
+    handed_as (begun_handed u) end.token ≡ record { handed = begun_handed u; token = end.token } ∷ []
 begun_is_handed (Unnamed is_inner if_declared first before) end = refl
 begun_is_handed (Named is_inner if_declared first before name behind) end = refl
 begun_is_handed (HasAsked is_inner wanted first parts) end = refl
@@ -617,7 +726,8 @@ record CutHash (s : Around) (w : List (List Conditional)) (sign : At) (c : Condi
   waits : base.waiting ≡ w
   held : HeldBack sign c (state base (Some sign.token.place) (conditionals s.inside) (conditionals s.between) None declared)
 
-cut_hash : (d : Answers) (outer : List Unfinished) (u : Unfinished) (s : Around) (last : Last) (toks : List At) (alone : List Place) (c : Conditions) (sign : At) → AllBegun d outer u s last toks alone c → IsSign true sign
+cut_hash : (d : Answers) (outer : List Unfinished) (u : Unfinished) (s : Around) (last : Last) (toks : List At) (alone : List Place)
+    (c : Conditions) (sign : At) → AllBegun d outer u s last toks alone c → IsSign true sign
     → all_kept last.around ≡ true → CutHash last.around last.waiting sign (all_behind toks c)
 cut_hash d outer u s last toks alone c sign b is all =
     let there = all_behind toks c in
@@ -635,11 +745,13 @@ cut_hash d outer u s last toks alone c sign b is all =
       between_kept = k.between_kept;
       read = refl;
       waits = k.waits;
-      held = held_back sign there then then (ap (judged_at sign) k.is ∙ sign_cut sign base b.p b.others inner among last.declared refl is.is)
+      held =
+          held_back sign there then then (ap (judged_at sign) k.is ∙ sign_cut sign base b.p b.others inner among last.declared refl is.is)
           (ap (λ e. ended_behind e then) is.goes_on, ap (λ e. ended_places e inner) is.goes_on);
     }
 
-free_begun : (s : Around) (w : List (List Conditional)) (base : Conditions) (declared : ℕ) → are_kept s.inside ≡ true → are_kept s.between ≡ true → base.waiting ≡ w
+free_begun : (s : Around) (w : List (List Conditional)) (base : Conditions) (declared : ℕ) → are_kept s.inside ≡ true →
+    are_kept s.between ≡ true → base.waiting ≡ w
     → Begun s w (at (given_up_at base) (conditionals s.inside) (conditionals s.between) None declared)
 free_begun s w base declared si sb waits = record { inside_kept = si; between_kept = sb; is = refl; waits = waits; none_read = refl }
 
@@ -648,16 +760,21 @@ record FilesLed (d : Answers) (f : Files) (s : Around) (w : List (List Condition
   ends : EndsAs (end_sign f) (end_handed f) (behind_files d s f) w (steps_behind (steps f) c)
 
 -- a directive that is not whole, behind parts
-record BrokenLed (d : Answers) (s : Around) (w : List (List Conditional)) (c : Conditions) (parts : Parts) (outer : List Unfinished) (u : Unfinished) : Type 0 where
-  led : StepsLed (map staying (all_begun_tokens outer u)) (all_behind (all_tokens parts) c) [] (told_all_begun d (behind_parts d s parts) outer u)
+record BrokenLed (d : Answers) (s : Around) (w : List (List Conditional)) (c : Conditions) (parts : Parts) (outer : List Unfinished)
+    (u : Unfinished) : Type 0 where
+  led : StepsLed (map staying (all_begun_tokens outer u)) (all_behind (all_tokens parts) c) []
+      (told_all_begun d (behind_parts d s parts) outer u)
   last : Last
   around : last.around ≡ behind_all_begun d (behind_parts d s parts) outer u
   waiting : last.waiting ≡ w
   levels : last.levels ≡ 0 + length (all_tokens parts) + length (all_begun_tokens outer u)
-  begun : AllBegun d outer u (behind_parts d s parts) last (all_begun_tokens outer u) (told_all_begun d (behind_parts d s parts) outer u) (all_behind (all_tokens parts) c)
+  begun : AllBegun d outer u (behind_parts d s parts) last (all_begun_tokens outer u) (told_all_begun d (behind_parts d s parts) outer u)
+      (all_behind (all_tokens parts) c)
 
-broken_led : (d : Answers) (s : Around) (w : List (List Conditional)) (c : Conditions) (parts : Parts) (outer : List Unfinished) (u : Unfinished) → Stretch d s w c parts
-    → HaveBegun d (behind_parts d s parts) (declared_tokens (all_tokens parts) c.declared) (length (all_tokens parts)) outer u → BrokenLed d s w c parts outer u
+broken_led : (d : Answers) (s : Around) (w : List (List Conditional)) (c : Conditions) (parts : Parts) (outer : List Unfinished)
+    (u : Unfinished) → Stretch d s w c parts
+    → HaveBegun d (behind_parts d s parts) (declared_tokens (all_tokens parts) c.declared) (length (all_tokens parts)) outer u → BrokenLed d
+    s w c parts outer u
 broken_led d s w c parts outer u first has =
     let l = stretch_last d s w c parts in
     let here = all_behind (all_tokens parts) c in
@@ -673,10 +790,16 @@ broken_led d s w c parts outer u first has =
       begun = b;
     }
 
-files_led : (d : Answers) (f : Files) (s : Around) (w : List (List Conditional)) (c : Conditions) → Begun s w c → AreFiles d s c f → FilesLed d f s w c
+files_led : (d : Answers) (f : Files) (s : Around) (w : List (List Conditional)) (c : Conditions) → Begun s w c → AreFiles d s c f →
+    FilesLed d f s w c
 files_led d (Alone parts) s w c b are =
     let first = stretch d s w c parts b are in
-    record { led = first.led; ends = subst (λ (x : Conditions). EndsAs None handed.Kept (behind_parts d s parts) w x) (sym (behind_staying (all_tokens parts) c)) (ends_kept (stretch_last d s w c parts) (all_behind (all_tokens parts) c) first.stands) }
+    record {
+      led = first.led;
+      ends = subst (λ (x : Conditions). EndsAs None handed.Kept (behind_parts d s parts) w x)
+          (sym (behind_staying (all_tokens parts) c))
+          (ends_kept (stretch_last d s w c parts) (all_behind (all_tokens parts) c) first.stands);
+    }
 files_led d (HashLast parts sign) s w c b are =
     let first = stretch d s w c parts b are.0 in
     let tokens = all_tokens parts in
@@ -688,11 +811,13 @@ files_led d (HashLast parts sign) s w c b are =
     let told = told_parts d s parts in
     let both =
     joined (map staying tokens) (staying sign ∷ []) c given [] told [] first.led
-    (subst (λ (x : Conditions). StepsLed (staying sign ∷ []) x [] []) (sym to_here) (held_led sign [] c_here h.then [] [] h.held (record { hands = refl; tells = refl }))) in
+    (subst (λ (x : Conditions). StepsLed (staying sign ∷ []) x [] []) (sym to_here)
+    (held_led sign [] c_here h.then [] [] h.held (record { hands = refl; tells = refl }))) in
     record {
       led = record { hands = both.hands ∙ append-nil given; tells = both.tells ∙ append-nil told };
       ends = subst (λ (x : Conditions). EndsAs (Some (sign_as handed.Kept sign)) handed.Kept here w x)
-          (sym (behind_both (map staying tokens) (staying sign ∷ []) c ∙ ap (steps_behind (staying sign ∷ [])) to_here ∙ h.held.next)) h.ends;
+          (sym (behind_both (map staying tokens) (staying sign ∷ []) c ∙ ap (steps_behind (staying sign ∷ [])) to_here ∙ h.held.next))
+          h.ends;
     }
 files_led d (HashThen parts sign more) s w c b are =
     let first = stretch d s w c parts b are.0 in
@@ -708,19 +833,23 @@ files_led d (HashThen parts sign more) s w c b are =
     let goes = are.1.0.is_sign.goes_on in
     let h =
     held_back sign c_here then then
-    (ap (judged_at sign) st.is ∙ sign_inner sign st.base inner among st.declared (ap (λ b. b && is_none_pending st.base.pending) are.1.1.0) are.1.0.is_sign.is)
+    (ap (judged_at sign) st.is ∙ sign_inner sign st.base inner among st.declared (ap (λ b. b && is_none_pending st.base.pending) are.1.1.0)
+    are.1.0.is_sign.is)
     (ap (λ e. ended_behind e then) goes, ap (λ e. ended_places e inner) goes) in
     let frees : released (going_on sign c_here) ≡ free = ap released h.next in
-    let begun = subst (λ (x : Conditions). Begun here w x) (sym frees) (free_begun here w st.base st.declared st.inside_kept st.between_kept st.waits) in
+    let begun = subst (λ (x : Conditions). Begun here w x) (sym frees)
+    (free_begun here w st.base st.declared st.inside_kept st.between_kept st.waits) in
     let rest = files_led d more here w (released (going_on sign c_here)) begun are.1.1.1 in
     let given = handed_files d here more in
     let others = told_files d here more in
     let on =
-    led_on handed.Kept place (steps more) then free given others (frees_kept place st.base inner among st.declared st.none_read) are.1.0.follows
+    led_on handed.Kept place (steps more) then free given others (frees_kept place st.base inner among st.declared st.none_read)
+    are.1.0.follows
     (subst (λ (x : Conditions). StepsLed (steps more) x given others) frees rest.led) in
     let to_here = behind_staying tokens c in
     record {
-      led = joined (map staying tokens) (staying sign ∷ steps more) c (map as_kept (kept_sides d s parts)) (as_kept (hash place) ∷ given) (told_parts d s parts) others first.led
+      led = joined (map staying tokens) (staying sign ∷ steps more) c (map as_kept (kept_sides d s parts)) (as_kept (hash place) ∷ given)
+          (told_parts d s parts) others first.led
           (subst (λ (x : Conditions). StepsLed (staying sign ∷ steps more) x (as_kept (hash place) ∷ given) others) (sym to_here)
           (held_led sign (steps more) c_here then (as_kept (hash place) ∷ given) others h on.led));
       ends = subst (λ (x : Conditions). EndsAs (end_sign more) (end_handed more) (behind_files d here more) w x)
@@ -739,16 +868,20 @@ files_led d (HashesLeft parts is_inner signs) s w c b are =
     let e = first.stands in
     let few = are.1.few in
     let h =
-    left_ends Hands (stretch_last d s w c parts) c_here is_inner signs None handed.Kept e are.1.is_left are.1.none_inside are.1.are (omega (arith, few)) e.base e.holds e.waits
-    (λ declared end is_last. end_kept_so false end.site.is_quiet end.out end.token (at e.base (inner_of e.stand) (among_of e.stand) None declared) is_last e.holds) in
+    left_ends Hands (stretch_last d s w c parts) c_here is_inner signs None handed.Kept e are.1.is_left are.1.none_inside are.1.are
+    (omega (arith, few)) e.base e.holds e.waits
+    (λ declared end is_last. end_kept_so false end.site.is_quiet end.out end.token
+    (at e.base (inner_of e.stand) (among_of e.stand) None declared) is_last e.holds) in
     let to_here = behind_staying tokens c in
     let given = map as_kept (kept_sides d s parts) in
     let told = told_parts d s parts in
     let both =
-    joined (map staying tokens) (map staying signs) c given [] told [] first.led (subst (λ (x : Conditions). StepsLed (map staying signs) x [] []) (sym to_here) h.led) in
+    joined (map staying tokens) (map staying signs) c given [] told [] first.led
+    (subst (λ (x : Conditions). StepsLed (map staying signs) x [] []) (sym to_here) h.led) in
     record {
       led = record { hands = both.hands ∙ append-nil given; tells = both.tells ∙ append-nil told };
-      ends = subst (λ (x : Conditions). EndsAs None handed.Kept here w x) (sym (behind_both (map staying tokens) (map staying signs) c ∙ ap (steps_behind (map staying signs)) to_here)) h.ends;
+      ends = subst (λ (x : Conditions). EndsAs None handed.Kept here w x)
+          (sym (behind_both (map staying tokens) (map staying signs) c ∙ ap (steps_behind (map staying signs)) to_here)) h.ends;
     }
 files_led d (CutHashesLeft parts outer u is_inner signs) s w c b are =
     let first = stretch d s w c parts b are.0 in
@@ -763,7 +896,8 @@ files_led d (CutHashesLeft parts outer u is_inner signs) s w c b are =
     let few = are.1.1.few in
     let few_last = broken.levels in
     let h =
-    cut_left d outer u (behind_parts d s parts) last toks alone c_here is_inner signs broken.begun (ap all_kept broken.around ∙ are.1.1.is_left)
+    cut_left d outer u (behind_parts d s parts) last toks alone c_here is_inner signs broken.begun
+    (ap all_kept broken.around ∙ are.1.1.is_left)
     (subst (NoneInside is_inner) (sym broken.around) are.1.1.none_inside) are.1.1.are (omega (arith, few, few_last)) in
     let given = map as_kept (kept_sides d s parts) in
     let to_here = behind_staying tokens c in
@@ -799,7 +933,8 @@ files_led d (CutHashLast parts outer u sign) s w c b are =
     let k : CutHash here w sign there =
     subst (λ (x : Around). CutHash x w sign there) broken.around
     (subst (λ ws. CutHash last.around ws sign there) broken.waiting
-    (cut_hash d outer u (behind_parts d s parts) last toks alone c_here sign broken.begun are.1.1.1 (ap all_kept broken.around ∙ are.1.1.0))) in
+    (cut_hash d outer u (behind_parts d s parts) last toks alone c_here sign broken.begun are.1.1.1
+    (ap all_kept broken.around ∙ are.1.1.0))) in
     let inner = conditionals here.inside in
     let among = conditionals here.between in
     let place = sign.token.place in
@@ -821,7 +956,8 @@ files_led d (CutHashLast parts outer u sign) s w c b are =
     let to_there = behind_staying toks c_here in
     let second : StepsLed (map staying toks ++ staying sign ∷ []) c_here [] (alone ++ []) =
     joined (map staying toks) (staying sign ∷ []) c_here [] [] alone [] broken.led
-    (subst (λ (x : Conditions). StepsLed (staying sign ∷ []) x [] []) (sym to_there) (held_led sign [] there then [] [] k.held (record { hands = refl; tells = refl }))) in
+    (subst (λ (x : Conditions). StepsLed (staying sign ∷ []) x [] []) (sym to_there)
+    (held_led sign [] there then [] [] k.held (record { hands = refl; tells = refl }))) in
     let both =
     joined (map staying tokens) (map staying toks ++ staying sign ∷ []) c given [] (told_parts d s parts) (alone ++ []) first.led
     (subst (λ (x : Conditions). StepsLed (map staying toks ++ staying sign ∷ []) x [] (alone ++ [])) (sym to_here) second) in
@@ -848,19 +984,22 @@ files_led d (CutHashThen parts outer u sign is_between more) s w c b are =
     let k : CutHash here w sign there =
     subst (λ (x : Around). CutHash x w sign there) broken.around
     (subst (λ ws. CutHash last.around ws sign there) broken.waiting
-    (cut_hash d outer u (behind_parts d s parts) last toks alone c_here sign broken.begun are.1.1.0.is_sign (ap all_kept broken.around ∙ are.1.1.0.is_kept))) in
+    (cut_hash d outer u (behind_parts d s parts) last toks alone c_here sign broken.begun are.1.1.0.is_sign
+    (ap all_kept broken.around ∙ are.1.1.0.is_kept))) in
     let inner = conditionals here.inside in
     let among = conditionals here.between in
     let place = sign.token.place in
     let then = state k.base (Some place) inner among None k.declared in
     let free = at (given_up_at k.base) inner among None k.declared in
     let frees : released (going_on sign there) ≡ free = ap released k.held.next in
-    let begun = subst (λ (x : Conditions). Begun here w x) (sym frees) (free_begun here w k.base k.declared k.inside_kept k.between_kept k.waits) in
+    let begun =
+    subst (λ (x : Conditions). Begun here w x) (sym frees) (free_begun here w k.base k.declared k.inside_kept k.between_kept k.waits) in
     let rest = files_led d more here w (released (going_on sign there)) begun are.1.1.1 in
     let given = handed_files d here more in
     let others = told_files d here more in
     let on =
-    led_on handed.Unfit place (steps more) then free given others (frees_unfit place k.base k.p k.others inner among k.declared k.read) are.1.1.0.follows
+    led_on handed.Unfit place (steps more) then free given others (frees_unfit place k.base k.p k.others inner among k.declared k.read)
+    are.1.1.0.follows
     (subst (λ (x : Conditions). StepsLed (steps more) x given others) frees rest.led) in
     let coming = standing is_between (steps more) in
     let to_here = behind_staying tokens c in
@@ -871,8 +1010,10 @@ files_led d (CutHashThen parts outer u sign is_between more) s w c b are =
     (held_led sign coming there then (as_unfit (hash place) ∷ given) others k.held
     (standing_led is_between (steps more) k.base place inner among k.declared (as_unfit (hash place) ∷ given) others on.led))) in
     record {
-      led = joined (map staying tokens) (map staying toks ++ staying sign ∷ coming) c (map as_kept (kept_sides d s parts)) (as_unfit (hash place) ∷ given) (told_parts d s parts) (alone ++ others) first.led
-          (subst (λ (x : Conditions). StepsLed (map staying toks ++ staying sign ∷ coming) x (as_unfit (hash place) ∷ given) (alone ++ others)) (sym to_here) second);
+      led = joined (map staying tokens) (map staying toks ++ staying sign ∷ coming) c (map as_kept (kept_sides d s parts))
+          (as_unfit (hash place) ∷ given) (told_parts d s parts) (alone ++ others) first.led
+          (subst (λ (x : Conditions). StepsLed (map staying toks ++ staying sign ∷ coming) x (as_unfit (hash place) ∷ given)
+          (alone ++ others)) (sym to_here) second);
       ends = subst (λ (x : Conditions). EndsAs (end_sign more) (end_handed more) (behind_files d here more) w x)
           (sym
           (behind_both (map staying tokens) (map staying toks ++ staying sign ∷ coming) c
@@ -900,8 +1041,10 @@ files_led d (Cut parts outer u) s w c b are =
     record {
       led = record { hands = both.hands ∙ append-nil given; tells = both.tells };
       ends = subst (λ (x : Conditions). EndsAs (begun_sign u) (begun_handed u) (behind_all_begun d (behind_parts d s parts) outer u) w x)
-          (sym (behind_both (map staying (all_tokens parts)) (map staying toks) c ∙ ap (steps_behind (map staying toks)) to_here ∙ behind_staying toks here))
-          (subst (λ (x : Around). EndsAs (begun_sign u) (begun_handed u) x w (all_behind toks here)) broken.around (subst (λ ws. EndsAs (begun_sign u) (begun_handed u) last.around ws (all_behind toks here)) broken.waiting ends));
+          (sym (behind_both (map staying (all_tokens parts)) (map staying toks) c ∙ ap (steps_behind (map staying toks)) to_here ∙
+          behind_staying toks here))
+          (subst (λ (x : Around). EndsAs (begun_sign u) (begun_handed u) x w (all_behind toks here)) broken.around
+          (subst (λ ws. EndsAs (begun_sign u) (begun_handed u) last.around ws (all_behind toks here)) broken.waiting ends));
     }
 files_led d (Breaking parts outer u misfit more) s w c b are =
     let first = stretch d s w c parts b are.0 in
@@ -914,10 +1057,12 @@ files_led d (Breaking parts outer u misfit more) s w c b are =
     let beyond = all_behind bad there in
     let last = broken.last in
     let alone = told_all_begun d (behind_parts d s parts) outer u in
-    let cut = misfit_led d outer u (behind_parts d s parts) last toks alone here misfit broken.begun are.1.1.0 (ap all_kept broken.around ∙ misfit_kept d (behind_parts d s parts) outer u misfit are.1.1.0) in
+    let cut = misfit_led d outer u (behind_parts d s parts) last toks alone here misfit broken.begun are.1.1.0
+    (ap all_kept broken.around ∙ misfit_kept d (behind_parts d s parts) outer u misfit are.1.1.0) in
     let around = around_broken d s parts outer u misfit in
     let begun : Begun around w beyond =
-    subst (λ (x : Around). Begun (behind_misfit misfit x) w beyond) broken.around (subst (λ ws. Begun (behind_misfit misfit last.around) ws beyond) broken.waiting cut.begun) in
+    subst (λ (x : Around). Begun (behind_misfit misfit x) w beyond) broken.around
+    (subst (λ ws. Begun (behind_misfit misfit last.around) ws beyond) broken.waiting cut.begun) in
     let rest = files_led d more around w beyond begun are.1.1.1 in
     let given = handed_files d around more in
     let told_bad = told_misfit misfit (behind_all_begun d (behind_parts d s parts) outer u) in
@@ -926,14 +1071,19 @@ files_led d (Breaking parts outer u misfit more) s w c b are =
     let to_there = behind_staying toks here in
     let to_beyond = behind_staying bad there in
     let third : StepsLed (map staying bad ++ steps more) there (handed_misfit misfit ++ given) (told_bad ++ others) =
-    joined (map staying bad) (steps more) there (handed_misfit misfit) given told_bad others (staying_led bad there (handed_misfit misfit) told_bad cut.hands (cut.tells ∙ ap (told_misfit misfit) broken.around))
+    joined (map staying bad) (steps more) there (handed_misfit misfit) given told_bad others
+    (staying_led bad there (handed_misfit misfit) told_bad cut.hands (cut.tells ∙ ap (told_misfit misfit) broken.around))
     (subst (λ (x : Conditions). StepsLed (steps more) x given others) (sym to_beyond) rest.led) in
-    let second : StepsLed (map staying toks ++ (map staying bad ++ steps more)) here (handed_misfit misfit ++ given) (alone ++ (told_bad ++ others)) =
+    let second : StepsLed (map staying toks ++ (map staying bad ++ steps more)) here (handed_misfit misfit ++ given)
+    (alone ++ (told_bad ++ others)) =
     joined (map staying toks) (map staying bad ++ steps more) here [] (handed_misfit misfit ++ given) alone (told_bad ++ others) broken.led
-    (subst (λ (x : Conditions). StepsLed (map staying bad ++ steps more) x (handed_misfit misfit ++ given) (told_bad ++ others)) (sym to_there) third) in
+    (subst (λ (x : Conditions). StepsLed (map staying bad ++ steps more) x (handed_misfit misfit ++ given) (told_bad ++ others))
+    (sym to_there) third) in
     record {
-      led = joined (map staying tokens) (map staying toks ++ (map staying bad ++ steps more)) c (map as_kept (kept_sides d s parts)) (handed_misfit misfit ++ given) (told_parts d s parts) (alone ++ (told_bad ++ others)) first.led
-          (subst (λ (x : Conditions). StepsLed (map staying toks ++ (map staying bad ++ steps more)) x (handed_misfit misfit ++ given) (alone ++ (told_bad ++ others))) (sym to_here) second);
+      led = joined (map staying tokens) (map staying toks ++ (map staying bad ++ steps more)) c (map as_kept (kept_sides d s parts))
+          (handed_misfit misfit ++ given) (told_parts d s parts) (alone ++ (told_bad ++ others)) first.led
+          (subst (λ (x : Conditions). StepsLed (map staying toks ++ (map staying bad ++ steps more)) x (handed_misfit misfit ++ given)
+          (alone ++ (told_bad ++ others))) (sym to_here) second);
       ends = subst (λ (x : Conditions). EndsAs (end_sign more) (end_handed more) (behind_files d around more) w x)
           (sym
           (behind_both (map staying tokens) (map staying toks ++ (map staying bad ++ steps more)) c
@@ -956,7 +1106,8 @@ files_led d (Including parts t f end more) s w c b are =
     let st = stays_at (stretch_last d s w c parts) c_here first.stands are.1.0.is_kept in
     let enter = entered_at t here w c_here st are.1.0.plain in
     let inner = files_led d f inside (conditionals here.between ∷ w) c_in enter.begun are.1.1.0 in
-    let leave = left_at_end end (end_sign f) (end_handed f) here (behind_files d inside f) w c_end inner.ends st.between_kept are.1.0.is_last in
+    let leave =
+    left_at_end end (end_sign f) (end_handed f) here (behind_files d inside f) w c_end inner.ends st.between_kept are.1.0.is_last in
     let rest = files_led d more (around_behind here) w c_more leave.begun are.1.1.1 in
     let given = handed_files d (around_behind here) more in
     let last_so = handed_end f end.token in
@@ -964,7 +1115,9 @@ files_led d (Including parts t f end more) s w c b are =
     let missing_here = all_unended (behind_files d inside f) in
     let leaving_on : StepsLed (leaves end ∷ steps more) c_end (last_so ++ given) (missing_here ++ others) =
     record {
-      hands = ap (λ hs. hs ++ handed_by (steps more) c_more) (leave.hands ∙ ap (λ hs. handed_sign (end_sign f) ++ hs) (end_is_handed f end)) ∙ ap (λ hs. last_so ++ hs) rest.led.hands;
+      hands =
+          ap (λ hs. hs ++ handed_by (steps more) c_more) (leave.hands ∙ ap (λ hs. handed_sign (end_sign f) ++ hs) (end_is_handed f end))
+          ∙ ap (λ hs. last_so ++ hs) rest.led.hands;
       tells = ap (λ ps. ps ++ told_by (steps more) c_more) leave.tells ∙ ap (λ ps. missing_here ++ ps) rest.led.tells;
     } in
     let all_inner = steps f ++ leaves end ∷ steps more in
@@ -972,15 +1125,18 @@ files_led d (Including parts t f end more) s w c b are =
     let told_in = told_files d inside f ++ (missing_here ++ others) in
     let told_entering = missing_in t.ended here in
     let inner_on : StepsLed all_inner c_in inner_given told_in =
-    joined (steps f) (leaves end ∷ steps more) c_in (handed_files d inside f) (last_so ++ given) (told_files d inside f) (missing_here ++ others) inner.led leaving_on in
+    joined (steps f) (leaves end ∷ steps more) c_in (handed_files d inside f) (last_so ++ given) (told_files d inside f)
+    (missing_here ++ others) inner.led leaving_on in
     let entering_on : StepsLed (enters t ∷ all_inner) c_here (as_kept t.token ∷ inner_given) (told_entering ++ told_in) =
     record {
       hands = ap (λ hs. hs ++ handed_by all_inner c_in) enter.hands ∙ ap (λ hs. as_kept t.token ∷ hs) inner_on.hands;
       tells = ap (λ ps. ps ++ told_by all_inner c_in) enter.tells ∙ ap (λ ps. told_entering ++ ps) inner_on.tells;
     } in
     record {
-      led = joined (map staying tokens) (enters t ∷ all_inner) c (map as_kept (kept_sides d s parts)) (as_kept t.token ∷ inner_given) (told_parts d s parts) (told_entering ++ told_in) first.led
-          (subst (λ (x : Conditions). StepsLed (enters t ∷ all_inner) x (as_kept t.token ∷ inner_given) (told_entering ++ told_in)) (sym to_here) entering_on);
+      led = joined (map staying tokens) (enters t ∷ all_inner) c (map as_kept (kept_sides d s parts)) (as_kept t.token ∷ inner_given)
+          (told_parts d s parts) (told_entering ++ told_in) first.led
+          (subst (λ (x : Conditions). StepsLed (enters t ∷ all_inner) x (as_kept t.token ∷ inner_given) (told_entering ++ told_in))
+          (sym to_here) entering_on);
       ends = subst (λ (x : Conditions). EndsAs (end_sign more) (end_handed more) (behind_files d (around_behind here) more) w x)
           (sym
           (behind_both (map staying tokens) (enters t ∷ all_inner) c
@@ -1009,8 +1165,10 @@ files_keep_sides d f c clear are =
       handed_on = all.led.hands;
       told = all.led.tells;
       end_on = λ end is_last.
-          ap (λ (b : Behind). handed_on b.judged end.token) (all.ends.at_end end is_last) ∙ ap (λ hs. handed_sign (end_sign f) ++ hs) (end_is_handed f end);
-      at_last = λ end is_last. misses_at end (end_sign f) (end_handed f) (behind_files d none_around f) c.waiting (steps_behind (steps f) c) all.ends is_last;
+          ap (λ (b : Behind). handed_on b.judged end.token) (all.ends.at_end end is_last)
+          ∙ ap (λ hs. handed_sign (end_sign f) ++ hs) (end_is_handed f end);
+      at_last = λ end is_last. misses_at end (end_sign f) (end_handed f) (behind_files d none_around f) c.waiting (steps_behind (steps f) c)
+          all.ends is_last;
     }
 
 pub files_tell_unended : FilesTellUnended
@@ -1026,12 +1184,15 @@ none_conditions unit text answer.Entered s = refl
 none_conditions unit text answer.NotThere s = refl
 none_conditions unit text answer.TooDeep s = refl
 
-included_conditions : (sources : Sources) (o : Choices) (unit : Place) (text : List ℕ) (i : Inclusion) (s : State) → (included_by sources o unit text i s).conditions ≡ passed_files (opens i) s.conditions
+included_conditions : (sources : Sources) (o : Choices) (unit : Place) (text : List ℕ) (i : Inclusion) (s : State) →
+    (included_by sources o unit text i s).conditions ≡ passed_files (opens i) s.conditions
 included_conditions sources o unit text (Opens name) s = refl
 included_conditions sources o unit text (OpensNone why) s = none_conditions unit text why s
 
-asked_conditions : (a : Request) (sources : Sources) (o : Choices) (s : State) → (answered a sources o (asked_nothing s)).conditions ≡ passed_files (asked_passage a sources o s) s.conditions
-asked_conditions (Include text unit) sources o s = included_conditions sources o unit text (inclusion sources o.directories text s.nesting) (asked_nothing s)
+asked_conditions : (a : Request) (sources : Sources) (o : Choices) (s : State) →
+    (answered a sources o (asked_nothing s)).conditions ≡ passed_files (asked_passage a sources o s) s.conditions
+asked_conditions (Include text unit) sources o s =
+    included_conditions sources o unit text (inclusion sources o.directories text s.nesting) (asked_nothing s)
 asked_conditions End sources o s = refl
 asked_conditions Nothing sources o s = refl
 
@@ -1039,7 +1200,8 @@ left_conditions : (ws : List Cursor) (s : State) → (left_by ws (file_closed s)
 left_conditions [] s = refl
 left_conditions (c ∷ ws) s = refl
 
-carried_out_passes : (sources : Sources) (o : Choices) (s : State) → (carried_out sources o s).conditions ≡ passed_files (passage sources o s) s.conditions
+carried_out_passes : (sources : Sources) (o : Choices) (s : State) →
+    (carried_out sources o s).conditions ≡ passed_files (passage sources o s) s.conditions
 carried_out_passes sources o s = go s.work.report.counts.is_over (is_mode_ended s.reading.mode)
   where
     go : (over ended : Bool) → (cond over s (cond ended (left s) (answered s.work.asked sources o (asked_nothing s)))).conditions
@@ -1050,19 +1212,24 @@ carried_out_passes sources o s = go s.work.report.counts.is_over (is_mode_ended 
 
 turn_steps : (sources : Sources) (o : Choices) (s : State) → (turn sources o s).conditions ≡ step_behind (step_at sources o s) s.conditions
 turn_steps sources o s =
-    rested_conditions (carried_out sources o (stepped s)) ∙ ap (ended_behind (ends_there (carried_out sources o (stepped s)))) (carried_out_passes sources o (stepped s))
+    rested_conditions (carried_out sources o (stepped s))
+    ∙ ap (ended_behind (ends_there (carried_out sources o (stepped s)))) (carried_out_passes sources o (stepped s))
 
-steps_hand_on : (sources : Sources) (o : Choices) (n : ℕ) (s : State) → map shown (given_in sources o n s) ≡ handed_by (steps_at sources o n s) s.conditions
+steps_hand_on : (sources : Sources) (o : Choices) (n : ℕ) (s : State) →
+    map shown (given_in sources o n s) ≡ handed_by (steps_at sources o n s) s.conditions
 steps_hand_on sources o zero s = refl
 steps_hand_on sources o (suc n) s =
     let next = turn sources o s in
     let t = token_of s.nesting.cursor in
     let b = judged (site_of s.reading) s.work.output t s.conditions in
     map-append shown (given_by s) (given_in sources o n next)
-    ∙ ap (λ hs. hs ++ map shown (given_in sources o n next)) (all_shown s.nesting.names b.judged t (said_told b.now.said s.nesting.names (stand_of s)))
-    ∙ ap (λ hs. handed_on b.judged t ++ hs) (steps_hand_on sources o n next ∙ ap (handed_by (steps_at sources o n next)) (turn_steps sources o s))
+    ∙ ap (λ hs. hs ++ map shown (given_in sources o n next))
+    (all_shown s.nesting.names b.judged t (said_told b.now.said s.nesting.names (stand_of s)))
+    ∙ ap (λ hs. handed_on b.judged t ++ hs) (steps_hand_on sources o n next ∙ ap (handed_by (steps_at sources o n next))
+    (turn_steps sources o s))
 
-steps_turned : (sources : Sources) (o : Choices) (n : ℕ) (s : State) → (turned sources o n s).conditions ≡ steps_behind (steps_at sources o n s) s.conditions
+steps_turned : (sources : Sources) (o : Choices) (n : ℕ) (s : State) →
+    (turned sources o n s).conditions ≡ steps_behind (steps_at sources o n s) s.conditions
 steps_turned sources o zero s = refl
 steps_turned sources o (suc n) s =
     let next = turn sources o s in
@@ -1080,11 +1247,13 @@ turns_keep_files d sources o n s f are_these clear are =
           let t = token_of behind.nesting.cursor in
           let b = judged (site_of behind.reading) behind.work.output t behind.conditions in
           all_shown behind.nesting.names b.judged t (said_told b.now.said behind.nesting.names (stand_of behind))
-          ∙ ap (λ (c : Conditions). handed_on (judged_at end c).judged t) (steps_turned sources o n s ∙ ap (λ xs. steps_behind xs s.conditions) are_these)
+          ∙ ap (λ (c : Conditions). handed_on (judged_at end c).judged t)
+          (steps_turned sources o n s ∙ ap (λ xs. steps_behind xs s.conditions) are_these)
           ∙ all.end_on end is_last;
       at_last = λ is_last.
           files_tell_unended last.nesting.names (judged_at end behind.conditions).now last.work.report
           ∙ ap (λ ps. with_all_at last.nesting.names ps last.work.report)
-          (ap (λ (c : Conditions). told_behind Leaves (judged_at end c).now) (steps_turned sources o n s ∙ ap (λ xs. steps_behind xs s.conditions) are_these)
+          (ap (λ (c : Conditions). told_behind Leaves (judged_at end c).now)
+          (steps_turned sources o n s ∙ ap (λ xs. steps_behind xs s.conditions) are_these)
           ∙ all.at_last end is_last);
     }

@@ -49,21 +49,23 @@ IsAlone u p others = Unit {0}
 
 -- and its condition
 abbrev HasCondition : Answers → Around → Unfinished → List Condition → Type 0
-HasCondition d s (Request is_inner wanted first parts) ks = (others : List Condition) × (ks ≡ condition_so first (kept_sides d s parts) ∷ others)
+HasCondition d s (Request is_inner wanted first parts) ks =
+    (others : List Condition) × (ks ≡ condition_so first (kept_sides d s parts) ∷ others)
 HasCondition d s (FrontingWord sign parts u) ks = HasCondition d (behind_parts d s parts) u ks
 HasCondition d s u ks = Unit {0}
 
 abbrev begun_last : Answers → Unfinished → Around → ℕ → ℕ → List (List Conditional) → Last
 begun_last d u s declared n v = last_at (behind_begun d s u) (declared_tokens (begun_tokens u) declared) (n + length (begun_tokens u)) v
 
-record Begun (d : Answers) (u : Unfinished) (s : Around) (last : Last) (toks : List At) (places : List Place) (c : Conditions) : Type 0 where
-  p : Pending
-  others : List Pending
-  ks : List Condition
-  led : Led (Reads p others ks) toks c [] places last
-  waits_for : IsAwaited u p.awaits
-  condition : HasCondition d s u ks
-  alone : IsAlone u p others
+record Begun (d : Answers) (u : Unfinished) (s : Around) (last : Last) (toks : List At) (places : List Place) (c : Conditions) : Type 0
+  where
+    p : Pending
+    others : List Pending
+    ks : List Condition
+    led : Led (Reads p others ks) toks c [] places last
+    waits_for : IsAwaited u p.awaits
+    condition : HasCondition d s u ks
+    alone : IsAlone u p others
 
 -- where all is kept
 record KeptSo (r : Reader) (last : Last) (c : Conditions) : Type 0 where
@@ -92,8 +94,10 @@ kept_so r last c e all = go e.stand e.stack e.is
         absurd (let never : true ≡ false = sym all ∙ ap all_kept (sym stack) ∙ not_kept deep x between left in cc)
 
 -- parts that are read
-parts_read : (d : Answers) (parts : Parts) (p : Pending) (others : List Pending) (ks after : List Condition) (s : Around) (declared n : ℕ) (v : List (List Conditional)) (c : Conditions)
-    → StandsAt (Reads p others ks) (last_at s declared n v) c → AreParts d true s declared parts → TakesAll (Reads p others ks) (kept_sides d s parts)
+parts_read : (d : Answers) (parts : Parts) (p : Pending) (others : List Pending) (ks after : List Condition) (s : Around) (declared n : ℕ)
+    (v : List (List Conditional)) (c : Conditions)
+    → StandsAt (Reads p others ks) (last_at s declared n v) c → AreParts d true s declared parts → TakesAll (Reads p others ks)
+    (kept_sides d s parts)
     → read_on (kept_sides d s parts) (Reads p others ks) ≡ Reads p others after → n + length (all_tokens parts) ≤ most_levels
     → Led (Reads p others after) (all_tokens parts) c [] (told_parts d s parts) (last_behind d parts s declared n v)
 parts_read d parts p others ks after s declared n v c e are takes read few =
@@ -106,25 +110,32 @@ parts_read d parts p others ks after s declared n v c e are takes read few =
     }
 
 -- a condition so far
-read_so : (tokens : List SourceToken) (k : Condition) (is_inner wanted : Bool) (place : Place) (others : List Pending) (ks : List Condition) → GoOn tokens k
+read_so : (tokens : List SourceToken) (k : Condition) (is_inner wanted : Bool) (place : Place) (others : List Pending) (ks : List Condition)
+    → GoOn tokens k
     → TakesAll (Reads (directive is_inner place (awaits.Condition wanted)) others (k ∷ ks)) tokens
 read_so [] k is_inner wanted place others ks on = tt
-read_so (t ∷ tokens) k is_inner wanted place others ks on = ((on.0, on.1.0), read_so tokens (condition_took t k) is_inner wanted place others ks on.1.1)
+read_so (t ∷ tokens) k is_inner wanted place others ks on =
+    ((on.0, on.1.0), read_so tokens (condition_took t k) is_inner wanted place others ks on.1.1)
 
-begun_declared : (first : First) (tokens : List At) (declared : ℕ) → declared_tokens tokens (declared_first first declared) ≡ declared_tokens (first_tokens first tokens) declared
+begun_declared : (first : First) (tokens : List At) (declared : ℕ) →
+    declared_tokens tokens (declared_first first declared) ≡ declared_tokens (first_tokens first tokens) declared
 begun_declared first tokens declared = declared_behind_first first tokens declared
 
 -- A directive begins that is kept, and these parts come.
-begun_kept : (d : Answers) (parts : Parts) (r : Reader) (is_inner : Bool) (w : ConditionalWord) (a : Awaits) (first : First) (ks after : List Condition) (s : Around) (declared n : ℕ) (v : List (List Conditional)) (c base : Conditions)
+begun_kept : (d : Answers) (parts : Parts) (r : Reader) (is_inner : Bool) (w : ConditionalWord) (a : Awaits) (first : First)
+    (ks after : List Condition) (s : Around) (declared n : ℕ) (v : List (List Conditional)) (c base : Conditions)
     → let p = directive is_inner (begins first) a in
-    Holds r base → base.waiting ≡ v → are_kept s.inside ≡ true → are_kept s.between ≡ true → c ≡ at base (conditionals s.inside) (conditionals s.between) None declared
+    Holds r base → base.waiting ≡ v → are_kept s.inside ≡ true → are_kept s.between ≡ true → c ≡ at base (conditionals s.inside)
+    (conditionals s.between) None declared
     → IsFirst true is_inner (within r) w first → NoneInsideFirst true is_inner first s
     → ((m : ℕ) → begun w first.word.token (begins first) is_inner (at base (conditionals s.inside) (conditionals s.between) None m)
     ≡ passed (reading is_inner (begins first) a (record base { conditions = ks }) (conditionals s.inside) (conditionals s.between) m))
     → AreParts d true s (declared_first first declared) parts → TakesAll (Reads p base.pending ks) (kept_sides d s parts)
-    → read_on (kept_sides d s parts) (Reads p base.pending ks) ≡ Reads p base.pending after → n + length (first_tokens first (all_tokens parts)) ≤ most_levels
+    → read_on (kept_sides d s parts) (Reads p base.pending ks) ≡ Reads p base.pending after → n + length
+    (first_tokens first (all_tokens parts)) ≤ most_levels
     → Led (Reads p base.pending after) (first_tokens first (all_tokens parts)) c [] (told_parts d s parts)
-    (last_at (behind_parts d s parts) (declared_tokens (first_tokens first (all_tokens parts)) declared) (n + length (first_tokens first (all_tokens parts))) v)
+    (last_at (behind_parts d s parts) (declared_tokens (first_tokens first (all_tokens parts)) declared)
+    (n + length (first_tokens first (all_tokens parts))) v)
 begun_kept d parts r is_inner w a first ks after s declared n v c base holds waits si sb is is_first none begins_so are takes read few =
     let p = directive is_inner (begins first) a in
     let q = Reads p base.pending after in
@@ -134,19 +145,39 @@ begun_kept d parts r is_inner w a first ks after s declared n v c base holds wai
     let toks = first_tokens first (all_tokens parts) in
     let l = last_behind d parts s now n v in
     let less = fewer first (all_tokens parts) in
-    let start : StandsAt (Reads p base.pending ks) (last_at s now n v) (reading is_inner (begins first) a (record base { conditions = ks }) inner among now) =
-    record { base = awaits_it is_inner (begins first) a (record base { conditions = ks }); stand = AllStay s.inside s.between si sb; holds = (refl, refl); waits = waits; is = refl; stack = refl; few = omega arith } in
-    subst (λ (x : Conditions). Led q toks x [] (told_parts d s parts) (last_at l.around (declared_tokens toks declared) (n + length toks) v)) (sym is)
-    (relaxed q toks (at base inner among None declared) [] (told_parts d s parts) l.around l.declared (declared_tokens toks declared) l.levels (n + length toks) v (begun_declared first (all_tokens parts) declared) (omega (arith, less))
-    (begins_kept r q is_inner w a first.sign first.word (all_tokens parts) base (record base { conditions = ks }) inner among declared (told_parts d s parts) l holds is_first.begins is_first.is (mids_of is_inner (within r) w first s is_first none) begins_so
-    (parts_read d parts p base.pending ks after s now n v (reading is_inner (begins first) a (record base { conditions = ks }) inner among now) start are takes read (omega (arith, few, less)))))
+    let start : StandsAt (Reads p base.pending ks) (last_at s now n v)
+    (reading is_inner (begins first) a (record base { conditions = ks }) inner among now) =
+    record {
+      base = awaits_it is_inner (begins first) a (record base { conditions = ks });
+      stand = AllStay s.inside s.between si sb;
+      holds =
+          (refl, refl);
+      waits = waits;
+      is = refl;
+      stack = refl;
+      few = omega arith;
+    } in
+    subst (λ (x : Conditions). Led q toks x [] (told_parts d s parts)
+    (last_at l.around (declared_tokens toks declared) (n + length toks) v)) (sym is)
+    (relaxed q toks (at base inner among None declared) [] (told_parts d s parts) l.around l.declared (declared_tokens toks declared)
+    l.levels (n + length toks) v (begun_declared first (all_tokens parts) declared) (omega (arith, less))
+    (begins_kept r q is_inner w a first.sign first.word (all_tokens parts) base (record base { conditions = ks }) inner among declared
+    (told_parts d s parts) l holds is_first.begins is_first.is (mids_of is_inner (within r) w first s is_first none) begins_so
+    (parts_read d parts p base.pending ks after s now n v
+    (reading is_inner (begins first) a (record base { conditions = ks }) inner among now) start are takes read
+    (omega (arith, few, less)))))
 
 -- or its word ends a side that was left out
-begun_left : (w : ConditionalWord) (act : Around → Around) → LeftLed w act → (d : Answers) (parts : Parts) (r : Reader) (is_inner : Bool) (first : First) (s : Around) (declared n : ℕ) (v : List (List Conditional)) (c : Conditions)
-    → (e : StandsAt r (last_at s declared n v) c) → all_kept s ≡ false → all_kept (act s) ≡ true → IsFirst false is_inner (within r) w first → NoneInside is_inner s
-    → AreParts d true (act s) (declared_first first declared) parts → kept_sides d (act s) parts ≡ [] → n + length (first_tokens first (all_tokens parts)) ≤ most_levels
-    → Led (Reads (directive false (begins first) (awaits.End effect.Nothing)) e.base.pending e.base.conditions) (first_tokens first (all_tokens parts)) c [] (told_parts d (act s) parts)
-    (last_at (behind_parts d (act s) parts) (declared_tokens (first_tokens first (all_tokens parts)) declared) (n + length (first_tokens first (all_tokens parts))) v)
+begun_left : (w : ConditionalWord) (act : Around → Around) → LeftLed w act → (d : Answers) (parts : Parts) (r : Reader) (is_inner : Bool)
+    (first : First) (s : Around) (declared n : ℕ) (v : List (List Conditional)) (c : Conditions)
+    → (e : StandsAt r (last_at s declared n v) c) → all_kept s ≡ false → all_kept (act s) ≡ true → IsFirst false is_inner (within r) w first
+    → NoneInside is_inner s
+    → AreParts d true (act s) (declared_first first declared) parts → kept_sides d (act s) parts ≡ [] → n + length
+    (first_tokens first (all_tokens parts)) ≤ most_levels
+    → Led (Reads (directive false (begins first) (awaits.End effect.Nothing)) e.base.pending e.base.conditions)
+    (first_tokens first (all_tokens parts)) c [] (told_parts d (act s) parts)
+    (last_at (behind_parts d (act s) parts) (declared_tokens (first_tokens first (all_tokens parts)) declared)
+    (n + length (first_tokens first (all_tokens parts))) v)
 begun_left w act left_word d parts r is_inner first s declared n v c e left all is_first none are kept_none few =
     let base = e.base in
     let st = e.stand in
@@ -162,13 +193,26 @@ begun_left w act left_word d parts r is_inner first s declared n v c e left all 
     let same : act (stack_of st) ≡ x = ap act e.stack in
     let kept_so = kept_sides d x parts in
     subst (λ (y : Conditions). Led q toks y [] places (last_at l.around (declared_tokens toks declared) (n + length toks) v)) (sym e.is)
-    (relaxed q toks (stands_at base st declared) [] places l.around l.declared (declared_tokens toks declared) l.levels (n + length toks) v (begun_declared first (all_tokens parts) declared) (omega (arith, less))
-    (left_word r q is_inner (within r) first (all_tokens parts) st declared n v base places l e.holds e.waits e.few (omega (arith, few, less)) (ap all_kept e.stack ∙ left) (subst (NoneInside is_inner) (sym e.stack) none) is_first
+    (relaxed q toks (stands_at base st declared) [] places l.around l.declared (declared_tokens toks declared) l.levels (n + length toks) v
+    (begun_declared first (all_tokens parts) declared) (omega (arith, less))
+    (left_word r q is_inner (within r) first (all_tokens parts) st declared n v base places l e.holds e.waits e.few
+    (omega (arith, few, less)) (ap all_kept e.stack ∙ left) (subst (NoneInside is_inner) (sym e.stack) none) is_first
     (λ gone. absurd (let never : true ≡ false = sym all ∙ ap all_kept (sym same) ∙ gone in cc))
     (λ inside between si sb is.
     let start : StandsAt q (last_at x now n v) (reading false (begins first) a base (conditionals inside) (conditionals between) now) =
-    record { base = awaits_it false (begins first) a base; stand = AllStay inside between si sb; holds = (refl, refl); waits = e.waits; is = refl; stack = is ∙ same; few = omega arith } in
-    parts_read d parts p base.pending base.conditions base.conditions x now n v (reading false (begins first) a base (conditionals inside) (conditionals between) now) start are (takes_none kept_so q kept_none) (reads_none kept_so q kept_none)
+    record {
+      base = awaits_it false (begins first) a base;
+      stand = AllStay inside between si sb;
+      holds = (refl, refl);
+      waits = e.waits;
+      is =
+          refl;
+      stack = is ∙ same;
+      few = omega arith;
+    } in
+    parts_read d parts p base.pending base.conditions base.conditions x now n v
+    (reading false (begins first) a base (conditionals inside) (conditionals between) now) start are (takes_none kept_so q kept_none)
+    (reads_none kept_so q kept_none)
     (omega (arith, few, less)))))
 
 -- An `Ifnot` or an `Endif`
@@ -180,11 +224,18 @@ record EndingLed (d : Answers) (parts : Parts) (x : Around) (last : Last) (toks 
   led : Led (Reads p others ks) toks c [] (told_parts d x parts) last
   waits_for : (e : Effect) × (p.awaits ≡ awaits.End e)
 
-ending_begun : (w : ConditionalWord) (act : Around → Around) (e : Effect) → ((t : SourceToken) (place : Place) (is_inner : Bool) (c : Conditions) → begun w t place is_inner c ≡ passed (awaiting place is_inner (awaits.End e) c)) → LeftLed w act
-    → (d : Answers) (parts : Parts) (r : Reader) (is_inner : Bool) (first : First) (s : Around) (declared n : ℕ) (v : List (List Conditional)) (c : Conditions)
-    → StandsAt r (last_at s declared n v) c → (k : Bool) → all_kept s ≡ k → IsFirst k is_inner (within r) w first → NoneInsideFirst k is_inner first s → all_kept (cond k s (act s)) ≡ true
-    → AreParts d true (cond k s (act s)) (declared_first first declared) parts → kept_sides d (cond k s (act s)) parts ≡ [] → n + length (first_tokens first (all_tokens parts)) ≤ most_levels
-    → EndingLed d parts (cond k s (act s)) (last_at (behind_parts d (cond k s (act s)) parts) (declared_tokens (first_tokens first (all_tokens parts)) declared) (n + length (first_tokens first (all_tokens parts))) v) (first_tokens first (all_tokens parts)) c
+ending_begun : (w : ConditionalWord) (act : Around → Around) (e : Effect) →
+    ((t : SourceToken) (place : Place) (is_inner : Bool) (c : Conditions) → begun w t place is_inner c ≡ passed
+    (awaiting place is_inner (awaits.End e) c)) → LeftLed w act
+    → (d : Answers) (parts : Parts) (r : Reader) (is_inner : Bool) (first : First) (s : Around) (declared n : ℕ)
+    (v : List (List Conditional)) (c : Conditions)
+    → StandsAt r (last_at s declared n v) c → (k : Bool) → all_kept s ≡ k → IsFirst k is_inner (within r) w first → NoneInsideFirst k
+    is_inner first s → all_kept (cond k s (act s)) ≡ true
+    → AreParts d true (cond k s (act s)) (declared_first first declared) parts → kept_sides d (cond k s (act s)) parts ≡ [] → n + length
+    (first_tokens first (all_tokens parts)) ≤ most_levels
+    → EndingLed d parts (cond k s (act s)) (last_at (behind_parts d (cond k s (act s)) parts)
+    (declared_tokens (first_tokens first (all_tokens parts)) declared) (n + length (first_tokens first (all_tokens parts))) v)
+    (first_tokens first (all_tokens parts)) c
 ending_begun w act eff begins_so left_word d parts r is_inner first s declared n v c e true all is_first none stays are kept_none few =
     let k = kept_so r (last_at s declared n v) c e all in
     let a = awaits.End eff in
@@ -194,18 +245,21 @@ ending_begun w act eff begins_so left_word d parts r is_inner first s declared n
       p = p;
       others = k.base.pending;
       ks = k.base.conditions;
-      led = begun_kept d parts r is_inner w a first k.base.conditions k.base.conditions s declared n v c k.base k.holds k.waits k.inside_kept k.between_kept k.is is_first none
+      led = begun_kept d parts r is_inner w a first k.base.conditions k.base.conditions s declared n v c k.base k.holds k.waits
+          k.inside_kept k.between_kept k.is is_first none
           (λ m. begins_so first.word.token (begins first) is_inner (at k.base (conditionals s.inside) (conditionals s.between) None m)) are
-          (takes_none tokens (Reads p k.base.pending k.base.conditions) kept_none) (reads_none tokens (Reads p k.base.pending k.base.conditions) kept_none) few;
+          (takes_none tokens (Reads p k.base.pending k.base.conditions) kept_none)
+          (reads_none tokens (Reads p k.base.pending k.base.conditions) kept_none) few;
       waits_for = (eff, refl);
     }
-ending_begun w act eff begins_so left_word d parts r is_inner first s declared n v c e false left is_first none stays are kept_none few = record {
-  p = directive false (begins first) (awaits.End effect.Nothing);
-  others = e.base.pending;
-  ks = e.base.conditions;
-  led = begun_left w act left_word d parts r is_inner first s declared n v c e left stays is_first none are kept_none few;
-  waits_for = (effect.Nothing, refl);
-}
+ending_begun w act eff begins_so left_word d parts r is_inner first s declared n v c e false left is_first none stays are kept_none few =
+    record {
+      p = directive false (begins first) (awaits.End effect.Nothing);
+      others = e.base.pending;
+      ks = e.base.conditions;
+      led = begun_left w act left_word d parts r is_inner first s declared n v c e left stays is_first none are kept_none few;
+      waits_for = (effect.Nothing, refl);
+    }
 
 -- behind a `#`, in a side that is left out
 pub record LeftSo (st : Stands) : Type 0 where
@@ -222,11 +276,14 @@ left_so (InnerLeft deep x inside between gone si sb) left = record {
   m = length deep;
   is = refl;
   few = omega arith;
-  calm = λ is_inner none e. absurd (some_open deep x inside (none_open is_inner (record { inside = deep ++ x ∷ inside; between = between }) none e));
+  calm = λ is_inner none e. absurd (some_open deep x inside (none_open is_inner (record { inside = deep ++ x ∷ inside; between = between })
+      none e));
 }
-left_so (OuterLeft deep x between gone sb) left = record { b = false; m = length deep; is = refl; few = omega arith; calm = λ is_inner none e. (refl, refl) }
+left_so (OuterLeft deep x between gone sb) left =
+    record { b = false; m = length deep; is = refl; few = omega arith; calm = λ is_inner none e. (refl, refl) }
 
-hashes_before : (q : Reader) (is_inner : Bool) (hashes : List At) (next : At) (rest : List At) (base : Conditions) (inner among : List Conditional) (b : Bool) (m declared : ℕ) (places : List Place) (last : Last)
+hashes_before : (q : Reader) (is_inner : Bool) (hashes : List At) (next : At) (rest : List At) (base : Conditions)
+    (inner among : List Conditional) (b : Bool) (m declared : ℕ) (places : List Place) (last : Last)
     → AreHashes is_inner hashes → is_mark mark.Hash next.token.kind ≡ true → CalmLeft is_inner inner b → m + 1 ≤ most_levels
     → Led q (next ∷ rest) (at base inner among (left_at b m) (declared_tokens hashes declared)) [] places last
     → Led q (hashes ++ next ∷ rest) (at base inner among (left_at b m) declared) [] places last
@@ -239,13 +296,17 @@ hashes_before q is_inner (t ∷ hashes) next rest base inner among b m declared 
     (mid is_inner t base (Some t.token.place) inner among (left_at b m) declared are.0.goes_on (calm_at is_inner inner b m calm))
     (again hashes now are.1 (hashes_before q is_inner hashes next rest base inner among b m now places last are.1 hash calm few is))
   where
-    same : (x : At) (all : List At) (now : ℕ) → is_mark mark.Hash x.token.kind ≡ true → Led q (x ∷ all) (at base inner among (left_at b m) now) [] places last
+    same : (x : At) (all : List At) (now : ℕ) → is_mark mark.Hash x.token.kind ≡ true →
+        Led q (x ∷ all) (at base inner among (left_at b m) now) [] places last
         → Led q (x ∷ all) (state base (Some t.token.place) inner among (left_at b m) now) [] places last
     same x all now is_hash led_on =
-        same_first q x all (at base inner among (left_at b m) now) (state base (Some t.token.place) inner among (left_at b m) now) [] places last
-        (sign_left x (Some t.token.place) base inner among b m now is_hash few ∙ sym (sign_left x None base inner among b m now is_hash few)) led_on
+        same_first q x all (at base inner among (left_at b m) now) (state base (Some t.token.place) inner among (left_at b m) now) [] places
+        last
+        (sign_left x (Some t.token.place) base inner among b m now is_hash few ∙ sym
+        (sign_left x None base inner among b m now is_hash few)) led_on
 
-    again : (more : List At) (now : ℕ) → AreHashes is_inner more → Led q (more ++ next ∷ rest) (at base inner among (left_at b m) now) [] places last
+    again : (more : List At) (now : ℕ) → AreHashes is_inner more →
+        Led q (more ++ next ∷ rest) (at base inner among (left_at b m) now) [] places last
         → Led q (more ++ next ∷ rest) (state base (Some t.token.place) inner among (left_at b m) now) [] places last
     again [] now are led_on = same next rest now hash led_on
     again (x ∷ more) now are led_on = same x (more ++ next ∷ rest) now are.0.is led_on
@@ -261,19 +322,29 @@ first_is is_inner first tokens follows = go first.sign refl follows
   where
     go : (sign : Option At) → first.sign ≡ sign → Follows false is_inner sign → FirstIs first tokens
     go None e follows = absurd follows
-    go (Some next) e follows = record { next = next; rest = first.word ∷ tokens; is = ap (λ o. signed_tokens o (first.word ∷ tokens)) e; hash = follows }
+    go (Some next) e follows =
+        record { next = next; rest = first.word ∷ tokens; is = ap (λ o. signed_tokens o (first.word ∷ tokens)) e; hash = follows }
 
-ending_behind : (w : ConditionalWord) (act : Around → Around) (e : Effect) → ((t : SourceToken) (place : Place) (is_inner : Bool) (c : Conditions) → begun w t place is_inner c ≡ passed (awaiting place is_inner (awaits.End e) c)) → LeftLed w act
-    → (d : Answers) (parts : Parts) (r : Reader) (is_inner : Bool) (hashes : List At) (first : First) (s : Around) (declared n : ℕ) (v : List (List Conditional)) (c : Conditions)
-    → StandsAt r (last_at s declared n v) c → HashesBefore is_inner s hashes first → IsFirst (all_kept s) is_inner (within r) w first → NoneInsideFirst (all_kept s) is_inner first s → all_kept (cond (all_kept s) s (act s)) ≡ true
-    → AreParts d true (cond (all_kept s) s (act s)) (declared_first first (declared_tokens hashes declared)) parts → kept_sides d (cond (all_kept s) s (act s)) parts ≡ []
+ending_behind : (w : ConditionalWord) (act : Around → Around) (e : Effect) →
+    ((t : SourceToken) (place : Place) (is_inner : Bool) (c : Conditions) → begun w t place is_inner c ≡ passed
+    (awaiting place is_inner (awaits.End e) c)) → LeftLed w act
+    → (d : Answers) (parts : Parts) (r : Reader) (is_inner : Bool) (hashes : List At) (first : First) (s : Around) (declared n : ℕ)
+    (v : List (List Conditional)) (c : Conditions)
+    → StandsAt r (last_at s declared n v) c → HashesBefore is_inner s hashes first → IsFirst (all_kept s) is_inner (within r) w first →
+    NoneInsideFirst (all_kept s) is_inner first s → all_kept (cond (all_kept s) s (act s)) ≡ true
+    → AreParts d true (cond (all_kept s) s (act s)) (declared_first first (declared_tokens hashes declared)) parts → kept_sides d
+    (cond (all_kept s) s (act s)) parts ≡ []
     → n + length (hashes ++ first_tokens first (all_tokens parts)) ≤ most_levels
     → EndingLed d parts (cond (all_kept s) s (act s))
-    (last_at (behind_parts d (cond (all_kept s) s (act s)) parts) (declared_tokens (hashes ++ first_tokens first (all_tokens parts)) declared) (n + length (hashes ++ first_tokens first (all_tokens parts))) v)
+    (last_at (behind_parts d (cond (all_kept s) s (act s)) parts)
+    (declared_tokens (hashes ++ first_tokens first (all_tokens parts)) declared)
+    (n + length (hashes ++ first_tokens first (all_tokens parts))) v)
     (hashes ++ first_tokens first (all_tokens parts)) c
 ending_behind w act eff begins_so left_word d parts r is_inner [] first s declared n v c e before is_first none stays are kept_none few =
-    ending_begun w act eff begins_so left_word d parts r is_inner first s declared n v c e (all_kept s) refl is_first none stays are kept_none few
-ending_behind w act eff begins_so left_word d parts r is_inner (t ∷ hashes) first s declared n v c e before is_first none stays are kept_none few =
+    ending_begun w act eff begins_so left_word d parts r is_inner first s declared n v c e (all_kept s) refl is_first none stays are
+    kept_none few
+ending_behind w act eff begins_so left_word d parts r is_inner (t ∷ hashes) first s declared n v c e before is_first none stays are
+    kept_none few =
     let x = cond (all_kept s) s (act s) in
     let signs = t ∷ hashes in
     let toks = first_tokens first (all_tokens parts) in
@@ -286,34 +357,43 @@ ending_behind w act eff begins_so left_word d parts r is_inner (t ∷ hashes) fi
     let few_st = e.few in
     let few_m = l.few in
     let there = stands_at e.base st later in
-    let e_later : StandsAt r (last_at s later n v) there = record { base = e.base; stand = st; holds = e.holds; waits = e.waits; is = refl; stack = e.stack; few = e.few } in
-    let is = ending_begun w act eff begins_so left_word d parts r is_inner first s later n v there e_later (all_kept s) refl is_first none stays are kept_none (omega (arith, few, sum)) in
+    let e_later : StandsAt r (last_at s later n v) there =
+    record { base = e.base; stand = st; holds = e.holds; waits = e.waits; is = refl; stack = e.stack; few = e.few } in
+    let is = ending_begun w act eff begins_so left_word d parts r is_inner first s later n v there e_later (all_kept s) refl is_first none
+    stays are kept_none (omega (arith, few, sum)) in
     let next = first_is is_inner first (all_tokens parts) before.1.1 in
     let q = Reads is.p is.others is.ks in
     let places = told_parts d x parts in
     let around = behind_parts d x parts in
     let m = n + length toks in
     let last = last_at around (declared_tokens toks later) m v in
-    let at_left : (declared : ℕ) → stands_at e.base st declared ≡ at e.base inner among (left_at l.b l.m) declared = λ declared. ap (λ y. at e.base inner among y declared) l.is in
+    let at_left : (declared : ℕ) → stands_at e.base st declared ≡ at e.base inner among (left_at l.b l.m) declared =
+    λ declared. ap (λ y. at e.base inner among y declared) l.is in
     let on : Led q (signs ++ toks) (at e.base inner among (left_at l.b l.m) declared) [] places last =
     subst (λ ts. Led q (signs ++ ts) (at e.base inner among (left_at l.b l.m) declared) [] places last) (sym next.is)
-    (hashes_before q is_inner signs next.next next.rest e.base inner among l.b l.m declared places last before.1.0 next.hash (l.calm is_inner (subst (NoneInside is_inner) (sym e.stack) (subst (λ k. NoneInsideFirst k is_inner first s) before.0 none))) (omega (arith, few, sum, few_st, few_m))
+    (hashes_before q is_inner signs next.next next.rest e.base inner among l.b l.m declared places last before.1.0 next.hash
+    (l.calm is_inner (subst (NoneInside is_inner) (sym e.stack) (subst (λ k. NoneInsideFirst k is_inner first s) before.0 none)))
+    (omega (arith, few, sum, few_st, few_m))
     (subst (λ ts. Led q ts (at e.base inner among (left_at l.b l.m) later) [] places last) next.is
     (subst (λ (y : Conditions). Led q toks y [] places last) (at_left later) is.led))) in
     record {
       p = is.p;
       others = is.others;
       ks = is.ks;
-      led = subst (λ (y : Conditions). Led q (signs ++ toks) y [] places (last_at around (declared_tokens (signs ++ toks) declared) (n + length (signs ++ toks)) v)) (sym (e.is ∙ at_left declared))
-          (relaxed q (signs ++ toks) (at e.base inner among (left_at l.b l.m) declared) [] places around (declared_tokens toks later) (declared_tokens (signs ++ toks) declared) m (n + length (signs ++ toks)) v
+      led = subst (λ (y : Conditions). Led q (signs ++ toks) y [] places
+          (last_at around (declared_tokens (signs ++ toks) declared) (n + length (signs ++ toks)) v)) (sym (e.is ∙ at_left declared))
+          (relaxed q (signs ++ toks) (at e.base inner among (left_at l.b l.m) declared) [] places around (declared_tokens toks later)
+          (declared_tokens (signs ++ toks) declared) m (n + length (signs ++ toks)) v
           (sym (declared_both signs toks declared)) (omega (arith, sum)) on);
       waits_for = is.waits_for;
     }
 
 -- a `#` that begins a directive
-front_begun : (d : Answers) (sign : At) (parts : Parts) (s : Around) (declared n : ℕ) (v : List (List Conditional)) (c : Conditions) → StandsAt Hands (last_at s declared n v) c → IsBegun d false s declared (Fronting sign parts)
+front_begun : (d : Answers) (sign : At) (parts : Parts) (s : Around) (declared n : ℕ) (v : List (List Conditional)) (c : Conditions) →
+    StandsAt Hands (last_at s declared n v) c → IsBegun d false s declared (Fronting sign parts)
     → n + length (sign ∷ all_tokens parts) ≤ most_levels
-    → Begun d (Fronting sign parts) s (last_behind d parts s (declared_behind sign declared) n v) (sign ∷ all_tokens parts) (told_parts d s parts) c
+    → Begun d (Fronting sign parts) s (last_behind d parts s (declared_behind sign declared) n v) (sign ∷ all_tokens parts)
+    (told_parts d s parts) c
 front_begun d sign parts s declared n v c e are few =
     let k = kept_so Hands (last_at s declared n v) c e are.1.1.0 in
     let base = k.base in
@@ -339,7 +419,16 @@ front_begun d sign parts s declared n v c e are few =
           (sign_kept sign base inner among declared (outer_front sign base k.holds are.0.0) are.0.1.is)
           (mid false sign (awaits_it false place awaits.Word base) None inner among None declared tt (λ _. (ap conditionals are.1.0, refl)))
           (parts_read d parts p base.pending base.conditions base.conditions s now n v start
-          (record { base = awaits_it false place awaits.Word base; stand = AllStay s.inside s.between k.inside_kept k.between_kept; holds = (refl, refl); waits = k.waits; is = refl; stack = refl; few = omega arith })
+          (record {
+            base = awaits_it false place awaits.Word base;
+            stand = AllStay s.inside s.between k.inside_kept k.between_kept;
+            holds =
+                (refl, refl);
+            waits = k.waits;
+            is = refl;
+            stack = refl;
+            few = omega arith;
+          })
           are.1.1.1.0 (takes_none tokens q none_kept) (reads_none tokens q none_kept) (omega (arith, few))));
       waits_for = refl;
       condition = tt;
@@ -348,7 +437,8 @@ front_begun d sign parts s declared n v c e are few =
 
 -- Any of them
 
-begun_led : (d : Answers) (u : Unfinished) (r : Reader) (s : Around) (declared n : ℕ) (v : List (List Conditional)) (c : Conditions) → StandsAt r (last_at s declared n v) c → IsBegun d (within r) s declared u
+begun_led : (d : Answers) (u : Unfinished) (r : Reader) (s : Around) (declared n : ℕ) (v : List (List Conditional)) (c : Conditions) →
+    StandsAt r (last_at s declared n v) c → IsBegun d (within r) s declared u
     → n + length (begun_tokens u) ≤ most_levels → Begun d u s (begun_last d u s declared n v) (begun_tokens u) (told_begun d s u) c
 begun_led d (Unnamed is_inner if_declared first before) r s declared n v c e are few =
     let all = are.1.1.0 in
@@ -361,9 +451,12 @@ begun_led d (Unnamed is_inner if_declared first before) r s declared n v c e are
       p = p;
       others = k.base.pending;
       ks = k.base.conditions;
-      led = begun_kept d before r is_inner (opening if_declared) a first k.base.conditions k.base.conditions s declared n v c k.base k.holds k.waits k.inside_kept k.between_kept k.is are.0 are.1.0
-          (λ m. begun_opening is_inner if_declared first.word.token (begins first) (at k.base (conditionals s.inside) (conditionals s.between) None m)) are.1.1.1.0
-          (takes_none tokens (Reads p k.base.pending k.base.conditions) none_kept) (reads_none tokens (Reads p k.base.pending k.base.conditions) none_kept) few;
+      led = begun_kept d before r is_inner (opening if_declared) a first k.base.conditions k.base.conditions s declared n v c k.base k.holds
+          k.waits k.inside_kept k.between_kept k.is are.0 are.1.0
+          (λ m. begun_opening is_inner if_declared first.word.token (begins first)
+          (at k.base (conditionals s.inside) (conditionals s.between) None m)) are.1.1.1.0
+          (takes_none tokens (Reads p k.base.pending k.base.conditions) none_kept)
+          (reads_none tokens (Reads p k.base.pending k.base.conditions) none_kept) few;
       waits_for = refl;
       condition = tt;
       alone = tt;
@@ -397,9 +490,19 @@ begun_led d (Named is_inner if_declared first before name behind) r s declared n
     let sum = length_both (all_tokens before) (name ∷ all_tokens behind) in
     let start = reading is_inner place a base inner among now in
     let rest : Led q (all_tokens before ++ name ∷ all_tokens behind) start [] places l2 =
-    within_led d before (led d before) q (name ∷ all_tokens behind) is_inner place a base base.conditions base.conditions s now n v start places_name l2
-    (record { base = awaits_it is_inner place a base; stand = AllStay s.inside s.between k.inside_kept k.between_kept; holds = (refl, refl); waits = k.waits; is = refl; stack = refl; few = omega arith })
-    all are.1.1.1.0.0 adds.0 (takes_none tokens (Reads p base.pending base.conditions) adds.1) (reads_none tokens (Reads p base.pending base.conditions) adds.1) (omega (arith, few, less, sum))
+    within_led d before (led d before) q (name ∷ all_tokens behind) is_inner place a base base.conditions base.conditions s now n v start
+    places_name l2
+    (record {
+      base = awaits_it is_inner place a base;
+      stand = AllStay s.inside s.between k.inside_kept k.between_kept;
+      holds = (refl, refl);
+      waits = k.waits;
+      is = refl;
+      stack = refl;
+      few = omega arith;
+    })
+    all are.1.1.1.0.0 adds.0 (takes_none tokens (Reads p base.pending base.conditions) adds.1)
+    (reads_none tokens (Reads p base.pending base.conditions) adds.1) (omega (arith, few, less, sum))
     (λ more bw bi bb.
     let after = record more { pending = base.pending; conditions = base.conditions } in
     let i = conditionals l.around.inside in
@@ -407,20 +510,27 @@ begun_led d (Named is_inner if_declared first before name behind) r s declared n
     let named_so = reading is_inner place waits_end after i b l.declared in
     let there = ended_behind name.ended named_so in
     let kept_behind = kept_sides d y behind in
-    passes q name (all_tokens behind) (reading is_inner place a after i b l.declared) named_so there [] (missing_in name.ended l.around) places_behind l2 (name_kept is_inner if_declared place name after i b l.declared are.1.1.1.1.0) refl
+    passes q name (all_tokens behind) (reading is_inner place a after i b l.declared) named_so there [] (missing_in name.ended l.around)
+    places_behind l2 (name_kept is_inner if_declared place name after i b l.declared are.1.1.1.1.0) refl
     (ended_told name.ended (AllStay l.around.inside l.around.between bi bb) l.declared (awaits_it is_inner place waits_end after))
     (parts_read d behind p_end base.pending base.conditions base.conditions y later l.levels v there
-    (ended_stands q name.ended (AllStay l.around.inside l.around.between bi bb) l.declared l.levels v (awaits_it is_inner place waits_end after) (refl, refl) bw (omega arith))
+    (ended_stands q name.ended (AllStay l.around.inside l.around.between bi bb) l.declared l.levels v
+    (awaits_it is_inner place waits_end after) (refl, refl) bw (omega arith))
     are.1.1.1.1.1.0 (takes_none kept_behind q none_behind) (reads_none kept_behind q none_behind) (omega (arith, few, less, sum)))) in
     let declared_so : l2.declared ≡ declared_tokens toks declared =
-    sym (declared_both (all_tokens before) (name ∷ all_tokens behind) now) ∙ declared_behind_first first (all_tokens before ++ name ∷ all_tokens behind) declared in
+    sym (declared_both (all_tokens before) (name ∷ all_tokens behind) now)
+    ∙ declared_behind_first first (all_tokens before ++ name ∷ all_tokens behind) declared in
     record {
       p = p_end;
       others = base.pending;
       ks = base.conditions;
-      led = subst (λ (x : Conditions). Led q toks x [] places (last_at l2.around (declared_tokens toks declared) (n + length toks) v)) (sym k.is)
-          (relaxed q toks (at base inner among None declared) [] places l2.around l2.declared (declared_tokens toks declared) l2.levels (n + length toks) v declared_so (omega (arith, less, sum))
-          (begins_kept r q is_inner (opening if_declared) a first.sign first.word (all_tokens before ++ name ∷ all_tokens behind) base base inner among declared places l2 k.holds are.0.begins are.0.is (mids_of is_inner (within r) (opening if_declared) first s are.0 are.1.0)
+      led = subst (λ (x : Conditions). Led q toks x [] places (last_at l2.around (declared_tokens toks declared) (n + length toks) v))
+          (sym k.is)
+          (relaxed q toks (at base inner among None declared) [] places l2.around l2.declared (declared_tokens toks declared) l2.levels
+          (n + length toks) v declared_so (omega (arith, less, sum))
+          (begins_kept r q is_inner (opening if_declared) a first.sign first.word (all_tokens before ++ name ∷ all_tokens behind) base base
+          inner among declared places l2 k.holds are.0.begins are.0.is
+          (mids_of is_inner (within r) (opening if_declared) first s are.0 are.1.0)
           (λ m. begun_opening is_inner if_declared first.word.token place (at base inner among None m)) rest));
       waits_for = (effect.Opens is_so, refl);
       condition = tt;
@@ -439,18 +549,23 @@ begun_led d (Request is_inner wanted first parts) r s declared n v c e are few =
       p = p;
       others = k.base.pending;
       ks = condition_so first tokens ∷ ks;
-      led = begun_kept d parts r is_inner (asking wanted) a first (begun_so ∷ ks) (condition_so first tokens ∷ ks) s declared n v c k.base k.holds k.waits k.inside_kept k.between_kept k.is are.0 are.1.0
-          (λ m. begun_asking is_inner wanted first.word.token (begins first) k.base (conditionals s.inside) (conditionals s.between) m (asking_fits wanted first.word.token (begins first) are.0.is)) are.1.1.1.0
-          (read_so tokens begun_so is_inner wanted (begins first) k.base.pending ks so_far) (read_condition tokens p k.base.pending begun_so ks) few;
+      led = begun_kept d parts r is_inner (asking wanted) a first (begun_so ∷ ks) (condition_so first tokens ∷ ks) s declared n v c k.base
+          k.holds k.waits k.inside_kept k.between_kept k.is are.0 are.1.0
+          (λ m. begun_asking is_inner wanted first.word.token (begins first) k.base (conditionals s.inside) (conditionals s.between) m
+          (asking_fits wanted first.word.token (begins first) are.0.is)) are.1.1.1.0
+          (read_so tokens begun_so is_inner wanted (begins first) k.base.pending ks so_far)
+          (read_condition tokens p k.base.pending begun_so ks) few;
       waits_for = refl;
       condition = (ks, refl);
       alone = tt;
     }
 begun_led d (Turns is_inner hashes first parts) r s declared n v c e are few =
-    let is = ending_behind word.Ifnot turned effect.Turns (λ t place inner y. refl) turns_left d parts r is_inner hashes first s declared n v c e are.0.0 are.0.1 are.1.0 are.1.1.0 are.1.1.1.0 are.1.1.1.1 few in
+    let is = ending_behind word.Ifnot turned effect.Turns (λ t place inner y. refl) turns_left d parts r is_inner hashes first s declared n
+    v c e are.0.0 are.0.1 are.1.0 are.1.1.0 are.1.1.1.0 are.1.1.1.1 few in
     record { p = is.p; others = is.others; ks = is.ks; led = is.led; waits_for = is.waits_for; condition = tt; alone = tt }
 begun_led d (Closes is_inner hashes first parts) r s declared n v c e are few =
-    let is = ending_behind word.Endif closed effect.Closes (λ t place inner y. refl) closes_left d parts r is_inner hashes first s declared n v c e are.0.0 are.0.1 are.1.0 are.1.1.0 are.1.1.1.0 are.1.1.1.1 few in
+    let is = ending_behind word.Endif closed effect.Closes (λ t place inner y. refl) closes_left d parts r is_inner hashes first s declared
+    n v c e are.0.0 are.0.1 are.1.0 are.1.1.0 are.1.1.1.0 are.1.1.1.1 few in
     record { p = is.p; others = is.others; ks = is.ks; led = is.led; waits_for = is.waits_for; condition = tt; alone = tt }
 begun_led d (Fronting sign parts) (Reads p others ks) s declared n v c e are few = absurd are.0
 begun_led d (Fronting sign parts) Hands s declared n v c e are few =
@@ -461,7 +576,8 @@ begun_led d (Fronting sign parts) Hands s declared n v c e are few =
       p = is.p;
       others = is.others;
       ks = is.ks;
-      led = relaxed (Reads is.p is.others is.ks) toks c [] (told_parts d s parts) l.around l.declared (declared_tokens toks declared) l.levels (n + length toks) v refl (omega arith) is.led;
+      led = relaxed (Reads is.p is.others is.ks) toks c [] (told_parts d s parts) l.around l.declared (declared_tokens toks declared)
+          l.levels (n + length toks) v refl (omega arith) is.led;
       waits_for = is.waits_for;
       condition = tt;
       alone = is.alone;
@@ -475,7 +591,8 @@ begun_led d (FrontingWord sign parts u) Hands s declared n v c e are few =
     let adds = are.1.1.1.0.1 in
     let sum = length_both (all_tokens parts) rest in
     let sum_u = ap (λ ts. length ts) is_rest in
-    let first = front_begun d sign parts s declared n v c e (are.0, (are.1.0, (are.1.1.0, (are.1.1.1.0.0, adds.1)))) (omega (arith, few, sum)) in
+    let first =
+    front_begun d sign parts s declared n v c e (are.0, (are.1.0, (are.1.1.0, (are.1.1.1.0.0, adds.1)))) (omega (arith, few, sum)) in
     let l = last_behind d parts s (declared_behind sign declared) n v in
     let there = all_behind toks c in
     let k = kept_at first.p first.others first.ks l there first.led.ends (adds.0 ∙ are.1.1.0) in
@@ -490,7 +607,15 @@ begun_led d (FrontingWord sign parts u) Hands s declared n v c e are few =
     (ap (λ x. x ∷ first.others) first.alone.0 ∙ ap (λ others. p ∷ others) first.alone.1) in
     let second =
     begun_led d u Hands l.around l.declared l.levels v (at base inner among None l.declared)
-    (record { base = base; stand = AllStay l.around.inside l.around.between k.inside_kept k.between_kept; holds = refl; waits = k.waits; is = refl; stack = refl; few = omega arith })
+    (record {
+      base = base;
+      stand = AllStay l.around.inside l.around.between k.inside_kept k.between_kept;
+      holds = refl;
+      waits = k.waits;
+      is = refl;
+      stack = refl;
+      few = omega arith;
+    })
     are.1.1.1.1.1.1 (omega (arith, few, sum, sum_u)) in
     let q = Reads second.p second.others second.ks in
     let l2 = begun_last d u l.around l.declared l.levels v in
@@ -501,16 +626,19 @@ begun_led d (FrontingWord sign parts u) Hands s declared n v c e are few =
     (subst (λ ts. Led q ts (at base inner among None l.declared) [] places l2) is_rest second.led)) in
     let both : Led q (toks ++ rest) c [] (told_parts d s parts ++ places) l2 = record {
       hands = hands_both toks rest c ∙ ap (λ hs. hs ++ all_handed_on rest there) first.led.hands ∙ more.hands;
-      tells = tells_both toks rest c ∙ ap (λ ps. ps ++ all_told rest there) first.led.tells ∙ ap (λ ps. told_parts d s parts ++ ps) more.tells;
+      tells =
+          tells_both toks rest c ∙ ap (λ ps. ps ++ all_told rest there) first.led.tells ∙ ap (λ ps. told_parts d s parts ++ ps) more.tells;
       ends = subst (λ (y : Conditions). StandsAt q l2 y) (sym (behind_both toks rest c)) more.ends;
     } in
     let declared_so : l2.declared ≡ declared_tokens (toks ++ rest) declared =
-    ap (λ ts. declared_tokens ts l.declared) is_rest ∙ ap (λ e. declared_tokens rest (unwrap_or e l.declared)) goes ∙ sym (declared_both toks rest declared) in
+    ap (λ ts. declared_tokens ts l.declared) is_rest ∙ ap (λ e. declared_tokens rest (unwrap_or e l.declared)) goes
+    ∙ sym (declared_both toks rest declared) in
     record {
       p = second.p;
       others = second.others;
       ks = second.ks;
-      led = relaxed q (toks ++ rest) c [] (told_parts d s parts ++ places) l2.around l2.declared (declared_tokens (toks ++ rest) declared) l2.levels (n + length (toks ++ rest)) v declared_so (omega (arith, sum, sum_u)) both;
+      led = relaxed q (toks ++ rest) c [] (told_parts d s parts ++ places) l2.around l2.declared (declared_tokens (toks ++ rest) declared)
+          l2.levels (n + length (toks ++ rest)) v declared_so (omega (arith, sum, sum_u)) both;
       waits_for = second.waits_for;
       condition = second.condition;
       alone = are.1.1.1.1.1.0;
@@ -523,9 +651,11 @@ HasAllCondition d s [] u ks = HasCondition d s u ks
 HasAllCondition d s (x ∷ outer) u ks = HasAllCondition d (behind_begun d s x) outer u ks
 
 abbrev all_begun_last : Answers → List Unfinished → Unfinished → Around → ℕ → ℕ → List (List Conditional) → Last
-all_begun_last d outer u s declared n v = last_at (behind_all_begun d s outer u) (declared_tokens (all_begun_tokens outer u) declared) (n + length (all_begun_tokens outer u)) v
+all_begun_last d outer u s declared n v =
+    last_at (behind_all_begun d s outer u) (declared_tokens (all_begun_tokens outer u) declared) (n + length (all_begun_tokens outer u)) v
 
-pub record AllBegun (d : Answers) (outer : List Unfinished) (u : Unfinished) (s : Around) (last : Last) (toks : List At) (places : List Place) (c : Conditions) : Type 0 where
+pub record AllBegun (d : Answers) (outer : List Unfinished) (u : Unfinished) (s : Around) (last : Last) (toks : List At)
+    (places : List Place) (c : Conditions) : Type 0 where
   pub p : Pending
   pub others : List Pending
   pub ks : List Condition
@@ -534,8 +664,10 @@ pub record AllBegun (d : Answers) (outer : List Unfinished) (u : Unfinished) (s 
   pub condition : HasAllCondition d s outer u ks
   pub alone : IsAlone u p others
 
-pub all_begun_led : (d : Answers) (outer : List Unfinished) (u : Unfinished) (r : Reader) (s : Around) (declared n : ℕ) (v : List (List Conditional)) (c : Conditions) → StandsAt r (last_at s declared n v) c → AreBegun d (within r) s declared outer u
-    → n + length (all_begun_tokens outer u) ≤ most_levels → AllBegun d outer u s (all_begun_last d outer u s declared n v) (all_begun_tokens outer u) (told_all_begun d s outer u) c
+pub all_begun_led : (d : Answers) (outer : List Unfinished) (u : Unfinished) (r : Reader) (s : Around) (declared n : ℕ)
+    (v : List (List Conditional)) (c : Conditions) → StandsAt r (last_at s declared n v) c → AreBegun d (within r) s declared outer u
+    → n + length (all_begun_tokens outer u) ≤ most_levels → AllBegun d outer u s (all_begun_last d outer u s declared n v)
+    (all_begun_tokens outer u) (told_all_begun d s outer u) c
 all_begun_led d [] u r s declared n v c e are few =
     let is = begun_led d u r s declared n v c e are few in
     record { p = is.p; others = is.others; ks = is.ks; led = is.led; waits_for = is.waits_for; condition = is.condition; alone = is.alone }
@@ -546,20 +678,23 @@ all_begun_led d (x ∷ outer) u r s declared n v c e are few =
     let first = begun_led d x r s declared n v c e are.0 (omega (arith, few, sum)) in
     let l = begun_last d x s declared n v in
     let there = all_behind toks c in
-    let rest = all_begun_led d outer u (Reads first.p first.others first.ks) l.around l.declared l.levels v there first.led.ends are.1 (omega (arith, few, sum)) in
+    let rest = all_begun_led d outer u (Reads first.p first.others first.ks) l.around l.declared l.levels v there first.led.ends are.1
+    (omega (arith, few, sum)) in
     let l2 = all_begun_last d outer u l.around l.declared l.levels v in
     let q = Reads rest.p rest.others rest.ks in
     let places = told_begun d s x ++ told_all_begun d l.around outer u in
     let both : Led q (toks ++ more) c [] places l2 = record {
       hands = hands_both toks more c ∙ ap (λ hs. hs ++ all_handed_on more there) first.led.hands ∙ rest.led.hands;
-      tells = tells_both toks more c ∙ ap (λ ps. ps ++ all_told more there) first.led.tells ∙ ap (λ ps. told_begun d s x ++ ps) rest.led.tells;
+      tells =
+          tells_both toks more c ∙ ap (λ ps. ps ++ all_told more there) first.led.tells ∙ ap (λ ps. told_begun d s x ++ ps) rest.led.tells;
       ends = subst (λ (y : Conditions). StandsAt q l2 y) (sym (behind_both toks more c)) rest.led.ends;
     } in
     record {
       p = rest.p;
       others = rest.others;
       ks = rest.ks;
-      led = relaxed q (toks ++ more) c [] places l2.around l2.declared (declared_tokens (toks ++ more) declared) l2.levels (n + length (toks ++ more)) v (sym (declared_both toks more declared)) (omega (arith, sum)) both;
+      led = relaxed q (toks ++ more) c [] places l2.around l2.declared (declared_tokens (toks ++ more) declared) l2.levels
+          (n + length (toks ++ more)) v (sym (declared_both toks more declared)) (omega (arith, sum)) both;
       waits_for = rest.waits_for;
       condition = rest.condition;
       alone = rest.alone;
@@ -574,7 +709,8 @@ unfit_so now = record { now = now; judged = record none_handed { token = Some ha
 abbrev pub given_up_at : Conditions → Conditions
 given_up_at c = record c { pending = []; conditions = [] }
 
-no_name : (k : TokenKind) (bytes : List ℕ) (if_declared : Bool) (o : Out) (p : Pending) (c : Conditions) → (k ≡ kind.Name → ⊥) → named k bytes if_declared o p c ≡ unfit c
+no_name : (k : TokenKind) (bytes : List ℕ) (if_declared : Bool) (o : Out) (p : Pending) (c : Conditions) → (k ≡ kind.Name → ⊥) →
+    named k bytes if_declared o p c ≡ unfit c
 no_name kind.Name bytes if_declared o p c other = absurd (other refl)
 no_name (kind.Number n) bytes if_declared o p c other = refl
 no_name kind.Text bytes if_declared o p c other = refl
@@ -586,81 +722,110 @@ no_name kind.End bytes if_declared o p c other = refl
 
 abbrev IsUnfit : Pending → List Pending → List Condition → Conditions → List Conditional → List Conditional → ℕ → Bool → At → Type 0
 IsUnfit p others ks base inner among declared front t =
-    offered front t.site.is_quiet t.out t.token (at (record base { pending = p ∷ others; conditions = ks }) inner among None declared) ≡ unfit_so (at (given_up_at base) inner among None declared)
+    offered front t.site.is_quiet t.out t.token (at (record base { pending = p ∷ others; conditions = ks }) inner among None declared) ≡
+    unfit_so (at (given_up_at base) inner among None declared)
 
-cut_name : (is_inner if_declared : Bool) (place : Place) (others : List Pending) (ks : List Condition) (base : Conditions) (inner among : List Conditional) (declared : ℕ) (front : Bool) (t : At) → is_mark mark.Hash t.token.kind ≡ false
-    → (t.token.kind ≡ kind.Name → ⊥) → IsUnfit (directive is_inner place (awaits.Name if_declared)) others ks base inner among declared front t
+cut_name : (is_inner if_declared : Bool) (place : Place) (others : List Pending) (ks : List Condition) (base : Conditions)
+    (inner among : List Conditional) (declared : ℕ) (front : Bool) (t : At) → is_mark mark.Hash t.token.kind ≡ false
+    → (t.token.kind ≡ kind.Name → ⊥) → IsUnfit (directive is_inner place (awaits.Name if_declared)) others ks base inner among declared
+    front t
 cut_name is_inner if_declared place others ks base inner among declared front t no_hash other =
     let c = record base { pending = others; conditions = ks } in
     let here = at c inner among None declared in
     let p = directive is_inner place (awaits.Name if_declared) in
-    ap (λ (b : Bool). cond b (passed (held front t.token.place (reading is_inner place (awaits.Name if_declared) c inner among declared))) (named t.token.kind t.token.bytes if_declared t.out p here)) no_hash
+    ap (λ (b : Bool). cond b (passed (held front t.token.place (reading is_inner place (awaits.Name if_declared) c inner among declared)))
+    (named t.token.kind t.token.bytes if_declared t.out p here)) no_hash
     ∙ no_name t.token.kind t.token.bytes if_declared t.out p here other
 
-cut_end : (e : Effect) (is_inner : Bool) (place : Place) (others : List Pending) (ks : List Condition) (base : Conditions) (inner among : List Conditional) (declared : ℕ) (front : Bool) (t : At) → is_mark mark.Hash t.token.kind ≡ false
-    → is_mark mark.Semicolon t.token.kind ≡ false → IsUnfit (directive is_inner place (awaits.End e)) others ks base inner among declared front t
+cut_end : (e : Effect) (is_inner : Bool) (place : Place) (others : List Pending) (ks : List Condition) (base : Conditions)
+    (inner among : List Conditional) (declared : ℕ) (front : Bool) (t : At) → is_mark mark.Hash t.token.kind ≡ false
+    → is_mark mark.Semicolon t.token.kind ≡ false → IsUnfit (directive is_inner place (awaits.End e)) others ks base inner among declared
+    front t
 cut_end e is_inner place others ks base inner among declared front t no_hash other =
     let c = record base { pending = others; conditions = ks } in
     let here = at c inner among None declared in
     let p = directive is_inner place (awaits.End e) in
     let quiet = t.site.is_quiet in
-    ap (λ (b : Bool). cond b (passed (held front t.token.place (reading is_inner place (awaits.End e) c inner among declared))) (cond (is_mark mark.Semicolon t.token.kind) (effected e quiet p here) (unfit here))) no_hash
+    ap (λ (b : Bool). cond b (passed (held front t.token.place (reading is_inner place (awaits.End e) c inner among declared)))
+    (cond (is_mark mark.Semicolon t.token.kind) (effected e quiet p here) (unfit here))) no_hash
     ∙ ap (λ (b : Bool). cond b (effected e quiet p here) (unfit here)) other
 
-cut_condition : (is_inner wanted : Bool) (place : Place) (others : List Pending) (k : Condition) (ks : List Condition) (base : Conditions) (inner among : List Conditional) (declared : ℕ) (front : Bool) (t : At)
-    → is_mark mark.Hash t.token.kind ≡ false → fits grammar known (atom_of t.token) k.stack ≡ false → IsUnfit (directive is_inner place (awaits.Condition wanted)) others (k ∷ ks) base inner among declared front t
+cut_condition : (is_inner wanted : Bool) (place : Place) (others : List Pending) (k : Condition) (ks : List Condition) (base : Conditions)
+    (inner among : List Conditional) (declared : ℕ) (front : Bool) (t : At)
+    → is_mark mark.Hash t.token.kind ≡ false → fits grammar known (atom_of t.token) k.stack ≡ false → IsUnfit
+    (directive is_inner place (awaits.Condition wanted)) others (k ∷ ks) base inner among declared front t
 cut_condition is_inner wanted place others k ks base inner among declared front t no_hash other =
     let c = record base { pending = others; conditions = ks } in
     let here = at c inner among None declared in
     let a = awaits.Condition wanted in
     let p = directive is_inner place a in
     let then = went_on wanted t.site.is_quiet t.out t.token (condition_took t.token k) p here in
-    ap (λ (b : Bool). cond b (passed (held front t.token.place (reading is_inner place a (with_condition k c) inner among declared))) (cond (fits grammar known (atom_of t.token) k.stack) then (unfit here))) no_hash
+    ap (λ (b : Bool). cond b (passed (held front t.token.place (reading is_inner place a (with_condition k c) inner among declared)))
+    (cond (fits grammar known (atom_of t.token) k.stack) then (unfit here))) no_hash
     ∙ ap (λ (b : Bool). cond b then (unfit here)) other
 
-cut_one : (d : Answers) (s : Around) (u : Unfinished) (p : Pending) (others : List Pending) (ks : List Condition) (base : Conditions) (inner among : List Conditional) (declared : ℕ) (front : Bool) (t : At)
-    → IsAwaited u p.awaits → HasCondition d s u ks → is_mark mark.Hash t.token.kind ≡ false → IsCutBy d s u t → IsUnfit p others ks base inner among declared front t
+cut_one : (d : Answers) (s : Around) (u : Unfinished) (p : Pending) (others : List Pending) (ks : List Condition) (base : Conditions)
+    (inner among : List Conditional) (declared : ℕ) (front : Bool) (t : At)
+    → IsAwaited u p.awaits → HasCondition d s u ks → is_mark mark.Hash t.token.kind ≡ false → IsCutBy d s u t → IsUnfit p others ks base
+    inner among declared front t
 cut_one d s (Unnamed is_inner if_declared first before) p others ks base inner among declared front t waits condition no_hash cut =
-    subst (λ (a : Awaits). IsUnfit (directive p.is_inner p.place a) others ks base inner among declared front t) (sym waits) (cut_name p.is_inner if_declared p.place others ks base inner among declared front t no_hash cut)
-cut_one d s (Named is_inner if_declared first before name behind) p others ks base inner among declared front t waits condition no_hash cut =
-    subst (λ (a : Awaits). IsUnfit (directive p.is_inner p.place a) others ks base inner among declared front t) (sym waits.1) (cut_end waits.0 p.is_inner p.place others ks base inner among declared front t no_hash cut)
+    subst (λ (a : Awaits). IsUnfit (directive p.is_inner p.place a) others ks base inner among declared front t) (sym waits)
+    (cut_name p.is_inner if_declared p.place others ks base inner among declared front t no_hash cut)
+cut_one d s (Named is_inner if_declared first before name behind) p others ks base inner among declared front t waits condition no_hash
+    cut =
+    subst (λ (a : Awaits). IsUnfit (directive p.is_inner p.place a) others ks base inner among declared front t) (sym waits.1)
+    (cut_end waits.0 p.is_inner p.place others ks base inner among declared front t no_hash cut)
 cut_one d s (Request is_inner wanted first parts) p others ks base inner among declared front t waits condition no_hash cut =
     let k = condition_so first (kept_sides d s parts) in
     subst (λ (a : Awaits). IsUnfit (directive p.is_inner p.place a) others ks base inner among declared front t) (sym waits)
-    (subst (λ (cs : List Condition). IsUnfit (directive p.is_inner p.place (awaits.Condition wanted)) others cs base inner among declared front t) (sym condition.1)
+    (subst (λ (cs : List Condition). IsUnfit (directive p.is_inner p.place (awaits.Condition wanted)) others cs base inner among declared
+    front t) (sym condition.1)
     (cut_condition p.is_inner wanted p.place others k condition.0 base inner among declared front t no_hash cut))
 cut_one d s (Turns is_inner hashes first parts) p others ks base inner among declared front t waits condition no_hash cut =
-    subst (λ (a : Awaits). IsUnfit (directive p.is_inner p.place a) others ks base inner among declared front t) (sym waits.1) (cut_end waits.0 p.is_inner p.place others ks base inner among declared front t no_hash cut)
+    subst (λ (a : Awaits). IsUnfit (directive p.is_inner p.place a) others ks base inner among declared front t) (sym waits.1)
+    (cut_end waits.0 p.is_inner p.place others ks base inner among declared front t no_hash cut)
 cut_one d s (Closes is_inner hashes first parts) p others ks base inner among declared front t waits condition no_hash cut =
-    subst (λ (a : Awaits). IsUnfit (directive p.is_inner p.place a) others ks base inner among declared front t) (sym waits.1) (cut_end waits.0 p.is_inner p.place others ks base inner among declared front t no_hash cut)
+    subst (λ (a : Awaits). IsUnfit (directive p.is_inner p.place a) others ks base inner among declared front t) (sym waits.1)
+    (cut_end waits.0 p.is_inner p.place others ks base inner among declared front t no_hash cut)
 cut_one d s (Fronting sign parts) p others ks base inner among declared front t waits condition no_hash cut = absurd cut
 cut_one d s (FrontingWord sign parts u) p others ks base inner among declared front t waits condition no_hash cut =
     cut_one d (behind_parts d s parts) u p others ks base inner among declared front t waits condition no_hash cut
 
-cut_by : (d : Answers) (s : Around) (outer : List Unfinished) (u : Unfinished) (p : Pending) (others : List Pending) (ks : List Condition) (base : Conditions) (inner among : List Conditional) (declared : ℕ) (front : Bool) (t : At)
-    → IsAwaited u p.awaits → HasAllCondition d s outer u ks → is_mark mark.Hash t.token.kind ≡ false → AreCutBy d s outer u t → IsUnfit p others ks base inner among declared front t
-cut_by d s [] u p others ks base inner among declared front t waits condition no_hash cut = cut_one d s u p others ks base inner among declared front t waits condition no_hash cut
-cut_by d s (x ∷ outer) u p others ks base inner among declared front t waits condition no_hash cut = cut_by d (behind_begun d s x) outer u p others ks base inner among declared front t waits condition no_hash cut
+cut_by : (d : Answers) (s : Around) (outer : List Unfinished) (u : Unfinished) (p : Pending) (others : List Pending) (ks : List Condition)
+    (base : Conditions) (inner among : List Conditional) (declared : ℕ) (front : Bool) (t : At)
+    → IsAwaited u p.awaits → HasAllCondition d s outer u ks → is_mark mark.Hash t.token.kind ≡ false → AreCutBy d s outer u t → IsUnfit p
+    others ks base inner among declared front t
+cut_by d s [] u p others ks base inner among declared front t waits condition no_hash cut =
+    cut_one d s u p others ks base inner among declared front t waits condition no_hash cut
+cut_by d s (x ∷ outer) u p others ks base inner among declared front t waits condition no_hash cut =
+    cut_by d (behind_begun d s x) outer u p others ks base inner among declared front t waits condition no_hash cut
 
 -- in the midst of directives, whose conditionals stand so
-pub unfit_there : (d : Answers) (s : Around) (outer : List Unfinished) (u : Unfinished) (last : Last) (toks : List At) (places : List Place) (c : Conditions) (b : AllBegun d outer u s last toks places c) (declared : ℕ) (front : Bool) (t : At)
+pub unfit_there : (d : Answers) (s : Around) (outer : List Unfinished) (u : Unfinished) (last : Last) (toks : List At) (places : List Place)
+    (c : Conditions) (b : AllBegun d outer u s last toks places c) (declared : ℕ) (front : Bool) (t : At)
     → is_mark mark.Hash t.token.kind ≡ false → AreCutBy d s outer u t
-    → (let e = b.led.ends in let st = e.stand in offered front t.site.is_quiet t.out t.token (at e.base (inner_of st) (among_of st) None declared) ≡ unfit_so (at (given_up_at e.base) (inner_of st) (among_of st) None declared))
+    → (let e = b.led.ends in let st = e.stand in offered front t.site.is_quiet t.out t.token
+    (at e.base (inner_of st) (among_of st) None declared) ≡ unfit_so
+    (at (given_up_at e.base) (inner_of st) (among_of st) None declared))
 unfit_there d s outer u last toks places c b declared front t no_hash cut =
     let e = b.led.ends in
     let inner = inner_of e.stand in
     let among = among_of e.stand in
     ap (λ ps. offered front t.site.is_quiet t.out t.token (at (record e.base { pending = ps }) inner among None declared)) e.holds.0
-    ∙ ap (λ cs. offered front t.site.is_quiet t.out t.token (at (record e.base { pending = b.p ∷ b.others; conditions = cs }) inner among None declared)) e.holds.1
+    ∙ ap (λ cs. offered front t.site.is_quiet t.out t.token
+    (at (record e.base { pending = b.p ∷ b.others; conditions = cs }) inner among None declared)) e.holds.1
     ∙ cut_by d s outer u b.p b.others b.ks e.base inner among declared front t b.waits_for b.condition no_hash cut
 
 -- one that is kept there
-pub cut_kept : (d : Answers) (s : Around) (outer : List Unfinished) (u : Unfinished) (last : Last) (toks : List At) (places : List Place) (c : Conditions) (b : AllBegun d outer u s last toks places c) (t : At)
-    → all_kept last.around ≡ true → is_mark mark.Hash t.token.kind ≡ false → AreCutBy d s outer u t → (base : Conditions) (inner among : List Conditional)
+pub cut_kept : (d : Answers) (s : Around) (outer : List Unfinished) (u : Unfinished) (last : Last) (toks : List At) (places : List Place)
+    (c : Conditions) (b : AllBegun d outer u s last toks places c) (t : At)
+    → all_kept last.around ≡ true → is_mark mark.Hash t.token.kind ≡ false → AreCutBy d s outer u t → (base : Conditions)
+    (inner among : List Conditional)
     → all_behind toks c ≡ at (record base { pending = b.p ∷ b.others; conditions = b.ks }) inner among None last.declared
     → judged_at t (all_behind toks c) ≡ unfit_so (at (given_up_at base) inner among None last.declared)
 cut_kept d s outer u last toks places c b t all no_hash cut base inner among is =
-    ap (judged_at t) is ∙ cut_by d s outer u b.p b.others b.ks base inner among last.declared (t.site.is_between && false) t b.waits_for b.condition no_hash cut
+    ap (judged_at t) is
+    ∙ cut_by d s outer u b.p b.others b.ks base inner among last.declared (t.site.is_between && false) t b.waits_for b.condition no_hash cut
 
 -- The end of the file cuts each.
 is_the_end : (k : TokenKind) → is_end k ≡ true → k ≡ kind.End
@@ -680,17 +845,21 @@ end_cuts_one d s (Unnamed is_inner if_declared first before) t so is = λ name. 
 end_cuts_one d s (Named is_inner if_declared first before name behind) t so is = ap (is_mark mark.Semicolon) (is_the_end t.token.kind is)
 end_cuts_one d s (Request is_inner wanted first parts) t so is =
     let k = condition_so first (kept_sides d s parts) in
-    ap (λ (x : TokenKind). fits grammar known (atom_of (record t.token { kind = x })) k.stack) (is_the_end t.token.kind is) ∙ end_fits_nothing k.stack
+    ap (λ (x : TokenKind). fits grammar known (atom_of (record t.token { kind = x })) k.stack) (is_the_end t.token.kind is)
+    ∙ end_fits_nothing k.stack
 end_cuts_one d s (Turns is_inner hashes first parts) t so is = ap (is_mark mark.Semicolon) (is_the_end t.token.kind is)
 end_cuts_one d s (Closes is_inner hashes first parts) t so is = ap (is_mark mark.Semicolon) (is_the_end t.token.kind is)
 
-pub end_cuts : (d : Answers) (s : Around) (outer : List Unfinished) (u : Unfinished) (t : At) → HasWord u → is_end t.token.kind ≡ true → AreCutBy d s outer u t
+pub end_cuts : (d : Answers) (s : Around) (outer : List Unfinished) (u : Unfinished) (t : At) → HasWord u → is_end t.token.kind ≡ true →
+    AreCutBy d s outer u t
 end_cuts d s [] u t so is = end_cuts_one d s u t so is
 end_cuts d s (x ∷ outer) u t so is = end_cuts d (behind_begun d s x) outer u t so is
 
 -- whatever side is left out
-pub unfit_end : (d : Answers) (s : Around) (outer : List Unfinished) (u : Unfinished) (last : Last) (toks : List At) (places : List Place) (c : Conditions) (b : AllBegun d outer u s last toks places c) (t : At) → HasWord u → is_end t.token.kind ≡ true
-    → (let st = b.led.ends.stand in judged_at t (all_behind toks c) ≡ unfit_so (at (given_up_at b.led.ends.base) (inner_of st) (among_of st) None last.declared))
+pub unfit_end : (d : Answers) (s : Around) (outer : List Unfinished) (u : Unfinished) (last : Last) (toks : List At) (places : List Place)
+    (c : Conditions) (b : AllBegun d outer u s last toks places c) (t : At) → HasWord u → is_end t.token.kind ≡ true
+    → (let st = b.led.ends.stand in judged_at t (all_behind toks c) ≡ unfit_so
+    (at (given_up_at b.led.ends.base) (inner_of st) (among_of st) None last.declared))
 unfit_end d s outer u last toks places c b t so is = ap (judged_at t) b.led.ends.is ∙ go (left_of b.led.ends.stand)
   where
     inner : List Conditional
@@ -702,20 +871,32 @@ unfit_end d s outer u last toks places c b t so is = ap (judged_at t) b.led.ends
     here : Conditions
     here = at b.led.ends.base inner among None last.declared
 
-    go : (left : Option LeftOut) → judged_at t (at b.led.ends.base inner among left last.declared) ≡ unfit_so (at (given_up_at b.led.ends.base) inner among None last.declared)
+    go : (left : Option LeftOut) → judged_at t (at b.led.ends.base inner among left last.declared) ≡ unfit_so
+        (at (given_up_at b.led.ends.base) inner among None last.declared)
     go None =
-        unfit_there d s outer u last toks places c b last.declared (t.site.is_between && is_none_pending b.led.ends.base.pending) t (end_is_no_hash t.token.kind is) (end_cuts d s outer u t so is)
+        unfit_there d s outer u last toks places c b last.declared (t.site.is_between && is_none_pending b.led.ends.base.pending) t
+        (end_is_no_hash t.token.kind is) (end_cuts d s outer u t so is)
     go (Some side) =
-        ap (λ (x : Bool). cond x (offered false t.site.is_quiet t.out t.token here) (passed (passed_by (word_of t.token) t.token side (at b.led.ends.base inner among (Some side) last.declared)))) is
+        ap (λ (x : Bool). cond x (offered false t.site.is_quiet t.out t.token here)
+        (passed (passed_by (word_of t.token) t.token side (at b.led.ends.base inner among (Some side) last.declared)))) is
         ∙ unfit_there d s outer u last toks places c b last.declared false t (end_is_no_hash t.token.kind is) (end_cuts d s outer u t so is)
 
 -- But behind a `#` that begins a directive the end is kept, with that.
 abbrev pub kept_with : At → Conditions → Behind
-kept_with sign now = record { now = now; judged = record none_handed { sign = Some (record { place = sign.token.place; handed = handed.Kept }); token = Some handed.Kept } }
+kept_with sign now = record {
+  now = now;
+  judged = record none_handed {
+    sign = Some (record
+        { place = sign.token.place; handed = handed.Kept });
+    token = Some handed.Kept;
+  };
+}
 
-pub front_there : (d : Answers) (s : Around) (outer : List Unfinished) (sign : At) (parts : Parts) (last : Last) (toks : List At) (places : List Place) (c : Conditions) (b : AllBegun d outer (Fronting sign parts) s last toks places c)
+pub front_there : (d : Answers) (s : Around) (outer : List Unfinished) (sign : At) (parts : Parts) (last : Last) (toks : List At)
+    (places : List Place) (c : Conditions) (b : AllBegun d outer (Fronting sign parts) s last toks places c)
     (declared : ℕ) (front : Bool) (t : At) → is_end t.token.kind ≡ true
-    → (let e = b.led.ends in let st = e.stand in offered front t.site.is_quiet t.out t.token (at e.base (inner_of st) (among_of st) None declared)
+    → (let e = b.led.ends in let st = e.stand in offered front t.site.is_quiet t.out t.token
+    (at e.base (inner_of st) (among_of st) None declared)
     ≡ kept_with sign (at (record e.base { pending = [] }) (inner_of st) (among_of st) None declared))
 front_there d s outer sign parts last toks places c b declared front t is =
     let e = b.led.ends in
@@ -725,12 +906,15 @@ front_there d s outer sign parts last toks places c b declared front t is =
     let cleared = at (record e.base { pending = [] }) inner among None declared in
     ap (λ ps. offered front t.site.is_quiet t.out t.token (at (record e.base { pending = ps }) inner among None declared))
     (e.holds.0 ∙ ap (λ x. x ∷ b.others) b.alone.0 ∙ ap (λ others. p ∷ others) b.alone.1)
-    ∙ ap (λ (x : Bool). cond x (passed (held front t.token.place (at (record e.base { pending = p ∷ [] }) inner among None declared))) (behind_front (word_of t.token) t.token p cleared)) (end_is_no_hash t.token.kind is)
+    ∙ ap (λ (x : Bool). cond x (passed (held front t.token.place (at (record e.base { pending = p ∷ [] }) inner among None declared)))
+    (behind_front (word_of t.token) t.token p cleared)) (end_is_no_hash t.token.kind is)
     ∙ ap (λ o. behind_front o t.token p cleared) (end_word t.token is)
 
-pub front_end_kept : (d : Answers) (s : Around) (outer : List Unfinished) (sign : At) (parts : Parts) (last : Last) (toks : List At) (places : List Place) (c : Conditions) (b : AllBegun d outer (Fronting sign parts) s last toks places c) (t : At)
+pub front_end_kept : (d : Answers) (s : Around) (outer : List Unfinished) (sign : At) (parts : Parts) (last : Last) (toks : List At)
+    (places : List Place) (c : Conditions) (b : AllBegun d outer (Fronting sign parts) s last toks places c) (t : At)
     → is_end t.token.kind ≡ true
-    → (let st = b.led.ends.stand in judged_at t (all_behind toks c) ≡ kept_with sign (at (record b.led.ends.base { pending = [] }) (inner_of st) (among_of st) None last.declared))
+    → (let st = b.led.ends.stand in judged_at t (all_behind toks c) ≡ kept_with sign
+    (at (record b.led.ends.base { pending = [] }) (inner_of st) (among_of st) None last.declared))
 front_end_kept d s outer sign parts last toks places c b t is = ap (judged_at t) b.led.ends.is ∙ go (left_of b.led.ends.stand)
   where
     base : Conditions
@@ -742,7 +926,8 @@ front_end_kept d s outer sign parts last toks places c b t is = ap (judged_at t)
     among : List Conditional
     among = among_of b.led.ends.stand
 
-    go : (left : Option LeftOut) → judged_at t (at base inner among left last.declared) ≡ kept_with sign (at (record base { pending = [] }) inner among None last.declared)
+    go : (left : Option LeftOut) → judged_at t (at base inner among left last.declared) ≡ kept_with sign
+        (at (record base { pending = [] }) inner among None last.declared)
     go None = front_there d s outer sign parts last toks places c b last.declared (t.site.is_between && is_none_pending base.pending) t is
     go (Some side) =
         ap (λ (x : Bool). cond x (offered false t.site.is_quiet t.out t.token (at base inner among None last.declared))
@@ -750,17 +935,24 @@ front_end_kept d s outer sign parts last toks places c b t is = ap (judged_at t)
         ∙ front_there d s outer sign parts last toks places c b last.declared false t is
 
 -- a `#` and what is behind it
-pub sign_cut : (t : At) (base : Conditions) (p : Pending) (others : List Pending) (inner among : List Conditional) (declared : ℕ) → base.pending ≡ p ∷ others → is_mark mark.Hash t.token.kind ≡ true
+pub sign_cut : (t : At) (base : Conditions) (p : Pending) (others : List Pending) (inner among : List Conditional) (declared : ℕ) →
+    base.pending ≡ p ∷ others → is_mark mark.Hash t.token.kind ≡ true
     → judged_at t (at base inner among None declared) ≡ passed (state base (Some t.token.place) inner among None declared)
 sign_cut t base p others inner among declared read hash =
     sign_inner t base inner among declared (ap (λ ps. t.site.is_between && is_none_pending ps) read ∙ and-false t.site.is_between) hash
 
-pub sign_cut_so : (place : Place) (t : At) (base : Conditions) (p : Pending) (others : List Pending) (inner among : List Conditional) (declared : ℕ) → IsSignedPlain t
+pub sign_cut_so : (place : Place) (t : At) (base : Conditions) (p : Pending) (others : List Pending) (inner among : List Conditional)
+    (declared : ℕ) → IsSignedPlain t
     → judged_at t (state (record base { pending = p ∷ others }) (Some place) inner among None declared)
-    ≡ record { now = at (given_up_at base) inner among None declared; judged = record none_handed { sign = Some (record { place = place; handed = handed.Unfit }); token = Some handed.Kept } }
+    ≡ record {
+      now = at (given_up_at base) inner among None declared;
+      judged = record none_handed
+          { sign = Some (record { place = place; handed = handed.Unfit }); token = Some handed.Kept };
+    }
 sign_cut_so place t base p others inner among declared is =
     let c = record base { pending = p ∷ others } in
     let here = at (given_up_at base) inner among None declared in
-    let signed : Behind → Behind = λ b. record b { judged = record b.judged { sign = Some (record { place = place; handed = handed.Unfit }) } } in
+    let signed : Behind → Behind =
+    λ b. record b { judged = record b.judged { sign = Some (record { place = place; handed = handed.Unfit }) } } in
     ap (λ o. behind_sign o place t.site.is_quiet t.out t.token (state c (Some place) inner among None declared)) is.no_word
     ∙ ap (λ (b : Bool). signed (cond b (passed (held false t.token.place here)) (kept here))) is.no_hash

@@ -61,7 +61,8 @@ told_behind Leaves c = places (reverse c.inner) ++ places (reverse c.among)
 told_behind _ c = []
 
 abbrev pub told_at : Step → Conditions → List Place
-told_at x c = let b = judged_at x.at c in lone_places b.judged.unmatched ++ (told_behind x.passage b.now ++ ended_places x.at.ended (passed_files x.passage b.now).inner)
+told_at x c = let b = judged_at x.at c in lone_places b.judged.unmatched ++
+    (told_behind x.passage b.now ++ ended_places x.at.ended (passed_files x.passage b.now).inner)
 
 abbrev pub told_by : List Step → Conditions → List Place
 told_by [] c = []
@@ -69,9 +70,12 @@ told_by (x ∷ steps) c = told_at x c ++ told_by steps (step_behind x c)
 
 -- Files
 
--- What is still to come of a file: no more than parts; or parts and a conditional directive that the end of the file cuts; or parts, one that a
--- token cuts, this token, and what comes behind it; or parts, the token with which an included file is entered, what that has, the token at its
--- end, and what comes behind. A `#` may stand last, or before another one, with which the rest of the file begins, behind parts or where it cuts a
+-- What is still to come of a file: no more than parts; or parts and a conditional directive that the end of the file cuts; or parts, one
+-- that a
+-- token cuts, this token, and what comes behind it; or parts, the token with which an included file is entered, what that has, the token at
+-- its
+-- end, and what comes behind. A `#` may stand last, or before another one, with which the rest of the file begins, behind parts or where it
+-- cuts a
 -- directive; and some may stand last in a side that is left out.
 pub data Files : Type 0 where
   Alone : (parts : Parts) → Files
@@ -85,7 +89,8 @@ pub data Files : Type 0 where
   Breaking : (parts : Parts) (outer : List Unfinished) (u : Unfinished) (misfit : Misfit) (behind : Files) → Files
   Including : (parts : Parts) (entering : At) (included : Files) (leaving : At) (behind : Files) → Files
 
--- Where the first one stands behind a `#` that cuts a directive, it is taken as inside another one, whether that was between the others or not.
+-- Where the first one stands behind a `#` that cuts a directive, it is taken as inside another one, whether that was between the others or
+-- not.
 abbrev pub standing : Bool → List Step → List Step
 standing is_between [] = []
 standing is_between (x ∷ steps) = record x { at = record x.at { site = record x.at.site { is_between = is_between } } } ∷ steps
@@ -96,14 +101,16 @@ steps (Cut parts outer u) = map staying (all_tokens parts) ++ map staying (all_b
 steps (HashLast parts sign) = map staying (all_tokens parts) ++ staying sign ∷ []
 steps (HashThen parts sign behind) = map staying (all_tokens parts) ++ staying sign ∷ steps behind
 steps (HashesLeft parts is_inner signs) = map staying (all_tokens parts) ++ map staying signs
-steps (CutHashesLeft parts outer u is_inner signs) = map staying (all_tokens parts) ++ (map staying (all_begun_tokens outer u) ++ map staying signs)
+steps (CutHashesLeft parts outer u is_inner signs) =
+    map staying (all_tokens parts) ++ (map staying (all_begun_tokens outer u) ++ map staying signs)
 steps (CutHashLast parts outer u sign) = map staying (all_tokens parts) ++ (map staying (all_begun_tokens outer u) ++ staying sign ∷ [])
 steps (CutHashThen parts outer u sign is_between behind) =
     map staying (all_tokens parts) ++ (map staying (all_begun_tokens outer u) ++ staying sign ∷ standing is_between (steps behind))
 steps (Breaking parts outer u misfit behind) =
     map staying (all_tokens parts) ++ (map staying (all_begun_tokens outer u) ++ (map staying (misfit_tokens misfit) ++ steps behind))
 steps (Including parts entering included leaving behind) =
-    map staying (all_tokens parts) ++ record { at = entering; passage = Enters } ∷ (steps included ++ record { at = leaving; passage = Leaves } ∷ steps behind)
+    map staying (all_tokens parts) ++ record { at = entering; passage = Enters } ∷
+    (steps included ++ record { at = leaving; passage = Leaves } ∷ steps behind)
 
 -- where an included file begins none is open between its directives, and behind it those are that were before
 abbrev pub around_included : At → Around → Around
@@ -125,9 +132,11 @@ behind_files answers s (HashThen parts sign behind) = behind_files answers (behi
 behind_files answers s (HashesLeft parts is_inner signs) = behind_parts answers s parts
 behind_files answers s (CutHashesLeft parts outer u is_inner signs) = behind_all_begun answers (behind_parts answers s parts) outer u
 behind_files answers s (CutHashLast parts outer u sign) = behind_all_begun answers (behind_parts answers s parts) outer u
-behind_files answers s (CutHashThen parts outer u sign is_between behind) = behind_files answers (behind_all_begun answers (behind_parts answers s parts) outer u) behind
+behind_files answers s (CutHashThen parts outer u sign is_between behind) =
+    behind_files answers (behind_all_begun answers (behind_parts answers s parts) outer u) behind
 behind_files answers s (Breaking parts outer u misfit behind) = behind_files answers (around_broken answers s parts outer u misfit) behind
-behind_files answers s (Including parts entering included leaving behind) = behind_files answers (around_behind (behind_parts answers s parts)) behind
+behind_files answers s (Including parts entering included leaving behind) =
+    behind_files answers (around_behind (behind_parts answers s parts)) behind
 
 -- a `#` that is handed on there, as one that is kept or as one that does not fit
 abbrev pub sign_as : Forwarded → At → Sign
@@ -162,7 +171,8 @@ end_handed (Including parts entering included leaving behind) = end_handed behin
 abbrev pub handed_end : Files → SourceToken → List Handing
 handed_end files end = handed_sign (end_sign files) ++ record { handed = end_handed files; token = end } ∷ []
 
--- the tokens that are handed on: of each file those that its own conditionals keep, and those that cut a directive, with the end of each included one
+-- the tokens that are handed on: of each file those that its own conditionals keep, and those that cut a directive, with the end of each
+-- included one
 abbrev pub handed_files : Answers → Around → Files → List Handing
 handed_files answers s (Alone parts) = map as_kept (kept_sides answers s parts)
 handed_files answers s (Cut parts outer u) = map as_kept (kept_sides answers s parts)
@@ -176,7 +186,8 @@ handed_files answers s (CutHashThen parts outer u sign is_between behind) =
     map as_kept (kept_sides answers s parts)
     ++ as_unfit (hash sign.token.place) ∷ handed_files answers (behind_all_begun answers (behind_parts answers s parts) outer u) behind
 handed_files answers s (Breaking parts outer u misfit behind) =
-    map as_kept (kept_sides answers s parts) ++ (handed_misfit misfit ++ handed_files answers (around_broken answers s parts outer u misfit) behind)
+    map as_kept (kept_sides answers s parts) ++ (handed_misfit misfit ++ handed_files answers (around_broken answers s parts outer u misfit)
+    behind)
 handed_files answers s (Including parts entering included leaving behind) =
     map as_kept (kept_sides answers s parts)
     ++ as_kept entering.token
@@ -195,7 +206,8 @@ told_files answers s (HashThen parts sign behind) = told_parts answers s parts +
 told_files answers s (HashesLeft parts is_inner signs) = told_parts answers s parts
 told_files answers s (CutHashesLeft parts outer u is_inner signs) =
     told_parts answers s parts ++ told_all_begun answers (behind_parts answers s parts) outer u
-told_files answers s (CutHashLast parts outer u sign) = told_parts answers s parts ++ told_all_begun answers (behind_parts answers s parts) outer u
+told_files answers s (CutHashLast parts outer u sign) =
+    told_parts answers s parts ++ told_all_begun answers (behind_parts answers s parts) outer u
 told_files answers s (CutHashThen parts outer u sign is_between behind) =
     told_parts answers s parts
     ++ (told_all_begun answers (behind_parts answers s parts) outer u
@@ -203,13 +215,15 @@ told_files answers s (CutHashThen parts outer u sign is_between behind) =
 told_files answers s (Breaking parts outer u misfit behind) =
     told_parts answers s parts
     ++ (told_all_begun answers (behind_parts answers s parts) outer u
-    ++ (told_misfit misfit (behind_all_begun answers (behind_parts answers s parts) outer u) ++ told_files answers (around_broken answers s parts outer u misfit) behind))
+    ++ (told_misfit misfit (behind_all_begun answers (behind_parts answers s parts) outer u) ++ told_files answers
+    (around_broken answers s parts outer u misfit) behind))
 told_files answers s (Including parts entering included leaving behind) =
     let here = behind_parts answers s parts in
     let inside = around_included entering here in
     told_parts answers s parts
     ++ (missing_in entering.ended here
-    ++ (told_files answers inside included ++ (all_unended (behind_files answers inside included) ++ told_files answers (around_behind here) behind)))
+    ++ (told_files answers inside included ++ (all_unended (behind_files answers inside included) ++ told_files answers (around_behind here)
+    behind)))
 
 -- The law
 
@@ -264,7 +278,8 @@ AreFiles answers s c (HashesLeft parts is_inner signs) =
 AreFiles answers s c (CutHashesLeft parts outer u is_inner signs) =
     AreOfAFile answers s c.declared parts
     × (HaveBegun answers (behind_parts answers s parts) (declared_tokens (all_tokens parts) c.declared) (length (all_tokens parts)) outer u
-    × AreLeft (behind_all_begun answers (behind_parts answers s parts) outer u) (length (all_tokens parts) + length (all_begun_tokens outer u)) is_inner signs)
+    × AreLeft (behind_all_begun answers (behind_parts answers s parts) outer u)
+    (length (all_tokens parts) + length (all_begun_tokens outer u)) is_inner signs)
 AreFiles answers s c (CutHashLast parts outer u sign) =
     AreOfAFile answers s c.declared parts
     × (HaveBegun answers (behind_parts answers s parts) (declared_tokens (all_tokens parts) c.declared) (length (all_tokens parts)) outer u
@@ -279,19 +294,24 @@ AreFiles answers s c (Breaking parts outer u misfit behind) =
     AreOfAFile answers s c.declared parts
     × (HaveBegun answers (behind_parts answers s parts) (declared_tokens (all_tokens parts) c.declared) (length (all_tokens parts)) outer u
     × (IsMisfit answers (behind_parts answers s parts) outer u misfit
-    × AreFiles answers (around_broken answers s parts outer u misfit) (all_behind (misfit_tokens misfit) (all_behind (all_begun_tokens outer u) (all_behind (all_tokens parts) c))) behind))
+    × AreFiles answers (around_broken answers s parts outer u misfit)
+    (all_behind (misfit_tokens misfit) (all_behind (all_begun_tokens outer u) (all_behind (all_tokens parts) c))) behind))
 AreFiles answers s c (Including parts entering included leaving behind) =
     AreOfAFile answers s c.declared parts
     × (IsIncluded (behind_parts answers s parts) entering leaving
-    × (AreFiles answers (around_included entering (behind_parts answers s parts)) (step_behind (record { at = entering; passage = Enters }) (all_behind (all_tokens parts) c)) included
+    × (AreFiles answers (around_included entering (behind_parts answers s parts))
+    (step_behind (record { at = entering; passage = Enters }) (all_behind (all_tokens parts) c)) included
     × AreFiles answers (around_behind (behind_parts answers s parts))
-    (step_behind (record { at = leaving; passage = Leaves }) (steps_behind (steps included) (step_behind (record { at = entering; passage = Enters }) (all_behind (all_tokens parts) c)))) behind))
+    (step_behind (record { at = leaving; passage = Leaves })
+    (steps_behind (steps included) (step_behind (record { at = entering; passage = Enters }) (all_behind (all_tokens parts) c))))
+    behind))
 
 -- what is handed on of a token
 abbrev pub handed_at : At → Conditions → List Handing
 handed_at t c = handed_on (judged_at t c).judged t.token
 
--- Just these tokens are handed on, each as one that is kept or as one that does not fit, and just these places are told, in this order; at the end of the
+-- Just these tokens are handed on, each as one that is kept or as one that does not fit, and just these places are told, in this order; at
+-- the end of the
 -- outermost file those of what is open in it. The end is handed on too, perhaps behind a `#`.
 pub record KeepsFiles (answers : Answers) (files : Files) (c : Conditions) : Type 0 where
   pub handed_on : handed_by (steps files) c ≡ handed_files answers none_around files
@@ -301,7 +321,8 @@ pub record KeepsFiles (answers : Answers) (files : Files) (c : Conditions) : Typ
       → told_behind Leaves (judged_at end (steps_behind (steps files) c)).now ≡ all_unended (behind_files answers none_around files)
 
 abbrev pub FilesKeepSides : Type 0
-FilesKeepSides = (answers : Answers) (files : Files) (c : Conditions) → IsClear c → AreFiles answers none_around c files → KeepsFiles answers files c
+FilesKeepSides =
+    (answers : Answers) (files : Files) (c : Conditions) → IsClear c → AreFiles answers none_around c files → KeepsFiles answers files c
 
 -- Turns
 
@@ -327,16 +348,20 @@ abbrev pub steps_at : Sources → Choices → ℕ → State → List Step
 steps_at sources o zero s = []
 steps_at sources o (suc n) s = step_at sources o s ∷ steps_at sources o n (turn sources o s)
 
--- Turns whose steps are those of files keep what these keep, and the next one hands on the end of the file. That tells what is told behind its step,
+-- Turns whose steps are those of files keep what these keep, and the next one hands on the end of the file. That tells what is told behind
+-- its step,
 -- in this order, after all else.
 pub record TurnsKeep (answers : Answers) (sources : Sources) (o : Choices) (n : ℕ) (s : State) (files : Files) : Type 0 where
   pub handed_on : map shown (given_in sources o n s) ≡ handed_files answers none_around files
-  pub end_on : let t = token_of (turned sources o n s).nesting.cursor in is_end t.kind ≡ true → map shown (given_by (turned sources o n s)) ≡ handed_end files t
+  pub end_on : let t = token_of (turned sources o n s).nesting.cursor in is_end t.kind ≡ true → map shown (given_by (turned sources o n s))
+      ≡ handed_end files t
   pub at_last : let last = stepped (turned sources o n s) in is_end (token_of (turned sources o n s).nesting.cursor).kind ≡ true
-      → (file_closed last).work.report ≡ with_all_at last.nesting.names (all_unended (behind_files answers none_around files)) last.work.report
+      → (file_closed last).work.report ≡ with_all_at last.nesting.names (all_unended (behind_files answers none_around files))
+      last.work.report
 
 abbrev pub TurnsKeepFiles : Type 0
-TurnsKeepFiles = (answers : Answers) (sources : Sources) (o : Choices) (n : ℕ) (s : State) (files : Files) → steps_at sources o n s ≡ steps files
+TurnsKeepFiles =
+    (answers : Answers) (sources : Sources) (o : Choices) (n : ℕ) (s : State) (files : Files) → steps_at sources o n s ≡ steps files
     → IsClear s.conditions → AreFiles answers none_around s.conditions files → TurnsKeep answers sources o n s files
 
 abbrev pub FilesTellUnended : Type 0

@@ -1,4 +1,5 @@
--- Conditional directives that are not whole: a token that does not fit cuts one, with those around it that are read, or the end of the file does.
+-- Conditional directives that are not whole: a token that does not fit cuts one, with those around it that are read, or the end of the file
+-- does.
 use Rattle.std.specs.Prelude.{◌≡◌, ◌≤◌, ◌+◌, ℕ, List, [], ◌∷◌, ◌++◌, drop, length, Bool, true, false, Option, Some, None}
 use Rattle.inf_scanner.specs.declared.tokens.Mark.TheVariants as mark
 use Rattle.inf_scanner.specs.declared.tokens.Place.{Place}
@@ -18,7 +19,8 @@ use Rattle.inf_conditional_laws.specs.KeptSides.{AddsNone, Answers, AreParts, Ar
 
 -- What is there of one
 
--- A directive with a name up to where that must come, or up to its semicolon; one with a condition up to a further token of it; and an `Ifnot` and an
+-- A directive with a name up to where that must come, or up to its semicolon; one with a condition up to a further token of it; and an
+-- `Ifnot` and an
 -- `Endif` up to the semicolon. And a `#` that begins a directive, of which no more is known, or
 -- with parts before the word of a conditional one, which is given with the same `#`.
 pub data Unfinished : Type 0 where
@@ -42,7 +44,8 @@ begun_tokens (FrontingWord sign within u) = sign ∷ (all_tokens within ++ drop 
 -- It has not acted, but for one whose word ended a side that was left out.
 abbrev pub behind_begun : Answers → Around → Unfinished → Around
 behind_begun answers s (Unnamed is_inner if_declared first before) = behind_parts answers s before
-behind_begun answers s (Named is_inner if_declared first before name behind) = behind_parts answers (behind_name answers before name s) behind
+behind_begun answers s (Named is_inner if_declared first before name behind) =
+    behind_parts answers (behind_name answers before name s) behind
 behind_begun answers s (Request is_inner wanted first within) = behind_parts answers s within
 behind_begun answers s (Turns is_inner hashes first within) = behind_parts answers (before_parts turned s) within
 behind_begun answers s (Closes is_inner hashes first within) = behind_parts answers (before_parts closed s) within
@@ -53,7 +56,8 @@ behind_begun answers s (FrontingWord sign within u) = behind_begun answers (behi
 abbrev pub told_begun : Answers → Around → Unfinished → List Place
 told_begun answers s (Unnamed is_inner if_declared first before) = told_parts answers s before
 told_begun answers s (Named is_inner if_declared first before name behind) =
-    told_parts answers s before ++ (missing_in name.ended (behind_parts answers s before) ++ told_parts answers (behind_name answers before name s) behind)
+    told_parts answers s before ++ (missing_in name.ended (behind_parts answers s before) ++ told_parts answers
+    (behind_name answers before name s) behind)
 told_begun answers s (Request is_inner wanted first within) = told_parts answers s within
 told_begun answers s (Turns is_inner hashes first within) = told_parts answers (before_parts turned s) within
 told_begun answers s (Closes is_inner hashes first within) = told_parts answers (before_parts closed s) within
@@ -63,7 +67,8 @@ told_begun answers s (FrontingWord sign within u) = told_parts answers s within 
 -- the kept tokens of a condition so far, of which the grammar takes each, and none is the last
 abbrev pub GoOn : List SourceToken → Condition → Type 0
 GoOn [] k = Unit {0}
-GoOn (t ∷ tokens) k = (fits grammar known (atom_of t) k.stack ≡ true) × ((is_whole (condition_took t k) ≡ false) × GoOn tokens (condition_took t k))
+GoOn (t ∷ tokens) k =
+    (fits grammar known (atom_of t) k.stack ≡ true) × ((is_whole (condition_took t k) ≡ false) × GoOn tokens (condition_took t k))
 
 abbrev pub condition_so : First → List SourceToken → Condition
 condition_so first tokens = condition_behind tokens (condition_took (placed_word first) condition_begun)
@@ -83,11 +88,13 @@ HasWord (Fronting sign within) = ⊥
 HasWord (FrontingWord sign within u) = HasWord u
 HasWord u = Unit {0}
 
--- It is read, and so it is kept; an `Ifnot` or `Endif` may begin in a side that its word ends. Behind the last of its parts a side may be left out.
+-- It is read, and so it is kept; an `Ifnot` or `Endif` may begin in a side that its word ends. Behind the last of its parts a side may be
+-- left out.
 abbrev pub IsBegun : Answers → Bool → Around → ℕ → Unfinished → Type 0
 IsBegun answers is_within s declared (Unnamed is_inner if_declared first before) =
     IsFirst true is_inner is_within (opening if_declared) first
-    × (NoneInsideFirst true is_inner first s × ((all_kept s ≡ true) × (AreParts answers true s (declared_first first declared) before × (kept_sides answers s before ≡ []))))
+    × (NoneInsideFirst true is_inner first s × ((all_kept s ≡ true) × (AreParts answers true s (declared_first first declared) before ×
+    (kept_sides answers s before ≡ []))))
 IsBegun answers is_within s declared (Named is_inner if_declared first before name behind) =
     let y = behind_name answers before name s in
     let now = declared_first first declared in
@@ -96,23 +103,30 @@ IsBegun answers is_within s declared (Named is_inner if_declared first before na
     × ((all_kept s ≡ true)
     × ((AreParts answers true s now before × AddsNone answers s before)
     × ((name.token.kind ≡ kind.Name)
-    × (AreParts answers true y (declared_behind name (declared_tokens (all_tokens before) now)) behind × (kept_sides answers y behind ≡ []))))))
+    × (AreParts answers true y (declared_behind name (declared_tokens (all_tokens before) now)) behind ×
+    (kept_sides answers y behind ≡ []))))))
 IsBegun answers is_within s declared (Request is_inner wanted first within) =
     IsFirst true is_inner is_within (asking wanted) first
     × (NoneInsideFirst true is_inner first s
     × ((all_kept s ≡ true)
-    × (AreParts answers true s (declared_first first declared) within × GoOn (kept_sides answers s within) (condition_took (placed_word first) condition_begun))))
+    × (AreParts answers true s (declared_first first declared) within × GoOn (kept_sides answers s within)
+    (condition_took (placed_word first) condition_begun))))
 IsBegun answers is_within s declared (Turns is_inner hashes first within) =
     let x = before_parts turned s in
     (HashesBefore is_inner s hashes first × IsFirst (all_kept s) is_inner is_within word.Ifnot first)
-    × (NoneInsideFirst (all_kept s) is_inner first s × ((all_kept x ≡ true) × (AreParts answers true x (declared_first first (declared_tokens hashes declared)) within × (kept_sides answers x within ≡ []))))
+    × (NoneInsideFirst (all_kept s) is_inner first s ×
+    ((all_kept x ≡ true) × (AreParts answers true x (declared_first first (declared_tokens hashes declared)) within ×
+    (kept_sides answers x within ≡ []))))
 IsBegun answers is_within s declared (Closes is_inner hashes first within) =
     let x = before_parts closed s in
     (HashesBefore is_inner s hashes first × IsFirst (all_kept s) is_inner is_within word.Endif first)
-    × (NoneInsideFirst (all_kept s) is_inner first s × ((all_kept x ≡ true) × (AreParts answers true x (declared_first first (declared_tokens hashes declared)) within × (kept_sides answers x within ≡ []))))
+    × (NoneInsideFirst (all_kept s) is_inner first s ×
+    ((all_kept x ≡ true) × (AreParts answers true x (declared_first first (declared_tokens hashes declared)) within ×
+    (kept_sides answers x within ≡ []))))
 IsBegun answers is_within s declared (Fronting sign within) =
     Begins true false is_within (Some sign) sign
-    × (NoneInside false s × ((all_kept s ≡ true) × (AreParts answers true s (declared_behind sign declared) within × (kept_sides answers s within ≡ []))))
+    × (NoneInside false s × ((all_kept s ≡ true) × (AreParts answers true s (declared_behind sign declared) within ×
+    (kept_sides answers s within ≡ []))))
 IsBegun answers is_within s declared (FrontingWord sign within u) =
     let x = behind_parts answers s within in
     let now = declared_behind sign declared in
@@ -150,7 +164,8 @@ told_all_begun answers s (x ∷ outer) u = told_begun answers s x ++ told_all_be
 abbrev pub AreBegun : Answers → Bool → Around → ℕ → List Unfinished → Unfinished → Type 0
 AreBegun answers is_within s declared [] u = IsBegun answers is_within s declared u
 AreBegun answers is_within s declared (x ∷ outer) u =
-    IsBegun answers is_within s declared x × AreBegun answers true (behind_begun answers s x) (declared_tokens (begun_tokens x) declared) outer u
+    IsBegun answers is_within s declared x × AreBegun answers true (behind_begun answers s x) (declared_tokens (begun_tokens x) declared)
+    outer u
 
 -- behind so many tokens of its file
 pub record HaveBegun (answers : Answers) (s : Around) (declared before : ℕ) (outer : List Unfinished) (u : Unfinished) : Type 0 where

@@ -85,7 +85,8 @@ limits_count_the_story tables counted code main strings begun closed few =
     let none : object_fixups (ended world.body) ≡ 0 = none_open (ended world.body) closed in
     let in_world : fixups_now world - 4 ≡ sum_by object_fixups world.objects + later_defaults world.declared = omega (arith, none) in
     let all : 5 + later_count finished + ((fixups_now world - 4) + (laters tables.globals + (arrays_laters (all_of tables.arrays)
-    + (verbs_laters tables.verbs.list + (length tables.actions.routines + length tables.parsing))))) ≡ later_in order (story.areas main finished strings tables) = omega (
+    + (verbs_laters tables.verbs.list + (length tables.actions.routines + length tables.parsing))))) ≡ later_in order
+    (story.areas main finished strings tables) = omega (
       arith,
       later_known (story.three_spaces ++ tables.low_strings.bytes),
       no_abbreviations,
@@ -102,7 +103,8 @@ limits_count_the_story tables counted code main strings begun closed few =
     ) in
     record {
       references = ap (λ b. references_with (cond b 5 4 + later_count finished) tables) begun
-          ∙ all_added (5 + later_count finished) (fixups_now world - 4) (laters tables.globals) (arrays_laters (all_of tables.arrays)) (verbs_laters tables.verbs.list)
+          ∙ all_added (5 + later_count finished) (fixups_now world - 4) (laters tables.globals) (arrays_laters (all_of tables.arrays))
+          (verbs_laters tables.verbs.list)
           (length tables.actions.routines) (length tables.parsing) (omega (arith, few, all))
           ∙ all;
       bytes = ap (λ b. cond b 8 0 + size_of finished) begun ∙ sym of_size;

@@ -77,11 +77,13 @@ second_before b fs gs told before =
     go g (inl among) = inr (before told.0 g told.2.is_there among)
     go g (inr among) = told.2.others_behind g among
 
-told_first : (x y : Option Diagnostic) (fs gs : List Finding) → IsTold x fs → IsTold y gs → AreBefore fs gs → IsTold (first_fault x y) (fs ++ gs)
+told_first : (x y : Option Diagnostic) (fs gs : List Finding) → IsTold x fs → IsTold y gs → AreBefore fs gs →
+    IsTold (first_fault x y) (fs ++ gs)
 told_first None y fs gs none told before = subst (λ l. IsTold y (l ++ gs)) (sym none) told
 told_first (Some b) y fs gs told later before = first_before b fs gs told before
 
-told_second : (x y : Option Diagnostic) (fs gs : List Finding) → IsTold x fs → IsTold y gs → AreBefore gs fs → IsTold (first_fault y x) (fs ++ gs)
+told_second : (x y : Option Diagnostic) (fs gs : List Finding) → IsTold x fs → IsTold y gs → AreBefore gs fs →
+    IsTold (first_fault y x) (fs ++ gs)
 told_second x None fs gs told none before = subst (IsTold x) (sym (append-nil fs) ∙ ap (λ l. fs ++ l) (sym none)) told
 told_second x (Some b) fs gs later told before = second_before b fs gs told before
 
@@ -106,19 +108,25 @@ choice false b y = refl
 abbrev new_local : Name → Local
 new_local n = record { name = n.bytes; place = n.place; is_named = false }
 
-first_named-push : (name : List ℕ) (before : List Name) (n : Name) → first_named name (before ++ n ∷ []) ≡ either (first_named name before) (cond (str_eq_ignore_ascii_case n.bytes name) (Some n) None)
+first_named-push : (name : List ℕ) (before : List Name) (n : Name) →
+    first_named name (before ++ n ∷ []) ≡ either (first_named name before) (cond (str_eq_ignore_ascii_case n.bytes name) (Some n) None)
 first_named-push name [] n = refl
 first_named-push name (x ∷ before) n = go (str_eq_ignore_ascii_case x.bytes name) (first_named-push name before n)
   where
-    go : (b : Bool) → first_named name (before ++ n ∷ []) ≡ either (first_named name before) (cond (str_eq_ignore_ascii_case n.bytes name) (Some n) None) → cond b (Some x) (first_named name (before ++ n ∷ [])) ≡ either (cond b (Some x) (first_named name before)) (cond (str_eq_ignore_ascii_case n.bytes name) (Some n) None)
+    go : (b : Bool) → first_named name (before ++ n ∷ []) ≡ either (first_named name before)
+        (cond (str_eq_ignore_ascii_case n.bytes name) (Some n) None) → cond b (Some x) (first_named name (before ++ n ∷ [])) ≡ either
+        (cond b (Some x) (first_named name before)) (cond (str_eq_ignore_ascii_case n.bytes name) (Some n) None)
     go true later = refl
     go false later = later
 
-local_of-push : (name : List ℕ) (ls : List Local) (l : Local) → local_of name (ls ++ l ∷ []) ≡ either (local_of name ls) (cond (str_eq_ignore_ascii_case l.name name) (Some l) None)
+local_of-push : (name : List ℕ) (ls : List Local) (l : Local) →
+    local_of name (ls ++ l ∷ []) ≡ either (local_of name ls) (cond (str_eq_ignore_ascii_case l.name name) (Some l) None)
 local_of-push name [] l = refl
 local_of-push name (m ∷ ls) l = go (str_eq_ignore_ascii_case m.name name) (local_of-push name ls l)
   where
-    go : (b : Bool) → local_of name (ls ++ l ∷ []) ≡ either (local_of name ls) (cond (str_eq_ignore_ascii_case l.name name) (Some l) None) → cond b (Some m) (local_of name (ls ++ l ∷ [])) ≡ either (cond b (Some m) (local_of name ls)) (cond (str_eq_ignore_ascii_case l.name name) (Some l) None)
+    go : (b : Bool) → local_of name (ls ++ l ∷ []) ≡ either (local_of name ls) (cond (str_eq_ignore_ascii_case l.name name) (Some l) None) →
+        cond b (Some m) (local_of name (ls ++ l ∷ [])) ≡ either (cond b (Some m) (local_of name ls))
+        (cond (str_eq_ignore_ascii_case l.name name) (Some l) None)
     go true later = refl
     go false later = later
 
@@ -126,13 +134,16 @@ local_of-push name (m ∷ ls) l = go (str_eq_ignore_ascii_case m.name name) (loc
 abbrev AreOf : List Name → List Local → Type 0
 AreOf before ls = (name : List ℕ) → local_of name ls ≡ option_map new_local (first_named name before)
 
-are_of-repeated : (before : List Name) (n first : Name) (ls : List Local) → AreOf before ls → first_named n.bytes before ≡ Some first → AreOf (before ++ n ∷ []) ls
+are_of-repeated : (before : List Name) (n first : Name) (ls : List Local) → AreOf before ls → first_named n.bytes before ≡ Some first →
+    AreOf (before ++ n ∷ []) ls
 are_of-repeated before n first ls of is name =
     of name ∙ ap (option_map new_local) (sym (first_named-push name before n ∙ go (str_eq_ignore_ascii_case n.bytes name) refl))
   where
-    go : (b : Bool) → str_eq_ignore_ascii_case n.bytes name ≡ b → either (first_named name before) (cond b (Some n) None) ≡ first_named name before
+    go : (b : Bool) → str_eq_ignore_ascii_case n.bytes name ≡ b →
+        either (first_named name before) (cond b (Some n) None) ≡ first_named name before
     go true e =
-        let found : first_named name before ≡ Some first = ap (λ k. find (λ x. bytes_eq (folded x.bytes) k) before) (sym (same_names n.bytes name e)) ∙ is in
+        let found : first_named name before ≡ Some first =
+        ap (λ k. find (λ x. bytes_eq (folded x.bytes) k) before) (sym (same_names n.bytes name e)) ∙ is in
         ap (λ o. either o (Some n)) found ∙ sym found
     go false e = either-none (first_named name before)
 
@@ -143,7 +154,8 @@ are_of-new before n ls of name =
     ∙ go (first_named name before) (str_eq_ignore_ascii_case n.bytes name)
     ∙ ap (option_map new_local) (sym (first_named-push name before n))
   where
-    go : (o : Option Name) (b : Bool) → either (option_map new_local o) (cond b (Some (new_local n)) None) ≡ option_map new_local (either o (cond b (Some n) None))
+    go : (o : Option Name) (b : Bool) →
+        either (option_map new_local o) (cond b (Some (new_local n)) None) ≡ option_map new_local (either o (cond b (Some n) None))
     go None true = refl
     go None false = refl
     go (Some x) b = refl
@@ -157,38 +169,52 @@ abbrev repeat_of : List Name → List Name → Option Repeated
 repeat_of before [] = None
 repeat_of before (n ∷ names) = either (repeat_by (first_named n.bytes before) n) (repeat_of (before ++ n ∷ []) names)
 
-first_repeated : (files : FileNames) (o later : Option Repeated) → local_fault files (either o later) ≡ first_fault (local_fault files o) (local_fault files later)
+first_repeated : (files : FileNames) (o later : Option Repeated) →
+    local_fault files (either o later) ≡ first_fault (local_fault files o) (local_fault files later)
 first_repeated files None later = refl
 first_repeated files (Some r) later = refl
 
-repeated_told : (files : FileNames) (o : Option Name) (token : ℕ) (n : Name) → IsTold (local_fault files (repeat_by o n)) (repeated_one files o token n)
+repeated_told : (files : FileNames) (o : Option Name) (token : ℕ) (n : Name) →
+    IsTold (local_fault files (repeat_by o n)) (repeated_one files o token n)
 repeated_told files None token n = refl
 repeated_told files (Some first) token n = told_one (repeated_local files first token n)
 
-among_repeated : (files : FileNames) (o : Option Name) (token : ℕ) (n : Name) (g : Finding) → Contains (repeated_one files o token n) g → g.token ≡ token
+among_repeated : (files : FileNames) (o : Option Name) (token : ℕ) (n : Name) (g : Finding) → Contains (repeated_one files o token n) g →
+    g.token ≡ token
 among_repeated files None token n g among = absurd (one_of_none g among)
 among_repeated files (Some first) token n g among =
     ap (λ f. f.token) (one_of_one (repeated_local files first token n) g among)
 
-among_repeats : (files : FileNames) (before : List Name) (token : ℕ) (names : List Name) (g : Finding) → Contains (repeated_locals files before token names) g → token ≤ g.token
+among_repeats : (files : FileNames) (before : List Name) (token : ℕ) (names : List Name) (g : Finding) →
+    Contains (repeated_locals files before token names) g → token ≤ g.token
 among_repeats files before token [] g among = absurd (one_of_none g among)
 among_repeats files before token (n ∷ names) g among =
-    go (Contains-append_cases (repeated_one files (first_named n.bytes before) token n) (repeated_locals files (before ++ n ∷ []) (token + 1) names) g among)
+    go (Contains-append_cases (repeated_one files (first_named n.bytes before) token n)
+    (repeated_locals files (before ++ n ∷ []) (token + 1) names) g among)
     (among_repeats files (before ++ n ∷ []) (token + 1) names g)
   where
-    go : Contains (repeated_one files (first_named n.bytes before) token n) g ⊎ Contains (repeated_locals files (before ++ n ∷ []) (token + 1) names) g → (Contains (repeated_locals files (before ++ n ∷ []) (token + 1) names) g → token + 1 ≤ g.token) → token ≤ g.token
+    go : Contains (repeated_one files (first_named n.bytes before) token n) g ⊎ Contains
+        (repeated_locals files (before ++ n ∷ []) (token + 1) names) g →
+        (Contains (repeated_locals files (before ++ n ∷ []) (token + 1) names) g → token + 1 ≤ g.token) → token ≤ g.token
     go (inl here) later = omega (arith, among_repeated files (first_named n.bytes before) token n g here)
     go (inr there) later = omega (arith, later there)
 
-repeats_told : (files : FileNames) (before : List Name) (token : ℕ) (names : List Name) → IsTold (local_fault files (repeat_of before names)) (repeated_locals files before token names)
+repeats_told : (files : FileNames) (before : List Name) (token : ℕ) (names : List Name) →
+    IsTold (local_fault files (repeat_of before names)) (repeated_locals files before token names)
 repeats_told files before token [] = refl
 repeats_told files before token (n ∷ names) =
     let here = repeat_by (first_named n.bytes before) n in
     let there = repeat_of (before ++ n ∷ []) names in
     subst (λ b. IsTold b (repeated_locals files before token (n ∷ names))) (sym (first_repeated files here there))
-    (told_first (local_fault files here) (local_fault files there) (repeated_one files (first_named n.bytes before) token n) (repeated_locals files (before ++ n ∷ []) (token + 1) names)
+    (told_first (local_fault files here) (local_fault files there) (repeated_one files (first_named n.bytes before) token n)
+    (repeated_locals files (before ++ n ∷ []) (token + 1) names)
     (repeated_told files (first_named n.bytes before) token n) (repeats_told files (before ++ n ∷ []) (token + 1) names)
-    (λ f g here there. inl (omega (arith, among_repeated files (first_named n.bytes before) token n f here, among_repeats files (before ++ n ∷ []) (token + 1) names g there))))
+    (λ f g here there. inl (omega (
+      arith,
+      among_repeated files (first_named n.bytes before) token n f here,
+      among_repeats files
+          (before ++ n ∷ []) (token + 1) names g there,
+    ))))
 
 -- more than 15 locals stay more
 full_stays : (names : List Name) (h : Headed) → h.are_too_many ≡ true → (with_locals names h).are_too_many ≡ true
@@ -198,34 +224,45 @@ full_stays (n ∷ names) h full = full_stays names (with_local_by n (local_of n.
     go : (o : Option Local) → (with_local_by n o h).are_too_many ≡ true
     go (Some l) = full
     go None =
-        cond_both (ltb (length h.locals) most_locals) (record h { locals = h.locals ++ new_local n ∷ [] }) (record h { are_too_many = true }) (λ x. x.are_too_many ≡ true) (λ _. full) (λ _. refl)
+        cond_both (ltb (length h.locals) most_locals) (record h { locals = h.locals ++ new_local n ∷ [] })
+        (record h { are_too_many = true }) (λ x. x.are_too_many ≡ true) (λ _. full) (λ _. refl)
 
 -- What a header says of its locals: there are more than 15 different ones, or the first that comes again is told.
 data Ends (before names : List Name) (h after : Headed) : Type 0 where
   Full : after.are_too_many ≡ true → 15 < length h.locals + different before names → Ends before names h after
-  Fits : after.are_too_many ≡ false → length h.locals + different before names ≤ 15 → after.repeated ≡ either h.repeated (repeat_of before names) → Ends before names h after
+  Fits : after.are_too_many ≡ false → length h.locals + different before names ≤ 15 →
+      after.repeated ≡ either h.repeated (repeat_of before names) → Ends before names h after
 
 first-earlier : (o later : Option Repeated) (r : Repeated) → either (earlier o r) later ≡ either o (Some r)
 first-earlier None later r = refl
 first-earlier (Some c) later r = refl
 
 -- what the names behind one more make of it
-onward : (before names : List Name) (n : Name) (o : Option Name) (h next after : Headed) → first_named n.bytes before ≡ o → length next.locals ≡ length h.locals + cond (is_some o) 0 1 → ((later : Option Repeated) → either next.repeated later ≡ either h.repeated (either (repeat_by o n) later)) → Ends (before ++ n ∷ []) names next after → Ends before (n ∷ names) h after
+onward : (before names : List Name) (n : Name) (o : Option Name) (h next after : Headed) → first_named n.bytes before ≡ o →
+    length next.locals ≡ length h.locals + cond (is_some o) 0 1 →
+    ((later : Option Repeated) → either next.repeated later ≡ either h.repeated (either (repeat_by o n) later)) →
+    Ends (before ++ n ∷ []) names next after → Ends before (n ∷ names) h after
 onward before names n o h next after is len same (Full full more) =
-    let count : different before (n ∷ names) ≡ cond (is_some o) 0 1 + different (before ++ n ∷ []) names = ap (λ x. cond (is_some x) 0 1 + different (before ++ n ∷ []) names) is in
+    let count : different before (n ∷ names) ≡ cond (is_some o) 0 1 + different (before ++ n ∷ []) names =
+    ap (λ x. cond (is_some x) 0 1 + different (before ++ n ∷ []) names) is in
     Full full (omega (arith, len, count, more))
 onward before names n o h next after is len same (Fits fits few repeated) =
-    let count : different before (n ∷ names) ≡ cond (is_some o) 0 1 + different (before ++ n ∷ []) names = ap (λ x. cond (is_some x) 0 1 + different (before ++ n ∷ []) names) is in
+    let count : different before (n ∷ names) ≡ cond (is_some o) 0 1 + different (before ++ n ∷ []) names =
+    ap (λ x. cond (is_some x) 0 1 + different (before ++ n ∷ []) names) is in
     Fits fits (omega (arith, len, count, few))
     (repeated ∙ same (repeat_of (before ++ n ∷ []) names)
     ∙ ap (λ x. either h.repeated (either (repeat_by x n) (repeat_of (before ++ n ∷ []) names))) (sym is))
 
 -- what a header says of its locals, after some of them
-ends : (names before : List Name) (h : Headed) → AreOf before h.locals → h.are_too_many ≡ false → length h.locals ≤ 15 → Ends before names h (with_locals names h)
+ends : (names before : List Name) (h : Headed) → AreOf before h.locals → h.are_too_many ≡ false → length h.locals ≤ 15 →
+    Ends before names h (with_locals names h)
 ends [] before h of fits few = Fits fits (omega (arith, few)) (sym (either-none h.repeated))
 ends (n ∷ names) before h of fits few = go (first_named n.bytes before) refl (ends names (before ++ n ∷ []))
   where
-    fresh : (b : Bool) → ltb (length h.locals) 15 ≡ b → first_named n.bytes before ≡ None → ((h : Headed) → AreOf (before ++ n ∷ []) h.locals → h.are_too_many ≡ false → length h.locals ≤ 15 → Ends (before ++ n ∷ []) names h (with_locals names h)) → Ends before (n ∷ names) h (with_locals names (cond b (record h { locals = h.locals ++ new_local n ∷ [] }) (record h { are_too_many = true })))
+    fresh : (b : Bool) → ltb (length h.locals) 15 ≡ b → first_named n.bytes before ≡ None →
+        ((h : Headed) → AreOf (before ++ n ∷ []) h.locals → h.are_too_many ≡ false → length h.locals ≤ 15 → Ends (before ++ n ∷ []) names h
+        (with_locals names h)) → Ends before (n ∷ names) h
+        (with_locals names (cond b (record h { locals = h.locals ++ new_local n ∷ [] }) (record h { are_too_many = true })))
     fresh true room is later =
         let more : Headed = record h { locals = h.locals ++ new_local n ∷ [] } in
         let len = length-append h.locals (new_local n ∷ []) in
@@ -233,10 +270,13 @@ ends (n ∷ names) before h of fits few = go (first_named n.bytes before) refl (
         (later more (are_of-new before n h.locals of) fits (omega (arith, len, ltb-true (length h.locals) 15 room)))
     fresh false room is later =
         let full : Headed = record h { are_too_many = true } in
-        let count : different before (n ∷ names) ≡ 1 + different (before ++ n ∷ []) names = ap (λ x. cond (is_some x) 0 1 + different (before ++ n ∷ []) names) is in
+        let count : different before (n ∷ names) ≡ 1 + different (before ++ n ∷ []) names =
+        ap (λ x. cond (is_some x) 0 1 + different (before ++ n ∷ []) names) is in
         Full (full_stays names full refl) (omega (arith, count, ltb-false (length h.locals) 15 room))
 
-    go : (o : Option Name) → first_named n.bytes before ≡ o → ((h : Headed) → AreOf (before ++ n ∷ []) h.locals → h.are_too_many ≡ false → length h.locals ≤ 15 → Ends (before ++ n ∷ []) names h (with_locals names h)) → Ends before (n ∷ names) h (with_locals names (with_local_by n (local_of n.bytes h.locals) h))
+    go : (o : Option Name) → first_named n.bytes before ≡ o →
+        ((h : Headed) → AreOf (before ++ n ∷ []) h.locals → h.are_too_many ≡ false → length h.locals ≤ 15 → Ends (before ++ n ∷ []) names h
+        (with_locals names h)) → Ends before (n ∷ names) h (with_locals names (with_local_by n (local_of n.bytes h.locals) h))
     go None is later =
         subst (λ l. Ends before (n ∷ names) h (with_locals names (with_local_by n l h))) (sym (of n.bytes ∙ ap (option_map new_local) is))
         (fresh (ltb (length h.locals) 15) refl is later)
@@ -250,14 +290,16 @@ ends (n ∷ names) before h of fits few = go (first_named n.bytes before) refl (
 
 -- The name of a routine
 
-routine_told_by : (files : FileNames) (f : Found Place) (full : Bool) (name : Name) → IsTold (name_fault files name (declare_fault_by f full)) (taken_as files f name)
+routine_told_by : (files : FileNames) (f : Found Place) (full : Bool) (name : Name) →
+    IsTold (name_fault files name (declare_fault_by f full)) (taken_as files f name)
 routine_told_by files (found.System meaning) full name = told_one (system_routine name)
 routine_told_by files (found.Declared meaning first) full name = told_one (declared_before files first name)
 routine_told_by files found.Used full name = refl
 routine_told_by files found.Unknown true name = refl
 routine_told_by files found.Unknown false name = refl
 
-routine_told : (files : FileNames) (names : Table Place) (name : Name) → IsTold (name_fault files name (declare_fault name.bytes names)) (taken_name files names name)
+routine_told : (files : FileNames) (names : Table Place) (name : Name) →
+    IsTold (name_fault files name (declare_fault name.bytes names)) (taken_name files names name)
 routine_told files names name = routine_told_by files (found_in name.bytes names) (is_full names) name
 
 among_routine : (files : FileNames) (f : Found Place) (name : Name) (g : Finding) → Contains (taken_as files f name) g → g.token ≡ 1
@@ -266,12 +308,15 @@ among_routine files (found.Declared meaning first) name g among = ap (λ f. f.to
 among_routine files found.Used name g among = absurd (one_of_none g among)
 among_routine files found.Unknown name g among = absurd (one_of_none g among)
 
-header_told : (files : FileNames) (unit : Place) (names : Table Place) (name : Name) (locals : List Name) (h : Headed) → Ends [] locals no_locals h → IsTold (header_fault files unit (name_fault files name (declare_fault name.bytes names)) h) (taken_name files names name ++ (repeated_locals files [] 2 locals ++ many_locals unit locals))
+header_told : (files : FileNames) (unit : Place) (names : Table Place) (name : Name) (locals : List Name) (h : Headed) → Ends [] locals
+    no_locals h → IsTold (header_fault files unit (name_fault files name (declare_fault name.bytes names)) h)
+    (taken_name files names name ++ (repeated_locals files [] 2 locals ++ many_locals unit locals))
 header_told files unit names name locals h (Full full more) =
     let of_name = taken_name files names name in
     let repeats = repeated_locals files [] 2 locals in
     let fault = name_fault files name (declare_fault name.bytes names) in
-    let many : many_locals unit locals ≡ too_many_locals unit ∷ [] = ap (λ b. found_if b (too_many_locals unit)) (lt-ltb 15 (different [] locals) (omega (arith, more))) in
+    let many : many_locals unit locals ≡ too_many_locals unit ∷ [] =
+    ap (λ b. found_if b (too_many_locals unit)) (lt-ltb 15 (different [] locals) (omega (arith, more))) in
     let first : header_fault files unit fault h ≡ Some (too_many_locals unit).blame =
     ap (λ b. cond b (Some (too_many_locals unit).blame) (first_fault fault (local_fault files h.repeated))) full in
     subst (λ x. IsTold x (of_name ++ (repeats ++ many_locals unit locals))) (sym first)
@@ -280,21 +325,31 @@ header_told files unit names name locals h (Full full more) =
     (second_before (too_many_locals unit).blame (of_name ++ repeats) (too_many_locals unit ∷ []) (told_one (too_many_locals unit))
     (λ f g here there. behind f g (one_of_one (too_many_locals unit) f here) (Contains-append_cases of_name repeats g there)))))
   where
-    behind : (f g : Finding) → f ≡ too_many_locals unit → Contains (taken_name files names name) g ⊎ Contains (repeated_locals files [] 2 locals) g → IsBefore f g
-    behind f g is (inl there) = let at : f.token ≡ (too_many_locals unit).token = ap (λ f. f.token) is in inl (omega (arith, at, among_routine files (found_in name.bytes names) name g there))
-    behind f g is (inr there) = let at : f.token ≡ (too_many_locals unit).token = ap (λ f. f.token) is in inl (omega (arith, at, among_repeats files [] 2 locals g there))
+    behind : (f g : Finding) → f ≡ too_many_locals unit →
+        Contains (taken_name files names name) g ⊎ Contains (repeated_locals files [] 2 locals) g → IsBefore f g
+    behind f g is (inl there) = let at : f.token ≡ (too_many_locals unit).token = ap (λ f. f.token) is in inl
+        (omega (arith, at, among_routine files (found_in name.bytes names) name g there))
+    behind f g is (inr there) = let at : f.token ≡ (too_many_locals unit).token = ap (λ f. f.token) is in inl
+        (omega (arith, at, among_repeats files [] 2 locals g there))
 header_told files unit names name locals h (Fits fits few repeated) =
     let of_name = taken_name files names name in
     let repeats = repeated_locals files [] 2 locals in
     let fault = name_fault files name (declare_fault name.bytes names) in
     let again = local_fault files (repeat_of [] locals) in
-    let many : many_locals unit locals ≡ [] = ap (λ b. found_if b (too_many_locals unit)) (le-ltb 15 (different [] locals) (omega (arith, few))) in
+    let many : many_locals unit locals ≡ [] =
+    ap (λ b. found_if b (too_many_locals unit)) (le-ltb 15 (different [] locals) (omega (arith, few))) in
     let first : header_fault files unit fault h ≡ first_fault fault again =
-    ap (λ b. cond b (Some (too_many_locals unit).blame) (first_fault fault (local_fault files h.repeated))) fits ∙ ap (λ r. first_fault fault (local_fault files r)) repeated in
+    ap (λ b. cond b (Some (too_many_locals unit).blame) (first_fault fault (local_fault files h.repeated))) fits
+    ∙ ap (λ r. first_fault fault (local_fault files r)) repeated in
     subst (λ x. IsTold x (of_name ++ (repeats ++ many_locals unit locals))) (sym first)
     (subst (λ l. IsTold (first_fault fault again) (of_name ++ l)) (sym (append-nil repeats) ∙ ap (λ l. repeats ++ l) (sym many))
     (told_first fault again of_name repeats (routine_told files names name) (repeats_told files [] 2 locals)
-    (λ f g here there. inl (omega (arith, among_routine files (found_in name.bytes names) name f here, among_repeats files [] 2 locals g there)))))
+    (λ f g here there. inl (omega (
+      arith,
+      among_routine files (found_in name.bytes names) name f here,
+      among_repeats files [] 2 locals g
+          there,
+    )))))
 
 pub headers_tell_the_first : HeadersTellTheFirst
 headers_tell_the_first files unit names name locals =

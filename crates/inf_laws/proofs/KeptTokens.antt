@@ -44,38 +44,45 @@ judged_reads files t r w = go (fits grammar known (seen_atom (seen t w)) r.stack
     go true = refl
     go false = refl
 
-reads_at : (files : FileNames) (t : SourceToken) (stack : List (Symbol Action)) (r : Reading) (w : Compilation) → (read_at files t stack r w).reading ≡ read_by stack (seen t w) r
+reads_at : (files : FileNames) (t : SourceToken) (stack : List (Symbol Action)) (r : Reading) (w : Compilation) →
+    (read_at files t stack r w).reading ≡ read_by stack (seen t w) r
 reads_at files t [] r w = go (is_end t.kind)
   where
-    go : (b : Bool) → (cond b (record { reading = record r { mode = mode.Ended }; work = w }) (judged files t (piece_begun r) (work_begun w))).reading
+    go : (b : Bool) →
+        (cond b (record { reading = record r { mode = mode.Ended }; work = w }) (judged files t (piece_begun r) (work_begun w))).reading
         ≡ cond b (record r { mode = mode.Ended }) (judged_by (seen t w) (piece_begun r))
     go true = refl
     go false = judged_reads files t (piece_begun r) (work_begun w)
 reads_at files t (symbol ∷ symbols) r w = judged_reads files t r w
 
-step_reads : (m : Recovery) (files : FileNames) (t : SourceToken) (r : Reading) (w : Compilation) → (step_in m files t r w).reading ≡ kept_by m (seen t w) r
+step_reads : (m : Recovery) (files : FileNames) (t : SourceToken) (r : Reading) (w : Compilation) →
+    (step_in m files t r w).reading ≡ kept_by m (seen t w) r
 step_reads mode.Reads files t r w = reads_at files t r.stack r w
 step_reads mode.SkipsRoutine files t r w = refl
 step_reads mode.SkipsDirective files t r w = refl
 step_reads mode.Ended files t r w = refl
 
 -- a token that is passed over needs no grammar
-unfit_step : (m : Recovery) (files : FileNames) (t : SourceToken) (s : ReaderState) → s.reading.mode ≡ m → (unfit_in m files t s).reading ≡ unfit_by m t s.reading
+unfit_step : (m : Recovery) (files : FileNames) (t : SourceToken) (s : ReaderState) → s.reading.mode ≡ m →
+    (unfit_in m files t s).reading ≡ unfit_by m t s.reading
 unfit_step mode.Reads files t s e = refl
 unfit_step mode.SkipsRoutine files t s e = ap (λ m. (step_in m files t s.reading s.work).reading) e
 unfit_step mode.SkipsDirective files t s e = ap (λ m. (step_in m files t s.reading s.work).reading) e
 unfit_step mode.Ended files t s e = ap (λ m. (step_in m files t s.reading s.work).reading) e
 
-handed_reads : (h : Forwarded) (files : FileNames) (t : SourceToken) (s : ReaderState) → (handed_as h files t s).reading ≡ all_given_to (given_as h t s.work) s.reading
+handed_reads : (h : Forwarded) (files : FileNames) (t : SourceToken) (s : ReaderState) →
+    (handed_as h files t s).reading ≡ all_given_to (given_as h t s.work) s.reading
 handed_reads handed.Kept files t s = step_reads s.reading.mode files t s.reading s.work
 handed_reads handed.Unfit files t s = unfit_step s.reading.mode files t s refl
 handed_reads handed.Condition files t s = refl
 
-sign_reads : (o : Option Sign) (files : FileNames) (s : ReaderState) → (sign_taken o files s).reading ≡ all_given_to (given_sign o s.work) s.reading
+sign_reads : (o : Option Sign) (files : FileNames) (s : ReaderState) →
+    (sign_taken o files s).reading ≡ all_given_to (given_sign o s.work) s.reading
 sign_reads None files s = refl
 sign_reads (Some sign) files s = handed_reads sign.handed files (hash sign.place) s
 
-token_reads : (o : Option Forwarded) (files : FileNames) (t : SourceToken) (s : ReaderState) → (token_taken o files t s).reading ≡ all_given_to (given_token o t s.work) s.reading
+token_reads : (o : Option Forwarded) (files : FileNames) (t : SourceToken) (s : ReaderState) →
+    (token_taken o files t s).reading ≡ all_given_to (given_token o t s.work) s.reading
 token_reads None files t s = refl
 token_reads (Some h) files t s = handed_reads h files t s
 
@@ -115,8 +122,11 @@ begins tokens r at = record {
   begins = (bad_tokens_begin_nothing grammar known piece_rule (map seen_atom tokens) language_is_decided).0 (ap is_some at.is_read.is_read);
 }
 
-pub stops : (tokens : List Seen) (r : Reading) (t : Seen) → At tokens r → fits grammar known (seen_atom t) r.stack ≡ false → BeginsPiece (map seen_atom (tokens ++ t ∷ [])) → ⊥
-stops tokens r t at out b = let absent : true ≡ false = sym some ∙ ap (λ atoms. is_some (read grammar known piece atoms)) (map-append seen_atom tokens (t ∷ [])) ∙ ap is_some nothing in cc
+pub stops : (tokens : List Seen) (r : Reading) (t : Seen) → At tokens r → fits grammar known (seen_atom t) r.stack ≡ false →
+    BeginsPiece (map seen_atom (tokens ++ t ∷ [])) → ⊥
+stops tokens r t at out b =
+    let absent : true ≡ false = sym some ∙ ap (λ atoms. is_some (read grammar known piece atoms)) (map-append seen_atom tokens (t ∷ []))
+    ∙ ap is_some nothing in cc
   where
     some : is_some (read grammar known piece (map seen_atom (tokens ++ t ∷ []))) ≡ true
     some = (bad_tokens_begin_nothing grammar known piece_rule (map seen_atom (tokens ++ t ∷ [])) language_is_decided).1 b.begins
@@ -124,7 +134,8 @@ stops tokens r t at out b = let absent : true ≡ false = sym some ∙ ap (λ at
     nothing : read grammar known piece (map seen_atom tokens ++ map seen_atom (t ∷ [])) ≡ None
     nothing = reads_none grammar known piece (map seen_atom tokens) (seen_atom t) r.stack at.is_read out
 
-pub goes : (tokens : List Seen) (r : Reading) (t : Seen) → At tokens r → fits grammar known (seen_atom t) r.stack ≡ true → At (tokens ++ t ∷ []) (took_by (seen_atom t) r)
+pub goes : (tokens : List Seen) (r : Reading) (t : Seen) → At tokens r → fits grammar known (seen_atom t) r.stack ≡ true →
+    At (tokens ++ t ∷ []) (took_by (seen_atom t) r)
 goes tokens r t at f = record {
   reads = at.reads;
   is_read = subst (λ atoms. OneMore grammar known piece atoms (took_by (seen_atom t) r).stack) (sym (map-append seen_atom tokens (t ∷ [])))
@@ -151,7 +162,8 @@ no_token = record {
 skips_as : (tokens : List Seen) (r : Reading) → At tokens r → skip_of r.stack ≡ skip_behind (map seen_atom tokens)
 skips_as tokens r at =
     let left : is_in_routine r.stack ≡ is_bracket_open (map seen_atom tokens) =
-    ap is_in_routine (sym at.is_read.leaves) ∙ sym (ap is_inside at.is_read.is_read) ∙ bracketed (map seen_atom tokens) (begins tokens r at) in
+    ap is_in_routine (sym at.is_read.leaves) ∙ sym (ap is_inside at.is_read.is_read)
+    ∙ bracketed (map seen_atom tokens) (begins tokens r at) in
     ap (λ b. cond b mode.SkipsRoutine mode.SkipsDirective) left
 
 -- Where reading stands
@@ -159,7 +171,9 @@ skips_as tokens r at =
 pub data Now (given : List Given) (r : Reading) : Type 0 where
   Inside : (tokens : List Seen) → given ≡ map Kept tokens → At tokens r → (r.stack ≡ [] → ⊥) → Now given r
   Whole : (tokens : List Seen) → given ≡ map Kept tokens → IsPiece (map seen_atom tokens) → r ≡ between mode.Reads → Now given r
-  Skips : (tokens : List Seen) (wrong : Given) (behind : List Given) → given ≡ map Kept tokens ++ wrong ∷ behind → BeginsPiece (map seen_atom tokens) → IsBad tokens wrong → r ≡ between (skipped (skip_behind (map seen_atom tokens)) (wrong ∷ behind)) → Now given r
+  Skips : (tokens : List Seen) (wrong : Given) (behind : List Given) → given ≡ map Kept tokens ++ wrong ∷ behind →
+      BeginsPiece (map seen_atom tokens) → IsBad tokens wrong →
+      r ≡ between (skipped (skip_behind (map seen_atom tokens)) (wrong ∷ behind)) → Now given r
   Ended : (t : Seen) → given ≡ Kept t ∷ [] → is_end t.token.kind ≡ true → r ≡ between mode.Ended → Now given r
 
 pub stands : (given : List Given) (r : Reading) → Now given r → Stands given r
@@ -173,7 +187,8 @@ kept_more : (tokens : List Seen) (t : Seen) → map Kept tokens ++ Kept t ∷ []
 kept_more tokens t = sym (map-append Kept tokens (t ∷ []))
 
 -- a token is taken
-taken_now : (given : List Given) (tokens : List Seen) (r : Reading) (t : Seen) → given ≡ map Kept (tokens ++ t ∷ []) → At (tokens ++ t ∷ []) r → Now given r
+taken_now : (given : List Given) (tokens : List Seen) (r : Reading) (t : Seen) → given ≡ map Kept (tokens ++ t ∷ []) →
+    At (tokens ++ t ∷ []) r → Now given r
 taken_now given tokens r t e at = by_stack r.stack refl
   where
     by_stack : (stack : List (Symbol Action)) → r.stack ≡ stack → Now given r
@@ -183,7 +198,8 @@ taken_now given tokens r t e at = by_stack r.stack refl
     by_stack (symbol ∷ symbols) some = Inside (tokens ++ t ∷ []) e at (λ empty. let never : [] ≡ symbol ∷ symbols = sym empty ∙ some in cc)
 
 -- or is bad
-wrong_now : (given : List Given) (tokens : List Seen) (r now : Reading) (wrong : Given) → given ≡ map Kept tokens ++ wrong ∷ [] → At tokens r → IsBad tokens wrong
+wrong_now : (given : List Given) (tokens : List Seen) (r now : Reading) (wrong : Given) → given ≡ map Kept tokens ++ wrong ∷ [] →
+    At tokens r → IsBad tokens wrong
     → now ≡ between (passed (skip_of r.stack) (token_in wrong).kind) → Now given now
 wrong_now given tokens r now wrong e at is_bad same =
     Skips tokens wrong [] e (begins tokens r at) is_bad (same ∙ ap (λ m. between (passed m (token_in wrong).kind)) (skips_as tokens r at))
@@ -191,9 +207,12 @@ wrong_now given tokens r now wrong e at is_bad same =
 judged_now : (given : List Given) (tokens : List Seen) (r : Reading) (t : Seen) → given ≡ map Kept tokens → At tokens r
     → Now (given ++ Kept t ∷ []) (judged_by t r)
 judged_now given tokens r t e at =
-    of_both (λ (x : Reading). Now (given ++ Kept t ∷ []) x) (fits grammar known (seen_atom t) r.stack) (took_by (seen_atom t) r) (bad_by t.token.kind r)
-    (λ f. taken_now (given ++ Kept t ∷ []) tokens (took_by (seen_atom t) r) t (ap (λ gs. gs ++ Kept t ∷ []) e ∙ kept_more tokens t) (goes tokens r t at f))
-    (λ out. wrong_now (given ++ Kept t ∷ []) tokens r (bad_by t.token.kind r) (Kept t) (ap (λ gs. gs ++ Kept t ∷ []) e) at (stops tokens r t at out) refl)
+    of_both (λ (x : Reading). Now (given ++ Kept t ∷ []) x) (fits grammar known (seen_atom t) r.stack) (took_by (seen_atom t) r)
+    (bad_by t.token.kind r)
+    (λ f. taken_now (given ++ Kept t ∷ []) tokens (took_by (seen_atom t) r) t (ap (λ gs. gs ++ Kept t ∷ []) e ∙ kept_more tokens t)
+    (goes tokens r t at f))
+    (λ out. wrong_now (given ++ Kept t ∷ []) tokens r (bad_by t.token.kind r) (Kept t) (ap (λ gs. gs ++ Kept t ∷ []) e) at
+    (stops tokens r t at out) refl)
 
 -- The first token
 
@@ -209,11 +228,13 @@ first (Unfit t) r fresh =
 
 -- A further token
 
-pub skipped_more : (m : Recovery) (behind : List Given) (g : Given) → skipped m (behind ++ g ∷ []) ≡ passed (skipped m behind) (token_in g).kind
+pub skipped_more : (m : Recovery) (behind : List Given) (g : Given) →
+    skipped m (behind ++ g ∷ []) ≡ passed (skipped m behind) (token_in g).kind
 skipped_more m [] g = refl
 skipped_more m (x ∷ behind) g = skipped_more (passed m (token_in x).kind) behind g
 
-skips_on : (m : Recovery) (g : Given) (r : Reading) → r ≡ between m → rests (between m) ≡ false → given_to g r ≡ between (passed m (token_in g).kind)
+skips_on : (m : Recovery) (g : Given) (r : Reading) → r ≡ between m → rests (between m) ≡ false →
+    given_to g r ≡ between (passed m (token_in g).kind)
 skips_on mode.Reads g r e on = cc
 skips_on mode.Ended g r e on = cc
 skips_on mode.SkipsRoutine (Kept t) r e on = ap (λ (x : Reading). given_to (Kept t) x) e
@@ -231,12 +252,14 @@ next (Kept t) before r (Inside tokens e at some) on =
     let same : given_to (Kept t) r ≡ judged_by t r = ap (λ m. kept_by m t r) at.reads ∙ reads_inside r.stack t r some in
     subst (λ (x : Reading). Now (before ++ Kept t ∷ []) x) (sym same) (judged_now before tokens r t e at)
 next (Unfit t) before r (Inside tokens e at some) on =
-    wrong_now (before ++ Unfit t ∷ []) tokens r (given_to (Unfit t) r) (Unfit t) (ap (λ gs. gs ++ Unfit t ∷ []) e) at tt (ap (λ m. unfit_by m t r) at.reads)
+    wrong_now (before ++ Unfit t ∷ []) tokens r (given_to (Unfit t) r) (Unfit t) (ap (λ gs. gs ++ Unfit t ∷ []) e) at tt
+    (ap (λ m. unfit_by m t r) at.reads)
 next g before r (Whole tokens e is at) on = absurd (let never : true ≡ false = sym (ap rests at) ∙ on in cc)
 next g before r (Ended t e is at) on = absurd (let never : true ≡ false = sym (ap rests at) ∙ on in cc)
 next g before r (Skips tokens wrong behind e begun is_bad at) on =
     let m = skipped (skip_behind (map seen_atom tokens)) (wrong ∷ behind) in
-    Skips tokens wrong (behind ++ g ∷ []) (ap (λ gs. gs ++ g ∷ []) e ∙ append_assoc (map Kept tokens) (wrong ∷ behind) (g ∷ [])) begun is_bad
+    Skips tokens wrong (behind ++ g ∷ []) (ap (λ gs. gs ++ g ∷ []) e ∙ append_assoc (map Kept tokens) (wrong ∷ behind) (g ∷ [])) begun
+    is_bad
     (skips_on m g r at (sym (ap rests at) ∙ on) ∙ ap between (sym (skipped_more (skip_behind (map seen_atom tokens)) (wrong ∷ behind) g)))
 
 onward : (given before : List Given) (r : Reading) → Now before r → GoesBehind given r → Stands (before ++ given) (all_given_to given r)

@@ -25,7 +25,8 @@ none_reading unit text answer.Entered s = refl
 none_reading unit text answer.NotThere s = refl
 none_reading unit text answer.TooDeep s = refl
 
-included_reading : (sources : Sources) (o : Choices) (unit : Place) (text : List ℕ) (i : Inclusion) (s : State) → (included_by sources o unit text i s).reading ≡ s.reading
+included_reading : (sources : Sources) (o : Choices) (unit : Place) (text : List ℕ) (i : Inclusion) (s : State) →
+    (included_by sources o unit text i s).reading ≡ s.reading
 included_reading sources o unit text (Opens name) s = refl
 included_reading sources o unit text (OpensNone why) s = none_reading unit text why s
 
@@ -34,19 +35,22 @@ answered_reading (Include text unit) sources o s = included_reading sources o un
 answered_reading End sources o s = refl
 answered_reading Nothing sources o s = refl
 
-pub carried_out_reading : (sources : Sources) (o : Choices) (s : State) → is_mode_ended s.reading.mode ≡ false → (carried_out sources o s).reading ≡ s.reading
+pub carried_out_reading : (sources : Sources) (o : Choices) (s : State) → is_mode_ended s.reading.mode ≡ false →
+    (carried_out sources o s).reading ≡ s.reading
 carried_out_reading sources o s going =
     of_both (λ (x : State). x.reading ≡ s.reading) s.work.report.counts.is_over s
     (cond (is_mode_ended s.reading.mode) (left s) (answered s.work.asked sources o (asked_nothing s)))
     (λ _. refl)
-    (λ _. ap (λ b. (cond b (left s) (answered s.work.asked sources o (asked_nothing s))).reading) going ∙ answered_reading s.work.asked sources o (asked_nothing s))
+    (λ _. ap (λ b. (cond b (left s) (answered s.work.asked sources o (asked_nothing s))).reading) going ∙ answered_reading s.work.asked
+    sources o (asked_nothing s))
 
 pub rested_reading : (s : State) → (rested s).reading ≡ s.reading
 rested_reading s =
     of_both (λ (x : State). x.reading ≡ s.reading) (has_ended s) s (cond (is_resting s) (piece_closed s) s) (λ _. refl)
     (λ _. of_both (λ (x : State). x.reading ≡ s.reading) (is_resting s) (piece_closed s) s (λ _. refl) (λ _. refl))
 
-pub turn_reading : (sources : Sources) (o : Choices) (s : State) → is_mode_ended (stepped s).reading.mode ≡ false → (turn sources o s).reading ≡ (stepped s).reading
+pub turn_reading : (sources : Sources) (o : Choices) (s : State) → is_mode_ended (stepped s).reading.mode ≡ false →
+    (turn sources o s).reading ≡ (stepped s).reading
 turn_reading sources o s going = rested_reading (carried_out sources o (stepped s)) ∙ carried_out_reading sources o (stepped s) going
 
 -- By what is handed on

@@ -29,7 +29,8 @@ use Rattle.inf_laws.proofs.SameNames.{bytes_eq-sym, key_same, same_key}
 pub units_declare : UnitsDeclare
 units_declare n m o = go (declare_fault n.bytes o.names)
   where
-    go : (f : Option (DeclareFault Place)) → (declared_by f n.bytes n.place m o).names ≡ cond (is_some f) o.names (with_declared n.bytes n.place m o.names)
+    go : (f : Option (DeclareFault Place)) →
+        (declared_by f n.bytes n.place m o).names ≡ cond (is_some f) o.names (with_declared n.bytes n.place m o.names)
     go None = refl
     go (Some declaring.Full) = refl
     go (Some declaring.Memory) = refl
@@ -38,7 +39,8 @@ units_declare n m o = go (declare_fault n.bytes o.names)
 pub operands_use : OperandsUse
 operands_use n o = go (refer_fault n.bytes o.names)
   where
-    go : (r : Option ReferFault) → (referred_by r n.bytes n.place o).names ≡ cond (is_some r) o.names (with_used_by (found_in n.bytes o.names) n.bytes n.place o.names)
+    go : (r : Option ReferFault) →
+        (referred_by r n.bytes n.place o).names ≡ cond (is_some r) o.names (with_used_by (found_in n.bytes o.names) n.bytes n.place o.names)
     go None = refl
     go (Some fault) = refl
 
@@ -98,14 +100,18 @@ few_have_room limit debugging events few = few_fit events (no_names limit debugg
 
 -- What is found after an event
 
-standing_of-put : (key new : List ℕ) (s : Standing Place) (names : List (Named Place)) → standing_of key (put new s names) ≡ cond (bytes_eq key new) (Some s) (standing_of key names)
+standing_of-put : (key new : List ℕ) (s : Standing Place) (names : List (Named Place)) →
+    standing_of key (put new s names) ≡ cond (bytes_eq key new) (Some s) (standing_of key names)
 standing_of-put key new s [] = refl
 standing_of-put key new s (n ∷ names) = go (bytes_eq new n.name) refl (standing_of-put key new s names)
   where
-    go : (t : Bool) → bytes_eq new n.name ≡ t → standing_of key (put new s names) ≡ cond (bytes_eq key new) (Some s) (standing_of key names) → standing_of key (cond t (record { name = n.name; standing = s } ∷ names) (n ∷ put new s names)) ≡ cond (bytes_eq key new) (Some s) (cond (bytes_eq key n.name) (Some n.standing) (standing_of key names))
+    go : (t : Bool) → bytes_eq new n.name ≡ t → standing_of key (put new s names) ≡ cond (bytes_eq key new) (Some s) (standing_of key names)
+        → standing_of key (cond t (record { name = n.name; standing = s } ∷ names) (n ∷ put new s names)) ≡ cond (bytes_eq key new) (Some s)
+        (cond (bytes_eq key n.name) (Some n.standing) (standing_of key names))
     go true e later =
         cond-again (bytes_eq key n.name) (Some s) (Some n.standing) (standing_of key names)
-        ∙ ap (λ k. cond (bytes_eq key k) (Some s) (cond (bytes_eq key n.name) (Some n.standing) (standing_of key names))) (sym (same_key new n.name e))
+        ∙ ap (λ k. cond (bytes_eq key k) (Some s) (cond (bytes_eq key n.name) (Some n.standing) (standing_of key names)))
+        (sym (same_key new n.name e))
     go false e later =
         ap (λ o. cond (bytes_eq key n.name) (Some n.standing) o) later
         ∙ cond-swap (bytes_eq key n.name) (bytes_eq key new) (Some n.standing) (Some s) (standing_of key names)
@@ -151,64 +157,80 @@ other_used found.Used = refl
 other_used found.Unknown = refl
 
 -- what is known of one name leaves another as it is
-found-other : (name other : List ℕ) (s : Standing Place) (t : Table Place) → bytes_eq (folded name) (folded other) ≡ false → found_as (system_meaning t.is_debugging name) (standing_of (folded name) (put (folded other) s t.names)) ≡ found_in name t
+found-other : (name other : List ℕ) (s : Standing Place) (t : Table Place) → bytes_eq (folded name) (folded other) ≡ false →
+    found_as (system_meaning t.is_debugging name) (standing_of (folded name) (put (folded other) s t.names)) ≡ found_in name t
 found-other name other s t e =
-    ap (found_as (system_meaning t.is_debugging name)) (standing_of-put (folded name) (folded other) s t.names ∙ ap (λ b. cond b (Some s) (standing_of (folded name) t.names)) e)
+    ap (found_as (system_meaning t.is_debugging name))
+    (standing_of-put (folded name) (folded other) s t.names ∙ ap (λ b. cond b (Some s) (standing_of (folded name) t.names)) e)
 
-found-put : (name other : List ℕ) (s : Standing Place) (t : Table Place) → bytes_eq (folded name) (folded other) ≡ true → found_as (system_meaning t.is_debugging name) (standing_of (folded name) (put (folded other) s t.names)) ≡ found_as (system_meaning t.is_debugging name) (Some s)
+found-put : (name other : List ℕ) (s : Standing Place) (t : Table Place) → bytes_eq (folded name) (folded other) ≡ true → found_as
+    (system_meaning t.is_debugging name) (standing_of (folded name) (put (folded other) s t.names)) ≡ found_as
+    (system_meaning t.is_debugging name) (Some s)
 found-put name other s t e =
-    ap (found_as (system_meaning t.is_debugging name)) (standing_of-put (folded name) (folded other) s t.names ∙ ap (λ b. cond b (Some s) (standing_of (folded name) t.names)) e)
+    ap (found_as (system_meaning t.is_debugging name))
+    (standing_of-put (folded name) (folded other) s t.names ∙ ap (λ b. cond b (Some s) (standing_of (folded name) t.names)) e)
 
-declared_behind : (name other : List ℕ) (m : Meaning) (place : Place) (t : Table Place) → is_too_many (Declares other m place) t ≡ false → found_in name (with_event (Declares other m place) t) ≡ behind_event name (Declares other m place) (found_in name t)
+declared_behind : (name other : List ℕ) (m : Meaning) (place : Place) (t : Table Place) → is_too_many (Declares other m place) t ≡ false →
+    found_in name (with_event (Declares other m place) t) ≡ behind_event name (Declares other m place) (found_in name t)
 declared_behind name other m place t room = go (bytes_eq (folded name) (folded other)) refl
   where
     new : Standing Place
     new = IsDeclared t.declared m place
 
-    apart : (b : Bool) → bytes_eq (folded name) (folded other) ≡ false → found_in name (cond b t (with_declared other place m t)) ≡ found_in name t
+    apart : (b : Bool) → bytes_eq (folded name) (folded other) ≡ false →
+        found_in name (cond b t (with_declared other place m t)) ≡ found_in name t
     apart true e = refl
     apart false e = found-other name other new t e
 
-    same : (f : Found Place) (full : Bool) → found_in name t ≡ f → bytes_eq (folded name) (folded other) ≡ true → is_full_fault (declare_fault_by f full) ≡ false → found_in name (cond (is_some (declare_fault_by f full)) t (with_declared other place m t)) ≡ behind_declared true m place f
+    same : (f : Found Place) (full : Bool) → found_in name t ≡ f → bytes_eq (folded name) (folded other) ≡ true →
+        is_full_fault (declare_fault_by f full) ≡ false →
+        found_in name (cond (is_some (declare_fault_by f full)) t (with_declared other place m t)) ≡ behind_declared true m place f
     same (found.System x) full is e room = is
     same (found.Declared x first) full is e room = is
     same found.Used full is e room = found-put name other new t e
     same found.Unknown true is e room = cc
     same found.Unknown false is e room = found-put name other new t e
 
-    go : (b : Bool) → bytes_eq (folded name) (folded other) ≡ b → found_in name (with_event (Declares other m place) t) ≡ behind_declared b m place (found_in name t)
+    go : (b : Bool) → bytes_eq (folded name) (folded other) ≡ b →
+        found_in name (with_event (Declares other m place) t) ≡ behind_declared b m place (found_in name t)
     go false e = apart (is_some (declare_fault other t)) e ∙ sym (other_declared m place (found_in name t))
     go true e =
         let alike = found_same name other t (same_key (folded name) (folded other) e) in
         same (found_in other t) (is_full t) alike e room ∙ ap (behind_declared true m place) (sym alike)
 
-used_behind : (name other : List ℕ) (place : Place) (t : Table Place) → is_too_many (Uses other place) t ≡ false → found_in name (with_event (Uses other place) t) ≡ behind_event name (Uses other place) (found_in name t)
+used_behind : (name other : List ℕ) (place : Place) (t : Table Place) → is_too_many (Uses other place) t ≡ false →
+    found_in name (with_event (Uses other place) t) ≡ behind_event name (Uses other place) (found_in name t)
 used_behind name other place t room = go (bytes_eq (folded name) (folded other)) refl
   where
     new : Standing Place
     new = IsUsed other place
 
-    apart : (b : Bool) (f : Found Place) → bytes_eq (folded name) (folded other) ≡ false → found_in name (cond b t (with_used_by f other place t)) ≡ found_in name t
+    apart : (b : Bool) (f : Found Place) → bytes_eq (folded name) (folded other) ≡ false →
+        found_in name (cond b t (with_used_by f other place t)) ≡ found_in name t
     apart true f e = refl
     apart false (found.System x) e = refl
     apart false (found.Declared x first) e = refl
     apart false found.Used e = refl
     apart false found.Unknown e = found-other name other new t e
 
-    same : (f : Found Place) (full : Bool) → found_in name t ≡ f → bytes_eq (folded name) (folded other) ≡ true → is_some (refer_fault_by f full) ≡ false → found_in name (cond (is_some (refer_fault_by f full)) t (with_used_by f other place t)) ≡ behind_used true f
+    same : (f : Found Place) (full : Bool) → found_in name t ≡ f → bytes_eq (folded name) (folded other) ≡ true →
+        is_some (refer_fault_by f full) ≡ false →
+        found_in name (cond (is_some (refer_fault_by f full)) t (with_used_by f other place t)) ≡ behind_used true f
     same (found.System x) full is e room = is
     same (found.Declared x first) full is e room = is
     same found.Used full is e room = is
     same found.Unknown true is e room = cc
     same found.Unknown false is e room = found-put name other new t e
 
-    go : (b : Bool) → bytes_eq (folded name) (folded other) ≡ b → found_in name (with_event (Uses other place) t) ≡ behind_used b (found_in name t)
+    go : (b : Bool) → bytes_eq (folded name) (folded other) ≡ b →
+        found_in name (with_event (Uses other place) t) ≡ behind_used b (found_in name t)
     go false e = apart (is_some (refer_fault other t)) (found_in other t) e ∙ sym (other_used (found_in name t))
     go true e =
         let alike = found_same name other t (same_key (folded name) (folded other) e) in
         same (found_in other t) (is_full t) alike e room ∙ ap (behind_used true) (sym alike)
 
-found_behind : (name : List ℕ) (e : Event) (t : Table Place) → is_too_many e t ≡ false → found_in name (with_event e t) ≡ behind_event name e (found_in name t)
+found_behind : (name : List ℕ) (e : Event) (t : Table Place) → is_too_many e t ≡ false →
+    found_in name (with_event e t) ≡ behind_event name e (found_in name t)
 found_behind name (Declares other m place) t room = declared_behind name other m place t room
 found_behind name (Uses other place) t room = used_behind name other place t room
 
@@ -217,26 +239,35 @@ found_behind name (Uses other place) t room = used_behind name other place t roo
 -- The names are those of these events.
 abbrev AreOf : Bool → List Event → Table Place → Type 0
 AreOf debugging before t =
-    (name : List ℕ) → found_in name t ≡ stands_for (system_meaning debugging name) (first_declaration name before) (list_any (uses name) before)
+    (name : List ℕ) → found_in name t ≡ stands_for (system_meaning debugging name) (first_declaration name before)
+    (list_any (uses name) before)
 
-any-append : (test : Event → Bool) (before more : List Event) → list_any test (before ++ more) ≡ (list_any test before || list_any test more)
+any-append : (test : Event → Bool) (before more : List Event) →
+    list_any test (before ++ more) ≡ (list_any test before || list_any test more)
 any-append test [] more = refl
-any-append test (e ∷ before) more = ap (λ b. test e || b) (any-append test before more) ∙ or-assoc (test e) (list_any test before) (list_any test more)
+any-append test (e ∷ before) more =
+    ap (λ b. test e || b) (any-append test before more) ∙ or-assoc (test e) (list_any test before) (list_any test more)
 
-first-append : (name : List ℕ) (before more : List Event) → first_declaration name (before ++ more) ≡ either (first_declaration name before) (first_declaration name more)
+first-append : (name : List ℕ) (before more : List Event) →
+    first_declaration name (before ++ more) ≡ either (first_declaration name before) (first_declaration name more)
 first-append name [] more = refl
 first-append name (Uses other place ∷ before) more = first-append name before more
 first-append name (Declares other m place ∷ before) more = go (bytes_eq (folded name) (folded other)) (first-append name before more)
   where
-    go : (b : Bool) → first_declaration name (before ++ more) ≡ either (first_declaration name before) (first_declaration name more) → cond b (Some (m, place)) (first_declaration name (before ++ more)) ≡ either (cond b (Some (m, place)) (first_declaration name before)) (first_declaration name more)
+    go : (b : Bool) → first_declaration name (before ++ more) ≡ either (first_declaration name before) (first_declaration name more) → cond
+        b (Some (m, place)) (first_declaration name (before ++ more)) ≡ either (cond b (Some (m, place)) (first_declaration name before))
+        (first_declaration name more)
     go true later = refl
     go false later = later
 
 -- what a name stands for after one event more
-stands_behind : (name : List ℕ) (e : Event) (system : Option Meaning) (first : Option (Meaning × Place)) (is_used : Bool) → behind_event name e (stands_for system first is_used) ≡ stands_for system (either first (first_declaration name (e ∷ []))) (is_used || list_any (uses name) (e ∷ []))
+stands_behind : (name : List ℕ) (e : Event) (system : Option Meaning) (first : Option (Meaning × Place)) (is_used : Bool) → behind_event
+    name e (stands_for system first is_used) ≡ stands_for system (either first (first_declaration name (e ∷ [])))
+    (is_used || list_any (uses name) (e ∷ []))
 stands_behind name (Declares other m place) system first is_used = go system first is_used (bytes_eq (folded name) (folded other))
   where
-    go : (system : Option Meaning) (first : Option (Meaning × Place)) (is_used same : Bool) → behind_declared same m place (stands_for system first is_used) ≡ stands_for system (either first (cond same (Some (m, place)) None)) (is_used || false)
+    go : (system : Option Meaning) (first : Option (Meaning × Place)) (is_used same : Bool) → behind_declared same m place
+        (stands_for system first is_used) ≡ stands_for system (either first (cond same (Some (m, place)) None)) (is_used || false)
     go (Some x) first is_used same = refl
     go None (Some d) is_used same = refl
     go None None true true = refl
@@ -245,14 +276,16 @@ stands_behind name (Declares other m place) system first is_used = go system fir
     go None None false false = refl
 stands_behind name (Uses other place) system first is_used = go system first is_used (bytes_eq (folded name) (folded other))
   where
-    go : (system : Option Meaning) (first : Option (Meaning × Place)) (is_used same : Bool) → behind_used same (stands_for system first is_used) ≡ stands_for system (either first None) (is_used || (same || false))
+    go : (system : Option Meaning) (first : Option (Meaning × Place)) (is_used same : Bool) →
+        behind_used same (stands_for system first is_used) ≡ stands_for system (either first None) (is_used || (same || false))
     go (Some x) first is_used same = refl
     go None (Some d) is_used same = refl
     go None None true same = refl
     go None None false true = refl
     go None None false false = refl
 
-are_of-event : (debugging : Bool) (e : Event) (before : List Event) (t : Table Place) → is_too_many e t ≡ false → AreOf debugging before t → AreOf debugging (before ++ e ∷ []) (with_event e t)
+are_of-event : (debugging : Bool) (e : Event) (before : List Event) (t : Table Place) → is_too_many e t ≡ false → AreOf debugging before t →
+    AreOf debugging (before ++ e ∷ []) (with_event e t)
 are_of-event debugging e before t room of name =
     let system = system_meaning debugging name in
     found_behind name e t room
@@ -261,7 +294,8 @@ are_of-event debugging e before t room of name =
     ∙ ap (λ d. stands_for system d (list_any (uses name) before || list_any (uses name) (e ∷ []))) (sym (first-append name before (e ∷ [])))
     ∙ ap (stands_for system (first_declaration name (before ++ e ∷ []))) (sym (any-append (uses name) before (e ∷ [])))
 
-are_of-events : (debugging : Bool) (events before : List Event) (t : Table Place) → HaveRoom events t → AreOf debugging before t → AreOf debugging (before ++ events) (with_events events t)
+are_of-events : (debugging : Bool) (events before : List Event) (t : Table Place) → HaveRoom events t → AreOf debugging before t →
+    AreOf debugging (before ++ events) (with_events events t)
 are_of-events debugging [] before t room of = subst (λ es. AreOf debugging es t) (sym (append-nil before)) of
 are_of-events debugging (e ∷ events) before t room of =
     subst (λ es. AreOf debugging es (with_events events (with_event e t))) (append_assoc before (e ∷ []) events)
@@ -293,11 +327,13 @@ abbrev used_of : List (Named Place) → List Use
 used_of [] = []
 used_of (n ∷ names) = use_in n.standing ++ used_of names
 
-told : (files : FileNames) (names : List (Named Place)) (r : Reported) → with_all_undeclared files names r ≡ with_uses_told files (used_of names) r
+told : (files : FileNames) (names : List (Named Place)) (r : Reported) →
+    with_all_undeclared files names r ≡ with_uses_told files (used_of names) r
 told files [] r = refl
 told files (n ∷ names) r = go n.standing (told files names)
   where
-    go : (s : Standing Place) → ((r : Reported) → with_all_undeclared files names r ≡ with_uses_told files (used_of names) r) → with_all_undeclared files names (with_undeclared files s r) ≡ with_uses_told files (use_in s ++ used_of names) r
+    go : (s : Standing Place) → ((r : Reported) → with_all_undeclared files names r ≡ with_uses_told files (used_of names) r) →
+        with_all_undeclared files names (with_undeclared files s r) ≡ with_uses_told files (use_in s ++ used_of names) r
     go (IsDeclared number m place) later = later r
     go (IsUsed spelling place) later = later (with_error (location files place) (location files place) (Undeclared spelling) r)
 
@@ -314,22 +350,30 @@ abbrev Sound : List (Named Place) → Type 0
 Sound [] = Unit {0}
 Sound (n ∷ names) = (has n.name names ≡ false) × IsKeyed n.name n.standing × Sound names
 
-has-put : (key new : List ℕ) (s : Standing Place) (names : List (Named Place)) → has key (put new s names) ≡ (has key names || bytes_eq key new)
+has-put : (key new : List ℕ) (s : Standing Place) (names : List (Named Place)) →
+    has key (put new s names) ≡ (has key names || bytes_eq key new)
 has-put key new s [] = or-false (bytes_eq key new)
 has-put key new s (n ∷ names) = go (bytes_eq new n.name) refl (has-put key new s names)
   where
-    go : (t : Bool) → bytes_eq new n.name ≡ t → has key (put new s names) ≡ (has key names || bytes_eq key new) → has key (cond t (record { name = n.name; standing = s } ∷ names) (n ∷ put new s names)) ≡ ((bytes_eq key n.name || has key names) || bytes_eq key new)
-    go true e later = or-known (bytes_eq key n.name || has key names) (bytes_eq key new) (λ is. or_left (bytes_eq key n.name) (has key names) (key_same key n.name (same_key key new is ∙ same_key new n.name e)))
+    go : (t : Bool) → bytes_eq new n.name ≡ t → has key (put new s names) ≡ (has key names || bytes_eq key new) → has key
+        (cond t (record { name = n.name; standing = s } ∷ names) (n ∷ put new s names)) ≡
+        ((bytes_eq key n.name || has key names) || bytes_eq key new)
+    go true e later = or-known (bytes_eq key n.name || has key names) (bytes_eq key new)
+        (λ is. or_left (bytes_eq key n.name) (has key names) (key_same key n.name (same_key key new is ∙ same_key new n.name e)))
     go false e later = ap (λ b. bytes_eq key n.name || b) later ∙ or-assoc (bytes_eq key n.name) (has key names) (bytes_eq key new)
 
 sound-put : (new : List ℕ) (s : Standing Place) (names : List (Named Place)) → IsKeyed new s → Sound names → Sound (put new s names)
 sound-put new s [] keyed sound = (refl, keyed, tt)
 sound-put new s (n ∷ names) keyed sound = go (bytes_eq new n.name) refl (sound-put new s names keyed sound.2)
   where
-    go : (t : Bool) → bytes_eq new n.name ≡ t → Sound (put new s names) → Sound (cond t (record { name = n.name; standing = s } ∷ names) (n ∷ put new s names))
+    go : (t : Bool) → bytes_eq new n.name ≡ t → Sound (put new s names) →
+        Sound (cond t (record { name = n.name; standing = s } ∷ names) (n ∷ put new s names))
     go true e later = (sound.0, subst (λ k. IsKeyed k s) (same_key new n.name e) keyed, sound.2)
-    go false e later =
-        (has-put n.name new s names ∙ or_from (has n.name names) (bytes_eq n.name new) sound.0 (bytes_eq-sym n.name new ∙ e), sound.1, later)
+    go false e later = (
+      has-put n.name new s names ∙ or_from (has n.name names) (bytes_eq n.name new) sound.0 (bytes_eq-sym n.name new ∙ e),
+      sound.1,
+      later,
+    )
 
 sound-event : (e : Event) (t : Table Place) → Sound t.names → Sound (with_event e t).names
 sound-event (Declares name m place) t sound = go (is_some (declare_fault name t))
@@ -351,59 +395,74 @@ abbrev others : List ℕ → List Use → List Use
 others key us = filter (λ u. not (bytes_eq (folded u.name) key)) us
 
 -- one use more in front, of another name
-others-split : (key name : List ℕ) (s : Standing Place) (us : List Use) → IsKeyed name s → bytes_eq key name ≡ false → others key (use_in s ++ us) ≡ use_in s ++ others key us
+others-split : (key name : List ℕ) (s : Standing Place) (us : List Use) → IsKeyed name s → bytes_eq key name ≡ false →
+    others key (use_in s ++ us) ≡ use_in s ++ others key us
 others-split key name (IsDeclared number m place) us keyed other = refl
 others-split key name (IsUsed spelling place) us keyed other =
     ap (λ k. cond (not (bytes_eq k key)) (record { name = spelling; place = place } ∷ others key us) (others key us)) keyed
     ∙ ap (λ b. cond (not b) (record { name = spelling; place = place } ∷ others key us) (others key us)) (bytes_eq-sym name key ∙ other)
 
 -- one use more in front, of this name
-others-drop : (key name : List ℕ) (s : Standing Place) (us : List Use) → IsKeyed name s → bytes_eq key name ≡ true → others key (use_in s ++ us) ≡ others key us
+others-drop : (key name : List ℕ) (s : Standing Place) (us : List Use) → IsKeyed name s → bytes_eq key name ≡ true →
+    others key (use_in s ++ us) ≡ others key us
 others-drop key name (IsDeclared number m place) us keyed same = refl
 others-drop key name (IsUsed spelling place) us keyed same =
     ap (λ k. cond (not (bytes_eq k key)) (record { name = spelling; place = place } ∷ others key us) (others key us)) keyed
     ∙ ap (λ b. cond (not b) (record { name = spelling; place = place } ∷ others key us) (others key us)) (bytes_eq-sym name key ∙ same)
 
-others-absent : (key : List ℕ) (names : List (Named Place)) → Sound names → has key names ≡ false → others key (used_of names) ≡ used_of names
+others-absent : (key : List ℕ) (names : List (Named Place)) → Sound names → has key names ≡ false →
+    others key (used_of names) ≡ used_of names
 others-absent key [] sound is = refl
 others-absent key (n ∷ names) sound is =
     let parts = or_parts (bytes_eq key n.name) (has key names) is in
-    others-split key n.name n.standing (used_of names) sound.1 parts.0 ∙ ap (λ u. use_in n.standing ++ u) (others-absent key names sound.2 parts.1)
+    others-split key n.name n.standing (used_of names) sound.1 parts.0
+    ∙ ap (λ u. use_in n.standing ++ u) (others-absent key names sound.2 parts.1)
 
 -- where this name stands first, it stands nowhere else
-others-behind : (key : List ℕ) (n : Named Place) (names : List (Named Place)) → Sound (n ∷ names) → bytes_eq key n.name ≡ true → others key (used_of names) ≡ used_of names
+others-behind : (key : List ℕ) (n : Named Place) (names : List (Named Place)) → Sound (n ∷ names) → bytes_eq key n.name ≡ true →
+    others key (used_of names) ≡ used_of names
 others-behind key n names sound same = others-absent key names sound.2 (ap (λ k. has k names) (same_key key n.name same) ∙ sound.0)
 
 -- a name that is no use
-used_of-known : (key : List ℕ) (names : List (Named Place)) → Sound names → use_at (standing_of key names) ≡ [] → used_of names ≡ others key (used_of names)
+used_of-known : (key : List ℕ) (names : List (Named Place)) → Sound names → use_at (standing_of key names) ≡ [] →
+    used_of names ≡ others key (used_of names)
 used_of-known key [] sound is = refl
 used_of-known key (n ∷ names) sound is = go (bytes_eq key n.name) refl is (used_of-known key names sound.2)
   where
-    go : (t : Bool) → bytes_eq key n.name ≡ t → use_at (cond t (Some n.standing) (standing_of key names)) ≡ [] → (use_at (standing_of key names) ≡ [] → used_of names ≡ others key (used_of names)) → use_in n.standing ++ used_of names ≡ others key (use_in n.standing ++ used_of names)
+    go : (t : Bool) → bytes_eq key n.name ≡ t → use_at (cond t (Some n.standing) (standing_of key names)) ≡ [] →
+        (use_at (standing_of key names) ≡ [] → used_of names ≡ others key (used_of names)) →
+        use_in n.standing ++ used_of names ≡ others key (use_in n.standing ++ used_of names)
     go true e is later =
         ap (λ u. u ++ used_of names) is
         ∙ sym (others-behind key n names sound e)
         ∙ sym (others-drop key n.name n.standing (used_of names) sound.1 e)
     go false e is later = ap (λ u. use_in n.standing ++ u) (later is) ∙ sym (others-split key n.name n.standing (used_of names) sound.1 e)
 
-used_of-declared : (key : List ℕ) (number : ℕ) (m : Meaning) (place : Place) (names : List (Named Place)) → Sound names → used_of (put key (IsDeclared number m place) names) ≡ others key (used_of names)
+used_of-declared : (key : List ℕ) (number : ℕ) (m : Meaning) (place : Place) (names : List (Named Place)) → Sound names →
+    used_of (put key (IsDeclared number m place) names) ≡ others key (used_of names)
 used_of-declared key number m place [] sound = refl
 used_of-declared key number m place (n ∷ names) sound = go (bytes_eq key n.name) refl (used_of-declared key number m place names sound.2)
   where
-    go : (t : Bool) → bytes_eq key n.name ≡ t → used_of (put key (IsDeclared number m place) names) ≡ others key (used_of names) → used_of (cond t (record { name = n.name; standing = IsDeclared number m place } ∷ names) (n ∷ put key (IsDeclared number m place) names)) ≡ others key (use_in n.standing ++ used_of names)
+    go : (t : Bool) → bytes_eq key n.name ≡ t → used_of (put key (IsDeclared number m place) names) ≡ others key (used_of names) → used_of
+        (cond t (record { name = n.name; standing = IsDeclared number m place } ∷ names) (n ∷ put key (IsDeclared number m place) names)) ≡
+        others key (use_in n.standing ++ used_of names)
     go true e later = sym (others-behind key n names sound e) ∙ sym (others-drop key n.name n.standing (used_of names) sound.1 e)
     go false e later = ap (λ u. use_in n.standing ++ u) later ∙ sym (others-split key n.name n.standing (used_of names) sound.1 e)
 
-used_of-declaring : (name : List ℕ) (m : Meaning) (place : Place) (t : Table Place) → Sound t.names → used_of (with_event (Declares name m place) t).names ≡ others (folded name) (used_of t.names)
+used_of-declaring : (name : List ℕ) (m : Meaning) (place : Place) (t : Table Place) → Sound t.names →
+    used_of (with_event (Declares name m place) t).names ≡ others (folded name) (used_of t.names)
 used_of-declaring name m place t sound = go (system_meaning t.is_debugging name) (standing_of (folded name) t.names) (is_full t) refl
   where
     declared : used_of (with_declared name place m t).names ≡ others (folded name) (used_of t.names)
     declared = used_of-declared (folded name) t.declared m place t.names sound
 
-    none : (s : Option (Standing Place)) → standing_of (folded name) t.names ≡ s → use_at s ≡ [] → used_of t.names ≡ others (folded name) (used_of t.names)
+    none : (s : Option (Standing Place)) → standing_of (folded name) t.names ≡ s → use_at s ≡ [] →
+        used_of t.names ≡ others (folded name) (used_of t.names)
     none s is no_use = used_of-known (folded name) t.names sound (ap use_at is ∙ no_use)
 
-    go : (system : Option Meaning) (s : Option (Standing Place)) (full : Bool) → standing_of (folded name) t.names ≡ s → used_of (cond (is_some (declare_fault_by (found_as system s) full)) t (with_declared name place m t)).names ≡ others (folded name) (used_of t.names)
+    go : (system : Option Meaning) (s : Option (Standing Place)) (full : Bool) → standing_of (folded name) t.names ≡ s → used_of
+        (cond (is_some (declare_fault_by (found_as system s) full)) t (with_declared name place m t)).names ≡ others (folded name)
+        (used_of t.names)
     go system (Some (IsDeclared number x first)) full is = none (Some (IsDeclared number x first)) is refl
     go system (Some (IsUsed spelling first)) full is = declared
     go (Some x) None full is = none None is refl
@@ -411,11 +470,14 @@ used_of-declaring name m place t sound = go (system_meaning t.is_debugging name)
     go None None false is = declared
 
 -- a name that is put behind all others
-used_of-put : (key : List ℕ) (s : Standing Place) (names : List (Named Place)) → is_some (standing_of key names) ≡ false → used_of (put key s names) ≡ used_of names ++ use_in s
+used_of-put : (key : List ℕ) (s : Standing Place) (names : List (Named Place)) → is_some (standing_of key names) ≡ false →
+    used_of (put key s names) ≡ used_of names ++ use_in s
 used_of-put key s [] is = append-nil (use_in s)
 used_of-put key s (n ∷ names) is = go (bytes_eq key n.name) is (used_of-put key s names)
   where
-    go : (t : Bool) → is_some (cond t (Some n.standing) (standing_of key names)) ≡ false → (is_some (standing_of key names) ≡ false → used_of (put key s names) ≡ used_of names ++ use_in s) → used_of (cond t (record { name = n.name; standing = s } ∷ names) (n ∷ put key s names)) ≡ (use_in n.standing ++ used_of names) ++ use_in s
+    go : (t : Bool) → is_some (cond t (Some n.standing) (standing_of key names)) ≡ false →
+        (is_some (standing_of key names) ≡ false → used_of (put key s names) ≡ used_of names ++ use_in s) → used_of
+        (cond t (record { name = n.name; standing = s } ∷ names) (n ∷ put key s names)) ≡ (use_in n.standing ++ used_of names) ++ use_in s
     go true is later = cc
     go false is later =
         ap (λ u. use_in n.standing ++ u) (later is) ∙ sym (append_assoc (use_in n.standing) (used_of names) (use_in s))
@@ -427,13 +489,17 @@ is_unknown _ = false
 abbrev one_use : List ℕ → Place → List Use
 one_use name place = record { name = name; place = place } ∷ []
 
-used_of-using : (name : List ℕ) (place : Place) (t : Table Place) → is_too_many (Uses name place) t ≡ false → used_of (with_event (Uses name place) t).names ≡ used_of t.names ++ cond (is_unknown (found_in name t)) (one_use name place) []
+used_of-using : (name : List ℕ) (place : Place) (t : Table Place) → is_too_many (Uses name place) t ≡ false →
+    used_of (with_event (Uses name place) t).names ≡ used_of t.names ++ cond (is_unknown (found_in name t)) (one_use name place) []
 used_of-using name place t room = go (system_meaning t.is_debugging name) (standing_of (folded name) t.names) (is_full t) refl room
   where
     as_it_was : used_of t.names ≡ used_of t.names ++ []
     as_it_was = sym (append-nil (used_of t.names))
 
-    go : (system : Option Meaning) (s : Option (Standing Place)) (full : Bool) → standing_of (folded name) t.names ≡ s → is_some (refer_fault_by (found_as system s) full) ≡ false → used_of (cond (is_some (refer_fault_by (found_as system s) full)) t (with_used_by (found_as system s) name place t)).names ≡ used_of t.names ++ cond (is_unknown (found_as system s)) (one_use name place) []
+    go : (system : Option Meaning) (s : Option (Standing Place)) (full : Bool) → standing_of (folded name) t.names ≡ s → is_some
+        (refer_fault_by (found_as system s) full) ≡ false → used_of
+        (cond (is_some (refer_fault_by (found_as system s) full)) t (with_used_by (found_as system s) name place t)).names ≡ used_of t.names
+        ++ cond (is_unknown (found_as system s)) (one_use name place) []
     go system (Some (IsDeclared number m first)) full is room = as_it_was
     go system (Some (IsUsed spelling first)) full is room = as_it_was
     go (Some m) None full is room = as_it_was
@@ -448,11 +514,14 @@ all_left : (us : List Use) → left [] us ≡ us
 all_left [] = refl
 all_left (u ∷ us) = ap (λ rest. u ∷ rest) (all_left us)
 
-left-others : (name : List ℕ) (m : Meaning) (place : Place) (events : List Event) (us : List Use) → left events (others (folded name) us) ≡ left (Declares name m place ∷ events) us
+left-others : (name : List ℕ) (m : Meaning) (place : Place) (events : List Event) (us : List Use) →
+    left events (others (folded name) us) ≡ left (Declares name m place ∷ events) us
 left-others name m place events [] = refl
 left-others name m place events (u ∷ us) = go (bytes_eq (folded u.name) (folded name)) (left-others name m place events us)
   where
-    go : (t : Bool) → left events (others (folded name) us) ≡ left (Declares name m place ∷ events) us → left events (cond (not t) (u ∷ others (folded name) us) (others (folded name) us)) ≡ cond (not (t || list_any (declares u.name) events)) (u ∷ left (Declares name m place ∷ events) us) (left (Declares name m place ∷ events) us)
+    go : (t : Bool) → left events (others (folded name) us) ≡ left (Declares name m place ∷ events) us → left events
+        (cond (not t) (u ∷ others (folded name) us) (others (folded name) us)) ≡ cond (not (t || list_any (declares u.name) events))
+        (u ∷ left (Declares name m place ∷ events) us) (left (Declares name m place ∷ events) us)
     go true later = later
     go false later = ap (λ rest. cond (not (list_any (declares u.name) events)) (u ∷ rest) rest) later
 
@@ -465,16 +534,19 @@ abbrev fresh : Table Place → List Event → List Use
 fresh t [] = []
 fresh t (e ∷ events) = fresh_use t events e ++ fresh (with_event e t) events
 
-left-fresh : (e : Event) (events : List Event) (t : Table Place) → is_too_many e t ≡ false → Sound t.names → left events (used_of (with_event e t).names) ≡ left (e ∷ events) (used_of t.names) ++ fresh_use t events e
+left-fresh : (e : Event) (events : List Event) (t : Table Place) → is_too_many e t ≡ false → Sound t.names →
+    left events (used_of (with_event e t).names) ≡ left (e ∷ events) (used_of t.names) ++ fresh_use t events e
 left-fresh (Declares name m place) events t room sound =
     ap (left events) (used_of-declaring name m place t sound)
     ∙ left-others name m place events (used_of t.names)
     ∙ sym (append-nil (left (Declares name m place ∷ events) (used_of t.names)))
 left-fresh (Uses name place) events t room sound =
     ap (left events) (used_of-using name place t room)
-    ∙ filter-append (λ u. not (list_any (declares u.name) events)) (used_of t.names) (cond (is_unknown (found_in name t)) (one_use name place) [])
+    ∙ filter-append (λ u. not (list_any (declares u.name) events)) (used_of t.names)
+    (cond (is_unknown (found_in name t)) (one_use name place) [])
 
-used_then : (events : List Event) (t : Table Place) → HaveRoom events t → Sound t.names → used_of (with_events events t).names ≡ left events (used_of t.names) ++ fresh t events
+used_then : (events : List Event) (t : Table Place) → HaveRoom events t → Sound t.names →
+    used_of (with_events events t).names ≡ left events (used_of t.names) ++ fresh t events
 used_then [] t room sound = sym (append-nil (left [] (used_of t.names)) ∙ all_left (used_of t.names))
 used_then (e ∷ events) t room sound =
     used_then events (with_event e t) room.1 (sound-event e t sound)
@@ -487,21 +559,26 @@ first_declared name [] = refl
 first_declared name (Uses other place ∷ events) = first_declared name events
 first_declared name (Declares other m place ∷ events) = go (bytes_eq (folded name) (folded other)) (first_declared name events)
   where
-    go : (b : Bool) → is_some (first_declaration name events) ≡ list_any (declares name) events → is_some (cond b (Some (m, place)) (first_declaration name events)) ≡ (b || list_any (declares name) events)
+    go : (b : Bool) → is_some (first_declaration name events) ≡ list_any (declares name) events →
+        is_some (cond b (Some (m, place)) (first_declaration name events)) ≡ (b || list_any (declares name) events)
     go true later = refl
     go false later = later
 
-fresh-is_undeclared : (debugging : Bool) (e : Event) (before events : List Event) (t : Table Place) → AreOf debugging before t → fresh_use t events e ≡ undeclared_use debugging (before ++ e ∷ events) before e
+fresh-is_undeclared : (debugging : Bool) (e : Event) (before events : List Event) (t : Table Place) → AreOf debugging before t →
+    fresh_use t events e ≡ undeclared_use debugging (before ++ e ∷ events) before e
 fresh-is_undeclared debugging (Declares name m place) before events t of = refl
 fresh-is_undeclared debugging (Uses name place) before events t of =
     let system = system_meaning debugging name in
     ap (λ f. left events (cond (is_unknown f) (one_use name place) [])) (of name)
     ∙ go system (first_declaration name before) (list_any (uses name) before) (list_any (declares name) events) refl
-    ∙ ap (λ b. cond (is_some system) [] (cond ((b || list_any (declares name) events) || list_any (uses name) before) [] (one_use name place))) (first_declared name before)
-    ∙ ap (λ b. cond (is_some system) [] (cond (b || list_any (uses name) before) [] (one_use name place))) (sym (any-append (declares name) before (Uses name place ∷ events)))
+    ∙ ap (λ b. cond (is_some system) [] (cond ((b || list_any (declares name) events) || list_any (uses name) before) []
+    (one_use name place))) (first_declared name before)
+    ∙ ap (λ b. cond (is_some system) [] (cond (b || list_any (uses name) before) [] (one_use name place)))
+    (sym (any-append (declares name) before (Uses name place ∷ events)))
   where
     go : (system : Option Meaning) (first : Option (Meaning × Place)) (is_used later : Bool) → list_any (declares name) events ≡ later
-        → left events (cond (is_unknown (stands_for system first is_used)) (one_use name place) []) ≡ cond (is_some system) [] (cond ((is_some first || later) || is_used) [] (one_use name place))
+        → left events (cond (is_unknown (stands_for system first is_used)) (one_use name place) []) ≡ cond (is_some system) []
+        (cond ((is_some first || later) || is_used) [] (one_use name place))
     go (Some m) first is_used later e = refl
     go None (Some d) is_used later e = refl
     go None None true true e = refl
@@ -509,7 +586,8 @@ fresh-is_undeclared debugging (Uses name place) before events t of =
     go None None false true e = ap (λ b. cond (not b) (one_use name place) []) e
     go None None false false e = ap (λ b. cond (not b) (one_use name place) []) e
 
-fresh_are_undeclared : (debugging : Bool) (events before : List Event) (t : Table Place) → HaveRoom events t → AreOf debugging before t → fresh t events ≡ undeclared_uses debugging (before ++ events) before events
+fresh_are_undeclared : (debugging : Bool) (events before : List Event) (t : Table Place) → HaveRoom events t → AreOf debugging before t →
+    fresh t events ≡ undeclared_uses debugging (before ++ events) before events
 fresh_are_undeclared debugging [] before t room of = refl
 fresh_are_undeclared debugging (e ∷ events) before t room of =
     ap (λ u. u ++ fresh (with_event e t) events) (fresh-is_undeclared debugging e before events t of)
@@ -521,4 +599,5 @@ pub undeclared_are_told : UndeclaredAreTold
 undeclared_are_told files limit debugging events r room =
     let begun : Table Place = no_names limit debugging in
     told files (with_events events begun).names r
-    ∙ ap (λ us. with_uses_told files us r) (used_then events begun room tt ∙ fresh_are_undeclared debugging events [] begun room (nothing_known limit debugging))
+    ∙ ap (λ us. with_uses_told files us r) (used_then events begun room tt ∙ fresh_are_undeclared debugging events [] begun room
+    (nothing_known limit debugging))

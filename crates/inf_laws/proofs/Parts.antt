@@ -47,7 +47,8 @@ use Rattle.inf_laws.proofs.PartTokens.{AreProper, gives, gives_sign, gives_some,
 
 -- Behind a `#` no piece ends
 
-last_kept : (before : List Given) (h : Given) (tokens : List Seen) → before ++ h ∷ [] ≡ map Kept tokens → (front : List Seen) × (x : Seen) × (tokens ≡ front ++ x ∷ []) × (h ≡ Kept x)
+last_kept : (before : List Given) (h : Given) (tokens : List Seen) → before ++ h ∷ [] ≡ map Kept tokens →
+    (front : List Seen) × (x : Seen) × (tokens ≡ front ++ x ∷ []) × (h ≡ Kept x)
 last_kept [] h [] e = cc
 last_kept [] h (x ∷ []) e = ([], x, refl, cc)
 last_kept [] h (x ∷ y ∷ tokens) e = cc
@@ -61,7 +62,8 @@ none_behind : (ys : List Given) (w : Given) (behind : List Given) → [] ≡ ys 
 none_behind [] w behind e = cc
 none_behind (y ∷ ys) w behind e = cc
 
-last_behind : (xs : List Given) (h : Given) (ys : List Given) (w : Given) (behind : List Given) → xs ++ h ∷ [] ≡ ys ++ w ∷ behind → (front : List Given) × (w ∷ behind ≡ front ++ h ∷ [])
+last_behind : (xs : List Given) (h : Given) (ys : List Given) (w : Given) (behind : List Given) → xs ++ h ∷ [] ≡ ys ++ w ∷ behind →
+    (front : List Given) × (w ∷ behind ≡ front ++ h ∷ [])
 last_behind xs h [] w behind e = (xs, sym e)
 last_behind [] h (y ∷ ys) w behind e = absurd (none_behind ys w behind (cc))
 last_behind (x ∷ xs) h (y ∷ ys) w behind e = last_behind xs h ys w behind (cc)
@@ -88,15 +90,18 @@ passed_hash mode.Ended = refl
 no_end : true ≡ false → ⊥
 no_end e = cc
 
-hash_goes : (before : List Given) (h : Given) (place : Place) (r : Reading) → token_in h ≡ hash place → Now (before ++ h ∷ []) r → rests r ≡ false
+hash_goes : (before : List Given) (h : Given) (place : Place) (r : Reading) → token_in h ≡ hash place → Now (before ++ h ∷ []) r →
+    rests r ≡ false
 hash_goes before h place r is (Inside tokens e at some) = goes_inside r at.reads some
 hash_goes before h place r is (Whole tokens e piece at) =
     let l = last_kept before h tokens e in
     let token : l.1.token ≡ hash place = ap token_in (sym l.3) ∙ is in
-    let atom : seen_atom l.1 ≡ mark_atom mark.Hash = ap (λ (t : SourceToken). seen_atom (record { token = t; is_class = l.1.is_class })) token in
+    let atom : seen_atom l.1 ≡ mark_atom mark.Hash =
+    ap (λ (t : SourceToken). seen_atom (record { token = t; is_class = l.1.is_class })) token in
     let atoms : map seen_atom tokens ≡ map seen_atom l.0 ++ mark_atom mark.Hash ∷ [] =
     ap (map seen_atom) l.2 ∙ map-append seen_atom l.0 (l.1 ∷ []) ∙ ap (λ a. map seen_atom l.0 ++ a ∷ []) atom in
-    absurd (no_piece_ends_with_a_hash (map seen_atom l.0) piece.events (subst (λ xs. IsText grammar (Rule piece_rule ∷ []) xs piece.events) atoms piece.is_text))
+    absurd (no_piece_ends_with_a_hash (map seen_atom l.0) piece.events
+    (subst (λ xs. IsText grammar (Rule piece_rule ∷ []) xs piece.events) atoms piece.is_text))
 hash_goes before h place r is (Skips tokens wrong behind e begun bad at) =
     let m = skip_behind (map seen_atom tokens) in
     let l = last_behind before h (map Kept tokens) wrong behind e in
@@ -122,7 +127,8 @@ one_more before g r (Some_yet now on) = next g before r now on
 same_goes : (before : List Given) (r : Reading) → Goes before r → Goes (before ++ []) r
 same_goes before r goes = subst (λ gs. Goes gs r) (sym (append-nil before)) goes
 
-sign_goes : (o : Option Sign) (w : Compilation) (before : List Given) (r : Reading) → Goes before r → Goes (before ++ given_sign o w) (all_given_to (given_sign o w) r)
+sign_goes : (o : Option Sign) (w : Compilation) (before : List Given) (r : Reading) → Goes before r →
+    Goes (before ++ given_sign o w) (all_given_to (given_sign o w) r)
 sign_goes None w before r goes = same_goes before r goes
 sign_goes (Some sign) w before r goes = go sign.handed
   where
@@ -148,18 +154,22 @@ no_item : (xs : List Given) (g : Given) → xs ++ g ∷ [] ≡ [] → ⊥
 no_item [] g e = cc
 no_item (x ∷ xs) g e = cc
 
-one_comes : (before signed : List Given) (g : Given) (r : Reading) → Goes (before ++ signed) r → Comes before (signed ++ g ∷ []) (given_to g r)
+one_comes : (before signed : List Given) (g : Given) (r : Reading) → Goes (before ++ signed) r →
+    Comes before (signed ++ g ∷ []) (given_to g r)
 one_comes before signed g r goes =
     let all = append_assoc before signed (g ∷ []) in
-    let now : Now (before ++ (signed ++ g ∷ [])) (given_to g r) = subst (λ gs. Now gs (given_to g r)) all (one_more (before ++ signed) g r goes) in
+    let now : Now (before ++ (signed ++ g ∷ [])) (given_to g r) =
+    subst (λ gs. Now gs (given_to g r)) all (one_more (before ++ signed) g r goes) in
     elim (bool_of (rests (given_to g r))) [
       | inl rest_now ↦ Rests now rest_now (no_item signed g)
       | inr going ↦ Still (Some_yet now going)
     ]
 
-token_comes : (o : Option Forwarded) (t : SourceToken) (w : Compilation) (before signed : List Given) (r : Reading) → Goes (before ++ signed) r → Comes before (signed ++ given_token o t w) (all_given_to (given_token o t w) r)
+token_comes : (o : Option Forwarded) (t : SourceToken) (w : Compilation) (before signed : List Given) (r : Reading) →
+    Goes (before ++ signed) r → Comes before (signed ++ given_token o t w) (all_given_to (given_token o t w) r)
 token_comes None t w before signed r goes = Still (subst (λ gs. Goes (before ++ gs) r) (sym (append-nil signed)) goes)
-token_comes (Some handed.Kept) t w before signed r goes = one_comes before signed (Kept (record { token = t; is_class = is_class t w })) r goes
+token_comes (Some handed.Kept) t w before signed r goes =
+    one_comes before signed (Kept (record { token = t; is_class = is_class t w })) r goes
 token_comes (Some handed.Unfit) t w before signed r goes = one_comes before signed (Unfit t) r goes
 token_comes (Some handed.Condition) t w before signed r goes = Still (subst (λ gs. Goes (before ++ gs) r) (sym (append-nil signed)) goes)
 
@@ -177,15 +187,19 @@ step_comes before s goes =
 
 -- The conditionals behind a turn
 
-carried_out_same : (sources : Sources) (o : Choices) (s : State) → ((carried_out sources o s).conditions.pending ≡ s.conditions.pending) × ((carried_out sources o s).conditions.left_out ≡ s.conditions.left_out)
+carried_out_same : (sources : Sources) (o : Choices) (s : State) → ((carried_out sources o s).conditions.pending ≡ s.conditions.pending) ×
+    ((carried_out sources o s).conditions.left_out ≡ s.conditions.left_out)
 carried_out_same sources o s =
-    of_both Same s.work.report.counts.is_over s (cond (is_mode_ended s.reading.mode) (left s) (answered s.work.asked sources o (asked_nothing s))) (λ _. (refl, refl))
-    (λ _. of_both Same (is_mode_ended s.reading.mode) (left s) (answered s.work.asked sources o (asked_nothing s)) (λ _. left_same s.nesting.waiting) (λ _. asked_same s.work.asked))
+    of_both Same s.work.report.counts.is_over s (cond (is_mode_ended s.reading.mode) (left s)
+    (answered s.work.asked sources o (asked_nothing s))) (λ _. (refl, refl))
+    (λ _. of_both Same (is_mode_ended s.reading.mode) (left s) (answered s.work.asked sources o (asked_nothing s))
+    (λ _. left_same s.nesting.waiting) (λ _. asked_same s.work.asked))
   where
     Same : State → Type 0
     Same x = (x.conditions.pending ≡ s.conditions.pending) × (x.conditions.left_out ≡ s.conditions.left_out)
 
-    files_same : (waiting : List (List Conditional)) → ((file_left_to waiting s.conditions).pending ≡ s.conditions.pending) × ((file_left_to waiting s.conditions).left_out ≡ s.conditions.left_out)
+    files_same : (waiting : List (List Conditional)) → ((file_left_to waiting s.conditions).pending ≡ s.conditions.pending) ×
+        ((file_left_to waiting s.conditions).left_out ≡ s.conditions.left_out)
     files_same [] = (refl, refl)
     files_same (c ∷ waiting) = (refl, refl)
 
@@ -209,7 +223,8 @@ carried_out_same sources o s =
 
 rested_pending : (s : State) → (rested s).conditions.pending ≡ s.conditions.pending
 rested_pending s =
-    of_both (λ (x : State). x.conditions.pending ≡ s.conditions.pending) (has_ended s) s (cond (is_resting s) (piece_closed s) s) (λ _. refl)
+    of_both (λ (x : State). x.conditions.pending ≡ s.conditions.pending) (has_ended s) s (cond (is_resting s) (piece_closed s) s)
+    (λ _. refl)
     (λ _. of_both (λ (x : State). x.conditions.pending ≡ s.conditions.pending) (is_resting s) (piece_closed s) s (λ _. refl) (λ _. refl))
 
 rested_left : (s : State) → s.conditions.left_out ≡ None → (rested s).conditions.left_out ≡ None
@@ -220,7 +235,8 @@ rested_left s all =
 turn_pending : (sources : Sources) (o : Choices) (s : State) → (turn sources o s).conditions.pending ≡ (stepped s).conditions.pending
 turn_pending sources o s = rested_pending (carried_out sources o (stepped s)) ∙ (carried_out_same sources o (stepped s)).0
 
-turn_left : (sources : Sources) (o : Choices) (s : State) → (stepped s).conditions.left_out ≡ None → (turn sources o s).conditions.left_out ≡ None
+turn_left : (sources : Sources) (o : Choices) (s : State) → (stepped s).conditions.left_out ≡ None →
+    (turn sources o s).conditions.left_out ≡ None
 turn_left sources o s all = rested_left (carried_out sources o (stepped s)) ((carried_out_same sources o (stepped s)).1 ∙ all)
 
 abbrev Proper : State → Type 0
@@ -290,14 +306,16 @@ ended_parts s e =
 clear_parts : (s : State) → s.reading ≡ between mode.Reads → s.conditions.pending ≡ [] → s.conditions.left_out ≡ None → is_parted s ≡ true
 clear_parts s fresh none all =
     let parts : may_part s.conditions ≡ true =
-    ap (λ ps. may_part (record s.conditions { pending = ps })) none ∙ ap (λ l. may_part (record s.conditions { pending = []; left_out = l })) all in
+    ap (λ ps. may_part (record s.conditions { pending = ps })) none
+    ∙ ap (λ l. may_part (record s.conditions { pending = []; left_out = l })) all in
     ap (λ (r : Reading). has_ended s || ((site_of r).is_between && may_part s.conditions)) fresh
     ∙ ap (λ b. has_ended s || b) parts
     ∙ or_true (has_ended s)
 
 -- at the end of a file reading goes on between two pieces, or ends
 left_ends : (s : State) (waiting : List Cursor) → is_mode_ended s.reading.mode ≡ true → s.reading.stack ≡ []
-    → (is_mode_ended (left_by waiting (file_closed s)).reading.mode ≡ true) ⊎ ((left_by waiting (file_closed s)).reading ≡ between mode.Reads)
+    → (is_mode_ended (left_by waiting (file_closed s)).reading.mode ≡ true) ⊎
+    ((left_by waiting (file_closed s)).reading ≡ between mode.Reads)
 left_ends s [] e empty = inl e
 left_ends s (c ∷ waiting) e empty = inr (ap (λ stack. record { mode = mode.Reads; stack = stack }) empty)
 
@@ -307,14 +325,17 @@ carried_out_ends sources o s e empty =
     of_both (λ (x : State). (is_mode_ended x.reading.mode ≡ true) ⊎ (x.reading ≡ between mode.Reads)) s.work.report.counts.is_over s
     (cond (is_mode_ended s.reading.mode) (left s) (answered s.work.asked sources o (asked_nothing s)))
     (λ _. inl e)
-    (λ _. subst (λ b. (is_mode_ended (cond b (left s) (answered s.work.asked sources o (asked_nothing s))).reading.mode ≡ true) ⊎ ((cond b (left s) (answered s.work.asked sources o (asked_nothing s))).reading ≡ between mode.Reads))
+    (λ _. subst (λ b. (is_mode_ended (cond b (left s) (answered s.work.asked sources o (asked_nothing s))).reading.mode ≡ true) ⊎
+    ((cond b (left s) (answered s.work.asked sources o (asked_nothing s))).reading ≡ between mode.Reads))
     (sym e) (left_ends s s.nesting.waiting e empty))
 
 -- what rests is between two pieces, or at the end
-now_rests : (given : List Given) (r : Reading) → Now given r → rests r ≡ true → (r ≡ between mode.Reads) ⊎ ((is_mode_ended r.mode ≡ true) × (r.stack ≡ []))
+now_rests : (given : List Given) (r : Reading) → Now given r → rests r ≡ true →
+    (r ≡ between mode.Reads) ⊎ ((is_mode_ended r.mode ≡ true) × (r.stack ≡ []))
 now_rests given r (Inside tokens e at some) rest_now = absurd (no_end (sym rest_now ∙ goes_inside r at.reads some))
 now_rests given r (Whole tokens e piece at) rest_now = inl at
-now_rests given r (Skips tokens wrong behind e begun bad at) rest_now = go (skipped (skip_behind (map seen_atom tokens)) (wrong ∷ behind)) at
+now_rests given r (Skips tokens wrong behind e begun bad at) rest_now =
+    go (skipped (skip_behind (map seen_atom tokens)) (wrong ∷ behind)) at
   where
     go : (m : Recovery) → r ≡ between m → (r ≡ between mode.Reads) ⊎ ((is_mode_ended r.mode ≡ true) × (r.stack ≡ []))
     go mode.Reads same = inl same
@@ -326,14 +347,17 @@ now_rests given r (Ended t e ends at) rest_now = inr (ap (λ (x : Reading). is_m
 going_on : (m : Recovery) → m ≡ mode.Reads → is_mode_ended m ≡ false
 going_on m e = ap is_mode_ended e
 
-rests_parts : (sources : Sources) (o : Choices) (s : State) (given : List Given) → Now given (stepped s).reading → rests (stepped s).reading ≡ true → IsClear (stepped s) → is_parted (turn sources o s) ≡ true
+rests_parts : (sources : Sources) (o : Choices) (s : State) (given : List Given) → Now given (stepped s).reading →
+    rests (stepped s).reading ≡ true → IsClear (stepped s) → is_parted (turn sources o s) ≡ true
 rests_parts sources o s given now rest_now clear =
     let none = turn_pending sources o s ∙ clear.0 in
     let all = turn_left sources o s clear.1 in
     elim (now_rests given (stepped s).reading now rest_now) [
-      | inl fresh ↦ clear_parts (turn sources o s) (turn_reading sources o s (ap (λ (r : Reading). is_mode_ended r.mode) fresh) ∙ fresh) none all
+      | inl fresh ↦ clear_parts (turn sources o s) (turn_reading sources o s (ap (λ (r : Reading). is_mode_ended r.mode) fresh) ∙ fresh)
+          none all
       | inr ended ↦ elim (carried_out_ends sources o (stepped s) ended.0 ended.1) [
-        | inl over ↦ ended_parts (turn sources o s) (ap (λ (r : Reading). is_mode_ended r.mode) (rested_reading (carried_out sources o (stepped s))) ∙ over)
+        | inl over ↦ ended_parts (turn sources o s)
+            (ap (λ (r : Reading). is_mode_ended r.mode) (rested_reading (carried_out sources o (stepped s))) ∙ over)
         | inr fresh ↦ clear_parts (turn sources o s) (rested_reading (carried_out sources o (stepped s)) ∙ fresh) none all
       ]
     ]
@@ -344,11 +368,14 @@ rests_goes : (given : List Given) (r : Reading) → Goes given r → is_mode_end
 rests_goes given r (None_yet e fresh) = ap (λ (x : Reading). is_mode_ended x.mode) fresh
 rests_goes given r (Some_yet now on) = (or_parts (reads r.mode && is_empty r.stack) (is_mode_ended r.mode) on).1
 
-goes_behind : (sources : Sources) (o : Choices) (before : List Given) (s : State) → Proper s → Goes before s.reading → is_parted (turn sources o s) ≡ false → Goes (before ++ given_by s) (turn sources o s).reading
+goes_behind : (sources : Sources) (o : Choices) (before : List Given) (s : State) → Proper s → Goes before s.reading →
+    is_parted (turn sources o s) ≡ false → Goes (before ++ given_by s) (turn sources o s).reading
 goes_behind sources o before s proper goes on =
     elim (step_comes before s goes) [
-      | Still on_now ↦ subst (λ (r : Reading). Goes (before ++ given_by s) r) (sym (turn_reading sources o s (rests_goes (before ++ given_by s) (stepped s).reading on_now))) on_now
-      | Rests now rest_now some ↦ absurd (no_end (sym (rests_parts sources o s (before ++ given_by s) now rest_now (clear_behind s proper some)) ∙ on))
+      | Still on_now ↦ subst (λ (r : Reading). Goes (before ++ given_by s) r)
+          (sym (turn_reading sources o s (rests_goes (before ++ given_by s) (stepped s).reading on_now))) on_now
+      | Rests now rest_now some ↦ absurd (no_end (sym (rests_parts sources o s (before ++ given_by s) now rest_now
+          (clear_behind s proper some)) ∙ on))
     ]
 
 -- what comes of the last of them
@@ -360,20 +387,25 @@ last_stands before given r (Still (None_yet e fresh)) = inl e
 last_stands before given r (Still (Some_yet now on)) = inr (stands (before ++ given) r now)
 last_stands before given r (Rests now rest_now some) = inr (stands (before ++ given) r now)
 
-turns_stand : (sources : Sources) (o : Choices) (n : ℕ) (before : List Given) (s : State) → Proper s → Goes before s.reading → StayInPart sources o n s
+turns_stand : (sources : Sources) (o : Choices) (n : ℕ) (before : List Given) (s : State) → Proper s → Goes before s.reading →
+    StayInPart sources o n s
     → LastOf (before ++ given_in sources o (suc n) s) (stepped (turned sources o n s)).reading
 turns_stand sources o zero before s proper goes stay =
-    subst (λ gs. LastOf (before ++ gs) (stepped s).reading) (sym (append-nil (given_by s))) (last_stands before (given_by s) (stepped s).reading (step_comes before s goes))
+    subst (λ gs. LastOf (before ++ gs) (stepped s).reading) (sym (append-nil (given_by s)))
+    (last_stands before (given_by s) (stepped s).reading (step_comes before s goes))
 turns_stand sources o (suc n) before s proper goes stay =
     let now = turn sources o s in
     subst (λ gs. LastOf gs (stepped (turned sources o n now)).reading) (append_assoc before (given_by s) (given_in sources o (suc n) now))
-    (turns_stand sources o n (before ++ given_by s) now (turn_proper sources o s proper) (goes_behind sources o before s proper goes stay.0) stay.1)
+    (turns_stand sources o n (before ++ given_by s) now (turn_proper sources o s proper) (goes_behind sources o before s proper goes stay.0)
+    stay.1)
 
-turns_go : (sources : Sources) (o : Choices) (n : ℕ) (before : List Given) (s : State) → Proper s → Goes before s.reading → StayInPart sources o n s
+turns_go : (sources : Sources) (o : Choices) (n : ℕ) (before : List Given) (s : State) → Proper s → Goes before s.reading →
+    StayInPart sources o n s
     → (given : List Given) × Goes given (turned sources o n s).reading
 turns_go sources o zero before s proper goes stay = (before, goes)
 turns_go sources o (suc n) before s proper goes stay =
-    turns_go sources o n (before ++ given_by s) (turn sources o s) (turn_proper sources o s proper) (goes_behind sources o before s proper goes stay.0) stay.1
+    turns_go sources o n (before ++ given_by s) (turn sources o s) (turn_proper sources o s proper)
+    (goes_behind sources o before s proper goes stay.0) stay.1
 
 start_proper : (sources : Sources) (o : Choices) (name : List ℕ) (m : ℕ) → Proper (turned sources o m (start sources o name))
 start_proper sources o name m = all_proper sources o m (start sources o name) tt
@@ -382,7 +414,8 @@ pub parts_are_pieces : PartsArePieces
 parts_are_pieces sources o name m n fresh stay =
     turns_stand sources o n [] (turned sources o m (start sources o name)) (start_proper sources o name m) (None_yet refl fresh) stay
 
-rests_end : (sources : Sources) (o : Choices) (before : List Given) (s : State) → Proper s → Goes before s.reading → (given_by s ≡ [] → ⊥) → rests (stepped s).reading ≡ true → is_parted (turn sources o s) ≡ true
+rests_end : (sources : Sources) (o : Choices) (before : List Given) (s : State) → Proper s → Goes before s.reading → (given_by s ≡ [] → ⊥) →
+    rests (stepped s).reading ≡ true → is_parted (turn sources o s) ≡ true
 rests_end sources o before s proper goes some rest_now =
     elim (step_comes before s goes) [
       | Still on ↦ still on

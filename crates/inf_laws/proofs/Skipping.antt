@@ -72,12 +72,15 @@ module _ (m : Mark) (before after : Recovery) (passes : Passes m before after) w
   first_stays : (g : Given) (given : List Given) → Lack m (g ∷ given) → passed before (token_in g).kind ≡ before
   first_stays g given lack =
       let k = (token_in g).kind in
-      let parts = or_parts (is_mark m k) (is_end k) (not-true (is_mark m k || is_end k) (and_parts (not (is_mark m k || is_end k)) (list_all (λ g. not (is_mark m (token_in g).kind || is_end (token_in g).kind)) given) lack).0) in
+      let parts = or_parts (is_mark m k) (is_end k)
+      (not-true (is_mark m k || is_end k) (and_parts (not (is_mark m k || is_end k))
+      (list_all (λ g. not (is_mark m (token_in g).kind || is_end (token_in g).kind)) given) lack).0) in
       passes.stays k parts.1 parts.0
 
   rest_lacks : (g : Given) (given : List Given) → Lack m (g ∷ given) → Lack m given
   rest_lacks g given lack =
-      (and_parts (not (is_mark m (token_in g).kind || is_end (token_in g).kind)) (list_all (λ g. not (is_mark m (token_in g).kind || is_end (token_in g).kind)) given) lack).1
+      (and_parts (not (is_mark m (token_in g).kind || is_end (token_in g).kind))
+      (list_all (λ g. not (is_mark m (token_in g).kind || is_end (token_in g).kind)) given) lack).1
 
   -- each front of what is before the mark leads nowhere
   front_stays : (inside : List Given) (n : ℕ) → Lack m inside → n ≤ length inside → skipped before (take n inside) ≡ before
@@ -87,7 +90,8 @@ module _ (m : Mark) (before after : Recovery) (passes : Passes m before after) w
       ap (λ x. skipped x (take n given)) (first_stays g given lack) ∙ front_stays given n (rest_lacks g given lack) (omega arith)
 
   -- the mark leads on
-  goes_on : (inside : List Given) (g : Given) (behind : List Given) → Lack m inside → is_mark m (token_in g).kind ≡ true → skipped before (inside ++ g ∷ behind) ≡ skipped after behind
+  goes_on : (inside : List Given) (g : Given) (behind : List Given) → Lack m inside → is_mark m (token_in g).kind ≡ true →
+      skipped before (inside ++ g ∷ behind) ≡ skipped after behind
   goes_on [] g behind lack is = ap (λ x. skipped x behind) (passes.leaves (token_in g).kind is)
   goes_on (x ∷ inside) g behind lack is =
       ap (λ y. skipped y (inside ++ g ∷ behind)) (first_stays x inside lack) ∙ goes_on inside g behind (rest_lacks x inside lack) is
@@ -99,7 +103,9 @@ module _ (m : Mark) (before after : Recovery) (passes : Passes m before after) w
   }
 
 pub directives_are_skipped : DirectivesAreSkipped
-directives_are_skipped inside semicolon lack is = passes_to mark.Semicolon mode.SkipsDirective mode.Reads in_directive inside semicolon lack is
+directives_are_skipped inside semicolon lack is =
+    passes_to mark.Semicolon mode.SkipsDirective mode.Reads in_directive inside semicolon lack is
 
 pub routines_are_skipped : RoutinesAreSkipped
-routines_are_skipped inside bracket lack is = passes_to mark.CloseBracket mode.SkipsRoutine mode.SkipsDirective in_routine inside bracket lack is
+routines_are_skipped inside bracket lack is =
+    passes_to mark.CloseBracket mode.SkipsRoutine mode.SkipsDirective in_routine inside bracket lack is

@@ -58,32 +58,39 @@ some_at t tokens s at on =
 
 open_stack : (stack : List (Symbol Action)) (r : Reading) → r.mode ≡ mode.Reads → r.stack ≡ stack → rests r ≡ false → stack ≡ [] → ⊥
 open_stack stack r reads e on empty =
-    let same : r ≡ between mode.Reads = ap (λ m. record { mode = m; stack = r.stack }) reads ∙ ap (λ x. record { mode = mode.Reads; stack = x }) (e ∙ empty) in
+    let same : r ≡ between mode.Reads =
+    ap (λ m. record { mode = m; stack = r.stack }) reads ∙ ap (λ x. record { mode = mode.Reads; stack = x }) (e ∙ empty) in
     let never : true ≡ false = sym (ap rests same) ∙ on in
     cc
 
 -- The token
 
-module _ (files : FileNames) (tokens : List Seen) (t : Seen) (r : Reading) (w : Compilation) (at : At tokens r) (is_seen : t.is_class ≡ is_class t.token w) where
-  as_seen : (b : Bool) → fits grammar known (atom_as (is_class t.token w) t.token) r.stack ≡ b → fits grammar known (seen_atom t) r.stack ≡ b
+module _ (files : FileNames) (tokens : List Seen) (t : Seen) (r : Reading) (w : Compilation) (at : At tokens r)
+    (is_seen : t.is_class ≡ is_class t.token w) where
+  as_seen : (b : Bool) → fits grammar known (atom_as (is_class t.token w) t.token) r.stack ≡ b →
+      fits grammar known (seen_atom t) r.stack ≡ b
   as_seen b f = ap (λ c. fits grammar known (atom_as c t.token) r.stack) is_seen ∙ f
 
   takes : BeginsPiece (map seen_atom (tokens ++ t ∷ [])) → judged files t.token r w ≡ took files t.token r w
   takes begun =
-      of_both (λ (x : ReaderState). x ≡ took files t.token r w) (fits grammar known (atom_as (is_class t.token w) t.token) r.stack) (took files t.token r w) (bad files t.token r w)
+      of_both (λ (x : ReaderState). x ≡ took files t.token r w) (fits grammar known (atom_as (is_class t.token w) t.token) r.stack)
+      (took files t.token r w) (bad files t.token r w)
       (λ _. refl)
       (λ out. absurd (stops tokens r t at (as_seen false out) begun))
 
   tells : (BeginsPiece (map seen_atom (tokens ++ t ∷ [])) → ⊥) → judged files t.token r w ≡ bad files t.token r w
   tells none =
-      of_both (λ (x : ReaderState). x ≡ bad files t.token r w) (fits grammar known (atom_as (is_class t.token w) t.token) r.stack) (took files t.token r w) (bad files t.token r w)
+      of_both (λ (x : ReaderState). x ≡ bad files t.token r w) (fits grammar known (atom_as (is_class t.token w) t.token) r.stack)
+      (took files t.token r w) (bad files t.token r w)
       (λ f. absurd (none (begins (tokens ++ t ∷ []) _ (goes tokens r t at (as_seen true f)))))
       (λ _. refl)
 
 -- how it comes to be judged
-comes : (files : FileNames) (t : SourceToken) (stack : List (Symbol Action)) (r : Reading) (w : Compilation) → (is_end t.kind ≡ false) ⊎ (stack ≡ [] → ⊥)
+comes : (files : FileNames) (t : SourceToken) (stack : List (Symbol Action)) (r : Reading) (w : Compilation) →
+    (is_end t.kind ≡ false) ⊎ (stack ≡ [] → ⊥)
     → read_at files t stack r w ≡ judged files t (at_hand_by stack r) (work_by stack w)
-comes files t [] r w (inl going) = ap (λ b. cond b (record { reading = record r { mode = mode.Ended }; work = w }) (judged files t (piece_begun r) (work_begun w))) going
+comes files t [] r w (inl going) =
+    ap (λ b. cond b (record { reading = record r { mode = mode.Ended }; work = w }) (judged files t (piece_begun r) (work_begun w))) going
 comes files t [] r w (inr some) = absurd (some refl)
 comes files t (symbol ∷ symbols) r w going = refl
 
@@ -101,10 +108,12 @@ hand_at : (tokens : List Seen) (s : ReaderState) → IsAt tokens s → (tokens �
 hand_at [] s at is_open = subst (λ (r : Reading). At [] (at_hand r)) (sym at.is_read) no_token
 hand_at (t ∷ tokens) s at (inl none) = cc
 hand_at (t ∷ tokens) s at (inr on) =
-    subst (λ (r : Reading). At (t ∷ tokens) r) (sym (is_at_hand s.reading.stack s.reading (open_stack s.reading.stack s.reading at.reads refl on)))
+    subst (λ (r : Reading). At (t ∷ tokens) r) (sym (is_at_hand s.reading.stack s.reading
+    (open_stack s.reading.stack s.reading at.reads refl on)))
     (some_at t tokens s at on)
 
-goes_by : (t : SourceToken) (s : ReaderState) → s.reading.mode ≡ mode.Reads → (is_end t.kind ≡ false) ⊎ (rests s.reading ≡ false) → (is_end t.kind ≡ false) ⊎ (s.reading.stack ≡ [] → ⊥)
+goes_by : (t : SourceToken) (s : ReaderState) → s.reading.mode ≡ mode.Reads → (is_end t.kind ≡ false) ⊎ (rests s.reading ≡ false) →
+    (is_end t.kind ≡ false) ⊎ (s.reading.stack ≡ [] → ⊥)
 goes_by t s reads (inl going) = inl going
 goes_by t s reads (inr on) = inr (open_stack s.reading.stack s.reading reads refl on)
 

@@ -35,8 +35,11 @@ with_named-marks : (name : List ℕ) (ls : List Local) → AreDifferent ls → w
 with_named-marks name [] d = refl
 with_named-marks name (l ∷ ls) d = go (str_eq_ignore_ascii_case l.name name) refl (with_named-marks name ls d.1)
   where
-    go : (t : Bool) → str_eq_ignore_ascii_case l.name name ≡ t → with_named name ls ≡ map (marked (is_same name)) ls → cond t (record { name = l.name; place = l.place; is_named = true } ∷ ls) (l ∷ with_named name ls) ≡ record { name = l.name; place = l.place; is_named = t || l.is_named } ∷ map (marked (is_same name)) ls
-    go true e later = ap (λ rest. record { name = l.name; place = l.place; is_named = true } ∷ rest) (sym (none_marked name ls (sym (is_local-same l.name name ls (same_names l.name name e)) ∙ d.0)))
+    go : (t : Bool) → str_eq_ignore_ascii_case l.name name ≡ t → with_named name ls ≡ map (marked (is_same name)) ls → cond t
+        (record { name = l.name; place = l.place; is_named = true } ∷ ls) (l ∷ with_named name ls) ≡
+        record { name = l.name; place = l.place; is_named = t || l.is_named } ∷ map (marked (is_same name)) ls
+    go true e later = ap (λ rest. record { name = l.name; place = l.place; is_named = true } ∷ rest)
+        (sym (none_marked name ls (sym (is_local-same l.name name ls (same_names l.name name e)) ∙ d.0)))
     go false e later = ap (λ rest. l ∷ rest) later
 
 is_local-marked : (test : List ℕ → Bool) (name : List ℕ) (ls : List Local) → is_local name (map (marked test) ls) ≡ is_local name ls
@@ -47,37 +50,45 @@ different-marked : (test : List ℕ → Bool) (ls : List Local) → AreDifferent
 different-marked test [] d = tt
 different-marked test (l ∷ ls) d = (is_local-marked test l.name ls ∙ d.0, different-marked test ls d.1)
 
-marked_twice : (first later : List ℕ → Bool) (ls : List Local) → map (marked later) (map (marked first) ls) ≡ map (marked (λ n. first n || later n)) ls
+marked_twice : (first later : List ℕ → Bool) (ls : List Local) →
+    map (marked later) (map (marked first) ls) ≡ map (marked (λ n. first n || later n)) ls
 marked_twice first later [] = refl
 marked_twice first later (l ∷ ls) =
-    ap (λ b. record { name = l.name; place = l.place; is_named = b } ∷ map (marked later) (map (marked first) ls)) (or-swap (later l.name) (first l.name) l.is_named)
+    ap (λ b. record { name = l.name; place = l.place; is_named = b } ∷ map (marked later) (map (marked first) ls))
+    (or-swap (later l.name) (first l.name) l.is_named)
     ∙ ap (λ rest. marked (λ n. first n || later n) l ∷ rest) (marked_twice first later ls)
 
 marked_by_nothing : (ls : List Local) → ls ≡ map (marked (λ n. false)) ls
 marked_by_nothing [] = refl
 marked_by_nothing (l ∷ ls) = ap (λ rest. l ∷ rest) (marked_by_nothing ls)
 
-with_all_named-marks : (names : List Name) (ls : List Local) → AreDifferent ls → with_all_named names ls ≡ map (marked (λ n. is_named_by n names)) ls
+with_all_named-marks : (names : List Name) (ls : List Local) → AreDifferent ls →
+    with_all_named names ls ≡ map (marked (λ n. is_named_by n names)) ls
 with_all_named-marks [] ls d = marked_by_nothing ls
 with_all_named-marks (first ∷ names) ls d =
     ap (with_all_named names) (with_named-marks first.bytes ls d)
     ∙ with_all_named-marks names (map (marked (is_same first.bytes)) ls) (different-marked (is_same first.bytes) ls d)
     ∙ marked_twice (is_same first.bytes) (λ n. is_named_by n names) ls
 
-with_units-marks : (units : List (List Name)) (ls : List Local) → AreDifferent ls → with_units units ls ≡ map (marked (λ n. is_named_in n units)) ls
+with_units-marks : (units : List (List Name)) (ls : List Local) → AreDifferent ls →
+    with_units units ls ≡ map (marked (λ n. is_named_in n units)) ls
 with_units-marks [] ls d = marked_by_nothing ls
 with_units-marks (names ∷ units) ls d =
     ap (with_units units) (with_all_named-marks names ls d)
     ∙ with_units-marks units (map (marked (λ n. is_named_by n names)) ls) (different-marked (λ n. is_named_by n names) ls d)
     ∙ marked_twice (λ n. is_named_by n names) (λ n. is_named_in n units) ls
 
-warned : (files : FileNames) (place : Place) (test : List ℕ → Bool) (ls : List Local) (r : Reported) → AreUnnamed ls → with_all_unused files place (map (marked test) ls) r ≡ with_warnings files place (filter (λ l. not (test l.name)) ls) r
+warned : (files : FileNames) (place : Place) (test : List ℕ → Bool) (ls : List Local) (r : Reported) → AreUnnamed ls →
+    with_all_unused files place (map (marked test) ls) r ≡ with_warnings files place (filter (λ l. not (test l.name)) ls) r
 warned files place test [] r un = refl
 warned files place test (l ∷ ls) r un =
     let parts = and_parts (not l.is_named) (list_all (λ l. not l.is_named) ls) un in
     go (test l.name) l.is_named (not-true l.is_named parts.0) (λ r. warned files place test ls r parts.1)
   where
-    go : (t b : Bool) → b ≡ false → ((r : Reported) → with_all_unused files place (map (marked test) ls) r ≡ with_warnings files place (filter (λ l. not (test l.name)) ls) r) → with_all_unused files place (map (marked test) ls) (cond (t || b) r (with_warning (location files place) (UnusedLocal l.name) r)) ≡ with_warnings files place (cond (not t) (l ∷ filter (λ l. not (test l.name)) ls) (filter (λ l. not (test l.name)) ls)) r
+    go : (t b : Bool) → b ≡ false → ((r : Reported) → with_all_unused files place (map (marked test) ls) r ≡ with_warnings files place
+        (filter (λ l. not (test l.name)) ls) r) → with_all_unused files place (map (marked test) ls)
+        (cond (t || b) r (with_warning (location files place) (UnusedLocal l.name) r)) ≡ with_warnings files place
+        (cond (not t) (l ∷ filter (λ l. not (test l.name)) ls) (filter (λ l. not (test l.name)) ls)) r
     go true b e later = later r
     go false true e later = cc
     go false false e later = later (with_warning (location files place) (UnusedLocal l.name) r)
@@ -93,11 +104,13 @@ absent : (name : List ℕ) (ls : List Local) → local_of name ls ≡ None → i
 absent name [] e = refl
 absent name (l ∷ ls) e = go (str_eq_ignore_ascii_case l.name name) e (absent name ls)
   where
-    go : (t : Bool) → cond t (Some l) (local_of name ls) ≡ None → (local_of name ls ≡ None → is_local name ls ≡ false) → (t || is_local name ls) ≡ false
+    go : (t : Bool) → cond t (Some l) (local_of name ls) ≡ None → (local_of name ls ≡ None → is_local name ls ≡ false) →
+        (t || is_local name ls) ≡ false
     go true e later = cc
     go false e later = later e
 
-is_local-push : (name : List ℕ) (ls : List Local) (l : Local) → is_local name ls ≡ false → str_eq_ignore_ascii_case l.name name ≡ false → is_local name (ls ++ l ∷ []) ≡ false
+is_local-push : (name : List ℕ) (ls : List Local) (l : Local) → is_local name ls ≡ false → str_eq_ignore_ascii_case l.name name ≡ false →
+    is_local name (ls ++ l ∷ []) ≡ false
 is_local-push name [] l is other = or_from (str_eq_ignore_ascii_case l.name name) false other refl
 is_local-push name (m ∷ ls) l is other =
     let parts = or_parts (str_eq_ignore_ascii_case m.name name) (is_local name ls) is in
@@ -115,14 +128,19 @@ unnamed-push (m ∷ ls) l un is =
     let parts = and_parts (not m.is_named) (list_all (λ l. not l.is_named) ls) un in
     and_from (not m.is_named) (list_all (λ l. not l.is_named) (ls ++ l ∷ [])) parts.0 (unnamed-push ls l parts.1 is)
 
-one_more : (n : Name) (h : Headed) (o : Option Local) → local_of n.bytes h.locals ≡ o → AreNew h.locals → AreNew (with_local_by n o h).locals
+one_more : (n : Name) (h : Headed) (o : Option Local) → local_of n.bytes h.locals ≡ o → AreNew h.locals →
+    AreNew (with_local_by n o h).locals
 one_more n h (Some l) e new = new
 one_more n h None e new =
     let l : Local = record { name = n.bytes; place = n.place; is_named = false } in
     let more : Headed = record h { locals = h.locals ++ l ∷ [] } in
     let full : Headed = record h { are_too_many = true } in
     cond_both (ltb (length h.locals) most_locals) more full (λ x. AreNew x.locals)
-    (λ _. record { different = different-push h.locals l new.different (absent n.bytes h.locals e); unnamed = unnamed-push h.locals l new.unnamed refl })
+    (λ _. record {
+      different = different-push h.locals l new.different (absent n.bytes h.locals e);
+      unnamed = unnamed-push h.locals l
+          new.unnamed refl;
+    })
     (λ _. new)
 
 all_new : (names : List Name) (h : Headed) → AreNew h.locals → AreNew (with_locals names h).locals

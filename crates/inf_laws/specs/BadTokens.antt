@@ -4,7 +4,8 @@ use Rattle.inf_grammar.specs.Brackets.{is_bracket_open}
 use Rattle.inf_reader.specs.declared.mode.Recovery.{Recovery}
 use Rattle.inf_reader.specs.declared.mode.Recovery.TheVariants as mode
 
--- How tokens are passed over behind those that begin a piece, and that the grammar sees so: as in a routine where the last bracket among them is
+-- How tokens are passed over behind those that begin a piece, and that the grammar sees so: as in a routine where the last bracket among
+-- them is
 -- an opening one, and the piece is no array's.
 abbrev pub skip_behind : List ℕ → Recovery
 skip_behind seen = if is_bracket_open seen then mode.SkipsRoutine else mode.SkipsDirective

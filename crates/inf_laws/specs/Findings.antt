@@ -94,4 +94,5 @@ header_findings files unit names name locals =
 
 abbrev pub HeadersTellTheFirst : Type 0
 HeadersTellTheFirst = (files : FileNames) (unit : Place) (names : Table Place) (name : Name) (locals : List Name)
-    → IsTold (header_fault files unit (name_fault files name (declare_fault name.bytes names)) (with_locals locals no_locals)) (header_findings files unit names name locals)
+    → IsTold (header_fault files unit (name_fault files name (declare_fault name.bytes names)) (with_locals locals no_locals))
+    (header_findings files unit names name locals)

@@ -9,4 +9,5 @@ use Rattle.inf_grammar.specs.Language.{grammar}
 use Rattle.inf_grammar.specs.Sources.{piece_rule}
 
 abbrev pub NoPieceEndsWithAHash : Type 0
-NoPieceEndsWithAHash = (front : List ℕ) (events : List (Event Action)) → IsText grammar (Rule piece_rule ∷ []) (front ++ mark_atom mark.Hash ∷ []) events → ⊥
+NoPieceEndsWithAHash =
+    (front : List ℕ) (events : List (Event Action)) → IsText grammar (Rule piece_rule ∷ []) (front ++ mark_atom mark.Hash ∷ []) events → ⊥

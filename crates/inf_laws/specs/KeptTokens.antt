@@ -95,7 +95,8 @@ abbrev pub all_given_to : List Given → Reading → Reading
 all_given_to [] r = r
 all_given_to (g ∷ given) r = all_given_to given (given_to g r)
 
--- How reading goes on depends on nothing else: neither on what there is to tell, nor on what was compiled, but for which names are those of classes.
+-- How reading goes on depends on nothing else: neither on what there is to tell, nor on what was compiled, but for which names are those of
+-- classes.
 abbrev pub TokensAreHandedOn : Type 0
 TokensAreHandedOn = (files : FileNames) (t : SourceToken) (j : Filtered) (s : ReaderState)
     → (judged_taken files t j s).reading ≡ all_given_to (given_of files j t s) s.reading
@@ -115,7 +116,8 @@ abbrev pub GoesOn : List Given → Reading → Type 0
 GoesOn [] r = Unit {0}
 GoesOn (g ∷ given) r = GoesBehind given (given_to g r)
 
--- Behind tokens that begin a piece one that does not fit a conditional directive is bad, and one that is kept where they begin none with it.
+-- Behind tokens that begin a piece one that does not fit a conditional directive is bad, and one that is kept where they begin none with
+-- it.
 abbrev pub IsBad : List Seen → Given → Type 0
 IsBad tokens (Kept t) = BeginsPiece (map seen_atom (tokens ++ t ∷ [])) → ⊥
 IsBad tokens (Unfit t) = Unit {0}
@@ -129,10 +131,13 @@ skipped m (g ∷ given) = skipped (passed m (token_in g).kind) given
 pub data Stands (given : List Given) (r : Reading) : Type 0 where
   InAPiece : (tokens : List Seen) → given ≡ map Kept tokens → BeginsPiece (map seen_atom tokens) → r.mode ≡ mode.Reads → Stands given r
   BehindAPiece : (tokens : List Seen) → given ≡ map Kept tokens → IsPiece (map seen_atom tokens) → r ≡ between mode.Reads → Stands given r
-  BehindABadToken : (tokens : List Seen) (bad : Given) (behind : List Given) → given ≡ map Kept tokens ++ bad ∷ behind → BeginsPiece (map seen_atom tokens) → IsBad tokens bad → r ≡ between (skipped (skip_behind (map seen_atom tokens)) (bad ∷ behind)) → Stands given r
+  BehindABadToken : (tokens : List Seen) (bad : Given) (behind : List Given) → given ≡ map Kept tokens ++ bad ∷ behind →
+      BeginsPiece (map seen_atom tokens) → IsBad tokens bad → r ≡ between (skipped (skip_behind (map seen_atom tokens)) (bad ∷ behind)) →
+      Stands given r
   BehindTheEnd : (t : Seen) → given ≡ Kept t ∷ [] → is_end t.token.kind ≡ true → r ≡ between mode.Ended → Stands given r
 
--- As long as the first piece goes on: the tokens are kept and begin one, or they are one, and reading stands behind it; or the bad one among
+-- As long as the first piece goes on: the tokens are kept and begin one, or they are one, and reading stands behind it; or the bad one
+-- among
 -- them is the first that does not fit or with which they begin none, and it and those behind it are passed over, as in a routine where the
 -- routine's bracket is open before it; or the file has ended before a piece.
 abbrev pub KeptTokensAreRead : Type 0

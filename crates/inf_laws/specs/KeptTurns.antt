@@ -30,8 +30,10 @@ abbrev pub StayInFile : Sources → Choices → ℕ → State → Type 0
 StayInFile sources o zero s = Unit {0}
 StayInFile sources o (suc n) s = (is_mode_ended (stepped s).reading.mode ≡ false) × StayInFile sources o n (turn sources o s)
 
--- From between two pieces on, as long as the first one goes on, and behind the token that ends it, the turns of a reading stand where the tokens tell that
--- they handed on: in a piece that these begin, behind one that they are, or behind the bad one, which is the first with which they begin none.
+-- From between two pieces on, as long as the first one goes on, and behind the token that ends it, the turns of a reading stand where the
+-- tokens tell that
+-- they handed on: in a piece that these begin, behind one that they are, or behind the bad one, which is the first with which they begin
+-- none.
 abbrev pub TurnsReadPieces : Type 0
 TurnsReadPieces = (sources : Sources) (o : Choices) (n : ℕ) (s : State) → s.reading ≡ between mode.Reads → StayInFile sources o n s
     → GoesOn (given_in sources o (suc n) s) s.reading

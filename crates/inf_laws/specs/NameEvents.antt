@@ -123,4 +123,5 @@ with_uses_told files (u ∷ uses) r =
 abbrev pub UndeclaredAreTold : Type 0
 UndeclaredAreTold = (files : FileNames) (limit : ℕ) (debugging : Bool) (events : List Event) (r : Reported)
     → HaveRoom events (no_names limit debugging)
-    → with_all_undeclared files (with_events events (no_names limit debugging)).names r ≡ with_uses_told files (undeclared debugging events) r
+    → with_all_undeclared files (with_events events (no_names limit debugging)).names r ≡ with_uses_told files (undeclared debugging events)
+    r

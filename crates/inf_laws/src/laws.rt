@@ -41,7 +41,8 @@ pub fn unused_locals_are_warned()
     ensures headers { HeadersMakeNew }
 {}
 
-/// A bad piece ends behind the first semicolon that is handed on, in a routine behind the first one after the next closing bracket, or with the
+/// A bad piece ends behind the first semicolon that is handed on, in a routine behind the first one after the next closing bracket, or with
+/// the
 /// source. A token that is passed over does nothing else.
 pub fn bad_pieces_are_skipped()
     ensures alone { PassedTokensDoNothing }
@@ -50,15 +51,18 @@ pub fn bad_pieces_are_skipped()
     ensures sources { SourcesEnd }
 {}
 
-/// Of the tokens of a piece that are handed on each is taken with which they still begin one, and the first with which they begin none is told, where it
+/// Of the tokens of a piece that are handed on each is taken with which they still begin one, and the first with which they begin none is
+/// told, where it
 /// stands; so is one that does not fit its conditional directive. The unit that a bad token cuts gives nothing.
 pub fn bad_tokens_are_told()
     ensures kept { TokensAreTakenOrTold }
     ensures unfit { UnfitTokensAreTold }
 {}
 
-/// How pieces are read is told by the tokens that conditionals hand on: those that are kept, and those that do not fit a conditional directive. They
-/// are taken to the end of a piece, or up to the bad one, which is the first that does not fit or with which they begin no piece. So do the turns of a
+/// How pieces are read is told by the tokens that conditionals hand on: those that are kept, and those that do not fit a conditional
+/// directive. They
+/// are taken to the end of a piece, or up to the bad one, which is the first that does not fit or with which they begin no piece. So do the
+/// turns of a
 /// reading of files that include one another.
 pub fn kept_tokens_are_read()
     ensures handed_on { TokensAreHandedOn }
@@ -66,8 +70,10 @@ pub fn kept_tokens_are_read()
     ensures turns { TurnsReadPieces }
 {}
 
-/// The parts of a reading, which the steps of a session read, are the pieces of its files: from any place between two pieces on, the turns of one part
-/// hand on nothing, as those of a conditional directive with the side that it leaves out do, or the tokens of one piece, whole or bad, or the end of a file.
+/// The parts of a reading, which the steps of a session read, are the pieces of its files: from any place between two pieces on, the turns
+/// of one part
+/// hand on nothing, as those of a conditional directive with the side that it leaves out do, or the tokens of one piece, whole or bad, or
+/// the end of a file.
 /// Where a piece or a file ends with a turn, so does the part.
 pub fn parts_are_pieces()
     ensures pieces { PartsArePieces }

@@ -158,7 +158,8 @@ fn take_all(rt: &impl Abort, alloc: Global, code: &mut Code, case: &str, steps: 
     }
 }
 
-/// What a case shows, its steps, the places of numbers that are known later with the numbers of their names, and the bytes behind the first routine.
+/// What a case shows, its steps, the places of numbers that are known later with the numbers of their names, and the bytes behind the first
+/// routine.
 const WRITTEN: [(&str, &[Step], &[(usize, usize)], &[u8]); 6] = [
     (
         "a call waits for its number",

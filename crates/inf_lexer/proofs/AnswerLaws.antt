@@ -6,7 +6,8 @@ use Rattle.inf_scanner.specs.Tokens.{Read}
 use Rattle.inf_scanner.specs.declared.lines.Lines.{Lines}
 use Rattle.inf_lexer.specs.AnswerLaws.{Answer, AreAnswers, TokensAreTheSources, first_tokens, told}
 
-answered : (set : CharSet) (limit : ℕ) (lines : Lines) (rest : List ℕ) (answers : List Answer) → AreAnswers set limit lines rest answers → map told answers ≡ first_tokens (length answers) set limit lines rest
+answered : (set : CharSet) (limit : ℕ) (lines : Lines) (rest : List ℕ) (answers : List Answer) → AreAnswers set limit lines rest answers →
+    map told answers ≡ first_tokens (length answers) set limit lines rest
 answered set limit lines rest [] are = refl
 answered set limit lines rest (a ∷ answers) are =
     ap (λ rs. told a ∷ rs) (answered set limit a.reader.lines a.to_come answers are.1)

@@ -34,7 +34,8 @@ passed_over : (b : Bool) (name : List ℕ) (later : Option (List ℕ)) → chose
 passed_over true name later e = cc
 passed_over false name later e = refl
 
-taken_first : (b : Bool) (name found : List ℕ) (later : Option (List ℕ)) → chosen b name None ≡ Some found → chosen b name later ≡ Some found
+taken_first : (b : Bool) (name found : List ℕ) (later : Option (List ℕ)) → chosen b name None ≡ Some found →
+    chosen b name later ≡ Some found
 taken_first true name found later e = e
 taken_first false name found later e = cc
 
@@ -56,12 +57,14 @@ pub from_place : (A : Type 0) (f : A → List ℕ) (xs : List A) (i : ℕ) (d : 
     → map f (drop i xs) ≡ f (get_or xs i d) ∷ map f (drop (i + 1) xs)
 from_place A f xs i d lt = rw (drop-cons xs i d, add-one) refl
 
-pub at_place : (A : Type 0) (f : A → List ℕ) (xs : List A) (i : ℕ) (d : A) → i < length xs → slice_get (map f xs) i ≡ Some (f (get_or xs i d))
+pub at_place : (A : Type 0) (f : A → List ℕ) (xs : List A) (i : ℕ) (d : A) → i < length xs →
+    slice_get (map f xs) i ≡ Some (f (get_or xs i d))
 at_place A f [] i d lt = absurd (omega arith)
 at_place A f (x ∷ xs) zero d lt = refl
 at_place A f (x ∷ xs) (suc i) d lt = at_place A f xs i d (omega arith)
 
-pub any_at : (test : List ℕ → Bool) (names : List (List ℕ)) (i : ℕ) (name : List ℕ) → slice_get names i ≡ Some name → test name ≡ true → list_any test names ≡ true
+pub any_at : (test : List ℕ → Bool) (names : List (List ℕ)) (i : ℕ) (name : List ℕ) → slice_get names i ≡ Some name → test name ≡ true →
+    list_any test names ≡ true
 any_at test [] i name e is = cc
 any_at test (x ∷ names) zero name e is =
     let same : x ≡ name = some_is x name e in or_left (test x) (list_any test names) (ap test same ∙ is)
@@ -70,7 +73,8 @@ any_at test (x ∷ names) zero name e is =
     some_is a b e = cc
 any_at test (x ∷ names) (suc i) name e is = or_right (test x) (list_any test names) (any_at test names i name e is)
 
-pub too_many_in : (known names : List (List ℕ)) (i : ℕ) (name : List ℕ) → slice_get names i ≡ Some name → has_one_too_many known (name ∷ []) ≡ true
+pub too_many_in : (known names : List (List ℕ)) (i : ℕ) (name : List ℕ) → slice_get names i ≡ Some name →
+    has_one_too_many known (name ∷ []) ≡ true
     → has_one_too_many known names ≡ true
 too_many_in known names i name e is = by (or_cases (nat_le 65535 (number_of name known)) false is)
   where
@@ -83,7 +87,8 @@ rose_earlier start before now le (inl less) = inl (omega arith)
 rose_earlier start before now le (inr last) = inr last
 
 -- what entering one name says of more names, where that name stands at a place and is the first there
-pub enters_at : (sources : Sources) (honest : Bool) (names : List (List ℕ)) (name : List ℕ) (i : ℕ) (start before after : Openings) (old now new : Nest) (lexer : Reader)
+pub enters_at : (sources : Sources) (honest : Bool) (names : List (List ℕ)) (name : List ℕ) (i : ℕ) (start before after : Openings)
+    (old now new : Nest) (lexer : Reader)
     → slice_get names i ≡ Some name → (IsTrue honest → before ≡ start) → now ≡ old
     → (IsTrue honest → first_there sources (name ∷ []) ≡ Some name → first_there sources names ≡ Some name)
     → Enters sources honest (name ∷ []) before after now new lexer → Enters sources honest names start after old new lexer
@@ -93,28 +98,38 @@ enters_at sources honest names name i start before after old now new lexer here 
       name = name;
       place = i;
       is_named = here;
-      is_entered = subst (λ (n : Nest). IsEntered name n new lexer) same (subst (λ (n : List ℕ). IsEntered n now new lexer) found e.is_entered);
-      has_number = subst (λ (n : Nest). number_of name n.names < 65535) same (subst (λ (n : List ℕ). number_of n now.names < 65535) found e.has_number);
+      is_entered =
+          subst (λ (n : Nest). IsEntered name n new lexer) same (subst (λ (n : List ℕ). IsEntered n now new lexer) found e.is_entered);
+      has_number = subst (λ (n : Nest). number_of name n.names < 65535) same
+          (subst (λ (n : List ℕ). number_of n now.names < 65535) found e.has_number);
       is_first = λ h. later h (e.is_first h ∙ ap Some found);
       is_opened = λ h. e.is_opened h ∙ ap (λ n. with_opened n before) found ∙ ap (λ o. with_opened name o) (same_openings h);
     }
 
 -- an attempt that found a name, or failed, decides for all names
-pub leaves_at : (sources : Sources) (known names : List (List ℕ)) (name : List ℕ) (start before after : Openings) (answer : Result Reader EnterFault)
+pub leaves_at : (sources : Sources) (known names : List (List ℕ)) (name : List ℕ) (start before after : Openings)
+    (answer : Result Reader EnterFault)
     → before ≡ start → ((found : List ℕ) → first_there sources (name ∷ []) ≡ Some found → first_there sources names ≡ Some found)
     → is_absent answer ≡ false → Leaves sources known (name ∷ []) before after answer → Leaves sources known names start after answer
 leaves_at sources known names name start before after (Ok lexer) same later not_absent l = tt
 leaves_at sources known names name start before after (Err fault.Absent) same later not_absent l = cc
 leaves_at sources known names name start before after (Err fault.Device) same later not_absent (inl e) = inl (e ∙ same)
 leaves_at sources known names name start before after (Err fault.Device) same later not_absent (inr c) =
-    inr (record { name = c.name; is_first = later c.name c.is_first; is_too_many = c.is_too_many; is_closed = c.is_closed ∙ ap (λ o. with_closed c.name o) same })
+    inr (record {
+      name = c.name;
+      is_first = later c.name c.is_first;
+      is_too_many = c.is_too_many;
+      is_closed = c.is_closed ∙ ap
+          (λ o. with_closed c.name o) same;
+    })
 leaves_at sources known names name start before after (Err fault.Memory) same later not_absent l = l ∙ same
 leaves_at sources known names name start before after (Err fault.BadName) same later not_absent l = l ∙ same
 leaves_at sources known names name start before after (Err fault.TooDeep) same later not_absent l = l ∙ same
 
 -- an attempt that did not find its name changes nothing
 pub absent_after : (sources : Sources) (known : List (List ℕ)) (name : List ℕ) (before after : Openings) (answer : Result Reader EnterFault)
-    → is_absent answer ≡ true → Leaves sources known (name ∷ []) before after answer → (first_there sources (name ∷ []) ≡ None) × (after ≡ before)
+    → is_absent answer ≡ true → Leaves sources known (name ∷ []) before after answer → (first_there sources (name ∷ []) ≡ None) ×
+    (after ≡ before)
 absent_after sources known name before after (Ok lexer) e l = cc
 absent_after sources known name before after (Err fault.Absent) e l = l
 absent_after sources known name before after (Err fault.Device) e l = cc
@@ -123,13 +138,16 @@ absent_after sources known name before after (Err fault.BadName) e l = cc
 absent_after sources known name before after (Err fault.TooDeep) e l = cc
 
 -- what entering one of many names says, where none before it is there
-pub enters_in : {A : Type 0} (sources : Sources) (honest : Bool) (f : A → List ℕ) (xs : List A) (i : ℕ) (d : A) (name : List ℕ) (start before after : Openings) (old now new : Nest) (lexer : Reader)
+pub enters_in : {A : Type 0} (sources : Sources) (honest : Bool) (f : A → List ℕ) (xs : List A) (i : ℕ) (d : A) (name : List ℕ)
+    (start before after : Openings) (old now new : Nest) (lexer : Reader)
     → i < length xs → name ≡ f (get_or xs i d) → (IsTrue honest → before ≡ start) → now ≡ old
     → (IsTrue honest → first_there sources (map f (drop i xs)) ≡ first_there sources (map f xs))
     → Enters sources honest (name ∷ []) before after now new lexer → Enters sources honest (map f xs) start after old new lexer
 enters_in {A} sources honest f xs i d name start before after old now new lexer lt is same_openings same later e =
-    enters_at sources honest (map f xs) name i start before after old now new lexer (at_place A f xs i d lt ∙ ap Some (sym is)) same_openings same
-    (λ h found. sym (later h) ∙ ap (first_there sources) (from_place A f xs i d lt) ∙ ap (λ n. first_there sources (n ∷ map f (drop (i + 1) xs))) (sym is)
+    enters_at sources honest (map f xs) name i start before after old now new lexer (at_place A f xs i d lt ∙ ap Some (sym is))
+    same_openings same
+    (λ h found. sym (later h) ∙ ap (first_there sources) (from_place A f xs i d lt) ∙ ap
+    (λ n. first_there sources (n ∷ map f (drop (i + 1) xs))) (sym is)
     ∙ first_here sources name name (map f (drop (i + 1) xs)) found) e
 
 -- a source that was opened is closed at once
@@ -146,15 +164,18 @@ pub closes_opened : (name : List ℕ) (old mid new : Openings) → mid ≡ with_
 closes_opened name old mid new opens closes =
     ap (λ (all : List Opening). record { all = all; open_places = new.open_places }) (closes.same ∙ ap (λ (o : Openings). o.all) opens)
     ∙ ap (λ (places : List ℕ). record { all = old.all ++ opened name ∷ []; open_places = places })
-    (front_same new.open_places old.open_places closes.place (length old.all) (sym closes.innermost ∙ ap (λ (o : Openings). o.open_places) opens))
+    (front_same new.open_places old.open_places closes.place (length old.all)
+    (sym closes.innermost ∙ ap (λ (o : Openings). o.open_places) opens))
 
 -- one that is there and was one too many, likewise
-pub closed_in : {A : Type 0} (sources : Sources) (known : List (List ℕ)) (f : A → List ℕ) (xs : List A) (i : ℕ) (d : A) (name : List ℕ) (start before after : Openings)
+pub closed_in : {A : Type 0} (sources : Sources) (known : List (List ℕ)) (f : A → List ℕ) (xs : List A) (i : ℕ) (d : A) (name : List ℕ)
+    (start before after : Openings)
     → i < length xs → name ≡ f (get_or xs i d) → before ≡ start → first_there sources (map f (drop i xs)) ≡ first_there sources (map f xs)
     → ClosedAgain sources known (name ∷ []) before after → ClosedAgain sources known (map f xs) start after
 closed_in {A} sources known f xs i d name start before after lt is same later c = record {
   name = c.name;
-  is_first = sym later ∙ ap (first_there sources) (from_place A f xs i d lt) ∙ ap (λ n. first_there sources (n ∷ map f (drop (i + 1) xs))) (sym is)
+  is_first =
+      sym later ∙ ap (first_there sources) (from_place A f xs i d lt) ∙ ap (λ n. first_there sources (n ∷ map f (drop (i + 1) xs))) (sym is)
       ∙ first_here sources name c.name (map f (drop (i + 1) xs)) c.is_first;
   is_too_many = c.is_too_many;
   is_closed = c.is_closed ∙ ap (λ o. with_closed c.name o) same;
@@ -170,11 +191,13 @@ pub fit_is : (b : Bool) (x y : List ℕ) → Some x ≡ cond b (Some y) None →
 fit_is true x y e = cc
 fit_is false x y e = cc
 
-listed : (directories : List (Bor (List ℕ))) (file : List ℕ) → map (λ d. name_in d.now file) directories ≡ map (λ directory. name_in directory file) (map (λ d. d.now) directories)
+listed : (directories : List (Bor (List ℕ))) (file : List ℕ) →
+    map (λ d. name_in d.now file) directories ≡ map (λ directory. name_in directory file) (map (λ d. d.now) directories)
 listed [] file = refl
 listed (d ∷ directories) file = ap (λ names. name_in d.now file ∷ names) (listed directories file)
 
-pub names_listed : (directories : List (Bor (List ℕ))) (including text file : List ℕ) → has_sign text ≡ false → file ≡ behind_sign text → (length directories == 0) ≡ false
+pub names_listed : (directories : List (Bor (List ℕ))) (including text file : List ℕ) → has_sign text ≡ false → file ≡ behind_sign text →
+    (length directories == 0) ≡ false
     → map (λ d. name_in d.now file) directories ≡ candidates (map (λ d. d.now) directories) including text
 names_listed [] including text file no_sign is some = cc
 names_listed (d ∷ directories) including text file no_sign is some =
@@ -182,5 +205,6 @@ names_listed (d ∷ directories) including text file no_sign is some =
     let known : length names == 0 ≡ false = ne_eqb (length names) 0 (λ e. omega (arith, e)) in
     listed (d ∷ directories) file
     ∙ ap (λ f. map (λ directory. name_in directory f) names) is
-    ∙ sym (cond-false (length names == 0) (name_in [] (behind_sign text) ∷ []) (map (λ directory. name_in directory (behind_sign text)) names) known)
+    ∙ sym (cond-false (length names == 0) (name_in [] (behind_sign text) ∷ [])
+    (map (λ directory. name_in directory (behind_sign text)) names) known)
     ∙ sym (cond-false (has_sign text) (name_beside including (behind_sign text) ∷ []) (names_in names (behind_sign text)) no_sign)

@@ -10,7 +10,8 @@ use Rattle.inf_lexer.specs.Names.{has_slash, directory_of}
 
 pub all_ascii : (bs : List ℕ) → IsAscii bs → list_all (λ b. nat_lt b 128) bs ≡ true
 all_ascii [] each = refl
-all_ascii (b ∷ bs) each = and_from (nat_lt b 128) (list_all (λ x. nat_lt x 128) bs) (lt-ltb b 128 (each 0)) (all_ascii bs (λ i. each (suc i)))
+all_ascii (b ∷ bs) each =
+    and_from (nat_lt b 128) (list_all (λ x. nat_lt x 128) bs) (lt-ltb b 128 (each 0)) (all_ascii bs (λ i. each (suc i)))
 
 not_ascii : (bs : List ℕ) (i : ℕ) → 128 ≤ get_or bs i 0 → list_all (λ b. nat_lt b 128) bs ≡ false
 not_ascii [] i large = absurd (omega arith)
@@ -44,7 +45,8 @@ directory-at (b ∷ front) back none =
 -- a split at the last `/` gives the directory
 pub directory-split : (bs front back : List ℕ) → SplitsAroundMatch (RFindsChar 47) bs front back → directory_of bs ≡ front ++ 47 ∷ []
 directory-split bs front back (i, j, found, is_front, is_back, ordered, front_len, back_len) =
-    let parts : bs ≡ front ++ 47 ∷ back = sym (take-append-drop i bs) ∙ rw (drop_at_char 47 bs i j found.1 (lit< tt), is_front, is_back) refl in
+    let parts : bs ≡ front ++ 47 ∷ back =
+    sym (take-append-drop i bs) ∙ rw (drop_at_char 47 bs i j found.1 (lit< tt), is_front, is_back) refl in
     let none : has_slash back ≡ false = no_slash back (rw is_back (λ k lt. NoCharPasses-char 47 (drop j bs) k found.0 (lit< tt) lt)) in
     ap directory_of parts ∙ directory-at front back none
 

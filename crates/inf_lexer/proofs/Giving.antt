@@ -26,7 +26,8 @@ gave_more sources old now new bytes more g h = record {
   name = h.name ∙ g.name;
   places = h.places ∙ g.places;
   count = h.count ∙ g.count;
-  others = λ i other. h.others i (λ e. other (e ∙ ap (λ (places : List ℕ). get_or places (length places - 1) 0) g.places)) ∙ g.others i other;
+  others =
+      λ i other. h.others i (λ e. other (e ∙ ap (λ (places : List ℕ). get_or places (length places - 1) 0) g.places)) ∙ g.others i other;
 }
 
 -- the place behind others is the last
@@ -40,7 +41,8 @@ found_at [] place o e = cc
 found_at (x ∷ os) zero o e = cc
 found_at (x ∷ os) (suc place) o e = found_at os place o e
 
-set_at : (os : List Opening) (place : ℕ) (o new : Opening) → slice_get os place ≡ Some o → get_or (slice_set os place new) place (opened []) ≡ new
+set_at : (os : List Opening) (place : ℕ) (o new : Opening) → slice_get os place ≡ Some o →
+    get_or (slice_set os place new) place (opened []) ≡ new
 set_at [] place o new e = cc
 set_at (x ∷ os) zero o new e = refl
 set_at (x ∷ os) (suc place) o new e = set_at os place o new e
@@ -70,7 +72,8 @@ drop_front (x ∷ front) back = drop_front front back
 -- what a reading of the innermost source gives
 pub gave_of : (sources : Sources) (old new : Openings) (bytes : List ℕ) → GivesInnermost sources old new bytes → Gave sources old new bytes
 gave_of sources old new bytes g =
-    let here : innermost_place old ≡ g.place = ap (λ (places : List ℕ). get_or places (length places - 1) 0) g.innermost ∙ last_place g.outer g.place in
+    let here : innermost_place old ≡ g.place =
+    ap (λ (places : List ℕ). get_or places (length places - 1) 0) g.innermost ∙ last_place g.outer g.place in
     let places : new.open_places ≡ old.open_places = ap (λ (o : Openings). o.open_places) g.after in
     let all : new.all ≡ slice_set old.all g.place (after_bytes g.before bytes) = ap (λ (o : Openings). o.all) g.after in
     let here_new : innermost_place new ≡ g.place = ap (λ (places : List ℕ). get_or places (length places - 1) 0) places ∙ here in
@@ -104,7 +107,8 @@ pub nothing_left : (sources : Sources) (old new : Openings) (bytes : List ℕ) �
 nothing_left sources old new bytes g none =
     let places : new.open_places ≡ old.open_places = ap (λ (o : Openings). o.open_places) g.after in
     let all : new.all ≡ slice_set old.all g.place (after_bytes g.before bytes) = ap (λ (o : Openings). o.all) g.after in
-    let here_new : innermost_place new ≡ g.place = ap (λ (places : List ℕ). get_or places (length places - 1) 0) (places ∙ g.innermost) ∙ last_place g.outer g.place in
+    let here_new : innermost_place new ≡ g.place =
+    ap (λ (places : List ℕ). get_or places (length places - 1) 0) (places ∙ g.innermost) ∙ last_place g.outer g.place in
     let is : innermost new ≡ after_bytes g.before bytes =
     ap (λ n. get_or new.all n (opened [])) here_new ∙ ap (λ os. get_or os g.place (opened [])) all
     ∙ set_at old.all g.place g.before (after_bytes g.before bytes) g.was_opened in (
@@ -118,7 +122,8 @@ nothing_left sources old new bytes g none =
     )
 
 -- a window with some bytes less
-pub window_behind : (n next end : ℕ) (buffer : List ℕ) → next + n ≤ end → take (end - (next + n)) (drop (next + n) buffer) ≡ drop n (take (end - next) (drop next buffer))
+pub window_behind : (n next end : ℕ) (buffer : List ℕ) → next + n ≤ end →
+    take (end - (next + n)) (drop (next + n) buffer) ≡ drop n (take (end - next) (drop next buffer))
 window_behind n next end buffer some =
     let size : end - next ≡ n + (end - (next + n)) = omega arith in
     ap (λ xs. take (end - (next + n)) xs) (sym (drop-drop n next buffer))
@@ -126,8 +131,10 @@ window_behind n next end buffer some =
     ∙ ap (λ m. drop n (take m (drop next buffer))) (sym size)
 
 -- what a reading into an empty window brings
-pub reads_first : (is_honest : Bool) (sources : Sources) (old new : Openings) (before after : View) (bytes : List ℕ) → before.left ≡ [] → before.is_over ≡ false
-    → (IsTrue is_honest → Gave sources old new bytes) → after.left ≡ bytes → after.given ≡ before.given + length bytes → ReadsOn is_honest sources old new before after
+pub reads_first : (is_honest : Bool) (sources : Sources) (old new : Openings) (before after : View) (bytes : List ℕ) → before.left ≡ [] →
+    before.is_over ≡ false
+    → (IsTrue is_honest → Gave sources old new bytes) → after.left ≡ bytes → after.given ≡ before.given + length bytes → ReadsOn is_honest
+    sources old new before after
 reads_first is_honest sources old new before after bytes empty on gave left given = record {
   bytes = bytes;
   left = left ∙ ap (λ l. l ++ bytes) (sym empty);

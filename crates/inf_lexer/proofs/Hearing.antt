@@ -42,7 +42,8 @@ heard_then T h s old mid new before between after now then was a b = record {
 -- bytes in view that are taken
 pub heard_taken : (T : Type 0) (h : Bool) (s : Sources) (old new : Openings) (before after taken : View) (now next was : List ℕ → T)
     → Heard T h s old new before after now was → taken.given ≡ after.given → taken.is_over ≡ after.is_over
-    → ((rest : List ℕ) → CanFollow after rest → next (taken.left ++ rest) ≡ now (after.left ++ rest)) → Heard T h s old new before taken next was
+    → ((rest : List ℕ) → CanFollow after rest → next (taken.left ++ rest) ≡ now (after.left ++ rest)) → Heard T h s old new before taken
+    next was
 heard_taken T h s old new before after taken now next was a given over same = record {
   bytes = a.bytes;
   given = given ∙ a.given;
@@ -78,25 +79,31 @@ can_follow : (s : Sources) (o : Openings) (v : View) → CanFollow v (behind_vie
 can_follow s o v = λ over. ap (λ b. cond b [] (unread s o)) over
 
 -- what follows the view, before and after bytes
-follows : (b c : Bool) (before after bytes : List ℕ) → (b ≡ true → (bytes ≡ []) × (c ≡ true)) → before ≡ bytes ++ after → (b ≡ false → c ≡ true → after ≡ [])
+follows : (b c : Bool) (before after bytes : List ℕ) → (b ≡ true → (bytes ≡ []) × (c ≡ true)) → before ≡ bytes ++ after →
+    (b ≡ false → c ≡ true → after ≡ [])
     → cond b [] before ≡ bytes ++ cond c [] after
-follows true c before after bytes stops next ends = sym (ap (λ bs. bs ++ cond c [] after) (stops refl).0 ∙ ap (λ x. cond x [] after) (stops refl).1)
+follows true c before after bytes stops next ends =
+    sym (ap (λ bs. bs ++ cond c [] after) (stops refl).0 ∙ ap (λ x. cond x [] after) (stops refl).1)
 follows false true before after bytes stops next ends = next ∙ ap (λ u. bytes ++ u) (ends refl refl)
 follows false false before after bytes stops next ends = next
 
 -- With a reader that keeps to its sources, what is made of all that is still to come stays the same.
 pub heard_source : (T : Type 0) (h : Bool) (s : Sources) (old new : Openings) (before after : View) (now was : List ℕ → T)
-    → Heard T h s old new before after now was → IsTrue h → (Ends s old before → Ends s new after) → now (to_come s new after) ≡ was (to_come s old before)
+    → Heard T h s old new before after now was → IsTrue h → (Ends s old before → Ends s new after) → now (to_come s new after) ≡ was
+    (to_come s old before)
 heard_source T h s old new before after now was a honest ends =
     a.same (behind_view s new after) (can_follow s new after)
-    ∙ ap (λ bs. was (before.left ++ bs)) (sym (follows before.is_over after.is_over (unread s old) (unread s new) a.bytes a.stops (a.gave honest).next
+    ∙ ap (λ bs. was (before.left ++ bs)) (sym (follows before.is_over after.is_over (unread s old) (unread s new) a.bytes a.stops
+    (a.gave honest).next
     (λ going over. (ends (λ is. cc) over).0)))
 
 -- bytes that come into view, behind what was heard
 pub heard_on : (T : Type 0) (h g : Bool) (s t : Sources) (start old new : Openings) (first before after : View) (now was : List ℕ → T)
-    → Heard T h s start old first before now was → g ≡ h → t ≡ s → ReadsOn g t old new before after → Heard T h s start new first after now was
+    → Heard T h s start old first before now was → g ≡ h → t ≡ s → ReadsOn g t old new before after → Heard T h s start new first after now
+    was
 heard_on T h g s t start old new first before after now was a e f r =
-    heard_then T h s start old new first before after now now was a (heard_reads T h s old new before after now (reads_by g h t s old new before after e f r))
+    heard_then T h s start old new first before after now now was a
+    (heard_reads T h s old new before after now (reads_by g h t s old new before after e f r))
 
 -- the end, as far as it was read
 pub ends_on : (h g : Bool) (s t : Sources) (start old new : Openings) (first before after : View)

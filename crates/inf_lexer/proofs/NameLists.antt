@@ -7,7 +7,8 @@ use Rattle.std.specs.declared.alloc.Global.{Global}
 use Rattle.indexmap.specs.IndexSet.{insert_key}
 use Rattle.inf_lexer.specs.Names.{with_name}
 
-prefix_map : (test : List ℕ → Bool) (keys : List (String Global)) → prefix_len (λ k. test (string_bytes k)) keys ≡ prefix_len test (map string_bytes keys)
+prefix_map : (test : List ℕ → Bool) (keys : List (String Global)) →
+    prefix_len (λ k. test (string_bytes k)) keys ≡ prefix_len test (map string_bytes keys)
 prefix_map test [] = refl
 prefix_map test (k ∷ keys) = ap (λ n. cond (test (string_bytes k)) (1 + n) 0) (prefix_map test keys)
 
@@ -31,25 +32,33 @@ within n m le = by (nat_lt n m) refl
     by false e = grind (arith, e, le)
 
 -- the place of a name among the keys
-pub place_in : (test : List ℕ → Bool) (keys : List (String Global)) → unwrap_or (position (λ k. test (string_bytes k)) keys) (length keys) ≡ position_or_len test (map string_bytes keys)
+pub place_in : (test : List ℕ → Bool) (keys : List (String Global)) →
+    unwrap_or (position (λ k. test (string_bytes k)) keys) (length keys) ≡ position_or_len test (map string_bytes keys)
 place_in test keys =
-    let same : position_or_len (λ (k : String Global). test (string_bytes k)) keys ≡ position_or_len test (map string_bytes keys) = prefix_map (λ n. not (test n)) keys in
+    let same : position_or_len (λ (k : String Global). test (string_bytes k)) keys ≡ position_or_len test (map string_bytes keys) =
+    prefix_map (λ n. not (test n)) keys in
     ap (λ n. unwrap_or (cond (nat_lt n (length keys)) (Some n) None) (length keys)) same
-    ∙ within (position_or_len test (map string_bytes keys)) (length keys) (omega (arith, prefix_le (λ n. not (test n)) (map string_bytes keys), length_map keys))
+    ∙ within (position_or_len test (map string_bytes keys)) (length keys)
+    (omega (arith, prefix_le (λ n. not (test n)) (map string_bytes keys), length_map keys))
 
-any_in : (test : List ℕ → Bool) (keys : List (String Global)) → list_any (λ k. test (string_bytes k)) keys ≡ list_any test (map string_bytes keys)
+any_in : (test : List ℕ → Bool) (keys : List (String Global)) →
+    list_any (λ k. test (string_bytes k)) keys ≡ list_any test (map string_bytes keys)
 any_in test [] = refl
 any_in test (k ∷ keys) = ap (λ b. test (string_bytes k) || b) (any_in test keys)
 
-map_behind : (keys : List (String Global)) (name : String Global) → map string_bytes (keys ++ name ∷ []) ≡ map string_bytes keys ++ string_bytes name ∷ []
+map_behind : (keys : List (String Global)) (name : String Global) →
+    map string_bytes (keys ++ name ∷ []) ≡ map string_bytes keys ++ string_bytes name ∷ []
 map_behind [] name = refl
 map_behind (k ∷ keys) name = ap (λ ns. string_bytes k ∷ ns) (map_behind keys name)
 
 -- a name that is added
-pub added_to : (keys : List (String Global)) (name : String Global) → map string_bytes (insert_key string_eq keys name) ≡ with_name (string_bytes name) (map string_bytes keys)
-added_to keys name = by (list_any (string_eq name) keys) (list_any (bytes_eq (string_bytes name)) (map string_bytes keys)) (any_in (bytes_eq (string_bytes name)) keys)
+pub added_to : (keys : List (String Global)) (name : String Global) →
+    map string_bytes (insert_key string_eq keys name) ≡ with_name (string_bytes name) (map string_bytes keys)
+added_to keys name = by (list_any (string_eq name) keys) (list_any (bytes_eq (string_bytes name)) (map string_bytes keys))
+    (any_in (bytes_eq (string_bytes name)) keys)
   where
-    by : (a b : Bool) → a ≡ b → map string_bytes (cond a keys (keys ++ name ∷ [])) ≡ cond b (map string_bytes keys) (map string_bytes keys ++ string_bytes name ∷ [])
+    by : (a b : Bool) → a ≡ b → map string_bytes (cond a keys (keys ++ name ∷ [])) ≡ cond b (map string_bytes keys)
+        (map string_bytes keys ++ string_bytes name ∷ [])
     by true true e = refl
     by false false e = map_behind keys name
     by true false e = cc

@@ -7,7 +7,9 @@ use Rattle.inf_scanner.specs.declared.scanner.State.{State}
 
 pub find_end : (set : CharSet) (limit : ℕ) (s : State) (seen after : Sight) (left rest : List ℕ) → left ≡ [] → rest ≡ []
     → after ≡ marked s seen → record { ending = at_end s; seen = after; rest = left ++ rest } ≡ find set limit s seen (left ++ rest)
-find_end set limit s seen after [] rest e none is = ap (λ r. record { ending = at_end s; seen = after; rest = r }) none ∙ ap (λ t. record { ending = at_end s; seen = t; rest = [] }) is ∙ ap (λ r. find set limit s seen r) (sym none)
+find_end set limit s seen after [] rest e none is =
+    ap (λ r. record { ending = at_end s; seen = after; rest = r }) none ∙ ap (λ t. record { ending = at_end s; seen = t; rest = [] }) is
+    ∙ ap (λ r. find set limit s seen r) (sym none)
 find_end set limit s seen after (x ∷ left) rest e none is = cc
 
 zero_is : (n : ℕ) → (n == 0) ≡ true → n ≡ 0

@@ -20,15 +20,20 @@ abbrev read_as : TokenKind → Sight → List ℕ → Read
 read_as k seen rest = record { kind = k; line = seen.first; kept = seen.kept; lines = seen.lines; rest = rest }
 
 -- the token of what was found
-pub heard_token : (h : Bool) (s : Sources) (old new : Openings) (before after : View) (set : CharSet) (limit : ℕ) (lines : Lines) (e : Ending) (seen : Sight) (k : TokenKind)
-    → Heard Found h s old new before after (λ rest. record { ending = e; seen = seen; rest = rest }) (find set limit state.Gap (begun lines))
+pub heard_token : (h : Bool) (s : Sources) (old new : Openings) (before after : View) (set : CharSet) (limit : ℕ) (lines : Lines)
+    (e : Ending) (seen : Sight) (k : TokenKind)
+    → Heard Found h s old new before after (λ rest. record { ending = e; seen = seen; rest = rest })
+    (find set limit state.Gap (begun lines))
     → k ≡ kind_of set e seen.kept → Heard Read h s old new before after (read_as k seen) (next_token set limit lines)
 heard_token h s old new before after set limit lines e seen k found is =
-    heard_taken Read h s old new before after after (λ rest. read_of set (record { ending = e; seen = seen; rest = rest })) (read_as k seen) (next_token set limit lines)
-    (heard_as Found Read (read_of set) h s old new before after (λ rest. record { ending = e; seen = seen; rest = rest }) (find set limit state.Gap (begun lines)) found)
+    heard_taken Read h s old new before after after (λ rest. read_of set (record { ending = e; seen = seen; rest = rest })) (read_as k seen)
+    (next_token set limit lines)
+    (heard_as Found Read (read_of set) h s old new before after (λ rest. record { ending = e; seen = seen; rest = rest })
+    (find set limit state.Gap (begun lines)) found)
     refl refl (λ rest may. ap (λ x. read_as x seen (after.left ++ rest)) is)
 
-one_of : (k found : TokenKind) (before left bytes rest : List ℕ) (given now : ℕ) → k ≡ found → length (left ++ []) ≡ length rest → now ≡ given + length bytes
+one_of : (k found : TokenKind) (before left bytes rest : List ℕ) (given now : ℕ) → k ≡ found → length (left ++ []) ≡ length rest →
+    now ≡ given + length bytes
     → (found ≡ kind.End) ⊎ (length rest < length (before ++ (bytes ++ []))) → (k ≡ kind.End) ⊎ (given + length left < now + length before)
 one_of k found before left bytes rest given now same size count (inl is) = inl (same ∙ is)
 one_of k found before left bytes rest given now same size count (inr less) =
@@ -38,7 +43,8 @@ over_of : (b : Bool) → (b ≡ false → ⊥) → b ≡ true
 over_of true other = refl
 over_of false other = absurd (other refl)
 
-pub took_of : (h : Bool) (s : Sources) (old new : Openings) (before after : View) (set : CharSet) (limit : ℕ) (lines : Lines) (seen : Sight) (k : TokenKind)
+pub took_of : (h : Bool) (s : Sources) (old new : Openings) (before after : View) (set : CharSet) (limit : ℕ) (lines : Lines) (seen : Sight)
+    (k : TokenKind)
     → Heard Read h s old new before after (read_as k seen) (next_token set limit lines) → Took k before after seen.kept
 took_of h s old new before after set limit lines seen k heard =
     let bytes : List ℕ = before.left ++ (heard.bytes ++ []) in
@@ -46,13 +52,15 @@ took_of h s old new before after set limit lines seen k heard =
     let takes = tokens_take_bytes set limit lines bytes in
     let kinds : k ≡ (next_token set limit lines bytes).kind = ap (λ (r : Read). r.kind) same in
     record {
-      one = one_of k (next_token set limit lines bytes).kind before.left after.left heard.bytes (next_token set limit lines bytes).rest before.given after.given
+      one = one_of k (next_token set limit lines bytes).kind before.left after.left heard.bytes (next_token set limit lines bytes).rest
+          before.given after.given
           kinds (ap (λ (r : Read). length r.rest) same) heard.given takes.one;
       last = λ is. (
         sym (append-nil after.left) ∙ ap (λ (r : Read). r.rest) same ∙ takes.end (sym kinds ∙ is),
         over_of after.is_over (λ on.
             let more : List ℕ = before.left ++ (heard.bytes ++ (0 ∷ [])) in
-            let then : read_as k seen (after.left ++ (0 ∷ [])) ≡ next_token set limit lines more = heard.same (0 ∷ []) (λ over. absurd (let f : true ≡ false = sym over ∙ on in cc)) in
+            let then : read_as k seen (after.left ++ (0 ∷ [])) ≡ next_token set limit lines more =
+            heard.same (0 ∷ []) (λ over. absurd (let f : true ≡ false = sym over ∙ on in cc)) in
             let none = ap (λ (r : Read). length r.rest) then
             ∙ ap length ((tokens_take_bytes set limit lines more).end (sym (ap (λ (r : Read). r.kind) then) ∙ is)) in
             omega (arith, none, length-append after.left (0 ∷ []))),

@@ -11,7 +11,8 @@ use Rattle.inf_lexer.specs.Readers.{StaysUnfinished}
 use Rattle.inf_lexer.specs.Unread.{CanFollow, Heard, ReadsOn, View, to_come, unread}
 use Rattle.inf_lexer.proofs.Hearing.{reads_by}
 
-past_of : (before after some : ℕ) → before ≤ 16777216 → after ≡ before + some → (after ≡ before) ⊎ ((before ≡ 16777216) × (after ≡ 16777217)) → some ≡ after - 16777216
+past_of : (before after some : ℕ) → before ≤ 16777216 → after ≡ before + some →
+    (after ≡ before) ⊎ ((before ≡ 16777216) × (after ≡ 16777217)) → some ≡ after - 16777216
 past_of before after some few is (inl same) = omega (arith, few, is, same)
 past_of before after some few is (inr last) = omega (arith, is, last.0, last.1)
 
@@ -21,15 +22,18 @@ going_still true after bytes stops e = let over : after ≡ true = (stops refl).
 going_still false after bytes stops e = refl
 
 -- Nothing was in view any more and nothing more was given.
-pub stays_unfinished : (h g : Bool) (s t : Sources) (old mid new : Openings) (before between after : View) (set : CharSet) (limit : ℕ) (lines : Lines) (at : State) (seen : Sight)
-    → Heard Found h s old mid before between (find set limit at seen) (find set limit state.Gap (begun lines)) → g ≡ h → t ≡ s → ReadsOn g t mid new between after
+pub stays_unfinished : (h g : Bool) (s t : Sources) (old mid new : Openings) (before between after : View) (set : CharSet) (limit : ℕ)
+    (lines : Lines) (at : State) (seen : Sight)
+    → Heard Found h s old mid before between (find set limit at seen) (find set limit state.Gap (begun lines)) → g ≡ h → t ≡ s → ReadsOn g t
+    mid new between after
     → goes_on at ≡ true → (between.left ≡ []) × (between.is_over ≡ false) → between.given ≤ 16777216
     → (after.given ≡ between.given) ⊎ ((between.given ≡ 16777216) × (after.given ≡ 16777217)) → IsTrue h
     → StaysUnfinished set limit lines (to_come s old before) (after.given - 16777216) (unread s new)
 stays_unfinished h g s t old mid new before between after set limit lines at seen heard e f reads opens refused few last honest =
     let r = reads_by g h t s mid new between after e f reads in
     let going : before.is_over ≡ false = going_still before.is_over between.is_over heard.bytes heard.stops refused.1 in
-    let found : (behind : List ℕ) → find set limit at seen behind ≡ find set limit state.Gap (begun lines) ((before.left ++ heard.bytes) ++ behind) = λ behind.
+    let found : (behind : List ℕ) → find set limit at seen behind ≡ find set limit state.Gap (begun lines)
+    ((before.left ++ heard.bytes) ++ behind) = λ behind.
     ap (λ l. find set limit at seen (l ++ behind)) (sym refused.0)
     ∙ heard.same behind (λ over. absurd (let never : true ≡ false = sym over ∙ refused.1 in cc))
     ∙ ap (find set limit state.Gap (begun lines)) (sym (append_assoc before.left heard.bytes behind)) in

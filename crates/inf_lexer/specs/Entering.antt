@@ -25,7 +25,8 @@ abbrev pub IsEntered : List ℕ → Nest → Nest → Reader → Type 0
 IsEntered name old new lexer = (new ≡ entered name old) × (lexer ≡ at_front old.set old.limit (number_of name old.names))
 
 -- A source was entered under one of these names. With an honest reader it is the first that is there, and was opened once.
-pub record Enters (sources : Sources) (is_honest : Bool) (names : List (List ℕ)) (before after : Openings) (old new : Nest) (lexer : Reader) : Type 0 where
+pub record Enters (sources : Sources) (is_honest : Bool) (names : List (List ℕ)) (before after : Openings) (old new : Nest)
+    (lexer : Reader) : Type 0 where
   pub name : List ℕ
   pub place : ℕ
   pub is_named : slice_get names place ≡ Some name
@@ -47,7 +48,8 @@ pub record ClosedAgain (sources : Sources) (known names : List (List ℕ)) (befo
 
 -- One of these names comes behind 65,535 others. A source was opened, as the reader counts, and was closed at once; with an honest
 -- reader it is the first of the names that is there.
-pub record WasTooMany (sources : Sources) (is_honest : Bool) (known names : List (List ℕ)) (before after : Openings) (count_before count_now : ℕ) : Type 0 where
+pub record WasTooMany (sources : Sources) (is_honest : Bool) (known names : List (List ℕ)) (before after : Openings)
+    (count_before count_now : ℕ) : Type 0 where
   pub is_named : has_one_too_many known names ≡ true
   pub counted : min (count_before + 1) last_count ≤ count_now
   pub is_closed : IsTrue is_honest → ClosedAgain sources known names before after

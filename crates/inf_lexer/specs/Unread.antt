@@ -48,7 +48,8 @@ CanFollow view behind = view.is_over ≡ true → behind ≡ []
 
 -- Between two moments these bytes were given, and none behind the end. Of a reader that keeps to its sources they are the next of
 -- the innermost one. What all that is still to come is now, it was before, whatever follows these bytes.
-pub record Heard (T : Type 0) (is_honest : Bool) (sources : Sources) (old new : Openings) (before after : View) (now was : List ℕ → T) : Type 0 where
+pub record Heard (T : Type 0) (is_honest : Bool) (sources : Sources) (old new : Openings) (before after : View) (now was : List ℕ → T) :
+    Type 0 where
   pub bytes : List ℕ
   pub given : after.given ≡ before.given + length bytes
   pub stops : before.is_over ≡ true → (bytes ≡ []) × (after.is_over ≡ true)

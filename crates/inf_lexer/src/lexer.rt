@@ -31,7 +31,8 @@ fn scan<F: Files>(
         (λ rest. record { ending = e; seen = sight seen.new; rest = rest }) (find set limit State.Gap (begun seen.old.lines))) }
     ensures end { IsTrue (F.is_honest files.old) → Ends (F.sources files.old) (F.openings files.old) window.old →
         Ends (F.sources files.old) (F.openings files.new) window.new }
-    ensures still { IsTrue (F.is_honest files.old) → StillGives (F.openings files.old) window.old → StillGives (F.openings files.new) window.new }
+    ensures still { IsTrue (F.is_honest files.old) → StillGives (F.openings files.old) window.old →
+        StillGives (F.openings files.new) window.new }
     ensures gave { IsTrue (F.is_honest files.old) →
         Along (F.sources files.old) (F.openings files.old) (F.openings files.new) window.old.given window.new.given }
     ensures room { OnOk result (seen.new.lines.line + length window.new.left ≤ window.new.given + 1) }
@@ -45,7 +46,8 @@ fn scan<F: Files>(
         (window.new.given - 16777216) (unread (F.sources files.old) (F.openings files.new)) }
     ensures on { IsErrOf result LexFault.Read → window.new.is_over ≡ false }
     ensures memory { IsErrOf result LexFault.Memory → IsTrue (F.is_honest files.old) →
-        is_quoted (find set limit State.Gap (begun seen.old.lines) (to_come (F.sources files.old) (F.openings files.old) window.old)).ending ≡ true }
+        is_quoted (find set limit State.Gap (begun seen.old.lines) (to_come (F.sources files.old) (F.openings files.old) window.old)).ending
+        ≡ true }
     ensures given { min (F.given files.old + (window.new.given - window.old.given)) last_count ≤ F.given files.new }
     ensures depth { F.depth files.new ≡ F.depth files.old }
     ensures opened { F.opened files.new ≡ F.opened files.old }
@@ -167,7 +169,8 @@ impl Lexer {
         ensures cause { IsErrOf result LexFault.Read → (self.old.has_failed ≡ true)
             ⊎ (Rose (F.faults files.old) (F.faults files.new) ⊎ (16777216 < self.new.window.given)) }
         ensures unfinished { self.old.has_failed ≡ false → IsErrOf result LexFault.Read → IsTrue (F.is_honest files.old) →
-            StaysUnfinished self.old.set self.old.limit self.old.lines (to_come (F.sources files.old) (F.openings files.old) self.old.window)
+            StaysUnfinished self.old.set self.old.limit self.old.lines
+            (to_come (F.sources files.old) (F.openings files.old) self.old.window)
             (self.new.window.given - 16777216) (unread (F.sources files.old) (F.openings files.new)) }
         ensures on { self.old.has_failed ≡ false → IsErrOf result LexFault.Read → self.new.window.is_over ≡ false }
         ensures memory { IsErrOf result LexFault.Memory → IsTrue (F.is_honest files.old) →

@@ -134,7 +134,8 @@ impl Stack {
         ensures unfit { IsErrOf result EnterFault.BadName → can_name text.now ≡ false }
         ensures full { IsErrOf result EnterFault.TooDeep → 16 ≤ length self.old.open_files }
         ensures cause { IsErrOf result EnterFault.Device → Rose (F.faults files.old) (F.faults files.new)
-            ⊎ WasTooMany (F.sources files.old) (F.is_honest files.old) self.old.names (candidates (map (λ d. d.now) directories.now) (innermost_name self.old) text.now)
+            ⊎ WasTooMany (F.sources files.old) (F.is_honest files.old) self.old.names
+            (candidates (map (λ d. d.now) directories.now) (innermost_name self.old) text.now)
             (F.openings files.old) (F.openings files.new) (F.opened files.old) (F.opened files.new) }
         ensures opened { min (F.opened files.old + (if is_ok result then 1 else 0)) last_count ≤ F.opened files.new }
         ensures depth { F.depth files.new ≡ (if is_ok result then F.depth files.old + 1 else F.depth files.old) }

@@ -58,7 +58,8 @@ impl Window {
         ensures over { IfOk result (λ _. self.new.left ≡ [] → self.new.is_over ≡ true) }
         ensures end { IsTrue (F.is_honest files.old) → Ends (F.sources files.old) (F.openings files.old) self.old →
             Ends (F.sources files.old) (F.openings files.new) self.new }
-        ensures still { IsTrue (F.is_honest files.old) → StillGives (F.openings files.old) self.old → StillGives (F.openings files.new) self.new }
+        ensures still { IsTrue (F.is_honest files.old) → StillGives (F.openings files.old) self.old →
+            StillGives (F.openings files.new) self.new }
         ensures window { length self.new.left ≤ 4096 }
         ensures ahead { length self.new.left ≤ self.new.given }
         ensures taken { self.new.given + length self.old.left ≡ self.old.given + length self.new.left }
@@ -103,7 +104,8 @@ impl Window {
             (F.openings files.old) (F.openings files.new) self.old self.new }
         ensures over { IfOk result (λ _. self.new.left ≡ [] → self.new.is_over ≡ true) }
         ensures end { IsTrue (F.is_honest files.old) → Ends (F.sources files.old) (F.openings files.new) self.new }
-        ensures still { IsTrue (F.is_honest files.old) → StillGives (F.openings files.old) self.old → StillGives (F.openings files.new) self.new }
+        ensures still { IsTrue (F.is_honest files.old) → StillGives (F.openings files.old) self.old →
+            StillGives (F.openings files.new) self.new }
         ensures window { length self.new.left ≤ 4096 }
         ensures ahead { length self.new.left ≤ self.new.given }
         ensures taken { self.new.given ≡ self.old.given + length self.new.left }

@@ -57,7 +57,8 @@ impl Metered {
         requires { 0 < self.old.depth }
         ensures count { IfOk result (λ n. n ≤ length to.new) }
         ensures depth { self.new.depth ≡ self.old.depth }
-        ensures same { (self.new.failures ≡ self.old.failures) × ((self.new.counted ≡ self.old.counted) × (self.new.opened ≡ self.old.opened)) }
+        ensures same { (self.new.failures ≡ self.old.failures) ×
+            ((self.new.counted ≡ self.old.counted) × (self.new.opened ≡ self.old.opened)) }
     {
         if to.is_empty() {
             return Ok(0);

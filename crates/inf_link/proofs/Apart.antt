@@ -60,7 +60,8 @@ with_word-comm bytes p q m n far =
     ∙ ap (λ xs. set (set xs (q + 1) d) (p + 1) b) (set_comm bytes p q a c first)
     ∙ ap (λ xs. set xs (p + 1) b) (set_comm (set bytes q c) p (q + 1) a d second)
 
-with_number-comm : (bytes : List ℕ) (p q m n : ℕ) → Far p q → with_number q n (with_number p m bytes) ≡ with_number p m (with_number q n bytes)
+with_number-comm : (bytes : List ℕ) (p q m n : ℕ) → Far p q →
+    with_number q n (with_number p m bytes) ≡ with_number p m (with_number q n bytes)
 with_number-comm bytes p q m n far =
     let within = λ (at : ℕ) (xs : List ℕ). nat_lt (at + 1) (length xs) in
     ap (λ len. put (nat_lt (q + 1) len) q n (with_number p m bytes)) (length-with_number p m bytes)
@@ -79,7 +80,8 @@ with_number-comm bytes p q m n far =
 abbrev chosen : Bool → (List ℕ → List ℕ) → List ℕ → List ℕ
 chosen b f bytes = if b then f bytes else bytes
 
-chosen-comm : (s t : Bool) (f g : List ℕ → List ℕ) (bytes : List ℕ) → (s ≡ true → t ≡ true → g (f bytes) ≡ f (g bytes)) → chosen t g (chosen s f bytes) ≡ chosen s f (chosen t g bytes)
+chosen-comm : (s t : Bool) (f g : List ℕ → List ℕ) (bytes : List ℕ) → (s ≡ true → t ≡ true → g (f bytes) ≡ f (g bytes)) →
+    chosen t g (chosen s f bytes) ≡ chosen s f (chosen t g bytes)
 chosen-comm true true f g bytes same = same refl refl
 chosen-comm true false f g bytes same = refl
 chosen-comm false true f g bytes same = refl
@@ -90,7 +92,8 @@ abbrev pub step : (Target → ℕ) → Fixup → Areas (List ℕ) → Areas (Lis
 step number fixup contents = with_filled fixup.area fixup.place (number fixup.target) contents
 
 pub area_of-step : (number : Target → ℕ) (fixup : Fixup) (contents : Areas (List ℕ)) (name : AreaName)
-    → area_of name (step number fixup contents) ≡ chosen (rank fixup.area == rank name) (with_number fixup.place (number fixup.target)) (area_of name contents)
+    → area_of name (step number fixup contents) ≡ chosen (rank fixup.area == rank name) (with_number fixup.place (number fixup.target))
+    (area_of name contents)
 area_of-step number fixup contents name =
     area_of-by_name (λ n. chosen (rank fixup.area == rank n) (with_number fixup.place (number fixup.target)) (area_of n contents)) name
 
@@ -107,9 +110,11 @@ step-comm number fixup other contents apart = by_name-same (two fixup other) (tw
   same : (name : AreaName) → two fixup other name ≡ two other fixup name
   same name =
       ap (does other name) (area_of-step number fixup contents name)
-      ∙ chosen-comm (rank fixup.area == rank name) (rank other.area == rank name) (with_number fixup.place (number fixup.target)) (with_number other.place (number other.target)) (area_of name contents)
+      ∙ chosen-comm (rank fixup.area == rank name) (rank other.area == rank name) (with_number fixup.place (number fixup.target))
+      (with_number other.place (number other.target)) (area_of name contents)
       (λ here there. with_number-comm (area_of name contents) fixup.place other.place (number fixup.target) (number other.target)
-      (apart (rank-same fixup.area other.area (eqb-true (rank fixup.area) (rank name) here ∙ sym (eqb-true (rank other.area) (rank name) there)))))
+      (apart (rank-same fixup.area other.area (eqb-true (rank fixup.area) (rank name) here ∙ sym
+      (eqb-true (rank other.area) (rank name) there)))))
       ∙ ap (does fixup name) (sym (area_of-step number other contents name))
 
 -- that a list has a fixup
@@ -126,7 +131,8 @@ not_itself : (fixup : Fixup) → AreApart fixup fixup → ⊥
 not_itself fixup apart = from_far ⊥ fixup.place fixup.place (apart refl) (λ x. omega (arith, x)) (λ x. omega (arith, x))
 
 apart-sym : (fixup other : Fixup) → AreApart fixup other → AreApart other fixup
-apart-sym fixup other apart same = from_far (Far other.place fixup.place) fixup.place other.place (apart (sym same)) (λ x. inr x) (λ x. inl x)
+apart-sym fixup other apart same =
+    from_far (Far other.place fixup.place) fixup.place other.place (apart (sym same)) (λ x. inr x) (λ x. inl x)
 
 -- a list without one of its fixups, which is filled first
 record Without (number : Target → ℕ) (fixup : Fixup) (fixups : List Fixup) : Type 0 where
@@ -154,20 +160,34 @@ without number fixup (other ∷ others) (inr is) apart =
       left = other ∷ rest.left;
       apart = ((λ f isf. apart.0 f (rest.from f isf)), rest.apart);
       from = λ f isf. elim isf [ inl e ↦ inl e | inr e ↦ inr (rest.from f e) ];
-      other_than = λ f isf. elim isf [ inl e ↦ subst (λ (x : Fixup). AreApart fixup x) e (apart-sym other fixup here) | inr e ↦ rest.other_than f e ];
+      other_than = λ f isf. elim isf [
+        | inl e ↦ subst (λ (x : Fixup). AreApart fixup x) e (apart-sym other fixup here)
+        | inr e ↦
+            rest.other_than f e
+      ];
       found = λ f isf. elim isf [ inl e ↦ inr (inl e) | inr e ↦ elim (rest.found f e) [ inl x ↦ inl x | inr x ↦ inr (inr x) ] ];
-      first = λ contents. rest.first (step number other contents) ∙ ap (filled number rest.left) (step-comm number other fixup contents here);
+      first =
+          λ contents. rest.first (step number other contents) ∙ ap (filled number rest.left) (step-comm number other fixup contents here);
     }
 
 pub filled-any_order : (number : Target → ℕ) (fixups others : List Fixup) (contents : Areas (List ℕ)) → Apart fixups → Apart others
-    → ((f : Fixup) → IsIn f fixups → IsIn f others) → ((f : Fixup) → IsIn f others → IsIn f fixups) → filled number others contents ≡ filled number fixups contents
+    → ((f : Fixup) → IsIn f fixups → IsIn f others) → ((f : Fixup) → IsIn f others → IsIn f fixups) → filled number others contents ≡ filled
+    number fixups contents
 filled-any_order number [] [] contents apart apart_others to back = refl
 filled-any_order number [] (other ∷ others) contents apart apart_others to back = absurd (back other (inl refl))
 filled-any_order number (fixup ∷ fixups) others contents apart apart_others to back =
     let rest = without number fixup others (to fixup (inl refl)) apart_others in
     rest.first contents ∙ filled-any_order number fixups rest.left (step number fixup contents) apart.1 rest.apart
-    (λ f is. elim (rest.found f (to f (inr is))) [ inl e ↦ absurd (not_itself fixup (subst (λ (x : Fixup). AreApart fixup x) (sym e) (apart.0 f is))) | inr x ↦ x ])
-    (λ f is. elim (back f (rest.from f is)) [ inl e ↦ absurd (not_itself fixup (subst (λ (x : Fixup). AreApart fixup x) (sym e) (rest.other_than f is))) | inr x ↦ x ])
+    (λ f is. elim (rest.found f (to f (inr is))) [
+      | inl e ↦ absurd (not_itself fixup (subst (λ (x : Fixup). AreApart fixup x) (sym e)
+          (apart.0 f is)))
+      | inr x ↦ x
+    ])
+    (λ f is. elim (back f (rest.from f is)) [
+      | inl e ↦ absurd (not_itself fixup (subst (λ (x : Fixup). AreApart fixup x) (sym e)
+          (rest.other_than f is)))
+      | inr x ↦ x
+    ])
 
 -- the same in the words of the law
 is_in : (fixups : List Fixup) (fixup : Fixup) (k : ℕ) → k < length fixups → slice_index_or fixups k fixup ≡ fixup → IsIn fixup fixups
@@ -183,7 +203,8 @@ contains (other ∷ others) fixup (inr is) = let rest = contains others fixup is
 pub all_apart : (fixups : List Fixup) → AllPairs AreApart fixups → Apart fixups
 all_apart [] pairs = tt
 all_apart (fixup ∷ fixups) pairs = (
-  (λ other is. let found = contains fixups other is in subst (AreApart fixup) found.2 (pairs 0 (suc found.0) other (omega arith) (omega (arith, found.1)))),
+  (λ other is. let found = contains fixups other is in subst (AreApart fixup) found.2
+      (pairs 0 (suc found.0) other (omega arith) (omega (arith, found.1)))),
   all_apart fixups (λ i j d lt within. pairs (suc i) (suc j) d (omega (arith, lt)) (omega (arith, within))),
 )
 
@@ -193,7 +214,9 @@ in_same fixups others same f is = let found = (same f).0 (contains fixups f is) 
 pub in_same_back : (fixups others : List Fixup) → HaveSameFixups fixups others → (f : Fixup) → IsIn f others → IsIn f fixups
 in_same_back fixups others same f is = let found = (same f).1 (contains others f is) in is_in fixups f found.0 found.1 found.2
 
-pub filled-in_any_order : (number : Target → ℕ) (contents : Areas (List ℕ)) (fixups others : List Fixup) → AllPairs AreApart fixups → AllPairs AreApart others → HaveSameFixups fixups others
+pub filled-in_any_order : (number : Target → ℕ) (contents : Areas (List ℕ)) (fixups others : List Fixup) → AllPairs AreApart fixups →
+    AllPairs AreApart others → HaveSameFixups fixups others
     → filled number others contents ≡ filled number fixups contents
 filled-in_any_order number contents fixups others apart apart_others same =
-    filled-any_order number fixups others contents (all_apart fixups apart) (all_apart others apart_others) (in_same fixups others same) (in_same_back fixups others same)
+    filled-any_order number fixups others contents (all_apart fixups apart) (all_apart others apart_others) (in_same fixups others same)
+    (in_same_back fixups others same)

@@ -19,19 +19,23 @@ length-chosen : (b : Bool) (place number : ℕ) (bytes : List ℕ) → length (i
 length-chosen true place number bytes = length-with_number place number bytes
 length-chosen false place number bytes = refl
 
-lengths-with_filled : (area : AreaName) (place number : ℕ) (contents : Areas (List ℕ)) → lengths (with_filled area place number contents) ≡ lengths contents
+lengths-with_filled : (area : AreaName) (place number : ℕ) (contents : Areas (List ℕ)) →
+    lengths (with_filled area place number contents) ≡ lengths contents
 lengths-with_filled area place number contents =
     by_name-same (λ name. length (area_of name (with_filled area place number contents))) (λ name. length (area_of name contents))
-    (λ name. ap length (area_of-by_name (λ n. if rank area == rank n then with_number place number (area_of n contents) else area_of n contents) name)
+    (λ name. ap length (area_of-by_name (λ n. if rank area == rank n then with_number place number (area_of n contents) else area_of n
+    contents) name)
     ∙ length-chosen (rank area == rank name) place number (area_of name contents))
 
-pub lengths-filled : (number : Target → ℕ) (fixups : List Fixup) (contents : Areas (List ℕ)) → lengths (filled number fixups contents) ≡ lengths contents
+pub lengths-filled : (number : Target → ℕ) (fixups : List Fixup) (contents : Areas (List ℕ)) →
+    lengths (filled number fixups contents) ≡ lengths contents
 lengths-filled number [] contents = refl
 lengths-filled number (fixup ∷ fixups) contents =
     lengths-filled number fixups (with_filled fixup.area fixup.place (number fixup.target) contents)
     ∙ lengths-with_filled fixup.area fixup.place (number fixup.target) contents
 
-pub filled-same : (number other : Target → ℕ) → ((target : Target) → number target ≡ other target) → (fixups : List Fixup) (contents : Areas (List ℕ)) → filled number fixups contents ≡ filled other fixups contents
+pub filled-same : (number other : Target → ℕ) → ((target : Target) → number target ≡ other target) →
+    (fixups : List Fixup) (contents : Areas (List ℕ)) → filled number fixups contents ≡ filled other fixups contents
 filled-same number other same [] contents = refl
 filled-same number other same (fixup ∷ fixups) contents =
     ap (λ n. filled number fixups (with_filled fixup.area fixup.place n contents)) (same fixup.target)

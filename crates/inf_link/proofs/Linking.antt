@@ -15,7 +15,8 @@ use Rattle.inf_link.specs.Targets.{Lookup, number_of}
 use Rattle.inf_link.proofs.Fillings.{lengths-filled}
 
 -- areas, filled, where they lie as this map tells
-pub filled-map : (contents areas : Areas (List ℕ)) (fixups : List Fixup) (targets : Lookup) (fields : HeaderFields) (sizes : Areas ℕ) (map : MemoryMap)
+pub filled-map : (contents areas : Areas (List ℕ)) (fixups : List Fixup) (targets : Lookup) (fields : HeaderFields) (sizes : Areas ℕ)
+    (map : MemoryMap)
     → sizes ≡ lengths contents → map ≡ map_of sizes fields.scale → areas ≡ filled (number_of targets fields.scale map.bases) fixups contents
     → areas ≡ filled_areas contents fixups targets fields
 unfolding filled_areas
@@ -24,13 +25,17 @@ filled-map contents areas fixups targets fields sizes map are_sizes is_map are_f
     ∙ ap (λ m. filled (number_of targets fields.scale m.bases) fixups contents) is_map
     ∙ ap (λ s. filled (number_of targets fields.scale (map_of s fields.scale).bases) fixups contents) are_sizes
 
-pub lengths-filled_areas : (contents : Areas (List ℕ)) (fixups : List Fixup) (targets : Lookup) (fields : HeaderFields) → lengths (filled_areas contents fixups targets fields) ≡ lengths contents
+pub lengths-filled_areas : (contents : Areas (List ℕ)) (fixups : List Fixup) (targets : Lookup) (fields : HeaderFields) →
+    lengths (filled_areas contents fixups targets fields) ≡ lengths contents
 unfolding filled_areas
-lengths-filled_areas contents fixups targets fields = lengths-filled (number_of targets fields.scale (map_of (lengths contents) fields.scale).bases) fixups contents
+lengths-filled_areas contents fixups targets fields =
+    lengths-filled (number_of targets fields.scale (map_of (lengths contents) fields.scale).bases) fixups contents
 
 -- a header and the bytes behind it
-pub story-parts : (contents areas : Areas (List ℕ)) (fixups : List Fixup) (targets : Lookup) (fields : HeaderFields) (sizes : Areas ℕ) (map : MemoryMap) (behind : List ℕ)
-    → sizes ≡ lengths contents → map ≡ map_of sizes fields.scale → areas ≡ filled_areas contents fixups targets fields → behind ≡ body fields.scale areas
+pub story-parts : (contents areas : Areas (List ℕ)) (fixups : List Fixup) (targets : Lookup) (fields : HeaderFields) (sizes : Areas ℕ)
+    (map : MemoryMap) (behind : List ℕ)
+    → sizes ≡ lengths contents → map ≡ map_of sizes fields.scale → areas ≡ filled_areas contents fixups targets fields → behind ≡ body
+    fields.scale areas
     → header fields map.bases behind ++ behind ≡ story contents fixups targets fields
 unfolding story_of
 story-parts contents areas fixups targets fields sizes map behind are_sizes is_map are_filled is_behind =
@@ -42,16 +47,19 @@ story-parts contents areas fixups targets fields sizes map behind are_sizes is_m
     ∙ ap (λ bytes. header fields (map_of (lengths done) fields.scale).bases bytes ++ bytes) whole
 
 -- how many bytes the parts have
-pub sizes-parts : (contents areas : Areas (List ℕ)) (fixups : List Fixup) (targets : Lookup) (fields : HeaderFields) (measured : Areas ℕ) (map : MemoryMap) (bytes : List ℕ) (code strings story : ℕ)
+pub sizes-parts : (contents areas : Areas (List ℕ)) (fixups : List Fixup) (targets : Lookup) (fields : HeaderFields) (measured : Areas ℕ)
+    (map : MemoryMap) (bytes : List ℕ) (code strings story : ℕ)
     → measured ≡ lengths contents → map ≡ map_of measured fields.scale → areas ≡ filled_areas contents fixups targets fields
     → code ≡ length areas.code → strings ≡ length areas.strings → story ≡ length bytes
     → record { code = code; strings = strings; readable = map.bases.code; story = story } ≡ sizes contents fields bytes
-sizes-parts contents areas fixups targets fields measured map bytes code strings story are_measured is_map are_filled is_code are_strings is_story =
+sizes-parts contents areas fixups targets fields measured map bytes code strings story are_measured is_map are_filled is_code are_strings
+    is_story =
     let same : lengths areas ≡ lengths contents = ap lengths are_filled ∙ lengths-filled_areas contents fixups targets fields in
     let first : code ≡ length contents.code = is_code ∙ ap (λ (l : Areas ℕ). l.code) same in
     let second : strings ≡ length contents.strings = are_strings ∙ ap (λ (l : Areas ℕ). l.strings) same in
     let third : map.bases.code ≡ (map_of (lengths contents) fields.scale).bases.code =
     ap (λ (m : MemoryMap). m.bases.code) is_map ∙ ap (λ l. (map_of l fields.scale).bases.code) are_measured in
     alike first second third is_story where
-      alike : {a b c d e f g h : ℕ} → a ≡ e → b ≡ f → c ≡ g → d ≡ h → ◌≡◌ {A = Sizes} record { code = a; strings = b; readable = c; story = d } record { code = e; strings = f; readable = g; story = h }
+      alike : {a b c d e f g h : ℕ} → a ≡ e → b ≡ f → c ≡ g → d ≡ h → ◌≡◌ {A = Sizes}
+          record { code = a; strings = b; readable = c; story = d } record { code = e; strings = f; readable = g; story = h }
       alike p q r s = cc

@@ -38,7 +38,8 @@ parts_alike targets others alike name.Dictionary = refl
 parts_alike targets others alike name.Code = refl
 parts_alike targets others alike name.Strings = refl
 
-system_alike : (targets others : Lookup) → AreAlike targets others → (scale : Scale) (bases : Areas ℕ) (asked : SystemConstant) → system_number others scale bases asked ≡ system_number targets scale bases asked
+system_alike : (targets others : Lookup) → AreAlike targets others → (scale : Scale) (bases : Areas ℕ) (asked : SystemConstant) →
+    system_number others scale bases asked ≡ system_number targets scale bases asked
 system_alike targets others alike scale bases constant.GrammarTable = refl
 system_alike targets others alike scale bases constant.ActionsTable = refl
 system_alike targets others alike scale bases constant.PreactionsTable = refl
@@ -50,7 +51,8 @@ system_alike targets others alike scale bases constant.CodeOffset = refl
 system_alike targets others alike scale bases constant.StringsOffset = refl
 system_alike targets others alike scale bases constant.HighestObjectNumber = alike.last_object
 
-direct_alike : (targets others : Lookup) → AreAlike targets others → (scale : Scale) (bases : Areas ℕ) (t : Target) → direct_number others scale bases t ≡ direct_number targets scale bases t
+direct_alike : (targets others : Lookup) → AreAlike targets others → (scale : Scale) (bases : Areas ℕ) (t : Target) →
+    direct_number others scale bases t ≡ direct_number targets scale bases t
 direct_alike targets others alike scale bases (target.Name number) = refl
 direct_alike targets others alike scale bases (target.Place area place) = refl
 direct_alike targets others alike scale bases (target.Part area part) =
@@ -58,16 +60,21 @@ direct_alike targets others alike scale bases (target.Part area part) =
 direct_alike targets others alike scale bases (target.Word text) = ap (λ rank. bases.dictionary + 7 + 9 * rank) (alike.ranks text)
 direct_alike targets others alike scale bases (target.System asked) = system_alike targets others alike scale bases asked
 
-value_alike : (targets others : Lookup) → AreAlike targets others → (scale : Scale) (bases : Areas ℕ) (found : Option Value) → value_found others scale bases found ≡ value_found targets scale bases found
+value_alike : (targets others : Lookup) → AreAlike targets others → (scale : Scale) (bases : Areas ℕ) (found : Option Value) →
+    value_found others scale bases found ≡ value_found targets scale bases found
 value_alike targets others alike scale bases None = refl
 value_alike targets others alike scale bases (Some (value.Known number)) = refl
 value_alike targets others alike scale bases (Some (value.Later t)) = direct_alike targets others alike scale bases t
 
-pub number_alike : (targets others : Lookup) → AreAlike targets others → (scale : Scale) (bases : Areas ℕ) (t : Target) → number_of others scale bases t ≡ number_of targets scale bases t
+pub number_alike : (targets others : Lookup) → AreAlike targets others → (scale : Scale) (bases : Areas ℕ) (t : Target) →
+    number_of others scale bases t ≡ number_of targets scale bases t
 number_alike targets others alike scale bases (target.Name number) =
     ap (λ names. value_found others scale bases (slice_get names number) % 65536) alike.names
     ∙ ap (λ n. n % 65536) (value_alike targets others alike scale bases (slice_get targets.names number))
 number_alike targets others alike scale bases (target.Place area place) = refl
-number_alike targets others alike scale bases (target.Part area part) = ap (λ n. n % 65536) (direct_alike targets others alike scale bases (target.Part area part))
-number_alike targets others alike scale bases (target.Word text) = ap (λ n. n % 65536) (direct_alike targets others alike scale bases (target.Word text))
-number_alike targets others alike scale bases (target.System asked) = ap (λ n. n % 65536) (direct_alike targets others alike scale bases (target.System asked))
+number_alike targets others alike scale bases (target.Part area part) =
+    ap (λ n. n % 65536) (direct_alike targets others alike scale bases (target.Part area part))
+number_alike targets others alike scale bases (target.Word text) =
+    ap (λ n. n % 65536) (direct_alike targets others alike scale bases (target.Word text))
+number_alike targets others alike scale bases (target.System asked) =
+    ap (λ n. n % 65536) (direct_alike targets others alike scale bases (target.System asked))

@@ -31,21 +31,28 @@ below_too x y z not_below below = go (cmp y x) refl where
 
 partitioned : (text : Text) (words : List Text) → IsSorted cmp words → IsPartitionedBy (λ word. is_below word text) words
 partitioned text words sorted i j d le lt h =
-    below_too (slice_index_or words i d) (slice_index_or words j d) text (sorted_far (λ x y. is_lt (cmp x y)) (ranks_by order (λ x. x)) words sorted i j d le lt) h
+    below_too (slice_index_or words i d) (slice_index_or words j d) text
+    (sorted_far (λ x y. is_lt (cmp x y)) (ranks_by order (λ x. x)) words sorted i j d le lt) h
 
-counted : (text : Text) (words : List Text) (i : ℕ) → i ≤ length words → IsPartitionPoint (λ word. is_below word text ≡ true) (λ word. is_below word text ≡ false) words i → i ≡ rank_of text words
+counted : (text : Text) (words : List Text) (i : ℕ) → i ≤ length words →
+    IsPartitionPoint (λ word. is_below word text ≡ true) (λ word. is_below word text ≡ false) words i → i ≡ rank_of text words
 counted text [] i le point = omega (arith, le)
 counted text (word ∷ words) zero le point =
     let head : is_below word text ≡ false = point.1 0 word (omega arith) (omega arith) in
-    rw head (counted text words zero (omega arith) ((λ k d lo hi. absurd (omega (arith, hi))), (λ k d lo hi. point.1 (suc k) d (omega arith) (omega (arith, hi)))))
+    rw head (counted text words zero (omega arith)
+    ((λ k d lo hi. absurd (omega (arith, hi))), (λ k d lo hi. point.1 (suc k) d (omega arith) (omega (arith, hi)))))
 counted text (word ∷ words) (suc i) le point =
     let head : is_below word text ≡ true = point.0 0 word (omega arith) (omega arith) in
-    let rest : i ≡ rank_of text words = counted text words i (omega (arith, le)) ((λ k d lo hi. point.0 (suc k) d (omega arith) (omega (arith, hi))), (λ k d lo hi. point.1 (suc k) d (omega (arith, lo)) (omega (arith, hi)))) in
+    let rest : i ≡ rank_of text words = counted text words i (omega (arith, le)) (
+      (λ k d lo hi. point.0 (suc k) d (omega arith) (omega (arith, hi))),
+      (λ k d lo hi. point.1 (suc k) d (omega (arith, lo)) (omega (arith, hi))),
+    ) in
     rw head (omega (arith, rest))
 
 -- the partition point of the words below a text
 pub partition_point-rank : (text : Text) (words : List Text) (i : ℕ) → IsSorted cmp words → i ≤ length words
-    → (IsPartitionedBy (λ word. is_below word text) words → IsPartitionPoint (λ word. is_below word text ≡ true) (λ word. is_below word text ≡ false) words i)
+    → (IsPartitionedBy (λ word. is_below word text) words → IsPartitionPoint (λ word. is_below word text ≡ true)
+    (λ word. is_below word text ≡ false) words i)
     → i ≡ rank_of text words
 partition_point-rank text words i sorted le point = counted text words i le (point (partitioned text words sorted))
 
@@ -56,7 +63,8 @@ counts text word = if is_below word text then 1 else 0
 rank_of-sum : (text : Text) (words : List Text) → rank_of text words ≡ sum_by (counts text) words
 rank_of-sum text [] = refl
 rank_of-sum text (word ∷ words) = go (is_below word text) (rank_of-sum text words) ∙ sym (sum_by-cons (counts text) word words) where
-  go : (b : Bool) → rank_of text words ≡ sum_by (counts text) words → (if b then rank_of text words + 1 else rank_of text words) ≡ (if b then 1 else 0) + sum_by (counts text) words
+  go : (b : Bool) → rank_of text words ≡ sum_by (counts text) words →
+      (if b then rank_of text words + 1 else rank_of text words) ≡ (if b then 1 else 0) + sum_by (counts text) words
   go true others = omega (arith, others)
   go false others = omega (arith, others)
 

@@ -30,7 +30,8 @@ aligned-whole scale.Four n = omega arith
 aligned-whole scale.Eight n = omega arith
 
 length-padded : (s : Scale) (bytes : List ℕ) → length (padded s bytes) ≡ aligned s (length bytes)
-length-padded s bytes = length-append bytes (replicate (gap s (length bytes)) 0) ∙ ap (λ n. length bytes + n) (length-replicate (gap s (length bytes)) 0)
+length-padded s bytes =
+    length-append bytes (replicate (gap s (length bytes)) 0) ∙ ap (λ n. length bytes + n) (length-replicate (gap s (length bytes)) 0)
 
 length-up_to : (s : Scale) (area : AreaName) (bytes : List ℕ) → 64 + length (up_to s area bytes) ≡ begin s area (64 + length bytes)
 length-up_to s area bytes = go (is_packed area) where
@@ -57,16 +58,19 @@ length-joined s contents (area ∷ names) bytes =
     ∙ ap (λ n. aligned s (end_of (lengths contents) s n names)) (length-with_area s contents area bytes)
 
 -- areas come behind what is there
-joined-front : (s : Scale) (contents : Areas (List ℕ)) (names : List AreaName) (bytes : List ℕ) → (rest : List ℕ) × (joined s contents names bytes ≡ bytes ++ rest)
+joined-front : (s : Scale) (contents : Areas (List ℕ)) (names : List AreaName) (bytes : List ℕ) →
+    (rest : List ℕ) × (joined s contents names bytes ≡ bytes ++ rest)
 joined-front s contents [] bytes = (replicate (gap s (length bytes)) 0, refl)
 joined-front s contents (area ∷ names) bytes =
     let others = joined-front s contents names (with_area s contents area bytes) in
     go (is_packed area) others where
-      go : (b : Bool) → ((rest : List ℕ) × (joined s contents names (with_area s contents area bytes) ≡ ((if b then padded s bytes else bytes) ++ area_of area contents) ++ rest))
+      go : (b : Bool) → ((rest : List ℕ) × (joined s contents names (with_area s contents area bytes) ≡
+          ((if b then padded s bytes else bytes) ++ area_of area contents) ++ rest))
           → (rest : List ℕ) × (joined s contents names (with_area s contents area bytes) ≡ bytes ++ rest)
       go true others = (
         replicate (gap s (length bytes)) 0 ++ (area_of area contents ++ others.0),
-        others.1 ∙ append_assoc (bytes ++ replicate (gap s (length bytes)) 0) (area_of area contents) others.0 ∙ append_assoc bytes (replicate (gap s (length bytes)) 0) (area_of area contents ++ others.0),
+        others.1 ∙ append_assoc (bytes ++ replicate (gap s (length bytes)) 0) (area_of area contents) others.0
+            ∙ append_assoc bytes (replicate (gap s (length bytes)) 0) (area_of area contents ++ others.0),
       )
       go false others = (area_of area contents ++ others.0, others.1 ∙ append_assoc bytes (area_of area contents) others.0)
 
@@ -78,7 +82,8 @@ record Stands (s : Scale) (contents : Areas (List ℕ)) (area : AreaName) (base 
   place : 64 + length before ≡ base
 
 stands : (s : Scale) (contents : Areas (List ℕ)) (area : AreaName) (names others : List AreaName) (bytes : List ℕ)
-    → Stands s contents area (begin s area (end_of (lengths contents) s (64 + length bytes) names)) (joined s contents (names ++ area ∷ others) bytes)
+    → Stands s contents area (begin s area (end_of (lengths contents) s (64 + length bytes) names))
+    (joined s contents (names ++ area ∷ others) bytes)
 stands s contents area [] others bytes =
     let rest = joined-front s contents others (with_area s contents area bytes) in
     record {
@@ -88,7 +93,8 @@ stands s contents area [] others bytes =
       place = length-up_to s area bytes;
     }
 stands s contents area (first ∷ names) others bytes =
-    subst (λ n. Stands s contents area (begin s area (end_of (lengths contents) s n names)) (joined s contents (names ++ area ∷ others) (with_area s contents first bytes)))
+    subst (λ n. Stands s contents area (begin s area (end_of (lengths contents) s n names))
+    (joined s contents (names ++ area ∷ others) (with_area s contents first bytes)))
     (length-with_area s contents first bytes) (stands s contents area names others (with_area s contents first bytes))
 
 pub in_order : (a : AreaName) → take (rank a) order ++ a ∷ drop (rank a + 1) order ≡ order
@@ -108,7 +114,8 @@ in_order name.Dictionary = refl
 in_order name.Code = refl
 in_order name.Strings = refl
 
-stands-body : (s : Scale) (contents : Areas (List ℕ)) (area : AreaName) → Stands s contents area (base_of (lengths contents) s area) (body s contents)
+stands-body : (s : Scale) (contents : Areas (List ℕ)) (area : AreaName) →
+    Stands s contents area (base_of (lengths contents) s area) (body s contents)
 stands-body s contents area =
     subst (λ names. Stands s contents area (base_of (lengths contents) s area) (joined s contents names [])) (in_order area)
     (stands s contents area (take (rank area) order) (drop (rank area + 1) order) [])
@@ -124,25 +131,30 @@ with_six P all (a ∷ b ∷ c ∷ d ∷ []) six = absurd (omega arith)
 with_six P all (a ∷ b ∷ c ∷ d ∷ e ∷ []) six = absurd (omega arith)
 with_six P all (a ∷ b ∷ c ∷ d ∷ e ∷ f ∷ g ∷ rest) six = absurd (omega arith)
 
-length-header : (fields : HeaderFields) (bases : Areas ℕ) (bytes : List ℕ) → length fields.serial ≡ 6 → length (header fields bases bytes) ≡ 64
+length-header : (fields : HeaderFields) (bases : Areas ℕ) (bytes : List ℕ) → length fields.serial ≡ 6 →
+    length (header fields bases bytes) ≡ 64
 unfolding header_front header_back
 length-header fields bases bytes six =
     with_six (λ serial. length (header (record fields { serial = serial }) bases bytes) ≡ 64) (λ a b c d e f. refl) fields.serial six
 
 -- what the header says of the length and the sum of what is behind it
 header_words : (fields : HeaderFields) (bases : Areas ℕ) (bytes : List ℕ) → length fields.serial ≡ 6
-    → HasAt 0x1A (header fields bases bytes ++ bytes) (number_bytes ((64 + length bytes) / scale_number fields.scale)) × HasAt 0x1C (header fields bases bytes ++ bytes) (number_bytes (sum bytes % 65536))
+    → HasAt 0x1A (header fields bases bytes ++ bytes) (number_bytes ((64 + length bytes) / scale_number fields.scale)) × HasAt 0x1C
+    (header fields bases bytes ++ bytes) (number_bytes (sum bytes % 65536))
 unfolding header_front header_back
 header_words fields bases bytes six =
-    with_six (λ serial. HasAt 0x1A (header (record fields { serial = serial }) bases bytes ++ bytes) (number_bytes ((64 + length bytes) / scale_number fields.scale))
+    with_six (λ serial. HasAt 0x1A (header (record fields { serial = serial }) bases bytes ++ bytes)
+    (number_bytes ((64 + length bytes) / scale_number fields.scale))
     × HasAt 0x1C (header (record fields { serial = serial }) bases bytes ++ bytes) (number_bytes (sum bytes % 65536)))
     (λ a b c d e f. (refl, refl)) fields.serial six
 
-told : (fields : HeaderFields) (bases : Areas ℕ) (end : ℕ) (bytes : List ℕ) → length fields.serial ≡ 6 → 64 + length bytes ≡ end → end % scale_number fields.scale ≡ 0
+told : (fields : HeaderFields) (bases : Areas ℕ) (end : ℕ) (bytes : List ℕ) → length fields.serial ≡ 6 → 64 + length bytes ≡ end →
+    end % scale_number fields.scale ≡ 0
     → TellsItself fields.scale end (header fields bases bytes ++ bytes)
 told fields bases end bytes six long whole =
     let head = header fields bases bytes in
-    let size : length (head ++ bytes) ≡ 64 + length bytes = length-append head bytes ∙ ap (λ n. n + length bytes) (length-header fields bases bytes six) in
+    let size : length (head ++ bytes) ≡ 64 + length bytes =
+    length-append head bytes ∙ ap (λ n. n + length bytes) (length-header fields bases bytes six) in
     let words = header_words fields bases bytes six in
     let rest : drop 0x40 (head ++ bytes) ≡ bytes = drop_at head bytes 64 (length-header fields bases bytes six) in
     let twice : (sum bytes % 65536) % 65536 ≡ sum bytes % 65536 = omega arith in
@@ -150,7 +162,8 @@ told fields bases end bytes six long whole =
       as_mapped = size ∙ long;
       whole = ap (λ n. n % scale_number fields.scale) (size ∙ long) ∙ whole;
       length_word = subst (λ n. HasAt 0x1A (head ++ bytes) (number_bytes (n / scale_number fields.scale))) (sym size) words.0;
-      checksum_word = subst (λ xs. HasAt 0x1C (head ++ bytes) (number_bytes (sum xs))) (sym rest) (subst (HasAt 0x1C (head ++ bytes)) (ap word twice) words.1);
+      checksum_word = subst (λ xs. HasAt 0x1C (head ++ bytes) (number_bytes (sum xs))) (sym rest)
+          (subst (HasAt 0x1C (head ++ bytes)) (ap word twice) words.1);
     }
 
 pub stories_tell_themselves : StoriesTellThemselves
@@ -170,7 +183,8 @@ areas_stand_at_their_bases contents fields six area =
     let all : head ++ behind ≡ (head ++ here.before) ++ (part ++ here.behind) =
     ap (λ xs. head ++ xs) here.are ∙ sym (append_assoc head here.before (part ++ here.behind)) in
     let place : length (head ++ here.before) ≡ base_of (lengths contents) fields.scale area =
-    length-append head here.before ∙ ap (λ n. n + length here.before) (length-header fields (map_of (lengths contents) fields.scale).bases behind six) ∙ here.place in
+    length-append head here.before
+    ∙ ap (λ n. n + length here.before) (length-header fields (map_of (lengths contents) fields.scale).bases behind six) ∙ here.place in
     ap (λ xs. take (length part) (drop (base_of (lengths contents) fields.scale area) xs)) all
     ∙ ap (take (length part)) (drop_at (head ++ here.before) (part ++ here.behind) (base_of (lengths contents) fields.scale area) place)
     ∙ take_at part here.behind (length part) refl

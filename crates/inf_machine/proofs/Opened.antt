@@ -14,7 +14,8 @@ module _ {A : Type 0} where
   abbrev pub before : Taken A → List (Symbol A) → Taken A
   before t symbols = record { actions = t.actions; left = t.left ++ symbols }
 
-  stepped_before : (g : Grammar A) (k : Known) → IsDecided g k → (atom n : ℕ) (xs symbols : List (Symbol A)) → fits g k atom xs ≡ true → work k atom xs ≤ n → stepped g k atom n (xs ++ symbols) ≡ before (stepped g k atom n xs) symbols
+  stepped_before : (g : Grammar A) (k : Known) → IsDecided g k → (atom n : ℕ) (xs symbols : List (Symbol A)) → fits g k atom xs ≡ true →
+      work k atom xs ≤ n → stepped g k atom n (xs ++ symbols) ≡ before (stepped g k atom n xs) symbols
   stepped_before g k d atom zero xs symbols f l = absurd (omega (arith, some_work g k d atom xs f))
   stepped_before g k d atom (suc n) [] symbols f l = cc
   stepped_before g k d atom (suc n) (Token class ∷ xs) symbols f l = refl
@@ -25,10 +26,13 @@ module _ {A : Type 0} where
       ∙ stepped_before g k d atom n (row ++ xs) symbols (chosen_fits g k d atom rule xs f) (omega (arith, chosen_less g k d atom rule xs f))
 
   -- a rule that an atom begins
-  pub opened_on : (g : Grammar A) (k : Known) → IsDecided g k → (atom rule : ℕ) (symbols : List (Symbol A)) → has (k.begins rule) atom ≡ true → taken g k atom (Rule rule ∷ symbols) ≡ before (opened g k rule atom) symbols
+  pub opened_on : (g : Grammar A) (k : Known) → IsDecided g k → (atom rule : ℕ) (symbols : List (Symbol A)) →
+      has (k.begins rule) atom ≡ true → taken g k atom (Rule rule ∷ symbols) ≡ before (opened g k rule atom) symbols
   opened_on g k d atom rule symbols b =
       let alone : List (Symbol A) = Rule rule ∷ [] in
       let same : work {A = A} k atom (Rule rule ∷ symbols) ≡ work {A = A} k atom alone =
-      ap (λ n. k.steps rule + n) (cond-true {A = ℕ} (has (k.begins rule) atom) 0 (work k atom symbols) b ∙ sym (cond-true {A = ℕ} (has (k.begins rule) atom) 0 0 b)) in
+      ap (λ n. k.steps rule + n) (cond-true {A = ℕ} (has (k.begins rule) atom) 0 (work k atom symbols) b ∙ sym
+      (cond-true {A = ℕ} (has (k.begins rule) atom) 0 0 b)) in
       ap (λ n. stepped g k atom n (Rule rule ∷ symbols)) same
-      ∙ stepped_before g k d atom (work {A = A} k atom alone) alone symbols (or_left (has (k.begins rule) atom) (k.is_empty rule && false) b) (omega arith)
+      ∙ stepped_before g k d atom (work {A = A} k atom alone) alone symbols
+      (or_left (has (k.begins rule) atom) (k.is_empty rule && false) b) (omega arith)

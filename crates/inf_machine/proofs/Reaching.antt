@@ -14,7 +14,8 @@ use Rattle.inf_machine.proofs.Ways.{way_on, way_past}
 module _ {A : Type 0} where
   -- Actions at the top of a stack
 
-  pub acts_fit : (g : Grammar A) (k : Known) (atom : ℕ) (acts rest : List (Symbol A)) → are_acts acts ≡ true → fits g k atom (acts ++ rest) ≡ fits g k atom rest
+  pub acts_fit : (g : Grammar A) (k : Known) (atom : ℕ) (acts rest : List (Symbol A)) → are_acts acts ≡ true →
+      fits g k atom (acts ++ rest) ≡ fits g k atom rest
   acts_fit g k atom [] rest e = refl
   acts_fit g k atom (Token class ∷ acts) rest e = cc
   acts_fit g k atom (Rule rule ∷ acts) rest e = cc
@@ -23,7 +24,8 @@ module _ {A : Type 0} where
   abbrev pub behind_all : List A → Taken A → Taken A
   behind_all actions t = record { actions = actions ++ t.actions; left = t.left }
 
-  pub acts_taken : (g : Grammar A) (k : Known) (atom : ℕ) (acts rest : List (Symbol A)) → are_acts acts ≡ true → taken g k atom (acts ++ rest) ≡ behind_all (acts_of acts) (taken g k atom rest)
+  pub acts_taken : (g : Grammar A) (k : Known) (atom : ℕ) (acts rest : List (Symbol A)) → are_acts acts ≡ true →
+      taken g k atom (acts ++ rest) ≡ behind_all (acts_of acts) (taken g k atom rest)
   acts_taken g k atom [] rest e = refl
   acts_taken g k atom (Token class ∷ acts) rest e = cc
   acts_taken g k atom (Rule rule ∷ acts) rest e = cc
@@ -41,7 +43,8 @@ module _ {A : Type 0} where
   on_start g k atom all first = record { same = refl; actions = λ f. refl; left = λ f. refl }
 
   -- past an action
-  pub on_act : (g : Grammar A) (k : Known) (atom : ℕ) (a : A) (all here rest : List (Symbol A)) (first now : List A) → here ≡ Act a ∷ rest → IsOn g k atom all here first now → IsOn g k atom all rest first (now ++ (a ∷ []))
+  pub on_act : (g : Grammar A) (k : Known) (atom : ℕ) (a : A) (all here rest : List (Symbol A)) (first now : List A) → here ≡ Act a ∷ rest →
+      IsOn g k atom all here first now → IsOn g k atom all rest first (now ++ (a ∷ []))
   on_act g k atom a all here rest first now e on =
       let t = taken g k atom rest in
       record {
@@ -51,12 +54,16 @@ module _ {A : Type 0} where
       }
 
   -- past a rule that can be empty
-  pub on_passed : (g : Grammar A) (k : Known) → IsDecided g k → (atom rule : ℕ) (all here rest : List (Symbol A)) (first now : List A) → here ≡ Rule rule ∷ rest → has (k.begins rule) atom ≡ false → k.is_empty rule ≡ true → are_acts (passed_row g k (g.rows_of rule)) ≡ true → IsOn g k atom all here first now → IsOn g k atom all rest first (now ++ acts_of (passed_row g k (g.rows_of rule)))
+  pub on_passed : (g : Grammar A) (k : Known) → IsDecided g k → (atom rule : ℕ) (all here rest : List (Symbol A)) (first now : List A) →
+      here ≡ Rule rule ∷ rest → has (k.begins rule) atom ≡ false → k.is_empty rule ≡ true →
+      are_acts (passed_row g k (g.rows_of rule)) ≡ true → IsOn g k atom all here first now →
+      IsOn g k atom all rest first (now ++ acts_of (passed_row g k (g.rows_of rule)))
   on_passed g k d atom rule all here rest first now e not_it empty acts on =
       let row = passed_row g k (g.rows_of rule) in
       record {
         same = fits_rest ∙ on.same;
-        actions = λ f. append_assoc now (acts_of row) (taken g k atom rest).actions ∙ ap (λ t. now ++ t.actions) (same_taken f) ∙ on.actions f;
+        actions =
+            λ f. append_assoc now (acts_of row) (taken g k atom rest).actions ∙ ap (λ t. now ++ t.actions) (same_taken f) ∙ on.actions f;
         left = λ f. ap (λ t. t.left) (same_taken f) ∙ on.left f;
       }
     where
@@ -68,7 +75,8 @@ module _ {A : Type 0} where
       fits_rest : fits g k atom rest ≡ fits g k atom here
       fits_rest = here_is (has (k.begins rule) atom) (k.is_empty rule) (fits g k atom rest) not_it empty ∙ ap (fits g k atom) (sym e)
 
-      same_taken : fits g k atom all ≡ true → behind_all (acts_of (passed_row g k (g.rows_of rule))) (taken g k atom rest) ≡ taken g k atom here
+      same_taken : fits g k atom all ≡ true →
+          behind_all (acts_of (passed_row g k (g.rows_of rule))) (taken g k atom rest) ≡ taken g k atom here
       same_taken f =
           let row = passed_row g k (g.rows_of rule) in
           let fits_it : fits g k atom (Rule rule ∷ rest) ≡ true = ap (fits g k atom) (sym e) ∙ on.same ∙ f in
@@ -85,11 +93,13 @@ module _ {A : Type 0} where
     pub actions : now ≡ first ++ (taken g k atom all).actions
 
   -- whether a token at hand fits
-  pub token_fits : (g : Grammar A) (k : Known) (atom class : ℕ) (all here rest : List (Symbol A)) (first now : List A) → here ≡ Token class ∷ rest → IsOn g k atom all here first now → has (g.atoms_of class) atom ≡ fits g k atom all
+  pub token_fits : (g : Grammar A) (k : Known) (atom class : ℕ) (all here rest : List (Symbol A)) (first now : List A) →
+      here ≡ Token class ∷ rest → IsOn g k atom all here first now → has (g.atoms_of class) atom ≡ fits g k atom all
   token_fits g k atom class all here rest first now e on = ap (fits g k atom) (sym e) ∙ on.same
 
   -- at a token that fits
-  pub at_token : (g : Grammar A) (k : Known) (atom class : ℕ) (all here rest : List (Symbol A)) (first now : List A) → here ≡ Token class ∷ rest → IsOn g k atom all here first now → has (g.atoms_of class) atom ≡ true → Ends g k atom all rest first now
+  pub at_token : (g : Grammar A) (k : Known) (atom class : ℕ) (all here rest : List (Symbol A)) (first now : List A) →
+      here ≡ Token class ∷ rest → IsOn g k atom all here first now → has (g.atoms_of class) atom ≡ true → Ends g k atom all rest first now
   at_token g k atom class all here rest first now e on h =
       let whole = token_fits g k atom class all here rest first now e on in
       let f : fits g k atom all ≡ true = sym whole ∙ h in
@@ -100,10 +110,14 @@ module _ {A : Type 0} where
       }
 
   -- at a rule that the token begins
-  pub at_rule : (g : Grammar A) (k : Known) → IsDecided g k → (atom rule : ℕ) (all here rest : List (Symbol A)) (first now : List A) → here ≡ Rule rule ∷ rest → has (k.begins rule) atom ≡ true → IsOn g k atom all here first now → Ends g k atom all ((opened g k rule atom).left ++ rest) first (now ++ (opened g k rule atom).actions)
+  pub at_rule : (g : Grammar A) (k : Known) → IsDecided g k → (atom rule : ℕ) (all here rest : List (Symbol A)) (first now : List A) →
+      here ≡ Rule rule ∷ rest → has (k.begins rule) atom ≡ true → IsOn g k atom all here first now →
+      Ends g k atom all ((opened g k rule atom).left ++ rest) first (now ++ (opened g k rule atom).actions)
   at_rule g k d atom rule all here rest first now e h on =
-      let whole : fits g k atom all ≡ true = sym on.same ∙ ap (fits g k atom) e ∙ or_left (has (k.begins rule) atom) (k.is_empty rule && fits g k atom rest) h in
-      let same : before (opened g k rule atom) rest ≡ taken g k atom here = sym (opened_on g k d atom rule rest h) ∙ ap (taken g k atom) (sym e) in
+      let whole : fits g k atom all ≡ true =
+      sym on.same ∙ ap (fits g k atom) e ∙ or_left (has (k.begins rule) atom) (k.is_empty rule && fits g k atom rest) h in
+      let same : before (opened g k rule atom) rest ≡ taken g k atom here =
+      sym (opened_on g k d atom rule rest h) ∙ ap (taken g k atom) (sym e) in
       record {
         fits_it = sym whole;
         left_is = ap (λ t. t.left) same ∙ on.left whole;
@@ -111,7 +125,9 @@ module _ {A : Type 0} where
       }
 
   -- at a rule that it does not begin and that cannot be empty
-  pub at_other : (g : Grammar A) (k : Known) (atom rule : ℕ) (all here rest : List (Symbol A)) (first now : List A) → here ≡ Rule rule ∷ rest → has (k.begins rule) atom ≡ false → k.is_empty rule ≡ false → IsOn g k atom all here first now → false ≡ fits g k atom all
+  pub at_other : (g : Grammar A) (k : Known) (atom rule : ℕ) (all here rest : List (Symbol A)) (first now : List A) →
+      here ≡ Rule rule ∷ rest → has (k.begins rule) atom ≡ false → k.is_empty rule ≡ false → IsOn g k atom all here first now →
+      false ≡ fits g k atom all
   at_other g k atom rule all here rest first now e not_it some on =
       neither (has (k.begins rule) atom) (k.is_empty rule) (fits g k atom rest) not_it some ∙ ap (fits g k atom) (sym e) ∙ on.same
     where
@@ -121,7 +137,8 @@ module _ {A : Type 0} where
       neither false false f e n = refl
 
 -- the top of a stack whose top is last
-pub top_is : {X : Type 0} (xs : List X) (below : ℕ) (x : X) → 0 < below → below ≤ length xs → x ≡ get_or xs (below - 1) x → reverse (take below xs) ≡ x ∷ reverse (take (below - 1) xs)
+pub top_is : {X : Type 0} (xs : List X) (below : ℕ) (x : X) → 0 < below → below ≤ length xs → x ≡ get_or xs (below - 1) x →
+    reverse (take below xs) ≡ x ∷ reverse (take (below - 1) xs)
 top_is xs zero x p l e = absurd (omega arith)
 top_is xs (suc n) x p l e =
     let down : suc n - 1 ≡ n = omega arith in

@@ -12,18 +12,21 @@ module _ {A : Type 0} where
 
   behind_both : (first second : List (Event A)) (o : Option (Read A)) → behind first (behind second o) ≡ behind (first ++ second) o
   behind_both first second None = refl
-  behind_both first second (Some r) = ap (λ events. Some (record { events = events; left = r.left })) (sym (append_assoc first second r.events))
+  behind_both first second (Some r) =
+      ap (λ events. Some (record { events = events; left = r.left })) (sym (append_assoc first second r.events))
 
   behind_none : (o : Option (Read A)) → o ≡ behind [] o
   behind_none None = refl
   behind_none (Some r) = refl
 
   -- behind what is read of the first part the machine reads the second
-  behind_read : (g : Grammar A) (k : Known) (events : List (Event A)) (o : Option (Read A)) (atoms : List ℕ) → behind events (read_on g k o atoms) ≡ read_on g k (behind events o) atoms
+  behind_read : (g : Grammar A) (k : Known) (events : List (Event A)) (o : Option (Read A)) (atoms : List ℕ) →
+      behind events (read_on g k o atoms) ≡ read_on g k (behind events o) atoms
   behind_read g k events None atoms = refl
   behind_read g k events (Some r) atoms = behind_both events r.events (read g k r.left atoms)
 
-  pub read_append : (g : Grammar A) (k : Known) (symbols : List (Symbol A)) (first second : List ℕ) → read g k symbols (first ++ second) ≡ read_on g k (read g k symbols first) second
+  pub read_append : (g : Grammar A) (k : Known) (symbols : List (Symbol A)) (first second : List ℕ) →
+      read g k symbols (first ++ second) ≡ read_on g k (read g k symbols first) second
   read_append g k symbols [] second = behind_none (read g k symbols second)
   read_append g k symbols (atom ∷ first) second =
       by_fit (fits g k atom symbols) (read_append g k (taken g k atom symbols).left first second)
@@ -45,7 +48,8 @@ module _ {A : Type 0} where
     pub is_read : read g k symbols atoms ≡ Some r
     pub leaves : r.left ≡ left
 
-  pub reads_one : (g : Grammar A) (k : Known) (symbols : List (Symbol A)) (atoms : List ℕ) (atom : ℕ) (left : List (Symbol A)) → OneMore g k symbols atoms left → fits g k atom left ≡ true → OneMore g k symbols (atoms ++ atom ∷ []) (taken g k atom left).left
+  pub reads_one : (g : Grammar A) (k : Known) (symbols : List (Symbol A)) (atoms : List ℕ) (atom : ℕ) (left : List (Symbol A)) →
+      OneMore g k symbols atoms left → fits g k atom left ≡ true → OneMore g k symbols (atoms ++ atom ∷ []) (taken g k atom left).left
   reads_one g k symbols atoms atom left o f =
       record {
         r = record { events = o.r.events ++ (events_of n.actions atom ++ []); left = n.left };
@@ -62,7 +66,8 @@ module _ {A : Type 0} where
       fits_there = ap (fits g k atom) o.leaves ∙ f
 
   -- and where it does not
-  pub reads_none : (g : Grammar A) (k : Known) (symbols : List (Symbol A)) (atoms : List ℕ) (atom : ℕ) (left : List (Symbol A)) → OneMore g k symbols atoms left → fits g k atom left ≡ false → read g k symbols (atoms ++ atom ∷ []) ≡ None
+  pub reads_none : (g : Grammar A) (k : Known) (symbols : List (Symbol A)) (atoms : List ℕ) (atom : ℕ) (left : List (Symbol A)) →
+      OneMore g k symbols atoms left → fits g k atom left ≡ false → read g k symbols (atoms ++ atom ∷ []) ≡ None
   reads_none g k symbols atoms atom left o f =
       let n = taken g k atom o.r.left in
       read_append g k symbols atoms (atom ∷ [])

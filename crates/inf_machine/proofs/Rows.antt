@@ -19,7 +19,8 @@ regroup false false f c s = refl
 
 module _ {A : Type 0} where
   -- an atom fits symbols exactly if it is one of those that begin them
-  pub fits_is_begun : (g : Grammar A) (k : Known) (atom : ℕ) (symbols : List (Symbol A)) → fits g k atom symbols ≡ has (beginning g k symbols) atom
+  pub fits_is_begun : (g : Grammar A) (k : Known) (atom : ℕ) (symbols : List (Symbol A)) →
+      fits g k atom symbols ≡ has (beginning g k symbols) atom
   fits_is_begun g k atom [] = sym (has_zero atom)
   fits_is_begun g k atom (Token class ∷ symbols) = refl
   fits_is_begun g k atom (Act a ∷ symbols) = fits_is_begun g k atom symbols
@@ -32,7 +33,8 @@ module _ {A : Type 0} where
       by_empty false b s = sym (or_false (has b atom))
 
   -- what fits two lists of symbols
-  pub fits_append : (g : Grammar A) (k : Known) (atom : ℕ) (xs ys : List (Symbol A)) → fits g k atom (xs ++ ys) ≡ (fits g k atom xs || (can_end k xs && fits g k atom ys))
+  pub fits_append : (g : Grammar A) (k : Known) (atom : ℕ) (xs ys : List (Symbol A)) →
+      fits g k atom (xs ++ ys) ≡ (fits g k atom xs || (can_end k xs && fits g k atom ys))
   fits_append g k atom [] ys = refl
   fits_append g k atom (Token class ∷ xs) ys = or_false (has (g.atoms_of class) atom)
   fits_append g k atom (Act a ∷ xs) ys = fits_append g k atom xs ys
@@ -41,12 +43,15 @@ module _ {A : Type 0} where
       ∙ regroup (has (k.begins rule) atom) (k.is_empty rule) (fits g k atom xs) (can_end k xs) (fits g k atom ys)
 
   -- no atom that was seen begins one of the rows
-  pub seen_begins_none : (g : Grammar A) (k : Known) (atom seen : ℕ) (rows : List (Row A)) (r : Row A) → IsOneOf r rows → are_apart g k seen rows ≡ true → has seen atom ≡ true → fits g k atom r.parts ≡ false
+  pub seen_begins_none : (g : Grammar A) (k : Known) (atom seen : ℕ) (rows : List (Row A)) (r : Row A) → IsOneOf r rows →
+      are_apart g k seen rows ≡ true → has seen atom ≡ true → fits g k atom r.parts ≡ false
   seen_begins_none g k atom seen [] r m apart h = elim m [ ]
   seen_begins_none g k atom seen (r ∷ rows) r' first apart h =
       let here = and_parts (bit_and seen (beginning g k r.parts) == 0) (are_apart g k (bit_or seen (beginning g k r.parts)) rows) apart in
-      let none : has (bit_and seen (beginning g k r.parts)) atom ≡ false = ap (λ s. has s atom) (eqb-true (bit_and seen (beginning g k r.parts)) 0 here.0) ∙ has_zero atom in
-      fits_is_begun g k atom r.parts ∙ other (has seen atom) (has (beginning g k r.parts) atom) h (sym (has_and seen (beginning g k r.parts) atom) ∙ none)
+      let none : has (bit_and seen (beginning g k r.parts)) atom ≡ false =
+      ap (λ s. has s atom) (eqb-true (bit_and seen (beginning g k r.parts)) 0 here.0) ∙ has_zero atom in
+      fits_is_begun g k atom r.parts
+      ∙ other (has seen atom) (has (beginning g k r.parts) atom) h (sym (has_and seen (beginning g k r.parts) atom) ∙ none)
     where
       other : (x y : Bool) → x ≡ true → (x && y) ≡ false → y ≡ false
       other true y e f = f
@@ -57,21 +62,25 @@ module _ {A : Type 0} where
       (has_or seen (beginning g k y.parts) atom ∙ or_left (has seen atom) (has (beginning g k y.parts) atom) h)
 
   -- the row that an atom begins is the one that it chooses
-  pub begun_is_chosen : (g : Grammar A) (k : Known) (atom seen : ℕ) (other : List (Symbol A)) (rows : List (Row A)) (r : Row A) → IsOneOf r rows → are_apart g k seen rows ≡ true → fits g k atom r.parts ≡ true → row_for g k atom other rows ≡ r.parts
+  pub begun_is_chosen : (g : Grammar A) (k : Known) (atom seen : ℕ) (other : List (Symbol A)) (rows : List (Row A)) (r : Row A) →
+      IsOneOf r rows → are_apart g k seen rows ≡ true → fits g k atom r.parts ≡ true → row_for g k atom other rows ≡ r.parts
   begun_is_chosen g k atom seen other [] r m apart h = elim m [ ]
-  begun_is_chosen g k atom seen other (r ∷ rows) r' first apart h = cond-true (fits g k atom r.parts) r.parts (row_for g k atom other rows) h
+  begun_is_chosen g k atom seen other (r ∷ rows) r' first apart h =
+      cond-true (fits g k atom r.parts) r.parts (row_for g k atom other rows) h
   begun_is_chosen g k atom seen other (y ∷ rows) r (later m) apart h =
       let here = and_parts (bit_and seen (beginning g k y.parts) == 0) (are_apart g k (bit_or seen (beginning g k y.parts)) rows) apart in
       let not_here : fits g k atom y.parts ≡ false = false_from_ne_true (fits g k atom y.parts) (λ f.
       both_ways (fits g k atom r.parts)
       (seen_begins_none g k atom (bit_or seen (beginning g k y.parts)) rows r m here.1
-      (has_or seen (beginning g k y.parts) atom ∙ or_right (has seen atom) (has (beginning g k y.parts) atom) (sym (fits_is_begun g k atom y.parts) ∙ f)))
+      (has_or seen (beginning g k y.parts) atom ∙ or_right (has seen atom) (has (beginning g k y.parts) atom)
+      (sym (fits_is_begun g k atom y.parts) ∙ f)))
       h) in
       cond-false (fits g k atom y.parts) y.parts (row_for g k atom other rows) not_here
       ∙ begun_is_chosen g k atom (bit_or seen (beginning g k y.parts)) other rows r m here.1 h
 
   -- what begins a row begins them all
-  pub begins_all : (g : Grammar A) (k : Known) (atom : ℕ) (rows : List (Row A)) (r : Row A) → IsOneOf r rows → fits g k atom r.parts ≡ true → has (all_beginnings g k rows) atom ≡ true
+  pub begins_all : (g : Grammar A) (k : Known) (atom : ℕ) (rows : List (Row A)) (r : Row A) → IsOneOf r rows →
+      fits g k atom r.parts ≡ true → has (all_beginnings g k rows) atom ≡ true
   begins_all g k atom [] r m h = elim m [ ]
   begins_all g k atom (r ∷ rows) r' first h =
       has_or (beginning g k r.parts) (all_beginnings g k rows) atom
@@ -81,27 +90,33 @@ module _ {A : Type 0} where
       ∙ or_right (has (beginning g k y.parts) atom) (has (all_beginnings g k rows) atom) (begins_all g k atom rows r m h)
 
   -- an atom that begins none chooses the other row
-  pub none_chooses_other : (g : Grammar A) (k : Known) (atom : ℕ) (other : List (Symbol A)) (rows : List (Row A)) → has (all_beginnings g k rows) atom ≡ false → row_for g k atom other rows ≡ other
+  pub none_chooses_other : (g : Grammar A) (k : Known) (atom : ℕ) (other : List (Symbol A)) (rows : List (Row A)) →
+      has (all_beginnings g k rows) atom ≡ false → row_for g k atom other rows ≡ other
   none_chooses_other g k atom other [] h = refl
   none_chooses_other g k atom other (r ∷ rows) h =
-      let parts = or_parts (has (beginning g k r.parts) atom) (has (all_beginnings g k rows) atom) (sym (has_or (beginning g k r.parts) (all_beginnings g k rows) atom) ∙ h) in
+      let parts = or_parts (has (beginning g k r.parts) atom) (has (all_beginnings g k rows) atom)
+      (sym (has_or (beginning g k r.parts) (all_beginnings g k rows) atom) ∙ h) in
       cond-false (fits g k atom r.parts) r.parts (row_for g k atom other rows) (fits_is_begun g k atom r.parts ∙ parts.0)
       ∙ none_chooses_other g k atom other rows parts.1
 
   -- the row that an atom begins is the same whatever the other one is
-  pub begun_whatever : (g : Grammar A) (k : Known) (atom : ℕ) (one other : List (Symbol A)) (rows : List (Row A)) → has (all_beginnings g k rows) atom ≡ true → row_for g k atom one rows ≡ row_for g k atom other rows
+  pub begun_whatever : (g : Grammar A) (k : Known) (atom : ℕ) (one other : List (Symbol A)) (rows : List (Row A)) →
+      has (all_beginnings g k rows) atom ≡ true → row_for g k atom one rows ≡ row_for g k atom other rows
   begun_whatever g k atom one other [] h = absurd (both_ways (has 0 atom) (has_zero atom) h)
   begun_whatever g k atom one other (r ∷ rows) h = by_test (λ e. begun_whatever g k atom one other rows e) (fits g k atom r.parts) refl
     where
       rest : fits g k atom r.parts ≡ false → has (all_beginnings g k rows) atom ≡ true
-      rest f = elim (or_cases (has (beginning g k r.parts) atom) (has (all_beginnings g k rows) atom) (sym (has_or (beginning g k r.parts) (all_beginnings g k rows) atom) ∙ h)) [
-        | inl b ↦ absurd (both_ways (fits g k atom r.parts) f (fits_is_begun g k atom r.parts ∙ b))
-        | inr b ↦ b
-      ]
+      rest f = elim (or_cases (has (beginning g k r.parts) atom) (has (all_beginnings g k rows) atom)
+          (sym (has_or (beginning g k r.parts) (all_beginnings g k rows) atom) ∙ h)) [
+            | inl b ↦ absurd (both_ways (fits g k atom r.parts) f (fits_is_begun g k atom r.parts ∙ b))
+            | inr b ↦ b
+          ]
 
-      by_test : (has (all_beginnings g k rows) atom ≡ true → row_for g k atom one rows ≡ row_for g k atom other rows) → (b : Bool) → fits g k atom r.parts ≡ b → row_for g k atom one (r ∷ rows) ≡ row_for g k atom other (r ∷ rows)
+      by_test : (has (all_beginnings g k rows) atom ≡ true → row_for g k atom one rows ≡ row_for g k atom other rows) → (b : Bool) →
+          fits g k atom r.parts ≡ b → row_for g k atom one (r ∷ rows) ≡ row_for g k atom other (r ∷ rows)
       by_test in_rest true e =
-          cond-true (fits g k atom r.parts) r.parts (row_for g k atom one rows) e ∙ sym (cond-true (fits g k atom r.parts) r.parts (row_for g k atom other rows) e)
+          cond-true (fits g k atom r.parts) r.parts (row_for g k atom one rows) e
+          ∙ sym (cond-true (fits g k atom r.parts) r.parts (row_for g k atom other rows) e)
       by_test in_rest false e =
           cond-false (fits g k atom r.parts) r.parts (row_for g k atom one rows) e
           ∙ in_rest (rest e)
@@ -115,21 +130,30 @@ module _ {A : Type 0} where
     pub fits_it : fits g k atom row.parts ≡ true
 
   -- an atom that begins one chooses one that it begins
-  pub some_is_begun : (g : Grammar A) (k : Known) (atom : ℕ) (other : List (Symbol A)) (rows : List (Row A)) → has (all_beginnings g k rows) atom ≡ true → Begun g k atom rows (row_for g k atom other rows)
+  pub some_is_begun : (g : Grammar A) (k : Known) (atom : ℕ) (other : List (Symbol A)) (rows : List (Row A)) →
+      has (all_beginnings g k rows) atom ≡ true → Begun g k atom rows (row_for g k atom other rows)
   some_is_begun g k atom other [] h = absurd (both_ways (has 0 atom) (has_zero atom) h)
   some_is_begun g k atom other (r ∷ rows) h = by_test (λ e. some_is_begun g k atom other rows e) (fits g k atom r.parts) refl
     where
       rest : fits g k atom r.parts ≡ false → has (all_beginnings g k rows) atom ≡ true
-      rest f = elim (or_cases (has (beginning g k r.parts) atom) (has (all_beginnings g k rows) atom) (sym (has_or (beginning g k r.parts) (all_beginnings g k rows) atom) ∙ h)) [
-        | inl b ↦ absurd (both_ways (fits g k atom r.parts) f (fits_is_begun g k atom r.parts ∙ b))
-        | inr b ↦ b
-      ]
+      rest f = elim (or_cases (has (beginning g k r.parts) atom) (has (all_beginnings g k rows) atom)
+          (sym (has_or (beginning g k r.parts) (all_beginnings g k rows) atom) ∙ h)) [
+            | inl b ↦ absurd (both_ways (fits g k atom r.parts) f (fits_is_begun g k atom r.parts ∙ b))
+            | inr b ↦ b
+          ]
 
-      by_test : (has (all_beginnings g k rows) atom ≡ true → Begun g k atom rows (row_for g k atom other rows)) → (b : Bool) → fits g k atom r.parts ≡ b → Begun g k atom (r ∷ rows) (row_for g k atom other (r ∷ rows))
-      by_test in_rest true e = record { row = r; one = first; is = cond-true (fits g k atom r.parts) r.parts (row_for g k atom other rows) e; fits_it = e }
+      by_test : (has (all_beginnings g k rows) atom ≡ true → Begun g k atom rows (row_for g k atom other rows)) → (b : Bool) →
+          fits g k atom r.parts ≡ b → Begun g k atom (r ∷ rows) (row_for g k atom other (r ∷ rows))
+      by_test in_rest true e =
+          record { row = r; one = first; is = cond-true (fits g k atom r.parts) r.parts (row_for g k atom other rows) e; fits_it = e }
       by_test in_rest false e =
           let b = in_rest (rest e) in
-          record { row = b.row; one = later b.one; is = cond-false (fits g k atom r.parts) r.parts (row_for g k atom other rows) e ∙ b.is; fits_it = b.fits_it }
+          record {
+            row = b.row;
+            one = later b.one;
+            is = cond-false (fits g k atom r.parts) r.parts (row_for g k atom other rows) e ∙ b.is;
+            fits_it = b.fits_it;
+          }
 
   -- a row that can be empty counts
   pub empty_counts : (k : Known) (rows : List (Row A)) (r : Row A) → IsOneOf r rows → can_end k r.parts ≡ true → 1 ≤ empty_rows k rows
@@ -138,11 +162,13 @@ module _ {A : Type 0} where
   empty_counts k (y ∷ rows) r (later m) h = omega (arith, empty_counts k rows r m h)
 
   -- the only row that can be empty is the empty row
-  pub empty_is_chosen : (k : Known) (rows : List (Row A)) (r : Row A) → IsOneOf r rows → can_end k r.parts ≡ true → empty_rows k rows ≤ 1 → empty_row k rows ≡ r.parts
+  pub empty_is_chosen : (k : Known) (rows : List (Row A)) (r : Row A) → IsOneOf r rows → can_end k r.parts ≡ true → empty_rows k rows ≤ 1 →
+      empty_row k rows ≡ r.parts
   empty_is_chosen k [] r m h n = elim m [ ]
   empty_is_chosen k (r ∷ rows) r' first h n = cond-true (can_end k r.parts) r.parts (empty_row k rows) h
   empty_is_chosen k (y ∷ rows) r (later m) h n =
-      let not_here : can_end k y.parts ≡ false = false_from_ne_true (can_end k y.parts) (λ f. omega (arith, cond-true {A = ℕ} (can_end k y.parts) 1 0 f, empty_counts k rows r m h)) in
+      let not_here : can_end k y.parts ≡ false =
+      false_from_ne_true (can_end k y.parts) (λ f. omega (arith, cond-true {A = ℕ} (can_end k y.parts) 1 0 f, empty_counts k rows r m h)) in
       cond-false (can_end k y.parts) y.parts (empty_row k rows) not_here ∙ empty_is_chosen k rows r m h (omega arith)
 
   pub record Empty (k : Known) (rows : List (Row A)) (parts : List (Symbol A)) : Type 0 where
@@ -156,7 +182,8 @@ module _ {A : Type 0} where
   some_is_empty k [] n = absurd (omega arith)
   some_is_empty k (r ∷ rows) n = by_test (λ e. some_is_empty k rows e) (can_end k r.parts) refl
     where
-      by_test : (1 ≤ empty_rows k rows → Empty k rows (empty_row k rows)) → (b : Bool) → can_end k r.parts ≡ b → Empty k (r ∷ rows) (empty_row k (r ∷ rows))
+      by_test : (1 ≤ empty_rows k rows → Empty k rows (empty_row k rows)) → (b : Bool) → can_end k r.parts ≡ b →
+          Empty k (r ∷ rows) (empty_row k (r ∷ rows))
       by_test in_rest true e = record { row = r; one = first; is = cond-true (can_end k r.parts) r.parts (empty_row k rows) e; ends = e }
       by_test in_rest false e =
           let m = in_rest (omega (arith, cond-false {A = ℕ} (can_end k r.parts) 1 0 e)) in

@@ -38,4 +38,5 @@ has_and x y atom =
 -- what is in a set is in one that it lies within
 pub has_within : (inner outer atom : ℕ) → is_within inner outer ≡ true → has inner atom ≡ true → has outer atom ≡ true
 has_within inner outer atom w h =
-    ap (λ s. has s atom) (sym (eqb-true (bit_or inner outer) outer w)) ∙ has_or inner outer atom ∙ or_left (has inner atom) (has outer atom) h
+    ap (λ s. has s atom) (sym (eqb-true (bit_or inner outer) outer w)) ∙ has_or inner outer atom
+    ∙ or_left (has inner atom) (has outer atom) h

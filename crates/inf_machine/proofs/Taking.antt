@@ -22,7 +22,8 @@ module _ {A : Type 0} where
     pub fits_on : fits g k atom (row.parts ++ symbols) ≡ true
     pub less : work k atom (row.parts ++ symbols) < work k atom (Rule rule ∷ symbols)
 
-  pub choice : (g : Grammar A) (k : Known) → IsDecided g k → (atom rule : ℕ) (symbols : List (Symbol A)) → fits g k atom (Rule rule ∷ symbols) ≡ true → Choice g k atom rule symbols
+  pub choice : (g : Grammar A) (k : Known) → IsDecided g k → (atom rule : ℕ) (symbols : List (Symbol A)) →
+      fits g k atom (Rule rule ∷ symbols) ≡ true → Choice g k atom rule symbols
   choice g k d atom rule symbols f = by_begun (has (k.begins rule) atom) refl
     where
       rows : List (Row A)
@@ -36,17 +37,21 @@ module _ {A : Type 0} where
           let r = some_is_begun g k atom (empty_row k rows) rows (ap (λ s. has s atom) of_rule.whole ∙ e) in
           let s = sound_parts g k rule r.row (of_rule.sound r.row r.one) in
           let w = work_within g k atom r.row.parts symbols r.fits_it in
-          let here_zero : (if has (k.begins rule) atom then 0 else work k atom symbols) ≡ 0 = cond-true {A = ℕ} (has (k.begins rule) atom) 0 (work k atom symbols) e in
+          let here_zero : (if has (k.begins rule) atom then 0 else work k atom symbols) ≡ 0 =
+          cond-true {A = ℕ} (has (k.begins rule) atom) 0 (work k atom symbols) e in
           record {
             row = r.row;
             one = r.one;
             is = r.is;
             free = unless_of_begun g k atom rule r.row s.preferred r.fits_it;
-            fits_on = fits_append g k atom r.row.parts symbols ∙ or_left (fits g k atom r.row.parts) (can_end k r.row.parts && fits g k atom symbols) r.fits_it;
+            fits_on =
+                fits_append g k atom r.row.parts symbols
+                ∙ or_left (fits g k atom r.row.parts) (can_end k r.row.parts && fits g k atom symbols) r.fits_it;
             less = omega (arith, w, s.fewer, here_zero);
           }
       by_begun false e =
-          let two = elim (or_cases (has (k.begins rule) atom) (k.is_empty rule && fits g k atom symbols) f) as (λ x. (k.is_empty rule && fits g k atom symbols) ≡ true) [
+          let two = elim (or_cases (has (k.begins rule) atom) (k.is_empty rule && fits g k atom symbols) f)
+          as (λ x. (k.is_empty rule && fits g k atom symbols) ≡ true) [
             | inl b ↦ absurd (both_ways (has (k.begins rule) atom) e b)
             | inr b ↦ b
           ] in
@@ -55,39 +60,46 @@ module _ {A : Type 0} where
           let r = some_is_empty k rows counted in
           let s = sound_parts g k rule r.row (of_rule.sound r.row r.one) in
           let w = work_past k atom r.row.parts symbols r.ends in
-          let here_on : (if has (k.begins rule) atom then 0 else work k atom symbols) ≡ work k atom symbols = cond-false {A = ℕ} (has (k.begins rule) atom) 0 (work k atom symbols) e in
+          let here_on : (if has (k.begins rule) atom then 0 else work k atom symbols) ≡ work k atom symbols =
+          cond-false {A = ℕ} (has (k.begins rule) atom) 0 (work k atom symbols) e in
           record {
             row = r.row;
             one = r.one;
             is = none_chooses_other g k atom (empty_row k rows) rows (ap (λ s. has s atom) of_rule.whole ∙ e) ∙ r.is;
             free = unless_of_other g k atom rule r.row s.preferred e;
-            fits_on = fits_append g k atom r.row.parts symbols ∙ or_right (fits g k atom r.row.parts) (can_end k r.row.parts && fits g k atom symbols) (and_from (can_end k r.row.parts) (fits g k atom symbols) r.ends both.1);
+            fits_on = fits_append g k atom r.row.parts symbols ∙ or_right (fits g k atom r.row.parts)
+                (can_end k r.row.parts && fits g k atom symbols) (and_from (can_end k r.row.parts) (fits g k atom symbols) r.ends both.1);
             less = omega (arith, w, s.fewer, here_on);
           }
 
   -- the same of the chosen row
-  pub chosen_fits : (g : Grammar A) (k : Known) → IsDecided g k → (atom rule : ℕ) (symbols : List (Symbol A)) → fits g k atom (Rule rule ∷ symbols) ≡ true → fits g k atom (chosen g k atom rule ++ symbols) ≡ true
+  pub chosen_fits : (g : Grammar A) (k : Known) → IsDecided g k → (atom rule : ℕ) (symbols : List (Symbol A)) →
+      fits g k atom (Rule rule ∷ symbols) ≡ true → fits g k atom (chosen g k atom rule ++ symbols) ≡ true
   chosen_fits g k d atom rule symbols f =
       let c = choice g k d atom rule symbols f in
       ap (λ parts. fits g k atom (parts ++ symbols)) c.is ∙ c.fits_on
 
-  pub chosen_less : (g : Grammar A) (k : Known) → IsDecided g k → (atom rule : ℕ) (symbols : List (Symbol A)) → fits g k atom (Rule rule ∷ symbols) ≡ true → work k atom (chosen g k atom rule ++ symbols) < work k atom (Rule rule ∷ symbols)
+  pub chosen_less : (g : Grammar A) (k : Known) → IsDecided g k → (atom rule : ℕ) (symbols : List (Symbol A)) →
+      fits g k atom (Rule rule ∷ symbols) ≡ true → work k atom (chosen g k atom rule ++ symbols) < work k atom (Rule rule ∷ symbols)
   chosen_less g k d atom rule symbols f =
       let c = choice g k d atom rule symbols f in
-      let same : work k atom (chosen g k atom rule ++ symbols) ≡ work k atom (c.row.parts ++ symbols) = ap (λ parts. work k atom (parts ++ symbols)) c.is in
+      let same : work k atom (chosen g k atom rule ++ symbols) ≡ work k atom (c.row.parts ++ symbols) =
+      ap (λ parts. work k atom (parts ++ symbols)) c.is in
       omega (arith, same, c.less)
 
   -- Steps
 
   -- a token that fits takes at least one
-  pub some_work : (g : Grammar A) (k : Known) → IsDecided g k → (atom : ℕ) (symbols : List (Symbol A)) → fits g k atom symbols ≡ true → 0 < work k atom symbols
+  pub some_work : (g : Grammar A) (k : Known) → IsDecided g k → (atom : ℕ) (symbols : List (Symbol A)) → fits g k atom symbols ≡ true →
+      0 < work k atom symbols
   some_work g k d atom [] f = cc
   some_work g k d atom (Token class ∷ symbols) f = omega arith
   some_work g k d atom (Act a ∷ symbols) f = omega arith
   some_work g k d atom (Rule rule ∷ symbols) f = omega (arith, chosen_less g k d atom rule symbols f)
 
   -- more than enough change nothing
-  pub enough : (g : Grammar A) (k : Known) → IsDecided g k → (atom n m : ℕ) (symbols : List (Symbol A)) → fits g k atom symbols ≡ true → work k atom symbols ≤ n → work k atom symbols ≤ m → stepped g k atom n symbols ≡ stepped g k atom m symbols
+  pub enough : (g : Grammar A) (k : Known) → IsDecided g k → (atom n m : ℕ) (symbols : List (Symbol A)) → fits g k atom symbols ≡ true →
+      work k atom symbols ≤ n → work k atom symbols ≤ m → stepped g k atom n symbols ≡ stepped g k atom m symbols
   enough g k d atom zero m symbols f p q = absurd (omega (arith, some_work g k d atom symbols f))
   enough g k d atom (suc n) zero symbols f p q = absurd (omega (arith, some_work g k d atom symbols f))
   enough g k d atom (suc n) (suc m) [] f p q = refl
@@ -98,16 +110,22 @@ module _ {A : Type 0} where
       enough g k d atom n m (chosen g k atom rule ++ symbols) (chosen_fits g k d atom rule symbols f) (omega (arith, l)) (omega (arith, l))
 
   -- a rule is replaced by the row that is chosen
-  pub taken_row : (g : Grammar A) (k : Known) → IsDecided g k → (atom rule : ℕ) (symbols : List (Symbol A)) → fits g k atom (Rule rule ∷ symbols) ≡ true → taken g k atom (Rule rule ∷ symbols) ≡ taken g k atom (chosen g k atom rule ++ symbols)
+  pub taken_row : (g : Grammar A) (k : Known) → IsDecided g k → (atom rule : ℕ) (symbols : List (Symbol A)) →
+      fits g k atom (Rule rule ∷ symbols) ≡ true → taken g k atom (Rule rule ∷ symbols) ≡ taken g k atom (chosen g k atom rule ++ symbols)
   taken_row g k d atom rule symbols f = go (work k atom (Rule rule ∷ symbols)) (chosen_less g k d atom rule symbols f)
     where
-      go : (n : ℕ) → work k atom (chosen g k atom rule ++ symbols) < n → stepped g k atom n (Rule rule ∷ symbols) ≡ taken g k atom (chosen g k atom rule ++ symbols)
+      go : (n : ℕ) → work k atom (chosen g k atom rule ++ symbols) < n →
+          stepped g k atom n (Rule rule ∷ symbols) ≡ taken g k atom (chosen g k atom rule ++ symbols)
       go zero l = absurd (omega arith)
-      go (suc n) l = enough g k d atom n (work k atom (chosen g k atom rule ++ symbols)) (chosen g k atom rule ++ symbols) (chosen_fits g k d atom rule symbols f) (omega arith) (omega arith)
+      go (suc n) l = enough g k d atom n (work k atom (chosen g k atom rule ++ symbols)) (chosen g k atom rule ++ symbols)
+          (chosen_fits g k d atom rule symbols f) (omega arith) (omega arith)
 
   -- What the machine takes is taken by the grammar
 
-  pub leads_on : (g : Grammar A) (k : Known) → IsDecided g k → (atom n : ℕ) (symbols : List (Symbol A)) → work k atom symbols ≤ n → fits g k atom symbols ≡ true → {atoms : List ℕ} {events : List (Event A)} {left : List (Symbol A)} → Leads g (stepped g k atom n symbols).left atoms events left → Leads g symbols (atom ∷ atoms) (events_of (stepped g k atom n symbols).actions atom ++ events) left
+  pub leads_on : (g : Grammar A) (k : Known) → IsDecided g k → (atom n : ℕ) (symbols : List (Symbol A)) → work k atom symbols ≤ n →
+      fits g k atom symbols ≡ true → {atoms : List ℕ} {events : List (Event A)} {left : List (Symbol A)} →
+      Leads g (stepped g k atom n symbols).left atoms events left →
+      Leads g symbols (atom ∷ atoms) (events_of (stepped g k atom n symbols).actions atom ++ events) left
   leads_on g k d atom zero symbols w f l = absurd (omega (arith, some_work g k d atom symbols f))
   leads_on g k d atom (suc n) [] w f l = cc
   leads_on g k d atom (suc n) (Token class ∷ symbols) w f l = token f l
@@ -117,26 +135,32 @@ module _ {A : Type 0} where
       let less = chosen_less g k d atom rule symbols f in
       let on = leads_on g k d atom n (chosen g k atom rule ++ symbols) (omega (arith, less)) (chosen_fits g k d atom rule symbols f) l in
       row c.one c.free
-      (subst (λ parts. Leads g (parts ++ symbols) (atom ∷ atoms) (events_of (stepped g k atom n (chosen g k atom rule ++ symbols)).actions atom ++ events) left) c.is on)
+      (subst (λ parts. Leads g (parts ++ symbols) (atom ∷ atoms)
+      (events_of (stepped g k atom n (chosen g k atom rule ++ symbols)).actions atom ++ events) left) c.is on)
 
   -- What the grammar takes is taken by the machine
 
   -- a stack goes on behind a row as it did behind the row's rule
-  spaced_row : (g : Grammar A) (k : Known) (next : ℕ) (parts symbols : List (Symbol A)) → is_followed g k next parts ≡ true → ((atom : ℕ) → fits g k atom symbols ≡ true → has next atom ≡ true) → IsSpaced g k symbols → IsSpaced g k (parts ++ symbols)
+  spaced_row : (g : Grammar A) (k : Known) (next : ℕ) (parts symbols : List (Symbol A)) → is_followed g k next parts ≡ true →
+      ((atom : ℕ) → fits g k atom symbols ≡ true → has next atom ≡ true) → IsSpaced g k symbols → IsSpaced g k (parts ++ symbols)
   spaced_row g k next [] symbols e h s = s
   spaced_row g k next (Token class ∷ parts) symbols e h s = spaced_row g k next parts symbols e h s
   spaced_row g k next (Act a ∷ parts) symbols e h s = spaced_row g k next parts symbols e h s
   spaced_row g k next (Rule rule ∷ parts) symbols e h s =
-      let two = and_parts (is_within (if can_end k parts then bit_or (beginning g k parts) next else beginning g k parts) (k.follows rule)) (is_followed g k next parts) e in (
-        (λ atom f. has_within (if can_end k parts then bit_or (beginning g k parts) next else beginning g k parts) (k.follows rule) atom two.0
+      let two = and_parts (is_within (if can_end k parts then bit_or (beginning g k parts) next else beginning g k parts) (k.follows rule))
+      (is_followed g k next parts) e in (
+        (λ atom f. has_within (if can_end k parts then bit_or (beginning g k parts) next else beginning g k parts) (k.follows rule) atom
+            two.0
             (by_end atom (can_end k parts) refl (sym (fits_append g k atom parts symbols) ∙ f))),
         spaced_row g k next parts symbols two.1 h s,
       )
     where
-      by_end : (atom : ℕ) (c : Bool) → can_end k parts ≡ c → (fits g k atom parts || (c && fits g k atom symbols)) ≡ true → has (if c then bit_or (beginning g k parts) next else beginning g k parts) atom ≡ true
+      by_end : (atom : ℕ) (c : Bool) → can_end k parts ≡ c → (fits g k atom parts || (c && fits g k atom symbols)) ≡ true →
+          has (if c then bit_or (beginning g k parts) next else beginning g k parts) atom ≡ true
       by_end atom true e f =
           elim (or_cases (fits g k atom parts) (fits g k atom symbols) f) [
-            | inl b ↦ has_or (beginning g k parts) next atom ∙ or_left (has (beginning g k parts) atom) (has next atom) (sym (fits_is_begun g k atom parts) ∙ b)
+            | inl b ↦ has_or (beginning g k parts) next atom
+                ∙ or_left (has (beginning g k parts) atom) (has next atom) (sym (fits_is_begun g k atom parts) ∙ b)
             | inr b ↦ has_or (beginning g k parts) next atom ∙ or_right (has (beginning g k parts) atom) (has next atom) (h atom b)
           ]
       by_end atom false e f =
@@ -145,7 +169,8 @@ module _ {A : Type 0} where
             | inr b ↦ cc
           ]
 
-  pub spaced_choice : (g : Grammar A) (k : Known) → IsDecided g k → (rule : ℕ) (r : Row A) (symbols : List (Symbol A)) → IsOneOf r (g.rows_of rule) → IsSpaced g k (Rule rule ∷ symbols) → IsSpaced g k (r.parts ++ symbols)
+  pub spaced_choice : (g : Grammar A) (k : Known) → IsDecided g k → (rule : ℕ) (r : Row A) (symbols : List (Symbol A)) →
+      IsOneOf r (g.rows_of rule) → IsSpaced g k (Rule rule ∷ symbols) → IsSpaced g k (r.parts ++ symbols)
   spaced_choice g k d rule r symbols m s =
       let of_rule = decided_parts g k rule (d rule) in
       let sound = sound_parts g k rule r (of_rule.sound r m) in
@@ -156,7 +181,9 @@ module _ {A : Type 0} where
     pub fits_here : fits g k atom (Rule rule ∷ symbols) ≡ true
     pub is : chosen g k atom rule ≡ r.parts
 
-  only : (g : Grammar A) (k : Known) → IsDecided g k → (atom rule : ℕ) (r : Row A) (symbols : List (Symbol A)) → IsOneOf r (g.rows_of rule) → has r.unless atom ≡ false → IsSpaced g k (Rule rule ∷ symbols) → fits g k atom (r.parts ++ symbols) ≡ true → Only g k atom rule r symbols
+  only : (g : Grammar A) (k : Known) → IsDecided g k → (atom rule : ℕ) (r : Row A) (symbols : List (Symbol A)) →
+      IsOneOf r (g.rows_of rule) → has r.unless atom ≡ false → IsSpaced g k (Rule rule ∷ symbols) →
+      fits g k atom (r.parts ++ symbols) ≡ true → Only g k atom rule r symbols
   only g k d atom rule r symbols m free s f = by_begun (fits g k atom r.parts) refl
     where
       rows : List (Row A)
@@ -176,7 +203,8 @@ module _ {A : Type 0} where
             is = begun_is_chosen g k atom 0 (empty_row k rows) rows r m of_rule.apart e;
           }
       by_begun false e =
-          let past = elim (or_cases (fits g k atom r.parts) (can_end k r.parts && fits g k atom symbols) (sym (fits_append g k atom r.parts symbols) ∙ f)) as (λ x. (can_end k r.parts && fits g k atom symbols) ≡ true) [
+          let past = elim (or_cases (fits g k atom r.parts) (can_end k r.parts && fits g k atom symbols)
+          (sym (fits_append g k atom r.parts symbols) ∙ f)) as (λ x. (can_end k r.parts && fits g k atom symbols) ≡ true) [
             | inl b ↦ absurd (both_ways (fits g k atom r.parts) e b)
             | inr b ↦ b
           ] in
@@ -186,7 +214,8 @@ module _ {A : Type 0} where
           let counted = empty_counts k rows r m both.0 in
           let empty : k.is_empty rule ≡ true = by_empty (k.is_empty rule) (omega (arith, counted, of_rule.empties)) in
           record {
-            fits_here = or_right (has (k.begins rule) atom) (k.is_empty rule && fits g k atom symbols) (and_from (k.is_empty rule) (fits g k atom symbols) empty both.1);
+            fits_here = or_right (has (k.begins rule) atom) (k.is_empty rule && fits g k atom symbols)
+                (and_from (k.is_empty rule) (fits g k atom symbols) empty both.1);
             is = none_chooses_other g k atom (empty_row k rows) rows (ap (λ s. has s atom) of_rule.whole ∙ not_begun)
                 ∙ empty_is_chosen k rows r m both.0 (omega (arith, of_rule.empties, cond-true {A = ℕ} (k.is_empty rule) 1 0 empty));
           }
@@ -195,13 +224,16 @@ module _ {A : Type 0} where
           by_empty true l = refl
           by_empty false l = absurd (omega arith)
 
-  pub record Follows (g : Grammar A) (k : Known) (atom : ℕ) (symbols : List (Symbol A)) (atoms : List ℕ) (events : List (Event A)) (left : List (Symbol A)) : Type 0 where
+  pub record Follows (g : Grammar A) (k : Known) (atom : ℕ) (symbols : List (Symbol A)) (atoms : List ℕ) (events : List (Event A))
+      (left : List (Symbol A)) : Type 0 where
     pub fits_here : fits g k atom symbols ≡ true
     pub rest : List (Event A)
     pub are : events ≡ events_of (taken g k atom symbols).actions atom ++ rest
     pub leads : Leads g (taken g k atom symbols).left atoms rest left
 
-  pub leads_only : (g : Grammar A) (k : Known) → IsDecided g k → {atom : ℕ} {symbols : List (Symbol A)} {atoms : List ℕ} {events : List (Event A)} {left : List (Symbol A)} → Leads g symbols (atom ∷ atoms) events left → IsSpaced g k symbols → Follows g k atom symbols atoms events left
+  pub leads_only : (g : Grammar A) (k : Known) → IsDecided g k →
+      {atom : ℕ} {symbols : List (Symbol A)} {atoms : List ℕ} {events : List (Event A)} {left : List (Symbol A)} →
+      Leads g symbols (atom ∷ atoms) events left → IsSpaced g k symbols → Follows g k atom symbols atoms events left
   leads_only g k d (token {events} f l) s = record { fits_here = f; rest = events; are = refl; leads = l }
   leads_only g k d (action {a} l) s =
       let on = leads_only g k d l s in
@@ -219,7 +251,8 @@ module _ {A : Type 0} where
       }
 
   -- what is left is spaced too
-  pub spaced_left : (g : Grammar A) (k : Known) → IsDecided g k → (atom n : ℕ) (symbols : List (Symbol A)) → fits g k atom symbols ≡ true → IsSpaced g k symbols → IsSpaced g k (stepped g k atom n symbols).left
+  pub spaced_left : (g : Grammar A) (k : Known) → IsDecided g k → (atom n : ℕ) (symbols : List (Symbol A)) → fits g k atom symbols ≡ true →
+      IsSpaced g k symbols → IsSpaced g k (stepped g k atom n symbols).left
   spaced_left g k d atom zero symbols f s = s
   spaced_left g k d atom (suc n) [] f s = s
   spaced_left g k d atom (suc n) (Token class ∷ symbols) f s = s

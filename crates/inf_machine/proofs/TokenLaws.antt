@@ -10,7 +10,8 @@ use Rattle.inf_machine.proofs.Taking.{leads_on, leads_only, spaced_left}
 
 module _ {A : Type 0} where
   -- what is left when a text's tokens are all taken
-  pub record AllTaken (g : Grammar A) (k : Known) (symbols : List (Symbol A)) (atoms : List ℕ) (events : List (Event A)) (left : List (Symbol A)) : Type 0 where
+  pub record AllTaken (g : Grammar A) (k : Known) (symbols : List (Symbol A)) (atoms : List ℕ) (events : List (Event A))
+      (left : List (Symbol A)) : Type 0 where
     pub r : Read A
     pub rest : List (Event A)
     pub are : read g k symbols atoms ≡ Some r
@@ -18,8 +19,10 @@ module _ {A : Type 0} where
     pub leads : Leads g r.left [] rest left
 
   -- what the grammar takes is taken
-  pub takes_all : (g : Grammar A) (k : Known) → IsDecided g k → (symbols : List (Symbol A)) (atoms : List ℕ) → IsSpaced g k symbols → {events : List (Event A)} {left : List (Symbol A)} → Leads g symbols atoms events left → AllTaken g k symbols atoms events left
-  takes_all g k d symbols [] s {events} {left} l = record { r = record { events = []; left = symbols }; rest = events; are = refl; same = refl; leads = l }
+  pub takes_all : (g : Grammar A) (k : Known) → IsDecided g k → (symbols : List (Symbol A)) (atoms : List ℕ) → IsSpaced g k symbols →
+      {events : List (Event A)} {left : List (Symbol A)} → Leads g symbols atoms events left → AllTaken g k symbols atoms events left
+  takes_all g k d symbols [] s {events} {left} l =
+      record { r = record { events = []; left = symbols }; rest = events; are = refl; same = refl; leads = l }
   takes_all g k d symbols (atom ∷ atoms) s l =
       let o = leads_only g k d l s in
       let t = taken g k atom symbols in
@@ -34,17 +37,23 @@ module _ {A : Type 0} where
       }
 
   -- what is taken is taken by the grammar
-  pub all_lead : (g : Grammar A) (k : Known) → IsDecided g k → (symbols : List (Symbol A)) (atoms : List ℕ) (r : Read A) → read g k symbols atoms ≡ Some r → {rest : List (Event A)} {left : List (Symbol A)} → Leads g r.left [] rest left → Leads g symbols atoms (r.events ++ rest) left
+  pub all_lead : (g : Grammar A) (k : Known) → IsDecided g k → (symbols : List (Symbol A)) (atoms : List ℕ) (r : Read A) →
+      read g k symbols atoms ≡ Some r → {rest : List (Event A)} {left : List (Symbol A)} → Leads g r.left [] rest left →
+      Leads g symbols atoms (r.events ++ rest) left
   all_lead g k d symbols [] r e {rest} {left} l =
       let same : record { events = []; left = symbols } ≡ r = cc in
       subst (λ q. Leads g q.left [] rest left → Leads g symbols [] (q.events ++ rest) left) same (λ x. x) l
   all_lead g k d symbols (atom ∷ atoms) r e {rest} {left} l =
-      by_fit (λ q h x. all_lead g k d (taken g k atom symbols).left atoms q h x) (fits g k atom symbols) refl (read g k (taken g k atom symbols).left atoms) refl e
+      by_fit (λ q h x. all_lead g k d (taken g k atom symbols).left atoms q h x) (fits g k atom symbols) refl
+      (read g k (taken g k atom symbols).left atoms) refl e
     where
       es : List (Event A)
       es = events_of (taken g k atom symbols).actions atom
 
-      by_fit : ((q : Read A) → read g k (taken g k atom symbols).left atoms ≡ Some q → Leads g q.left [] rest left → Leads g (taken g k atom symbols).left atoms (q.events ++ rest) left) → (b : Bool) → fits g k atom symbols ≡ b → (o : Option (Read A)) → read g k (taken g k atom symbols).left atoms ≡ o → (if b then behind es o else None) ≡ Some r → Leads g symbols (atom ∷ atoms) (r.events ++ rest) left
+      by_fit : ((q : Read A) → read g k (taken g k atom symbols).left atoms ≡ Some q → Leads g q.left [] rest left → Leads g
+          (taken g k atom symbols).left atoms (q.events ++ rest) left) → (b : Bool) → fits g k atom symbols ≡ b → (o : Option (Read A)) →
+          read g k (taken g k atom symbols).left atoms ≡ o → (if b then behind es o else None) ≡ Some r → Leads g symbols (atom ∷ atoms)
+          (r.events ++ rest) left
       by_fit on false f o h q = cc
       by_fit on true f None h q = cc
       by_fit on true f (Some p) h q =
@@ -77,10 +86,12 @@ module _ {A : Type 0} where
   pub texts_are_taken : TextsAreTaken A
   texts_are_taken g k rule atoms events d = (onward, back)
     where
-      onward : IsText g (Rule rule ∷ []) atoms events → (r : Read A) × (rest : List (Event A)) × (read g k (Rule rule ∷ []) atoms ≡ Some r) × (events ≡ r.events ++ rest) × IsText g r.left [] rest
+      onward : IsText g (Rule rule ∷ []) atoms events → (r : Read A) × (rest : List (Event A)) × (read g k (Rule rule ∷ []) atoms ≡ Some r)
+          × (events ≡ r.events ++ rest) × IsText g r.left [] rest
       onward t =
           let a = takes_all g k d (Rule rule ∷ []) atoms (first_is_spaced g k rule) t in
           (a.r, a.rest, a.are, a.same, a.leads)
 
-      back : ((r : Read A) × (rest : List (Event A)) × (read g k (Rule rule ∷ []) atoms ≡ Some r) × (events ≡ r.events ++ rest) × IsText g r.left [] rest) → IsText g (Rule rule ∷ []) atoms events
+      back : ((r : Read A) × (rest : List (Event A)) × (read g k (Rule rule ∷ []) atoms ≡ Some r) × (events ≡ r.events ++ rest) × IsText g
+          r.left [] rest) → IsText g (Rule rule ∷ []) atoms events
       back t = subst (λ es. IsText g (Rule rule ∷ []) atoms es) (sym t.3) (all_lead g k d (Rule rule ∷ []) atoms t.0 t.2 t.4)

@@ -54,7 +54,8 @@ abbrev pub is_preferred : {A : Type 0} → Grammar A → Known → ℕ → Row A
 is_preferred g k rule row =
     if can_end k row.parts
     then (if row.unless == 0 then bit_and (k.begins rule) (k.follows rule) == 0
-    else (beginning g k row.parts == 0) && is_within row.unless (k.begins rule) && is_within (bit_and (k.begins rule) (k.follows rule)) row.unless)
+    else (beginning g k row.parts == 0) && is_within row.unless (k.begins rule) && is_within (bit_and (k.begins rule) (k.follows rule))
+    row.unless)
     else row.unless == 0
 
 abbrev pub is_sound : {A : Type 0} → Grammar A → Known → ℕ → Row A → Bool

@@ -36,9 +36,13 @@ pub data Event (A : Type 0) : Type 0 where
 -- From some symbols, one behind the other, the tokens lead with these events to the symbols that are left.
 pub data Leads {A : Type 0} (g : Grammar A) : List (Symbol A) → List ℕ → List (Event A) → List (Symbol A) → Type 0 where
   here : {symbols : List (Symbol A)} → Leads g symbols [] [] symbols
-  token : {class atom : ℕ} {symbols left : List (Symbol A)} {atoms : List ℕ} {events : List (Event A)} → has (g.atoms_of class) atom ≡ true → Leads g symbols atoms events left → Leads g (Token class ∷ symbols) (atom ∷ atoms) (Took atom ∷ events) left
-  action : {a : A} {symbols left : List (Symbol A)} {atoms : List ℕ} {events : List (Event A)} → Leads g symbols atoms events left → Leads g (Act a ∷ symbols) atoms (Did a ∷ events) left
-  row : {rule : ℕ} {r : Row A} {symbols left : List (Symbol A)} {atoms : List ℕ} {events : List (Event A)} → IsOneOf r (g.rows_of rule) → IsNext_not r.unless atoms → Leads g (r.parts ++ symbols) atoms events left → Leads g (Rule rule ∷ symbols) atoms events left
+  token : {class atom : ℕ} {symbols left : List (Symbol A)} {atoms : List ℕ} {events : List (Event A)} →
+      has (g.atoms_of class) atom ≡ true → Leads g symbols atoms events left →
+      Leads g (Token class ∷ symbols) (atom ∷ atoms) (Took atom ∷ events) left
+  action : {a : A} {symbols left : List (Symbol A)} {atoms : List ℕ} {events : List (Event A)} → Leads g symbols atoms events left →
+      Leads g (Act a ∷ symbols) atoms (Did a ∷ events) left
+  row : {rule : ℕ} {r : Row A} {symbols left : List (Symbol A)} {atoms : List ℕ} {events : List (Event A)} → IsOneOf r (g.rows_of rule) →
+      IsNext_not r.unless atoms → Leads g (r.parts ++ symbols) atoms events left → Leads g (Rule rule ∷ symbols) atoms events left
 
 -- The tokens are a text of the symbols, with these events: nothing is left.
 abbrev pub IsText : {A : Type 0} → Grammar A → List (Symbol A) → List ℕ → List (Event A) → Type 0

@@ -20,7 +20,8 @@ IsSpaced g k (Rule rule ∷ symbols) = ((atom : ℕ) → fits g k atom symbols �
 -- Tokens are taken, all of them, exactly where they begin a text. So the bad token is the first with which they begin none.
 abbrev pub BadTokensBeginNothing : Type 0 → Type 0
 BadTokensBeginNothing A =
-    (g : Grammar A) (k : Known) (rule : ℕ) (atoms : List ℕ) → IsDecided g k → (is_some (read g k (Rule rule ∷ []) atoms) ≡ true) ↔ Begins g (Rule rule ∷ []) atoms
+    (g : Grammar A) (k : Known) (rule : ℕ) (atoms : List ℕ) → IsDecided g k → (is_some (read g k (Rule rule ∷ []) atoms) ≡ true) ↔ Begins g
+    (Rule rule ∷ []) atoms
 
 -- The tokens are a text with these events exactly where they are taken, and the events are those of reading, and then what the
 -- stack that is left does without a token.
@@ -28,7 +29,8 @@ abbrev pub TextsAreTaken : Type 0 → Type 0
 TextsAreTaken A =
     (g : Grammar A) (k : Known) (rule : ℕ) (atoms : List ℕ) (events : List (Event A)) → IsDecided g k →
     IsText g (Rule rule ∷ []) atoms events
-    ↔ ((r : Read A) × (rest : List (Event A)) × (read g k (Rule rule ∷ []) atoms ≡ Some r) × (events ≡ r.events ++ rest) × IsText g r.left [] rest)
+    ↔ ((r : Read A) × (rest : List (Event A)) × (read g k (Rule rule ∷ []) atoms ≡ Some r) × (events ≡ r.events ++ rest) × IsText g r.left
+    [] rest)
 
 -- The tokens are a text exactly where they are taken and what is left can be empty.
 abbrev pub SourcesEnd : Type 0 → Type 0

@@ -25,8 +25,11 @@ IsOpen g rule front = Begins g (Rule rule ∷ []) front × (IsPiece g rule front
 -- tokens begin no text; behind it so many tokens are skipped as `further` tells of those before it, of it, and of those behind it.
 pub data ArePieces {A : Type 0} (g : Grammar A) (rule : ℕ) (further : List ℕ → ℕ → List ℕ → ℕ) : List Piece → List ℕ → Type 0 where
   ended : ArePieces g rule further [] []
-  whole : (front : List ℕ) (last : ℕ) (rest : List ℕ) {pieces : List Piece} → IsOpen g rule front → IsPiece g rule (front ++ last ∷ []) → ArePieces g rule further pieces rest → ArePieces g rule further (Whole (front ++ last ∷ []) ∷ pieces) (front ++ last ∷ rest)
-  bad : (front : List ℕ) (token : ℕ) (rest : List ℕ) {pieces : List Piece} → IsOpen g rule front → (Begins g (Rule rule ∷ []) (front ++ token ∷ []) → ⊥) → ArePieces g rule further pieces (drop (further front token rest) rest) → ArePieces g rule further (Bad front token (take (further front token rest) rest) ∷ pieces) (front ++ token ∷ rest)
+  whole : (front : List ℕ) (last : ℕ) (rest : List ℕ) {pieces : List Piece} → IsOpen g rule front → IsPiece g rule (front ++ last ∷ []) →
+      ArePieces g rule further pieces rest → ArePieces g rule further (Whole (front ++ last ∷ []) ∷ pieces) (front ++ last ∷ rest)
+  bad : (front : List ℕ) (token : ℕ) (rest : List ℕ) {pieces : List Piece} → IsOpen g rule front →
+      (Begins g (Rule rule ∷ []) (front ++ token ∷ []) → ⊥) → ArePieces g rule further pieces (drop (further front token rest) rest) →
+      ArePieces g rule further (Bad front token (take (further front token rest) rest) ∷ pieces) (front ++ token ∷ rest)
   cut : {first : ℕ} {front : List ℕ} → IsOpen g rule (first ∷ front) → ArePieces g rule further (Cut (first ∷ front) ∷ []) (first ∷ front)
 
 -- That a rule's texts end with a token and not behind it: a property of a table that is computed
@@ -51,5 +54,6 @@ closes g (Some (Rule rule)) (suc n) = all_rows (λ parts. closes g (last_symbol 
 -- Every source has its pieces, whatever is skipped.
 abbrev pub SourcesArePieces : Type 0 → Type 0
 SourcesArePieces A =
-    (g : Grammar A) (k : Known) (rule deep : ℕ) (further : List ℕ → ℕ → List ℕ → ℕ) (atoms : List ℕ) → IsDecided g k → closes g (Some (Rule rule)) deep ≡ true →
+    (g : Grammar A) (k : Known) (rule deep : ℕ) (further : List ℕ → ℕ → List ℕ → ℕ) (atoms : List ℕ) → IsDecided g k → closes g
+    (Some (Rule rule)) deep ≡ true →
     (pieces : List Piece) × ArePieces g rule further pieces atoms

@@ -101,7 +101,8 @@ impl<T: Table> Machine<T> {
     pub fn read(&mut self, atom: u8, actions: &mut Vec<T::Action>) -> Result<bool, AllocError>
         ensures fits { IfOk result (λ fits_now. fits_now ≡ fits T.grammar T.known atom self.old) }
         ensures left { IfOk result (λ fits_now. fits_now ≡ true → self.new ≡ (taken T.grammar T.known atom self.old).left) }
-        ensures actions { IfOk result (λ fits_now. fits_now ≡ true → actions.new.items ≡ actions.old.items ++ (taken T.grammar T.known atom self.old).actions) }
+        ensures actions { IfOk result (λ fits_now. fits_now ≡ true → actions.new.items ≡ actions.old.items ++
+            (taken T.grammar T.known atom self.old).actions) }
         ensures same { IfOk result (λ fits_now. fits_now ≡ false → self.new ≡ self.old) }
         ensures same_actions { IfOk result (λ fits_now. fits_now ≡ false → actions.new.items ≡ actions.old.items) }
         ensures err { OnErr result (self.new ≡ self.old) }
@@ -125,8 +126,10 @@ fn reach<T: Table>(
     actions: &mut Vec<T::Action>,
 ) -> Result<bool, AllocError>
     ensures fits { IfOk result (λ fits_now. fits_now ≡ fits T.grammar T.known atom (reverse symbols.old.items)) }
-    ensures left { IfOk result (λ fits_now. fits_now ≡ true → reverse symbols.new.items ≡ (taken T.grammar T.known atom (reverse symbols.old.items)).left) }
-    ensures actions { IfOk result (λ fits_now. fits_now ≡ true → actions.new.items ≡ actions.old.items ++ (taken T.grammar T.known atom (reverse symbols.old.items)).actions) }
+    ensures left { IfOk result (λ fits_now. fits_now ≡ true → reverse symbols.new.items ≡
+        (taken T.grammar T.known atom (reverse symbols.old.items)).left) }
+    ensures actions { IfOk result (λ fits_now. fits_now ≡ true → actions.new.items ≡ actions.old.items ++
+        (taken T.grammar T.known atom (reverse symbols.old.items)).actions) }
     ensures same { IfOk result (λ fits_now. fits_now ≡ false → symbols.new.items ≡ symbols.old.items) }
     ensures err { OnErr result (symbols.new.items ≡ symbols.old.items) }
     ensures before { take (vec_len actions.old) actions.new.items ≡ actions.old.items }

@@ -21,41 +21,52 @@ Key = ArrayVec ℕ 35 Unit
 abbrev pub has : List ℕ → Key → Bool
 has key k = bytes_eq key k.items
 
-pub standing_of-lookup : {P : Type 0} (key : List ℕ) (es : List (Key × Entry P)) → standing_of key (map as_named es) ≡ option_map standing (lookup (has key) es)
+pub standing_of-lookup : {P : Type 0} (key : List ℕ) (es : List (Key × Entry P)) →
+    standing_of key (map as_named es) ≡ option_map standing (lookup (has key) es)
 standing_of-lookup key [] = refl
 standing_of-lookup key (e ∷ es) = go (bytes_eq key e.0.items) (standing_of-lookup key es)
   where
-    go : (t : Bool) → standing_of key (map as_named es) ≡ option_map standing (lookup (has key) es) → cond t (Some (standing e.1)) (standing_of key (map as_named es)) ≡ option_map standing (cond t (Some e.1) (lookup (has key) es))
+    go : (t : Bool) → standing_of key (map as_named es) ≡ option_map standing (lookup (has key) es) →
+        cond t (Some (standing e.1)) (standing_of key (map as_named es)) ≡ option_map standing (cond t (Some e.1) (lookup (has key) es))
     go true later = refl
     go false later = later
 
-pub standing_at-get : {P : Type 0} (n : ℕ) (es : List (Key × Entry P)) → standing_at n (map as_named es) ≡ option_map (λ e. standing e.1) (slice_get es n)
+pub standing_at-get : {P : Type 0} (n : ℕ) (es : List (Key × Entry P)) →
+    standing_at n (map as_named es) ≡ option_map (λ e. standing e.1) (slice_get es n)
 standing_at-get n [] = refl
 standing_at-get zero (e ∷ es) = refl
 standing_at-get (suc n) (e ∷ es) = standing_at-get n es
 
-pub put-insert : {P : Type 0} (key : Key) (entry : Entry P) (es : List (Key × Entry P)) → map as_named (insert_entry (λ a b. bytes_eq a.items b.items) es key entry) ≡ put key.items (standing entry) (map as_named es)
+pub put-insert : {P : Type 0} (key : Key) (entry : Entry P) (es : List (Key × Entry P)) →
+    map as_named (insert_entry (λ a b. bytes_eq a.items b.items) es key entry) ≡ put key.items (standing entry) (map as_named es)
 put-insert key entry [] = refl
 put-insert key entry (e ∷ es) = go (bytes_eq key.items e.0.items) (put-insert key entry es)
   where
-    go : (t : Bool) → map as_named (insert_entry (λ a b. bytes_eq a.items b.items) es key entry) ≡ put key.items (standing entry) (map as_named es) → map as_named (cond t ((e.0, entry) ∷ es) (e ∷ insert_entry (λ a b. bytes_eq a.items b.items) es key entry)) ≡ cond t (as_named (e.0, entry) ∷ map as_named es) (as_named e ∷ put key.items (standing entry) (map as_named es))
+    go : (t : Bool) → map as_named (insert_entry (λ a b. bytes_eq a.items b.items) es key entry) ≡ put key.items (standing entry)
+        (map as_named es) → map as_named (cond t ((e.0, entry) ∷ es) (e ∷ insert_entry (λ a b. bytes_eq a.items b.items) es key entry)) ≡
+        cond t (as_named (e.0, entry) ∷ map as_named es) (as_named e ∷ put key.items (standing entry) (map as_named es))
     go true later = refl
     go false later = ap (λ names. as_named e ∷ names) later
 
-pub index_of-place : {P : Type 0} (key : List ℕ) (es : List (Key × Entry P)) → index_of key (map as_named es) ≡ position_or_len (has key) (keys_of es)
+pub index_of-place : {P : Type 0} (key : List ℕ) (es : List (Key × Entry P)) →
+    index_of key (map as_named es) ≡ position_or_len (has key) (keys_of es)
 index_of-place key [] = refl
 index_of-place key (e ∷ es) = go (bytes_eq key e.0.items) (index_of-place key es)
   where
-    go : (t : Bool) → index_of key (map as_named es) ≡ position_or_len (has key) (keys_of es) → cond t 0 (index_of key (map as_named es) + 1) ≡ cond (not t) (1 + position_or_len (has key) (keys_of es)) 0
+    go : (t : Bool) → index_of key (map as_named es) ≡ position_or_len (has key) (keys_of es) →
+        cond t 0 (index_of key (map as_named es) + 1) ≡ cond (not t) (1 + position_or_len (has key) (keys_of es)) 0
     go true later = refl
     go false later = omega arith
 
 -- a name that is not there is put behind all others
-pub index_of-absent : {P : Type 0} (key : List ℕ) (names : List (Named P)) → is_some (standing_of key names) ≡ false → index_of key names ≡ length names
+pub index_of-absent : {P : Type 0} (key : List ℕ) (names : List (Named P)) → is_some (standing_of key names) ≡ false →
+    index_of key names ≡ length names
 index_of-absent key [] is = refl
 index_of-absent key (n ∷ names) is = go (bytes_eq key n.name) is (index_of-absent key names)
   where
-    go : (t : Bool) → is_some (cond t (Some n.standing) (standing_of key names)) ≡ false → (is_some (standing_of key names) ≡ false → index_of key names ≡ length names) → cond t 0 (index_of key names + 1) ≡ length (n ∷ names)
+    go : (t : Bool) → is_some (cond t (Some n.standing) (standing_of key names)) ≡ false →
+        (is_some (standing_of key names) ≡ false → index_of key names ≡ length names) →
+        cond t 0 (index_of key names + 1) ≡ length (n ∷ names)
     go true is later = cc
     go false is later = omega (arith, later is)
 
@@ -66,24 +77,34 @@ is_open (Some (IsUsed spelling place)) = true
 is_open (Some (IsDeclared number meaning place)) = false
 
 -- one more is declared
-pub declarations-declared : {P : Type 0} (key : List ℕ) (number : ℕ) (meaning : Meaning) (place : P) (names : List (Named P)) → is_open (standing_of key names) ≡ true → declarations (put key (IsDeclared number meaning place) names) ≡ 1 + declarations names
+pub declarations-declared : {P : Type 0} (key : List ℕ) (number : ℕ) (meaning : Meaning) (place : P) (names : List (Named P)) →
+    is_open (standing_of key names) ≡ true → declarations (put key (IsDeclared number meaning place) names) ≡ 1 + declarations names
 declarations-declared key number meaning place [] is = refl
-declarations-declared {P} key number meaning place (n ∷ names) is = go (bytes_eq key n.name) n.standing is (declarations-declared key number meaning place names)
+declarations-declared {P} key number meaning place (n ∷ names) is =
+    go (bytes_eq key n.name) n.standing is (declarations-declared key number meaning place names)
   where
-    go : (t : Bool) (s : Standing P) → is_open (cond t (Some s) (standing_of key names)) ≡ true → (is_open (standing_of key names) ≡ true → declarations (put key (IsDeclared number meaning place) names) ≡ 1 + declarations names)
-        → declarations (cond t (record { name = n.name; standing = IsDeclared number meaning place } ∷ names) (record { name = n.name; standing = s } ∷ put key (IsDeclared number meaning place) names)) ≡ 1 + declarations (record { name = n.name; standing = s } ∷ names)
+    go : (t : Bool) (s : Standing P) → is_open (cond t (Some s) (standing_of key names)) ≡ true →
+        (is_open (standing_of key names) ≡ true → declarations (put key (IsDeclared number meaning place) names) ≡ 1 + declarations names)
+        → declarations (cond t (record { name = n.name; standing = IsDeclared number meaning place } ∷ names)
+        (record { name = n.name; standing = s } ∷ put key (IsDeclared number meaning place) names)) ≡ 1 + declarations
+        (record { name = n.name; standing = s } ∷ names)
     go true (IsUsed spelling place) is later = refl
     go true (IsDeclared number meaning place) is later = cc
     go false (IsUsed spelling place) is later = later is
     go false (IsDeclared number meaning place) is later = omega (arith, later is)
 
 -- and none where a new name is used
-pub declarations-used : {P : Type 0} (key spelling : List ℕ) (place : P) (names : List (Named P)) → is_some (standing_of key names) ≡ false → declarations (put key (IsUsed spelling place) names) ≡ declarations names
+pub declarations-used : {P : Type 0} (key spelling : List ℕ) (place : P) (names : List (Named P)) →
+    is_some (standing_of key names) ≡ false → declarations (put key (IsUsed spelling place) names) ≡ declarations names
 declarations-used key spelling place [] is = refl
-declarations-used {P} key spelling place (n ∷ names) is = go (bytes_eq key n.name) n.standing is (declarations-used key spelling place names)
+declarations-used {P} key spelling place (n ∷ names) is =
+    go (bytes_eq key n.name) n.standing is (declarations-used key spelling place names)
   where
-    go : (t : Bool) (s : Standing P) → is_some (cond t (Some s) (standing_of key names)) ≡ false → (is_some (standing_of key names) ≡ false → declarations (put key (IsUsed spelling place) names) ≡ declarations names)
-        → declarations (cond t (record { name = n.name; standing = IsUsed spelling place } ∷ names) (record { name = n.name; standing = s } ∷ put key (IsUsed spelling place) names)) ≡ declarations (record { name = n.name; standing = s } ∷ names)
+    go : (t : Bool) (s : Standing P) → is_some (cond t (Some s) (standing_of key names)) ≡ false →
+        (is_some (standing_of key names) ≡ false → declarations (put key (IsUsed spelling place) names) ≡ declarations names)
+        → declarations (cond t (record { name = n.name; standing = IsUsed spelling place } ∷ names)
+        (record { name = n.name; standing = s } ∷ put key (IsUsed spelling place) names)) ≡ declarations
+        (record { name = n.name; standing = s } ∷ names)
     go true s is later = cc
     go false (IsUsed spelling place) is later = later is
     go false (IsDeclared number meaning place) is later = ap (λ n. 1 + n) (later is)
@@ -92,7 +113,8 @@ pub declarations-few : {P : Type 0} (names : List (Named P)) → declarations na
 declarations-few [] = omega arith
 declarations-few {P} (n ∷ names) = go n.standing (declarations-few names)
   where
-    go : (s : Standing P) → declarations names ≤ length names → declarations (record { name = n.name; standing = s } ∷ names) ≤ length (n ∷ names)
+    go : (s : Standing P) → declarations names ≤ length names →
+        declarations (record { name = n.name; standing = s } ∷ names) ≤ length (n ∷ names)
     go (IsUsed spelling place) few = omega (arith, few)
     go (IsDeclared number meaning place) few = omega (arith, few)
 
@@ -101,21 +123,26 @@ standing-copied None = refl
 standing-copied (Some e) = refl
 
 -- one more name, if it is new
-pub length-put : {P : Type 0} (key : List ℕ) (s : Standing P) (names : List (Named P)) → length (put key s names) ≡ length names + cond (is_some (standing_of key names)) 0 1
+pub length-put : {P : Type 0} (key : List ℕ) (s : Standing P) (names : List (Named P)) →
+    length (put key s names) ≡ length names + cond (is_some (standing_of key names)) 0 1
 length-put key s [] = refl
 length-put key s (n ∷ names) = go (bytes_eq key n.name) (length-put key s names)
   where
-    go : (t : Bool) → length (put key s names) ≡ length names + cond (is_some (standing_of key names)) 0 1 → length (cond t (record { name = n.name; standing = s } ∷ names) (n ∷ put key s names)) ≡ length (n ∷ names) + cond (is_some (cond t (Some n.standing) (standing_of key names))) 0 1
+    go : (t : Bool) → length (put key s names) ≡ length names + cond (is_some (standing_of key names)) 0 1 → length
+        (cond t (record { name = n.name; standing = s } ∷ names) (n ∷ put key s names)) ≡ length (n ∷ names) + cond
+        (is_some (cond t (Some n.standing) (standing_of key names))) 0 1
     go true later = omega arith
     go false later = omega (arith, later)
 
 -- what is known where nothing is wrong with a declaration
-pub open_where_fit : {P : Type 0} (system : Option Meaning) (s : Option (Standing P)) (full : Bool) → declare_fault_by (found_as system s) full ≡ None → is_open s ≡ true
+pub open_where_fit : {P : Type 0} (system : Option Meaning) (s : Option (Standing P)) (full : Bool) →
+    declare_fault_by (found_as system s) full ≡ None → is_open s ≡ true
 open_where_fit system None full is = refl
 open_where_fit system (Some (IsUsed spelling place)) full is = refl
 open_where_fit system (Some (IsDeclared number meaning place)) full is = cc
 
-pub room_where_fit : {P : Type 0} (system : Option Meaning) (s : Option (Standing P)) (full : Bool) → declare_fault_by (found_as system s) full ≡ None → is_some s ≡ false → full ≡ false
+pub room_where_fit : {P : Type 0} (system : Option Meaning) (s : Option (Standing P)) (full : Bool) →
+    declare_fault_by (found_as system s) full ≡ None → is_some s ≡ false → full ≡ false
 room_where_fit None None false is absent = refl
 room_where_fit None None true is absent = cc
 room_where_fit (Some meaning) None full is absent = cc
@@ -123,28 +150,33 @@ room_where_fit system (Some s) full is absent = cc
 
 -- a name that is known is used again
 module _ {P : Type 0} (name : List ℕ) (place : P) (t : Table P) where
-  pub known_used : (system : Option Meaning) (s : Option (Standing P)) → is_some s ≡ true → with_used_by (found_as system s) name place t ≡ t
+  pub known_used : (system : Option Meaning) (s : Option (Standing P)) → is_some s ≡ true →
+      with_used_by (found_as system s) name place t ≡ t
   known_used system None is = cc
   known_used system (Some (IsUsed spelling first)) is = refl
   known_used system (Some (IsDeclared number meaning first)) is = refl
 
-  pub known_number : (system : Option Meaning) (s : Option (Standing P)) → is_some s ≡ true → number_by (found_as system s) name t ≡ Some (index_of (folded name) t.names)
+  pub known_number : (system : Option Meaning) (s : Option (Standing P)) → is_some s ≡ true →
+      number_by (found_as system s) name t ≡ Some (index_of (folded name) t.names)
   known_number system None is = cc
   known_number system (Some (IsUsed spelling first)) is = refl
   known_number system (Some (IsDeclared number meaning first)) is = refl
 
   -- or a new one
-  pub new_used : (system : Option Meaning) (s : Option (Standing P)) → is_some system ≡ false → is_some s ≡ false → with_used_by (found_as system s) name place t ≡ record t { names = put (folded name) (IsUsed name place) t.names }
+  pub new_used : (system : Option Meaning) (s : Option (Standing P)) → is_some system ≡ false → is_some s ≡ false →
+      with_used_by (found_as system s) name place t ≡ record t { names = put (folded name) (IsUsed name place) t.names }
   new_used None None free absent = refl
   new_used (Some meaning) s free absent = cc
   new_used None (Some s) free absent = cc
 
-  pub new_number : (system : Option Meaning) (s : Option (Standing P)) → is_some system ≡ false → is_some s ≡ false → number_by (found_as system s) name t ≡ Some (index_of (folded name) t.names)
+  pub new_number : (system : Option Meaning) (s : Option (Standing P)) → is_some system ≡ false → is_some s ≡ false →
+      number_by (found_as system s) name t ≡ Some (index_of (folded name) t.names)
   new_number None None free absent = refl
   new_number (Some meaning) s free absent = cc
   new_number None (Some s) free absent = cc
 
-pub known_fault : {P : Type 0} (system : Option Meaning) (s : Option (Standing P)) (full : Bool) → is_some s ≡ true → refer_fault_by (found_as system s) full ≡ None
+pub known_fault : {P : Type 0} (system : Option Meaning) (s : Option (Standing P)) (full : Bool) → is_some s ≡ true →
+    refer_fault_by (found_as system s) full ≡ None
 known_fault system None full is = cc
 known_fault system (Some (IsUsed spelling first)) full is = refl
 known_fault system (Some (IsDeclared number meaning first)) full is = refl
@@ -178,7 +210,8 @@ is_some-option_map f None = refl
 is_some-option_map f (Some x) = refl
 
 -- the place of a key is the number of its name
-pub number_of_place : {P : Type 0} (key : List ℕ) (es : List (Key × Entry P)) (r : Option ℕ) → r ≡ position (has key) (keys_of es) → is_some r ≡ is_some (lookup (has key) es) → r ≡ number_among key (map as_named es)
+pub number_of_place : {P : Type 0} (key : List ℕ) (es : List (Key × Entry P)) (r : Option ℕ) → r ≡ position (has key) (keys_of es) →
+    is_some r ≡ is_some (lookup (has key) es) → r ≡ number_among key (map as_named es)
 number_of_place {P} key es r is same = go r is same
   where
     names : List (Named P)
@@ -189,21 +222,26 @@ number_of_place {P} key es r is same = go r is same
 
     go : (r : Option ℕ) → r ≡ position (has key) (keys_of es) → is_some r ≡ is_some (lookup (has key) es) → r ≡ number_among key names
     go None is same = sym (ap (λ t. cond t (Some (index_of key names)) None) (known ∙ sym same))
-    go (Some n) is same = ap Some (found_place n _ _ is ∙ sym (index_of-place key es)) ∙ sym (ap (λ t. cond t (Some (index_of key names)) None) (known ∙ sym same))
+    go (Some n) is same =
+        ap Some (found_place n _ _ is ∙ sym (index_of-place key es))
+        ∙ sym (ap (λ t. cond t (Some (index_of key names)) None) (known ∙ sym same))
 
 -- as many names as there may be, at most, where a new one comes only if there is room
-pub fits_behind : (limit len new : ℕ) (known : Bool) → len ≤ limit → new ≡ len + cond known 0 1 → (known ≡ false → nat_le limit len ≡ false) → new ≤ limit
+pub fits_behind : (limit len new : ℕ) (known : Bool) → len ≤ limit → new ≡ len + cond known 0 1 →
+    (known ≡ false → nat_le limit len ≡ false) → new ≤ limit
 fits_behind limit len new true within is room = omega (arith, within, is)
 fits_behind limit len new false within is room =
     let below : nat_le limit len ≡ false = room refl in
     grind (arith, nat_tests, below, is)
 
 -- what is known of a name stands at its number
-standing_at-index : {P : Type 0} (key : List ℕ) (names : List (Named P)) → is_some (standing_of key names) ≡ true → standing_at (index_of key names) names ≡ standing_of key names
+standing_at-index : {P : Type 0} (key : List ℕ) (names : List (Named P)) → is_some (standing_of key names) ≡ true →
+    standing_at (index_of key names) names ≡ standing_of key names
 standing_at-index key [] is = cc
 standing_at-index {P} key (n ∷ names) is = go (bytes_eq key n.name) is (standing_at-index key names)
   where
-    go : (t : Bool) → is_some (cond t (Some n.standing) (standing_of key names)) ≡ true → (is_some (standing_of key names) ≡ true → standing_at (index_of key names) names ≡ standing_of key names)
+    go : (t : Bool) → is_some (cond t (Some n.standing) (standing_of key names)) ≡ true →
+        (is_some (standing_of key names) ≡ true → standing_at (index_of key names) names ≡ standing_of key names)
         → standing_at (cond t 0 (index_of key names + 1)) (n ∷ names) ≡ cond t (Some n.standing) (standing_of key names)
     go true known later = refl
     go false known later =
@@ -218,11 +256,14 @@ found_known system (Some (IsDeclared number meaning place)) is = refl
 some_same : (a b : ℕ) → Some a ≡ Some b → a ≡ b
 some_same a b e = cc
 
-pub found_at_number : {P : Type 0} (system : Option Meaning) (key : List ℕ) (names : List (Named P)) (number : ℕ) → Some number ≡ number_among key names → found_as None (standing_at number names) ≡ found_as system (standing_of key names)
+pub found_at_number : {P : Type 0} (system : Option Meaning) (key : List ℕ) (names : List (Named P)) (number : ℕ) →
+    Some number ≡ number_among key names → found_as None (standing_at number names) ≡ found_as system (standing_of key names)
 found_at_number {P} system key names number is = go (is_some (standing_of key names)) refl is
   where
-    go : (t : Bool) → is_some (standing_of key names) ≡ t → Some number ≡ (if t then Some (index_of key names) else None) → found_as None (standing_at number names) ≡ found_as system (standing_of key names)
+    go : (t : Bool) → is_some (standing_of key names) ≡ t → Some number ≡ (if t then Some (index_of key names) else None) →
+        found_as None (standing_at number names) ≡ found_as system (standing_of key names)
     go true known same =
         let at : number ≡ index_of key names = some_same number (index_of key names) same in
-        ap (λ k. found_as None (standing_at k names)) at ∙ ap (found_as None) (standing_at-index key names known) ∙ found_known system (standing_of key names) known
+        ap (λ k. found_as None (standing_at k names)) at ∙ ap (found_as None) (standing_at-index key names known)
+        ∙ found_known system (standing_of key names) known
     go false known same = cc

@@ -91,7 +91,8 @@ has_ends ends first last = list_any (λ (e : ℕ × ℕ). nat_eq e.0 first && na
 -- whether some name has the size and the ends of this one, in any case
 abbrev pub may_be_known : List ℕ → Bool
 may_be_known spelling =
-    has_ends (ends_of (length spelling)) (to_ascii_lowercase (get_or spelling 0 0)) (to_ascii_lowercase (get_or spelling (length spelling - 1) 0))
+    has_ends (ends_of (length spelling)) (to_ascii_lowercase (get_or spelling 0 0))
+    (to_ascii_lowercase (get_or spelling (length spelling - 1) 0))
 
 -- DEBUG is there only where debugging is on
 abbrev pub is_known : Bool → SystemName → Bool

@@ -92,7 +92,13 @@ impl<P: Copy> Model for Symbols<P> {
 
     ghost Value = { Table P };
 
-    ghost view = { λ s. record { names = map as_named s.entries.entries; declared = s.declared; limit = s.limit; is_debugging = s.is_debugging } };
+    ghost view = { λ s. record {
+      names = map as_named s.entries.entries;
+      declared = s.declared;
+      limit = s.limit;
+      is_debugging =
+          s.is_debugging;
+    } };
 
     ghost invariant = { λ s. (s.declared ≡ declarations (map as_named s.entries.entries)) × (length s.entries.entries ≤ s.limit) };
 }

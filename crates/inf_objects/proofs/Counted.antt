@@ -16,31 +16,50 @@ use Rattle.inf_objects.specs.Tables.{has_individual, is_individual}
 
 -- both kinds are all
 kinds : (p : Property)
-    → ((kind_part false p).bytes + (kind_part true p).bytes ≡ (size_of owner.Object p).bytes) × ((kind_part false p).later + (kind_part true p).later ≡ (size_of owner.Object p).fixups)
+    → ((kind_part false p).bytes + (kind_part true p).bytes ≡ (size_of owner.Object p).bytes) ×
+    ((kind_part false p).later + (kind_part true p).later ≡ (size_of owner.Object p).fixups)
 kinds p = go (is_individual p)
   where
     go : (b : Bool)
         → ((if b then (if false then part_of p else no_part) else (if false then no_part else part_of p)).bytes
-        + (if b then (if true then part_of p else no_part) else (if true then no_part else part_of p)).bytes ≡ (size_of owner.Object p).bytes)
+        + (if b then (if true then part_of p else no_part) else (if true then no_part else part_of p)).bytes ≡
+        (size_of owner.Object p).bytes)
         × ((if b then (if false then part_of p else no_part) else (if false then no_part else part_of p)).later
-        + (if b then (if true then part_of p else no_part) else (if true then no_part else part_of p)).later ≡ (size_of owner.Object p).fixups)
+        + (if b then (if true then part_of p else no_part) else (if true then no_part else part_of p)).later ≡
+        (size_of owner.Object p).fixups)
     go true = (omega arith, omega arith)
     go false = (omega arith, omega arith)
 
 pub all_parts : (ps : List Property)
-    → ((parts_of false ps).bytes + (parts_of true ps).bytes ≡ bytes_of owner.Object ps) × ((parts_of false ps).later + (parts_of true ps).later ≡ fixups_of owner.Object ps)
+    → ((parts_of false ps).bytes + (parts_of true ps).bytes ≡ bytes_of owner.Object ps) ×
+    ((parts_of false ps).later + (parts_of true ps).later ≡ fixups_of owner.Object ps)
 all_parts [] = (refl, refl)
 all_parts (p ∷ ps) =
     let here = kinds p in
     let later = all_parts ps in (
-      omega (arith, here.0, later.0, sum_by-cons (λ q. (kind_part false q).bytes) p ps, sum_by-cons (λ q. (kind_part true q).bytes) p ps, sum_by-cons (λ q. (size_of owner.Object q).bytes) p ps),
-      omega (arith, here.1, later.1, sum_by-cons (λ q. (kind_part false q).later) p ps, sum_by-cons (λ q. (kind_part true q).later) p ps, sum_by-cons (λ q. (size_of owner.Object q).fixups) p ps),
+      omega (
+        arith,
+        here.0,
+        later.0,
+        sum_by-cons (λ q. (kind_part false q).bytes) p ps,
+        sum_by-cons (λ q. (kind_part true q).bytes) p ps,
+        sum_by-cons (λ q. (size_of owner.Object q).bytes) p ps,
+      ),
+      omega (
+        arith,
+        here.1,
+        later.1,
+        sum_by-cons (λ q. (kind_part false q).later) p ps,
+        sum_by-cons (λ q. (kind_part true q).later) p ps,
+        sum_by-cons (λ q. (size_of owner.Object q).fixups) p ps,
+      ),
     )
 
 -- a property that is declared needs nothing of an individual table; one that is individual is counted as one
 abbrev OfKind : Property → Type 0
 OfKind p =
-    ((is_individual p ≡ false) × ((size_of owner.Object p).individuals ≡ 0) × ((kind_part true p).bytes ≡ 0) × ((kind_part true p).later ≡ 0))
+    ((is_individual p ≡ false) × ((size_of owner.Object p).individuals ≡ 0) × ((kind_part true p).bytes ≡ 0) ×
+    ((kind_part true p).later ≡ 0))
     ⊎ ((is_individual p ≡ true) × ((size_of owner.Object p).individuals ≡ 1))
 
 abbrev one_of : Property → Bool → Size
@@ -69,11 +88,13 @@ individuals_are (p ∷ ps) = go (individuals_are ps) (of_kind p)
     sum : individuals_of owner.Object (p ∷ ps) ≡ (size_of owner.Object p).individuals + individuals_of owner.Object ps
     sum = sum_by-cons (λ q. (size_of owner.Object q).individuals) p ps
 
-    go : nat_lt 0 (individuals_of owner.Object ps) ≡ has_individual ps → OfKind p → nat_lt 0 (individuals_of owner.Object (p ∷ ps)) ≡ has_individual (p ∷ ps)
+    go : nat_lt 0 (individuals_of owner.Object ps) ≡ has_individual ps → OfKind p →
+        nat_lt 0 (individuals_of owner.Object (p ∷ ps)) ≡ has_individual (p ∷ ps)
     go later (inl h) =
         let same : individuals_of owner.Object (p ∷ ps) ≡ individuals_of owner.Object ps = omega (arith, sum, h.1) in
         ap (nat_lt 0) same ∙ later ∙ sym (ap (λ b. b || has_individual ps) h.0)
-    go later (inr h) = lt-ltb 0 (individuals_of owner.Object (p ∷ ps)) (omega (arith, sum, h.1)) ∙ sym (ap (λ b. b || has_individual ps) h.0)
+    go later (inr h) =
+        lt-ltb 0 (individuals_of owner.Object (p ∷ ps)) (omega (arith, sum, h.1)) ∙ sym (ap (λ b. b || has_individual ps) h.0)
 
 none_of_kind : (ps : List Property) → has_individual ps ≡ false → ((parts_of true ps).bytes ≡ 0) × ((parts_of true ps).later ≡ 0)
 none_of_kind [] e = (refl, refl)
@@ -83,8 +104,11 @@ none_of_kind (p ∷ ps) e =
   where
     go : is_individual p ≡ false → ((parts_of true ps).bytes ≡ 0) × ((parts_of true ps).later ≡ 0) → OfKind p
         → ((parts_of true (p ∷ ps)).bytes ≡ 0) × ((parts_of true (p ∷ ps)).later ≡ 0)
-    go isnt later (inl h) =
-        (omega (arith, h.2, later.0, sum_by-cons (λ q. (kind_part true q).bytes) p ps), omega (arith, h.3, later.1, sum_by-cons (λ q. (kind_part true q).later) p ps))
+    go isnt later (inl h) = (
+      omega (arith, h.2, later.0, sum_by-cons (λ q. (kind_part true q).bytes) p ps),
+      omega
+          (arith, h.3, later.1, sum_by-cons (λ q. (kind_part true q).later) p ps),
+    )
     go isnt later (inr h) = let this : false ≡ true = sym isnt ∙ h.0 in cc
 
 pub nothing_sum : (f : Property → ℕ) (ps : List Property) → ((p : Property) → f p ≡ 0) → sum_by f ps ≡ 0
@@ -117,10 +141,12 @@ measured_with b o = record {
     bytes = 2 + length o.name + list_bytes (length o.classes) + (parts_of false o.properties).bytes + (if b then 3 else 0);
     later = (parts_of false o.properties).later + (if b then 1 else 0);
   };
-  individual_table = if b then record { bytes = (parts_of true o.properties).bytes + 2; later = (parts_of true o.properties).later } else no_part;
+  individual_table =
+      if b then record { bytes = (parts_of true o.properties).bytes + 2; later = (parts_of true o.properties).later } else no_part;
 }
 
-counted_object : (o : Object) (b : Bool) → has_individual o.properties ≡ b → o.owner ≡ owner.Object → CountedBy owner.Object o (measured_with b o)
+counted_object : (o : Object) (b : Bool) → has_individual o.properties ≡ b → o.owner ≡ owner.Object →
+    CountedBy owner.Object o (measured_with b o)
 counted_object o b is e = go b is
   where
     ps : List Property
@@ -132,17 +158,24 @@ counted_object o b is e = go b is
     fixups : object_fixups o ≡ head_fixups owner.Object + (with_table (total owner.Object ps)).fixups
     fixups = ap (λ w. head_fixups w + (with_table (total w ps)).fixups) e
 
-    all : ((parts_of false ps).bytes + (parts_of true ps).bytes ≡ bytes_of owner.Object ps) × ((parts_of false ps).later + (parts_of true ps).later ≡ fixups_of owner.Object ps)
+    all : ((parts_of false ps).bytes + (parts_of true ps).bytes ≡ bytes_of owner.Object ps) ×
+        ((parts_of false ps).later + (parts_of true ps).later ≡ fixups_of owner.Object ps)
     all = all_parts ps
 
     go : (b : Bool) → has_individual ps ≡ b → CountedBy owner.Object o (measured_with b o)
     go true is =
-        let ends = individuals_are ps ∙ is in
-        (omega (arith, bytes, all.0, ends_bytes (total owner.Object ps) true ends), omega (arith, fixups, all.1, ends_fixups (total owner.Object ps) true ends))
+        let ends = individuals_are ps ∙ is in (
+          omega (arith, bytes, all.0, ends_bytes (total owner.Object ps) true ends),
+          omega
+              (arith, fixups, all.1, ends_fixups (total owner.Object ps) true ends),
+        )
     go false is =
         let ends = individuals_are ps ∙ is in
-        let none = none_of_kind ps is in
-        (omega (arith, bytes, all.0, none.0, ends_bytes (total owner.Object ps) false ends), omega (arith, fixups, all.1, none.1, ends_fixups (total owner.Object ps) false ends))
+        let none = none_of_kind ps is in (
+          omega (arith, bytes, all.0, none.0, ends_bytes (total owner.Object ps) false ends),
+          omega
+              (arith, fixups, all.1, none.1, ends_fixups (total owner.Object ps) false ends),
+        )
 
 counted_by : (w : Owner) (o : Object) → o.owner ≡ w → CountedBy w o (measure_by w o)
 counted_by owner.Object o e = counted_object o (has_individual o.properties) refl e
@@ -150,9 +183,16 @@ counted_by owner.Class o e =
     let ps = o.properties in
     let bytes = ap (λ w. head_bytes w (length o.name) (length o.classes) + table_bytes w ps) e in
     let fixups = ap (λ w. head_fixups w + (with_table (total w ps)).fixups) e in
-    let none : nat_lt 0 (individuals_of owner.Class ps) ≡ false = ap (nat_lt 0) (nothing_sum (λ p. (size_of owner.Class p).individuals) ps (λ p. refl)) in (
+    let none : nat_lt 0 (individuals_of owner.Class ps) ≡ false =
+    ap (nat_lt 0) (nothing_sum (λ p. (size_of owner.Class p).individuals) ps (λ p. refl)) in (
       omega (arith, bytes, ends_bytes (total owner.Class ps) false none, doubled ps),
-      omega (arith, fixups, ends_fixups (total owner.Class ps) false none, nothing_sum (λ p. (size_of owner.Class p).fixups) ps (λ p. refl)),
+      omega (
+        arith,
+        fixups,
+        ends_fixups (total owner.Class ps) false none,
+        nothing_sum (λ p. (size_of owner.Class p).fixups) ps
+            (λ p. refl),
+      ),
     )
 counted_by owner.Nothing o e = tt
 

@@ -40,13 +40,23 @@ sum_falling-cons f zero p ps absent = omega (arith, below_out 0 f p (omega arith
 sum_falling-cons f (suc k) p ps absent = go (p.number == k) refl (sum_falling-cons f k p ps absent)
   where
     go : (b : Bool) → (p.number == k) ≡ b → sum_by f (falling k (p ∷ ps)) ≡ sum_by f (falling k ps) + below k f p
-        → sum_by f (option_to_list (if b then Some p else found k ps) ++ falling k (p ∷ ps)) ≡ sum_by f (option_to_list (found k ps) ++ falling k ps) + below (suc k) f p
+        → sum_by f (option_to_list (if b then Some p else found k ps) ++ falling k (p ∷ ps)) ≡ sum_by f
+        (option_to_list (found k ps) ++ falling k ps) + below (suc k) f p
     go true is later =
         let same : p.number ≡ k = eqb-true p.number k is in
         let gone = none-found k ps (ap (λ n. has n ps) (sym same) ∙ absent) in
         let left = sum_by-append f (option_to_list (Some p)) (falling k (p ∷ ps)) in
         let right = ap (λ o. sum_by f (option_to_list o ++ falling k ps)) gone in
-        omega (arith, left, right, later, sum_by-cons f p [], below_out k f p (omega (arith, same)), below_in (suc k) f p (omega (arith, same)))
+        omega (
+          arith,
+          left,
+          right,
+          later,
+          sum_by-cons f p [],
+          below_out k f p (omega (arith, same)),
+          below_in (suc k) f p
+              (omega (arith, same)),
+        )
     go false is later =
         let left = sum_by-append f (option_to_list (found k ps)) (falling k (p ∷ ps)) in
         let right = sum_by-append f (option_to_list (found k ps)) (falling k ps) in
@@ -56,7 +66,8 @@ nothing_falls : (f : Property → ℕ) (k : ℕ) → sum_by f (falling k []) ≡
 nothing_falls f zero = refl
 nothing_falls f (suc k) = nothing_falls f k
 
-pub sum_falling : (f : Property → ℕ) (k : ℕ) (before ps : List Property) → AreNew before ps → sum_by f (falling k ps) ≡ sum_by (below k f) ps
+pub sum_falling : (f : Property → ℕ) (k : ℕ) (before ps : List Property) → AreNew before ps →
+    sum_by f (falling k ps) ≡ sum_by (below k f) ps
 sum_falling f k before [] h = nothing_falls f k
 sum_falling f k before (p ∷ ps) h =
     let absent = absent_later (before ++ p ∷ []) ps p.number h.1 (has-push_same p before) in
@@ -70,7 +81,8 @@ sum_address f k part qs ps h absent = go (has_individual qs)
     row : Property
     row = record { number = 3; is_additive = false; values = value.Later (target.Part area_name.IndividualTables part) ∷ [] }
 
-    go : (b : Bool) → sum_by f (falling k ((if b then row ∷ [] else []) ++ ps)) ≡ sum_by f (if b then row ∷ [] else []) + sum_by f (falling k ps)
+    go : (b : Bool) →
+        sum_by f (falling k ((if b then row ∷ [] else []) ++ ps)) ≡ sum_by f (if b then row ∷ [] else []) + sum_by f (falling k ps)
     go true = omega (arith, sum_falling-cons f k row ps absent, below_in k f row h, sum_by-cons f row [])
     go false = omega arith
 
@@ -86,7 +98,8 @@ sum_classes f k (c ∷ cs) ps h absent =
 
 -- all that an object has: the list of its classes, the address of its individual table, and its properties that are declared
 pub sum_rows : (f : Property → ℕ) (k part : ℕ) (o : Object) → 3 < k → AreNew [] o.properties → AreFree o.properties
-    → sum_by f (falling k (rows_by owner.Object part o)) ≡ sum_by f (class_rows o.classes) + sum_by f (address_rows part o.properties) + sum_by (below k f) o.properties
+    → sum_by f (falling k (rows_by owner.Object part o)) ≡ sum_by f (class_rows o.classes) + sum_by f (address_rows part o.properties) +
+    sum_by (below k f) o.properties
 sum_rows f k part o h new free =
     let ps = o.properties in
     let rows = address_rows part ps in

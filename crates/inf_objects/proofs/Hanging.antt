@@ -18,7 +18,8 @@ made-last place (q ∷ before) p links =
     ap (linked place q) (made-last (place + 1) before p links ∙ ap (λ n. made (place + 1) before (linked n p links)) there)
 
 -- what a function gives, place by place
-pub get-each : (first count : ℕ) (f : ℕ → Link) (place : ℕ) (d : Link) → place < count → get_or (each_from first count f) place d ≡ f (first + place)
+pub get-each : (first count : ℕ) (f : ℕ → Link) (place : ℕ) (d : Link) → place < count →
+    get_or (each_from first count f) place d ≡ f (first + place)
 get-each first zero f place d h = absurd (omega arith)
 get-each first (suc count) f zero d h = let here : first ≡ first + 0 = omega arith in ap f here
 get-each first (suc count) f (suc place) d h =
@@ -46,10 +47,12 @@ set-each first zero f place link h = absurd (omega arith)
 set-each first (suc count) f zero link h =
     let here : first ≡ first + 0 = omega arith in
     ap (λ l. l ∷ each_from (first + 1) count f) (sym (but-here first link f) ∙ ap (λ n. but_at n link f first) here)
-    ∙ ap (λ ls. but_at (first + 0) link f first ∷ ls) (same-each (first + 1) count f (but_at (first + 0) link f) (λ n h. sym (but-there (first + 0) link f n (λ e. omega (arith, e, h)))))
+    ∙ ap (λ ls. but_at (first + 0) link f first ∷ ls)
+    (same-each (first + 1) count f (but_at (first + 0) link f) (λ n h. sym (but-there (first + 0) link f n (λ e. omega (arith, e, h)))))
 set-each first (suc count) f (suc place) link h =
     let there : first + 1 + place ≡ first + suc place = omega arith in
-    ap (λ l. l ∷ slice_set (each_from (first + 1) count f) place link) (sym (but-there (first + suc place) link f first (λ e. omega (arith, e))))
+    ap (λ l. l ∷ slice_set (each_from (first + 1) count f) place link)
+    (sym (but-there (first + suc place) link f first (λ e. omega (arith, e))))
     ∙ ap (λ ls. but_at (first + suc place) link f first ∷ ls)
     (set-each (first + 1) count f place link (omega arith) ∙ ap (λ n. each_from (first + 1) count (but_at n link f)) there)
 
@@ -59,7 +62,8 @@ nothing-each first (suc count) = ap (λ ls. no_link ∷ ls) (nothing-each (first
 
 -- the link of an object, as far as objects from a place on are hung
 abbrev pub link_from : ℕ → List ℕ → ℕ → Link
-link_from place parents number = record { sibling = sibling_from number (place + 1) parents; child = first_of (children_from (place + 1) number parents) }
+link_from place parents number =
+    record { sibling = sibling_from number (place + 1) parents; child = first_of (children_from (place + 1) number parents) }
 
 -- an object is hung
 abbrev hung : ℕ → ℕ → (ℕ → Link) → ℕ → Link
@@ -77,7 +81,8 @@ first-if false m ns = refl
 child-step : (n first p : ℕ) (ps : List ℕ) (b : Bool) → (p == n) ≡ b
     → first_of (children_from first n (p ∷ ps)) ≡ (if b then first else first_of (children_from (first + 1) n ps))
 child-step n first p ps b e =
-    first-if (p == n) first (children_from (first + 1) n ps) ∙ ap (λ (c : Bool). if c then first else first_of (children_from (first + 1) n ps)) e
+    first-if (p == n) first (children_from (first + 1) n ps)
+    ∙ ap (λ (c : Bool). if c then first else first_of (children_from (first + 1) n ps)) e
 
 next-step : (p first : ℕ) (ps : List ℕ) → (p == 0) ≡ false → next_below p first ps ≡ first_of (children_from first p ps)
 next-step p first ps e = ap (λ (b : Bool). if b then 0 else first_of (children_from first p ps)) e
@@ -88,7 +93,8 @@ linked_to sibling child = record { sibling = sibling; child = child }
 both : (s s' c c' : ℕ) → s ≡ s' → c ≡ c' → linked_to s c ≡ linked_to s' c'
 both s s' c c' d e = ap (λ n. linked_to n c) d ∙ ap (linked_to s') e
 
-hung-is : (place p : ℕ) (parents : List ℕ) (n : ℕ) → (p == 0) ≡ false → hung place p (link_from (place + 1) parents) n ≡ link_from place (p ∷ parents) n
+hung-is : (place p : ℕ) (parents : List ℕ) (n : ℕ) → (p == 0) ≡ false →
+    hung place p (link_from (place + 1) parents) n ≡ link_from place (p ∷ parents) n
 hung-is place p parents n e =
     elim (cases_eq n p) [
       | inl same ↦ subst (λ m. hung place p f m ≡ link_from place (p ∷ parents) m) (sym same) own
@@ -123,13 +129,15 @@ hung-is place p parents n e =
     own : hung place p f p ≡ link_from place (p ∷ parents) p
     own =
         but-here p up side
-        ∙ both (side p).sibling (sibling_from p (place + 1) (p ∷ parents)) (place + 1) (first_of (children_from (place + 1) p (p ∷ parents)))
+        ∙ both (side p).sibling (sibling_from p (place + 1) (p ∷ parents)) (place + 1)
+        (first_of (children_from (place + 1) p (p ∷ parents)))
         (own_sibling (cases_eq p (place + 1))) (sym (child-step p (place + 1) p parents true (eq-eqb p p refl)))
 
     beside : (n ≡ p → ⊥) → (n ≡ place + 1) ⊎ (n ≡ place + 1 → ⊥) → side n ≡ link_from place (p ∷ parents) n
     beside other (inl at) =
         ap (λ (b : Bool). if b then gone else f n) (eq-eqb n (place + 1) at)
-        ∙ both (f p).child (sibling_from n (place + 1) (p ∷ parents)) (f (place + 1)).child (first_of (children_from (place + 1) n (p ∷ parents)))
+        ∙ both (f p).child (sibling_from n (place + 1) (p ∷ parents)) (f (place + 1)).child
+        (first_of (children_from (place + 1) n (p ∷ parents)))
         (last n at) (ap (λ m. (f m).child) (sym at) ∙ above other)
     beside other (inr isnt) =
         but-there (place + 1) gone f n isnt
@@ -139,7 +147,8 @@ hung-is place p parents n e =
 -- behind those with lower numbers
 sibling-before : (n first : ℕ) (ps : List ℕ) → n < first → sibling_from n first ps ≡ 0
 sibling-before n first [] h = refl
-sibling-before n first (p ∷ ps) h = sibling-step n first p ps false (ne_eqb n first (λ e. omega (arith, e, h))) ∙ sibling-before n (first + 1) ps (omega (arith, h))
+sibling-before n first (p ∷ ps) h =
+    sibling-step n first p ps false (ne_eqb n first (λ e. omega (arith, e, h))) ∙ sibling-before n (first + 1) ps (omega (arith, h))
 
 -- an object without a parent
 root-is : (place p : ℕ) (parents : List ℕ) (n : ℕ) → p ≡ 0 → 1 ≤ n → link_from (place + 1) parents n ≡ link_from place (p ∷ parents) n
@@ -182,13 +191,15 @@ linked-each place p count parents h k = go (p == 0) refl
     links = each_from 1 count f
 
     go : (b : Bool) → (p == 0) ≡ b
-        → (if b then links else with_child (p - 1) (place + 1) (with_sibling place (link_at links (p - 1)).child links)) ≡ each_from 1 count (link_from place (p ∷ parents))
+        → (if b then links else with_child (p - 1) (place + 1) (with_sibling place (link_at links (p - 1)).child links)) ≡ each_from 1 count
+        (link_from place (p ∷ parents))
     go true e = same-each 1 count f (link_from place (p ∷ parents)) (λ n from. root-is place p parents n (eqb-true p 0 e) from)
     go false e =
         let some : p ≡ p - 1 + 1 = omega (arith, eqb-false p 0 e) in
         let less : p - 1 < count = omega (arith, eqb-false p 0 e, k) in
         let front : 1 + (p - 1) ≡ p = omega (arith, eqb-false p 0 e) in
-        let child : (link_at links (p - 1)).child ≡ (f p).child = ap (λ (l : Link). l.child) (get-each 1 count f (p - 1) no_link less ∙ ap f front) in
+        let child : (link_at links (p - 1)).child ≡ (f p).child =
+        ap (λ (l : Link). l.child) (get-each 1 count f (p - 1) no_link less ∙ ap f front) in
         let side = but_at (place + 1) (record (f (place + 1)) { sibling = (f p).child }) f in
         ap (λ c. with_child (p - 1) (place + 1) (with_sibling place c links)) child
         ∙ ap (with_child (p - 1) (place + 1)) (sibling-each count f place (f p).child h)
@@ -200,10 +211,12 @@ pub made-each : (place count : ℕ) (parents : List ℕ) → place + length pare
     → made place parents (each_from 1 count (λ n. no_link)) ≡ each_from 1 count (link_from place parents)
 made-each place count [] h k = same-each 1 count (λ n. no_link) (link_from place []) (λ n k. refl)
 made-each place count (p ∷ parents) h k =
-    ap (linked place p) (made-each (place + 1) count parents (omega (arith, h)) k.1) ∙ linked-each place p count parents (omega (arith, h)) k.0
+    ap (linked place p) (made-each (place + 1) count parents (omega (arith, h)) k.1)
+    ∙ linked-each place p count parents (omega (arith, h)) k.0
 
 -- with all hung
-pub made-links : (parents : List ℕ) → AreWithin (length parents) parents → made 0 parents (replicate (length parents) no_link) ≡ links_of parents
+pub made-links : (parents : List ℕ) → AreWithin (length parents) parents →
+    made 0 parents (replicate (length parents) no_link) ≡ links_of parents
 made-links parents h =
     ap (made 0 parents) (nothing-each 1 (length parents)) ∙ made-each 0 (length parents) parents (omega arith) h
 
@@ -212,7 +225,8 @@ within-front most [] p h = (tt, h.0)
 within-front most (q ∷ before) p h = let later = within-front most before p h.1 in ((h.0, later.0), later.1)
 
 -- the last one that is left is hung
-pub made-step : (left before : List ℕ) (p : ℕ) (links : List Link) → left ≡ before ++ p ∷ [] → made 0 before (linked (length before) p links) ≡ made 0 left links
+pub made-step : (left before : List ℕ) (p : ℕ) (links : List Link) → left ≡ before ++ p ∷ [] →
+    made 0 before (linked (length before) p links) ≡ made 0 left links
 made-step left before p links is =
     let here : length before ≡ 0 + length before = omega arith in
     ap (λ n. made 0 before (linked n p links)) here ∙ sym (made-last 0 before p links) ∙ ap (λ ps. made 0 ps links) (sym is)

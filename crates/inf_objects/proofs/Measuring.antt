@@ -31,4 +31,11 @@ parts_within individual [] = omega arith
 parts_within individual (p ∷ ps) =
     let here = kind_within individual p in
     let later = parts_within individual ps in
-    omega (arith, here.1, later, sum_by-cons (λ q. (kind_part individual q).bytes) p ps, sum_by-cons (λ q. (size_of owner.Object q).bytes) p ps)
+    omega (
+      arith,
+      here.1,
+      later,
+      sum_by-cons (λ q. (kind_part individual q).bytes) p ps,
+      sum_by-cons (λ q. (size_of owner.Object q).bytes) p
+          ps,
+    )

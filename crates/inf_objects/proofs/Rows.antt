@@ -18,7 +18,8 @@ length-class_values [] = refl
 length-class_values (n ∷ ns) = omega (arith, length-class_values ns)
 
 -- the list of classes, where there is one
-pub class_rows_cells : (ns : List ℕ) → 0 < length ns → rows_cells (class_rows ns) ≡ size_cells 2 (length ns) ++ values_cells (class_values ns)
+pub class_rows_cells : (ns : List ℕ) → 0 < length ns →
+    rows_cells (class_rows ns) ≡ size_cells 2 (length ns) ++ values_cells (class_values ns)
 class_rows_cells [] h = absurd (omega arith)
 class_rows_cells (n ∷ ns) h =
     append-nil (size_cells 2 (length (class_values (n ∷ ns))) ++ values_cells (class_values (n ∷ ns)))
@@ -30,7 +31,8 @@ no_class_rows (n ∷ ns) h = absurd (omega arith)
 
 pub rows-append : (xs ys : List Property) → rows_cells (xs ++ ys) ≡ rows_cells xs ++ rows_cells ys
 rows-append [] ys = refl
-rows-append (x ∷ xs) ys = ap (λ cs. row_cells x ++ cs) (rows-append xs ys) ∙ sym (append_assoc (row_cells x) (rows_cells xs) (rows_cells ys))
+rows-append (x ∷ xs) ys =
+    ap (λ cs. row_cells x ++ cs) (rows-append xs ys) ∙ sym (append_assoc (row_cells x) (rows_cells xs) (rows_cells ys))
 
 pub none-found : (n : ℕ) (ps : List Property) → has n ps ≡ false → found n ps ≡ None
 none-found n ps h = go (found n ps) h
@@ -41,7 +43,8 @@ none-found n ps h = go (found n ps) h
 
 pub no_classes : (n : ℕ) (cs : List ℕ) → (2 == n) ≡ false → found n (class_rows cs) ≡ None
 no_classes n [] e = refl
-no_classes n (c ∷ cs) e = ap (λ (b : Bool). if b then Some (record { number = 2; is_additive = false; values = class_values (c ∷ cs) }) else None) e
+no_classes n (c ∷ cs) e =
+    ap (λ (b : Bool). if b then Some (record { number = 2; is_additive = false; values = class_values (c ∷ cs) }) else None) e
 
 pub no_address : (n part : ℕ) (ps : List Property) → (3 == n) ≡ false → found n (address_rows part ps) ≡ None
 no_address n part ps e = go (has_individual ps)
@@ -79,12 +82,14 @@ second_alone (Some p) = refl
 abbrev three : Option Property → Option Property → Option Property → Option Property
 three a b c = or_found (or_found a b) c
 
-found-rows : (part n : ℕ) (o : Object) → found n (rows_by owner.Object part o) ≡ three (found n (class_rows o.classes)) (found n (address_rows part o.properties)) (found n o.properties)
+found-rows : (part n : ℕ) (o : Object) → found n (rows_by owner.Object part o) ≡ three (found n (class_rows o.classes))
+    (found n (address_rows part o.properties)) (found n o.properties)
 found-rows part n o =
     found-append n (class_rows o.classes ++ address_rows part o.properties) o.properties
     ∙ ap (λ x. or_found x (found n o.properties)) (found-append n (class_rows o.classes) (address_rows part o.properties))
 
-rows_for-object : (part n : ℕ) (o : Object) → AreFree o.properties → rows_for part o n ≡ option_to_list (found n (rows_by owner.Object part o))
+rows_for-object : (part n : ℕ) (o : Object) → AreFree o.properties →
+    rows_for part o n ≡ option_to_list (found n (rows_by owner.Object part o))
 rows_for-object part n o free = go (n == 2) (n == 3) refl refl
   where
     cs : List ℕ
@@ -97,26 +102,32 @@ rows_for-object part n o free = go (n == 2) (n == 3) refl refl
     one k is =
         subst (λ m. class_rows cs ≡ option_to_list (found m (rows_by owner.Object part o))) (sym is)
         (sym (ap option_to_list (found-rows part 2 o ∙ ap (λ x. three (found 2 (class_rows cs)) x (found 2 ps)) (no_address 2 part ps refl)
-        ∙ ap (λ x. three (found 2 (class_rows cs)) None x) (none-found 2 ps free.no_classes) ∙ first_alone (found 2 (class_rows cs))) ∙ classes_are cs))
+        ∙ ap (λ x. three (found 2 (class_rows cs)) None x) (none-found 2 ps free.no_classes)
+        ∙ first_alone (found 2 (class_rows cs))) ∙ classes_are cs))
 
     two : (k : ℕ) → k ≡ 3 → address_rows part ps ≡ option_to_list (found k (rows_by owner.Object part o))
     two k is =
         subst (λ m. address_rows part ps ≡ option_to_list (found m (rows_by owner.Object part o))) (sym is)
-        (sym (ap option_to_list (found-rows part 3 o ∙ ap (λ x. three x (found 3 (address_rows part ps)) (found 3 ps)) (no_classes 3 cs refl)
-        ∙ ap (λ x. three None (found 3 (address_rows part ps)) x) (none-found 3 ps free.no_address) ∙ second_alone (found 3 (address_rows part ps))) ∙ address_is part ps))
+        (sym (ap option_to_list (found-rows part 3 o ∙ ap (λ x. three x (found 3 (address_rows part ps)) (found 3 ps))
+        (no_classes 3 cs refl)
+        ∙ ap (λ x. three None (found 3 (address_rows part ps)) x) (none-found 3 ps free.no_address)
+        ∙ second_alone (found 3 (address_rows part ps))) ∙ address_is part ps))
 
     other : (n ≡ 2 → ⊥) → (n ≡ 3 → ⊥) → option_to_list (found n ps) ≡ option_to_list (found n (rows_by owner.Object part o))
     other e f =
-        sym (ap option_to_list (found-rows part n o ∙ ap (λ x. three x (found n (address_rows part ps)) (found n ps)) (no_classes n cs (ne_eqb 2 n (λ same. e (sym same))))
+        sym (ap option_to_list (found-rows part n o ∙ ap (λ x. three x (found n (address_rows part ps)) (found n ps))
+        (no_classes n cs (ne_eqb 2 n (λ same. e (sym same))))
         ∙ ap (λ x. three None x (found n ps)) (no_address n part ps (ne_eqb 3 n (λ same. f (sym same))))))
 
     go : (a b : Bool) → (n == 2) ≡ a → (n == 3) ≡ b
-        → (if a then class_rows cs else if b then address_rows part ps else option_to_list (found n ps)) ≡ option_to_list (found n (rows_by owner.Object part o))
+        → (if a then class_rows cs else if b then address_rows part ps else option_to_list (found n ps)) ≡ option_to_list
+        (found n (rows_by owner.Object part o))
     go true b is at = one n (eqb-true n 2 is)
     go false true is at = two n (eqb-true n 3 at)
     go false false is at = other (eqb-false n 2 is) (eqb-false n 3 at)
 
-pub rows_for-found : (part n : ℕ) (o : Object) → o.owner ≡ owner.Object → AreFree o.properties → rows_for part o n ≡ option_to_list (found n (rows_of part o))
+pub rows_for-found : (part n : ℕ) (o : Object) → o.owner ≡ owner.Object → AreFree o.properties →
+    rows_for part o n ≡ option_to_list (found n (rows_of part o))
 rows_for-found part n o e free = rows_for-object part n o free ∙ ap (λ w. option_to_list (found n (rows_by w part o))) (sym e)
 
 -- one number less to go

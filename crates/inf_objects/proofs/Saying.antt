@@ -17,7 +17,8 @@ one_said (a ∷ above) (s ∷ said) zero b e = refl
 one_said (a ∷ above) (s ∷ said) (suc n) b e = ap (λ flags. said_or s a ∷ flags) (one_said above said n b (omega (arith, e)))
 
 all_said : (above : List Bool) (said : List (Option Bool)) (has : List (ℕ × Bool)) → length above ≡ length said
-    → attributes_by above (fold (λ s h. slice_set s h.0 (Some h.1)) said has) ≡ fold (λ flags h. slice_set flags h.0 h.1) (attributes_by above said) has
+    → attributes_by above (fold (λ s h. slice_set s h.0 (Some h.1)) said has) ≡ fold (λ flags h. slice_set flags h.0 h.1)
+    (attributes_by above said) has
 all_said above said [] e = refl
 all_said above said (h ∷ has) e =
     all_said above (slice_set said h.0 (Some h.1)) has (omega (arith, e, length-set {A = Option Bool} said h.0 (Some h.1)))
@@ -26,4 +27,5 @@ all_said above said (h ∷ has) e =
 pub said_in_order : (above : List Bool) (has : List (ℕ × Bool)) → length above ≡ 48
     → attributes_by above (fold (λ s h. slice_set s h.0 (Some h.1)) nothing_said has) ≡ fold (λ flags h. slice_set flags h.0 h.1) above has
 unfolding nothing_said
-said_in_order above has e = all_said above (replicate 48 None) has e ∙ ap (λ flags. fold (λ s h. slice_set s h.0 h.1) flags has) (nothing_changes 48 above)
+said_in_order above has e =
+    all_said above (replicate 48 None) has e ∙ ap (λ flags. fold (λ s h. slice_set s h.0 h.1) flags has) (nothing_changes 48 above)

@@ -14,16 +14,21 @@ link_is parents place h =
 
 -- the sibling of an object is the next one below its parent, where those before it are passed
 sibling_here : (first p : ℕ) (rest : List ℕ) → sibling_from first first (p ∷ rest) ≡ next_below p (first + 1) rest
-sibling_here first p rest = ap (λ (b : Bool). if b then next_below p (first + 1) rest else sibling_from first (first + 1) rest) (eq-eqb first first refl)
+sibling_here first p rest =
+    ap (λ (b : Bool). if b then next_below p (first + 1) rest else sibling_from first (first + 1) rest) (eq-eqb first first refl)
 
-sibling_later : (number first p : ℕ) (rest : List ℕ) → first < number → sibling_from number first (p ∷ rest) ≡ sibling_from number (first + 1) rest
+sibling_later : (number first p : ℕ) (rest : List ℕ) → first < number →
+    sibling_from number first (p ∷ rest) ≡ sibling_from number (first + 1) rest
 sibling_later number first p rest h =
-    ap (λ (b : Bool). if b then next_below p (first + 1) rest else sibling_from number (first + 1) rest) (ne_eqb number first (λ e. omega (arith, h, e)))
+    ap (λ (b : Bool). if b then next_below p (first + 1) rest else sibling_from number (first + 1) rest)
+    (ne_eqb number first (λ e. omega (arith, h, e)))
 
 -- a number that is an object's
-walked_one : (most : ℕ) (links : List Link) (n : ℕ) → 1 ≤ n → walked (suc most) links n ≡ n ∷ walked most links (link_at links (n - 1)).sibling
+walked_one : (most : ℕ) (links : List Link) (n : ℕ) → 1 ≤ n →
+    walked (suc most) links n ≡ n ∷ walked most links (link_at links (n - 1)).sibling
 walked_one most links zero h = absurd (omega (arith, h))
-walked_one most links (suc k) h = let here : k ≡ suc k - 1 = omega arith in ap (λ m. suc k ∷ walked most links (link_at links m).sibling) here
+walked_one most links (suc k) h =
+    let here : k ≡ suc k - 1 = omega arith in ap (λ m. suc k ∷ walked most links (link_at links m).sibling) here
 
 -- what is left of the parents behind so many
 abbrev IsRest : List ℕ → ℕ → List ℕ → Type 0
@@ -33,28 +38,34 @@ rest_next : (parents : List ℕ) (first p : ℕ) (rest : List ℕ) → IsRest pa
 rest_next parents first p rest h number k = h number (omega (arith, k)) ∙ sibling_later number first p rest (omega (arith, k))
 
 -- from the first of those that are left
-walk : (parents : List ℕ) (most first parent : ℕ) (rest : List ℕ) → (parent == 0) ≡ false → 1 ≤ first → first + length rest ≡ length parents + 1 → length rest ≤ most
-    → IsRest parents first rest → walked most (links_of parents) (first_of (children_from first parent rest)) ≡ children_from first parent rest
+walk : (parents : List ℕ) (most first parent : ℕ) (rest : List ℕ) → (parent == 0) ≡ false → 1 ≤ first →
+    first + length rest ≡ length parents + 1 → length rest ≤ most
+    → IsRest parents first rest → walked most (links_of parents) (first_of (children_from first parent rest)) ≡ children_from first parent
+    rest
 walk parents zero first parent [] e f g h is = refl
 walk parents (suc most) first parent [] e f g h is = refl
 walk parents zero first parent (p ∷ rest) e f g h is = absurd (omega (arith, h))
 walk parents (suc most) first parent (p ∷ rest) e f g h is =
     go (p == parent) refl
     (walk parents most (first + 1) parent rest e (omega arith) (omega (arith, g)) (omega (arith, h)) (rest_next parents first p rest is))
-    (walk parents (suc most) (first + 1) parent rest e (omega arith) (omega (arith, g)) (omega (arith, h)) (rest_next parents first p rest is))
+    (walk parents (suc most) (first + 1) parent rest e (omega arith) (omega (arith, g)) (omega (arith, h))
+    (rest_next parents first p rest is))
   where
     go : (b : Bool) → (p == parent) ≡ b
         → walked most (links_of parents) (first_of (children_from (first + 1) parent rest)) ≡ children_from (first + 1) parent rest
         → walked (suc most) (links_of parents) (first_of (children_from (first + 1) parent rest)) ≡ children_from (first + 1) parent rest
-        → walked (suc most) (links_of parents) (first_of (if b then first ∷ children_from (first + 1) parent rest else children_from (first + 1) parent rest))
+        → walked (suc most) (links_of parents) (first_of (if b then first ∷ children_from (first + 1) parent rest else children_from
+        (first + 1) parent rest))
         ≡ (if b then first ∷ children_from (first + 1) parent rest else children_from (first + 1) parent rest)
     go true same nearer further =
         let within : first - 1 < length parents = omega (arith, f, g) in
         let here : first - 1 + 1 ≡ first = omega (arith, f) in
         let parent_is : p ≡ parent = eqb-true p parent same in
         let sibling : (link_at (links_of parents) (first - 1)).sibling ≡ first_of (children_from (first + 1) parent rest) =
-        ap (λ (l : Link). l.sibling) (link_is parents (first - 1) within) ∙ ap (λ n. sibling_of n parents) here ∙ is first (omega arith) ∙ sibling_here first p rest
-        ∙ ap (λ q. next_below q (first + 1) rest) parent_is ∙ ap (λ (b : Bool). if b then 0 else first_of (children_from (first + 1) parent rest)) e in
+        ap (λ (l : Link). l.sibling) (link_is parents (first - 1) within) ∙ ap (λ n. sibling_of n parents) here ∙ is first (omega arith)
+        ∙ sibling_here first p rest
+        ∙ ap (λ q. next_below q (first + 1) rest) parent_is
+        ∙ ap (λ (b : Bool). if b then 0 else first_of (children_from (first + 1) parent rest)) e in
         walked_one most (links_of parents) first f
         ∙ ap (λ n. first ∷ walked most (links_of parents) n) sibling
         ∙ ap (λ ns. first ∷ ns) nearer
@@ -64,7 +75,8 @@ pub walk_children : (parents : List ℕ) (number : ℕ) → number < length pare
     → walked (length parents) (links_of parents) (link_at (links_of parents) number).child ≡ children_of (number + 1) parents
 walk_children parents number h =
     ap (λ (l : Link). walked (length parents) (links_of parents) l.child) (link_is parents number h)
-    ∙ walk parents (length parents) 1 (number + 1) parents (ne_eqb (number + 1) 0 (λ e. omega (arith, e))) (omega arith) (omega arith) (omega arith) (λ n k. refl)
+    ∙ walk parents (length parents) 1 (number + 1) parents (ne_eqb (number + 1) 0 (λ e. omega (arith, e))) (omega arith) (omega arith)
+    (omega arith) (λ n k. refl)
 
 pub children_rise : (first parent : ℕ) (parents : List ℕ) → AreRisingFrom first (children_from first parent parents)
 children_rise first parent [] = tt
@@ -101,7 +113,12 @@ count_behind number first parent (p ∷ parents) h = go (p == parent) (count_beh
     go : (b : Bool) → count_of number (children_from (first + 1) parent parents) ≡ 0
         → count_of number (if b then first ∷ children_from (first + 1) parent parents else children_from (first + 1) parent parents) ≡ 0
     go true later =
-        omega (arith, count_cons number first (children_from (first + 1) parent parents), not_this number first (λ e. omega (arith, e, h)), later)
+        omega (
+          arith,
+          count_cons number first (children_from (first + 1) parent parents),
+          not_this number first (λ e. omega (arith, e, h)),
+          later,
+        )
     go false later = later
 
 pub count_once : (number first parent : ℕ) (parents : List ℕ) → number < length parents
@@ -110,17 +127,26 @@ count_once number first parent [] h = absurd (omega (arith, h))
 count_once zero first parent (p ∷ parents) h = go (p == parent) (count_behind (first + 0) (first + 1) parent parents (omega arith))
   where
     go : (b : Bool) → count_of (first + 0) (children_from (first + 1) parent parents) ≡ 0
-        → count_of (first + 0) (if b then first ∷ children_from (first + 1) parent parents else children_from (first + 1) parent parents) ≡ one_if b
+        → count_of (first + 0) (if b then first ∷ children_from (first + 1) parent parents else children_from (first + 1) parent parents) ≡
+        one_if b
     go true later =
         omega (arith, count_cons (first + 0) first (children_from (first + 1) parent parents), this (first + 0) first (omega arith), later)
     go false later = later
 count_once (suc number) first parent (p ∷ parents) h =
     let there : first + suc number ≡ first + 1 + number = omega arith in
-    go (p == parent) (ap (λ n. count_of n (children_from (first + 1) parent parents)) there ∙ count_once number (first + 1) parent parents (omega (arith, h)))
+    go (p == parent) (ap (λ n. count_of n (children_from (first + 1) parent parents)) there ∙ count_once number (first + 1) parent parents
+    (omega (arith, h)))
   where
     go : (b : Bool) → count_of (first + suc number) (children_from (first + 1) parent parents) ≡ one_if (get_or parents number 0 == parent)
-        → count_of (first + suc number) (if b then first ∷ children_from (first + 1) parent parents else children_from (first + 1) parent parents)
+        → count_of (first + suc number) (if b then first ∷ children_from (first + 1) parent parents else children_from (first + 1) parent
+        parents)
         ≡ one_if (get_or parents number 0 == parent)
     go true later =
-        omega (arith, count_cons (first + suc number) first (children_from (first + 1) parent parents), not_this (first + suc number) first (λ e. omega (arith, e)), later)
+        omega (
+          arith,
+          count_cons (first + suc number) first (children_from (first + 1) parent parents),
+          not_this (first + suc number) first
+              (λ e. omega (arith, e)),
+          later,
+        )
     go false later = later

@@ -64,10 +64,12 @@ shown_later (v ∷ vs) = refl
 
 -- one property
 few_size : (n count : ℕ) → count ≤ 1 → size (size_cells n count) ≡ 1
-few_size n count h = ap (λ (b : Bool). size (if b then cell.Byte (64 + n) ∷ [] else cell.Byte (128 + n) ∷ cell.Byte (128 + 2 * count % 64) ∷ [])) (le-leb count 1 h)
+few_size n count h = ap (λ (b : Bool). size (if b then cell.Byte (64 + n) ∷ [] else cell.Byte (128 + n) ∷ cell.Byte (128 + 2 * count % 64) ∷
+    [])) (le-leb count 1 h)
 
 more_size : (n count : ℕ) → 1 < count → size (size_cells n count) ≡ 2
-more_size n count h = ap (λ (b : Bool). size (if b then cell.Byte (64 + n) ∷ [] else cell.Byte (128 + n) ∷ cell.Byte (128 + 2 * count % 64) ∷ [])) (lt-leb count 1 h)
+more_size n count h = ap (λ (b : Bool). size (if b then cell.Byte (64 + n) ∷ [] else cell.Byte (128 + n) ∷ cell.Byte
+    (128 + 2 * count % 64) ∷ [])) (lt-leb count 1 h)
 
 size_later : (n count : ℕ) → later_count (size_cells n count) ≡ 0
 size_later n count = go (nat_le count 1)
@@ -86,8 +88,22 @@ row_by : (n : ℕ) (vs : List Value) → size (size_cells n (length vs) ++ value
 row_by n [] = refl
 row_by n (v ∷ vs) =
     elim (cases_lt 1 (length (v ∷ vs))) [
-      | inl h ↦ omega (arith, size_joined (size_cells n (length (v ∷ vs))) (values_cells (v ∷ vs)), values_size (v ∷ vs), more_size n (length (v ∷ vs)) h, common_more (length (v ∷ vs)) h)
-      | inr h ↦ omega (arith, size_joined (size_cells n (length (v ∷ vs))) (values_cells (v ∷ vs)), values_size (v ∷ vs), few_size n (length (v ∷ vs)) h, common_few (length (v ∷ vs)) h)
+      | inl h ↦ omega (
+        arith,
+        size_joined (size_cells n (length (v ∷ vs))) (values_cells (v ∷ vs)),
+        values_size (v ∷ vs),
+        more_size n
+            (length (v ∷ vs)) h,
+        common_more (length (v ∷ vs)) h,
+      )
+      | inr h ↦ omega (
+        arith,
+        size_joined (size_cells n (length (v ∷ vs))) (values_cells (v ∷ vs)),
+        values_size (v ∷ vs),
+        few_size n
+            (length (v ∷ vs)) h,
+        common_few (length (v ∷ vs)) h,
+      )
     ]
 
 abbrev pub row_size : Property → ℕ
@@ -98,7 +114,8 @@ row_laters p = values_later p.values
 
 pub rows_size : (ps : List Property) → size (rows_cells ps) ≡ sum_by row_size ps
 rows_size [] = refl
-rows_size (p ∷ ps) = omega (arith, size_joined (row_cells p) (rows_cells ps), row_by p.number p.values, rows_size ps, sum_by-cons row_size p ps)
+rows_size (p ∷ ps) =
+    omega (arith, size_joined (row_cells p) (rows_cells ps), row_by p.number p.values, rows_size ps, sum_by-cons row_size p ps)
 
 row_later : (p : Property) → later_count (row_cells p) ≡ row_laters p
 row_later p =
@@ -132,7 +149,9 @@ known_classes (c ∷ cs) = known_classes cs
 
 class_later : (cs : List ℕ) → sum_by row_laters (class_rows cs) ≡ 0
 class_later [] = refl
-class_later (c ∷ cs) = sum_by-cons row_laters (record { number = 2; is_additive = false; values = class_values (c ∷ cs) }) [] ∙ omega (arith, known_classes (c ∷ cs))
+class_later (c ∷ cs) =
+    sum_by-cons row_laters (record { number = 2; is_additive = false; values = class_values (c ∷ cs) }) []
+    ∙ omega (arith, known_classes (c ∷ cs))
 
 address_size : (part : ℕ) (ps : List Property) → sum_by row_size (address_rows part ps) ≡ (if has_individual ps then 3 else 0)
 address_size part ps = go (has_individual ps)
@@ -178,7 +197,8 @@ kind_declared : (b : Bool) (p : Property) → p.number < 64 → kind_part b p �
 kind_declared b p h = ap (λ (c : Bool). if c then (if b then part_of p else no_part) else (if b then no_part else part_of p)) (declared p h)
 
 kind_individual : (b : Bool) (p : Property) → 64 ≤ p.number → kind_part b p ≡ (if b then part_of p else no_part)
-kind_individual b p h = ap (λ (c : Bool). if c then (if b then part_of p else no_part) else (if b then no_part else part_of p)) (individual p h)
+kind_individual b p h =
+    ap (λ (c : Bool). if c then (if b then part_of p else no_part) else (if b then no_part else part_of p)) (individual p h)
 
 -- what an individual property counts, if this is one
 abbrev pub individual_if : (Property → ℕ) → Property → ℕ
@@ -197,8 +217,10 @@ common_kind : (p : Property) → ((kind_part false p).bytes ≡ below 64 row_siz
 common_kind p =
     elim (cases_lt p.number 64) [
       | inl h ↦ (
-        ap (λ (x : Part). x.bytes) (kind_declared false p h) ∙ ap (λ (s : Size). s.bytes) (size_common p h) ∙ sym (below_in 64 row_size p h),
-        ap (λ (x : Part). x.later) (kind_declared false p h) ∙ ap (λ (s : Size). s.fixups) (size_common p h) ∙ sym (below_in 64 row_laters p h),
+        ap (λ (x : Part). x.bytes) (kind_declared false p h) ∙ ap (λ (s : Size). s.bytes) (size_common p h)
+            ∙ sym (below_in 64 row_size p h),
+        ap (λ (x : Part). x.later) (kind_declared false p h) ∙ ap (λ (s : Size). s.fixups) (size_common p h)
+            ∙ sym (below_in 64 row_laters p h),
       )
       | inr h ↦ (
         ap (λ (x : Part). x.bytes) (kind_individual false p h) ∙ sym (below_out 64 row_size p h),
@@ -206,7 +228,8 @@ common_kind p =
       )
     ]
 
-individual_kind : (p : Property) → ((kind_part true p).bytes ≡ individual_if individual_size p) × ((kind_part true p).later ≡ individual_if row_laters p)
+individual_kind : (p : Property) →
+    ((kind_part true p).bytes ≡ individual_if individual_size p) × ((kind_part true p).later ≡ individual_if row_laters p)
 individual_kind p =
     elim (cases_lt p.number 64) [
       | inl h ↦ (
@@ -214,8 +237,10 @@ individual_kind p =
         ap (λ (x : Part). x.later) (kind_declared true p h) ∙ sym (individual_out row_laters p h),
       )
       | inr h ↦ (
-        ap (λ (x : Part). x.bytes) (kind_individual true p h) ∙ ap (λ (s : Size). s.bytes) (size_individual p h) ∙ sym (individual_in individual_size p h),
-        ap (λ (x : Part). x.later) (kind_individual true p h) ∙ ap (λ (s : Size). s.fixups) (size_individual p h) ∙ sym (individual_in row_laters p h),
+        ap (λ (x : Part). x.bytes) (kind_individual true p h) ∙ ap (λ (s : Size). s.bytes) (size_individual p h)
+            ∙ sym (individual_in individual_size p h),
+        ap (λ (x : Part). x.later) (kind_individual true p h) ∙ ap (λ (s : Size). s.fixups) (size_individual p h)
+            ∙ sym (individual_in row_laters p h),
       )
     ]
 
@@ -229,7 +254,8 @@ bytes_size [] = (refl, refl)
 bytes_size (b ∷ bs) = let later = bytes_size bs in (omega (arith, later.0), later.1)
 
 table_parts : (part : ℕ) (o : Object) (rows : List Cell)
-    → (size (name_cells o.name ++ rows ++ cell.Byte 0 ∷ []) ≡ 2 + length o.name + size rows) × (later_count (name_cells o.name ++ rows ++ cell.Byte 0 ∷ []) ≡ later_count rows)
+    → (size (name_cells o.name ++ rows ++ cell.Byte 0 ∷ []) ≡ 2 + length o.name + size rows) ×
+    (later_count (name_cells o.name ++ rows ++ cell.Byte 0 ∷ []) ≡ later_count rows)
 table_parts part o rows =
     let name = bytes_size o.name in (
       omega (arith, size_joined (name_cells o.name ++ rows) (cell.Byte 0 ∷ []), size_joined (name_cells o.name) rows, name.0),
@@ -237,16 +263,20 @@ table_parts part o rows =
     )
 
 object_rows : (part : ℕ) (o : Object) → AreNew [] o.properties → AreFree o.properties
-    → (size (rows_cells (all_falling (rows_by owner.Object part o))) ≡ list_bytes (length o.classes) + (if has_individual o.properties then 3 else 0) + (parts_of false o.properties).bytes)
-    × (later_count (rows_cells (all_falling (rows_by owner.Object part o))) ≡ (if has_individual o.properties then 1 else 0) + (parts_of false o.properties).later)
+    → (size (rows_cells (all_falling (rows_by owner.Object part o))) ≡ list_bytes (length o.classes) +
+    (if has_individual o.properties then 3 else 0) + (parts_of false o.properties).bytes)
+    × (later_count (rows_cells (all_falling (rows_by owner.Object part o))) ≡ (if has_individual o.properties then 1 else 0) +
+    (parts_of false o.properties).later)
 unfolding all_falling
 object_rows part o new free =
     let ps = o.properties in
     let rows = rows_by owner.Object part o in
     let bytes = same_sums (λ p. (kind_part false p).bytes) (below 64 row_size) ps (λ p. (common_kind p).0) in
     let laters = same_sums (λ p. (kind_part false p).later) (below 64 row_laters) ps (λ p. (common_kind p).1) in (
-      rows_size (falling 64 rows) ∙ sum_rows row_size 64 part o (omega arith) new free ∙ omega (arith, class_size o.classes, address_size part ps, bytes),
-      rows_later (falling 64 rows) ∙ sum_rows row_laters 64 part o (omega arith) new free ∙ omega (arith, class_later o.classes, address_later part ps, laters),
+      rows_size (falling 64 rows) ∙ sum_rows row_size 64 part o (omega arith) new free
+          ∙ omega (arith, class_size o.classes, address_size part ps, bytes),
+      rows_later (falling 64 rows) ∙ sum_rows row_laters 64 part o (omega arith) new free
+          ∙ omega (arith, class_later o.classes, address_later part ps, laters),
     )
 
 bare_rows : (part : ℕ) (o : Object) → (size (rows_cells (all_falling [])) ≡ 0) × (later_count (rows_cells (all_falling [])) ≡ 0)
@@ -292,7 +322,8 @@ shown_bytes (v ∷ vs) =
       | inr h ↦ omega (arith, individual_few (length (v ∷ vs)) h, h)
     ]
 
-individual_row : (p : Property) → (size (individual_row_cells p) ≡ individual_size p) × (later_count (individual_row_cells p) ≡ row_laters p)
+individual_row : (p : Property) →
+    (size (individual_row_cells p) ≡ individual_size p) × (later_count (individual_row_cells p) ≡ row_laters p)
 individual_row p =
     let number = word_cells (p.number % 65536) in
     let count = cell.Byte (2 * length (shown p.values) % 256) ∷ [] in
@@ -302,7 +333,8 @@ individual_row p =
     )
 
 individual_rows : (ps : List Property)
-    → (size (individual_rows_cells ps) ≡ sum_by (individual_if individual_size) ps) × (later_count (individual_rows_cells ps) ≡ sum_by (individual_if row_laters) ps)
+    → (size (individual_rows_cells ps) ≡ sum_by (individual_if individual_size) ps) ×
+    (later_count (individual_rows_cells ps) ≡ sum_by (individual_if row_laters) ps)
 individual_rows [] = (refl, refl)
 individual_rows (p ∷ ps) =
     let here = one (is_individual p) in
@@ -318,21 +350,37 @@ individual_rows (p ∷ ps) =
     one false = (refl, refl)
 
 individual_table : (ps : List Property) (b : Bool)
-    → (size (if b then individual_rows_cells ps ++ word_cells 0 else []) ≡ (if b then record { bytes = (parts_of true ps).bytes + 2; later = (parts_of true ps).later } else no_part).bytes)
-    × (later_count (if b then individual_rows_cells ps ++ word_cells 0 else []) ≡ (if b then record { bytes = (parts_of true ps).bytes + 2; later = (parts_of true ps).later } else no_part).later)
+    → (size (if b then individual_rows_cells ps ++ word_cells 0 else []) ≡
+    (if b then record { bytes = (parts_of true ps).bytes + 2; later = (parts_of true ps).later } else no_part).bytes)
+    × (later_count (if b then individual_rows_cells ps ++ word_cells 0 else []) ≡
+    (if b then record { bytes = (parts_of true ps).bytes + 2; later = (parts_of true ps).later } else no_part).later)
 individual_table ps true =
     let rows = individual_rows ps in (
-      omega (arith, size_joined (individual_rows_cells ps) (word_cells 0), rows.0, same_sums (λ p. (kind_part true p).bytes) (individual_if individual_size) ps (λ p. (individual_kind p).0)),
-      omega (arith, later_joined (individual_rows_cells ps) (word_cells 0), rows.1, same_sums (λ p. (kind_part true p).later) (individual_if row_laters) ps (λ p. (individual_kind p).1)),
+      omega (
+        arith,
+        size_joined (individual_rows_cells ps) (word_cells 0),
+        rows.0,
+        same_sums (λ p. (kind_part true p).bytes)
+            (individual_if individual_size) ps (λ p. (individual_kind p).0),
+      ),
+      omega (
+        arith,
+        later_joined (individual_rows_cells ps) (word_cells 0),
+        rows.1,
+        same_sums (λ p. (kind_part true p).later)
+            (individual_if row_laters) ps (λ p. (individual_kind p).1),
+      ),
     )
 individual_table ps false = (refl, refl)
 
 individual_by : (w : Owner) (o : Object)
-    → (size (individual_table_by w o.properties) ≡ (measure_by w o).individual_table.bytes) × (later_count (individual_table_by w o.properties) ≡ (measure_by w o).individual_table.later)
+    → (size (individual_table_by w o.properties) ≡ (measure_by w o).individual_table.bytes) ×
+    (later_count (individual_table_by w o.properties) ≡ (measure_by w o).individual_table.later)
 individual_by owner.Object o = individual_table o.properties (has_individual o.properties)
 individual_by owner.Class o = (refl, refl)
 individual_by owner.Nothing o = (refl, refl)
 
 pub individual_table_measured : (o : Object)
-    → (size (individual_table_cells o) ≡ (measured o).individual_table.bytes) × (later_count (individual_table_cells o) ≡ (measured o).individual_table.later)
+    → (size (individual_table_cells o) ≡ (measured o).individual_table.bytes) ×
+    (later_count (individual_table_cells o) ≡ (measured o).individual_table.later)
 individual_table_measured o = individual_by o.owner o

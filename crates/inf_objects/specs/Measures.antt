@@ -18,22 +18,31 @@ no_part = record { bytes = 0; later = 0 }
 
 -- of a property, if it is individual as asked, or declared
 abbrev pub kind_part : Bool → Property → Part
-kind_part individual p = if is_individual p then (if individual then part_of p else no_part) else (if individual then no_part else part_of p)
+kind_part individual p =
+    if is_individual p then (if individual then part_of p else no_part) else (if individual then no_part else part_of p)
 
 abbrev pub parts_of : Bool → List Property → Part
-parts_of individual properties = record { bytes = sum_by (λ p. (kind_part individual p).bytes) properties; later = sum_by (λ p. (kind_part individual p).later) properties }
+parts_of individual properties = record {
+  bytes = sum_by (λ p. (kind_part individual p).bytes) properties;
+  later = sum_by
+      (λ p. (kind_part individual p).later) properties;
+}
 
 -- the property table: the short name, the list of classes, the properties, the address of an individual table
 abbrev pub table_part : Object → Part
 table_part o = record {
-  bytes = 2 + length o.name + list_bytes (length o.classes) + (parts_of false o.properties).bytes + (if has_individual o.properties then 3 else 0);
+  bytes = 2 + length o.name + list_bytes (length o.classes) + (parts_of false o.properties).bytes +
+      (if has_individual o.properties then 3 else 0);
   later = (parts_of false o.properties).later + (if has_individual o.properties then 1 else 0);
 }
 
 -- the individual table, where there is one
 abbrev pub individual_table_part : Object → Part
 individual_table_part o =
-    if has_individual o.properties then record { bytes = (parts_of true o.properties).bytes + 2; later = (parts_of true o.properties).later }
+    if has_individual o.properties then record {
+      bytes = (parts_of true o.properties).bytes + 2;
+      later = (parts_of true o.properties).later;
+    }
     else no_part
 
 abbrev pub bare_part : Object → Part
@@ -48,7 +57,8 @@ measure_by owner.Nothing o = record { table = bare_part o; individual_table = no
 abbrev pub measured : Object → Measure
 measured o = measure_by o.owner o
 
--- What is written is what an object counts, with the address of its table among what is known later; a class counts two bytes for each value
+-- What is written is what an object counts, with the address of its table among what is known later; a class counts two bytes for each
+-- value
 -- that it holds besides.
 abbrev pub CountedBy : Owner → Object → Measure → Type 0
 CountedBy owner.Object o m =

@@ -20,7 +20,8 @@ has_number number (n ∷ numbers) = n == number || has_number number numbers
 -- those of a class that are new behind others and behind the class itself
 abbrev pub new_classes : List ℕ → ℕ → List ℕ → List ℕ
 new_classes own number [] = []
-new_classes own number (n ∷ classes) = if n == number || has_number n own then new_classes own number classes else n ∷ new_classes own number classes
+new_classes own number (n ∷ classes) =
+    if n == number || has_number n own then new_classes own number classes else n ∷ new_classes own number classes
 
 -- an object's classes behind one more: the class, then those of its classes that are not there yet
 abbrev pub joined_classes : List ℕ → ℕ → List ℕ → List ℕ
@@ -31,7 +32,16 @@ joined_classes own number classes = own ++ number ∷ [] ++ new_classes own numb
 -- a body behind its header
 abbrev pub begun : Owner → ℕ → ℕ → List ℕ → Body
 begun owner parent arrows name =
-    record { parent = parent; arrows = arrows; name = name; said = nothing_said; above = no_attributes; classes = []; properties = opened owner }
+    record {
+      parent = parent;
+      arrows = arrows;
+      name = name;
+      said = nothing_said;
+      above = no_attributes;
+      classes = [];
+      properties = opened
+          owner;
+    }
 
 -- what was read where no body is open
 abbrev pub nothing_read : Body
@@ -44,7 +54,12 @@ with_said number is_given body = record body { said = slice_set body.said number
 -- a class is named
 abbrev pub with_joined_class : ℕ → Object → Body → Body
 with_joined_class number class body =
-    record body { classes = joined_classes body.classes number class.classes; above = together body.above class.attributes; properties = with_class class.properties body.properties }
+    record body {
+      classes = joined_classes body.classes number class.classes;
+      above = together body.above class.attributes;
+      properties =
+          with_class class.properties body.properties;
+    }
 
 abbrev pub is_lost : Owner → Bool
 is_lost owner.Object = false

@@ -31,7 +31,8 @@ abbrev pub first_byte : List ℕ → ℕ
 first_byte [] = 0
 first_byte (b ∷ bytes) = b
 
--- Properties, of which there are at most so many, up to a size byte 0. The lower six bits of the first size byte are the number. With its top
+-- Properties, of which there are at most so many, up to a size byte 0. The lower six bits of the first size byte are the number. With its
+-- top
 -- bit a second byte has the length (section 12.4.2.1), and else it is 1 or 2, by the next bit (section 12.4.2.2).
 abbrev pub rows_read : ℕ → List ℕ → List Row
 rows_read zero bytes = []

@@ -69,7 +69,12 @@ has_individual properties = list_any is_individual properties
 -- property 3 is the address of its individual table, if it has one
 abbrev pub address_rows : ℕ → List Property → List Property
 address_rows part properties =
-    if has_individual properties then record { number = 3; is_additive = false; values = value.Later (target.Part area_name.IndividualTables part) ∷ [] } ∷ [] else []
+    if has_individual properties then record {
+      number = 3;
+      is_additive = false;
+      values = value.Later
+          (target.Part area_name.IndividualTables part) ∷ [];
+    } ∷ [] else []
 
 -- all that stands in the property table of an object with a number below by one; a class has nothing there
 abbrev pub rows_by : Owner → ℕ → Object → List Property
@@ -87,7 +92,8 @@ table_cells part o = name_cells o.name ++ rows_cells (all_falling (rows_of part 
 -- Individual properties, in order: the number, modulo 65536, the length in bytes, the values; then a 0 in two bytes
 
 abbrev pub individual_row_cells : Property → List Cell
-individual_row_cells p = word_cells (p.number % 65536) ++ cell.Byte (2 * length (shown p.values) % 256) ∷ [] ++ values_cells (shown p.values)
+individual_row_cells p =
+    word_cells (p.number % 65536) ++ cell.Byte (2 * length (shown p.values) % 256) ∷ [] ++ values_cells (shown p.values)
 
 abbrev pub individual_rows_cells : List Property → List Cell
 individual_rows_cells [] = []

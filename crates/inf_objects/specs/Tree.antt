@@ -28,7 +28,8 @@ next_below parent number parents = if parent == 0 then 0 else first_of (children
 -- the next one behind a number that has the same parent, where the first of all has a number
 abbrev pub sibling_from : ℕ → ℕ → List ℕ → ℕ
 sibling_from number first [] = 0
-sibling_from number first (p ∷ parents) = if number == first then next_below p (first + 1) parents else sibling_from number (first + 1) parents
+sibling_from number first (p ∷ parents) =
+    if number == first then next_below p (first + 1) parents else sibling_from number (first + 1) parents
 
 abbrev pub sibling_of : ℕ → List ℕ → ℕ
 sibling_of number parents = sibling_from number 1 parents

@@ -32,7 +32,8 @@ pub fn tree_as_walked()
         → walked (length parents) (links_of parents) (link_at (links_of parents) number).child ≡ children_of (number + 1) parents }
     ensures rising { (parents : List ℕ) (parent : ℕ) → AreRisingFrom 1 (children_of parent parents) }
     ensures once { (parents : List ℕ) (number parent : ℕ) → number < length parents
-        → count_by (λ child. child == number + 1) (children_of parent parents) ≡ (if slice_index_or parents number 0 == parent then 1 else 0) }
+        → count_by (λ child. child == number + 1) (children_of parent parents) ≡
+        (if slice_index_or parents number 0 == parent then 1 else 0) }
 {}
 
 /// The attributes of an object are those of its classes together, and then what its body says of one after another.

@@ -112,7 +112,8 @@ impl ClassNumbers {
         classes: &ClassNumbers,
     ) -> Result<ClassNumbers, GiveFault>
         ensures ok { IfOk result (λ all. all ≡ joined_classes self.now number classes.now) }
-        ensures fault { IfErr result (λ fault. (fault ≡ Memory) ⊎ ((fault ≡ TooLong) × (32 < length (joined_classes self.now number classes.now)))) }
+        ensures fault { IfErr result (λ fault. (fault ≡ Memory) ⊎ ((fault ≡ TooLong) ×
+            (32 < length (joined_classes self.now number classes.now)))) }
     {
         let mut list = Vec::from_slice(alloc, self.as_slice())?;
         list.push(number)?;

@@ -37,7 +37,8 @@ fixups-plain [] = refl
 fixups-plain (byte ∷ bytes) = fixups-plain bytes
 
 -- one more operand
-pub operands_more : (operands : List Operand) (i : ℕ) (d : Operand) → i < length operands → flat_map operand_cells (take (i + 1) operands) ≡ flat_map operand_cells (take i operands) ++ operand_cells (get_or operands i d)
+pub operands_more : (operands : List Operand) (i : ℕ) (d : Operand) → i < length operands →
+    flat_map operand_cells (take (i + 1) operands) ≡ flat_map operand_cells (take i operands) ++ operand_cells (get_or operands i d)
 operands_more operands i d within =
     ap (flat_map operand_cells) (take_more operands i d within) ∙ flat_map-append operand_cells (take i operands) (get_or operands i d ∷ [])
     ∙ ap (λ xs. flat_map operand_cells (take i operands) ++ xs) (append-nil (operand_cells (get_or operands i d)))

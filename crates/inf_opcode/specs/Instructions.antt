@@ -106,7 +106,8 @@ branch_cells (Some branch) = Of (Branches branch) ∷ []
 -- an instruction without its text, and with it
 abbrev pub front_cells : Parts → List Cell
 front_cells parts =
-    plain (heading (row_of parts.opcode) parts.operands) ++ flat_map operand_cells parts.operands ++ store_cells parts.store ++ branch_cells parts.branch
+    plain (heading (row_of parts.opcode) parts.operands) ++ flat_map operand_cells parts.operands ++ store_cells parts.store ++ branch_cells
+    parts.branch
 
 abbrev pub instruction_cells : Parts → List Cell
 instruction_cells parts = front_cells parts ++ plain parts.text

@@ -106,7 +106,14 @@ name_of SetTrueColour = codes "set_true_colour"
 
 -- each opcode, by its count of operands and its number
 unfoldable pub opcodes : List Opcode
-opcodes = Je ∷ Jl ∷ Jg ∷ DecChk ∷ IncChk ∷ Jin ∷ Test ∷ Or ∷ And ∷ TestAttr ∷ SetAttr ∷ ClearAttr ∷ Store ∷ InsertObj ∷ Loadw ∷ Loadb ∷ GetProp ∷ GetPropAddr ∷ GetNextProp ∷ Add ∷ Sub ∷ Mul ∷ Div ∷ Mod ∷ Call2s ∷ Call2n ∷ SetColour ∷ Throw ∷ Jz ∷ GetSibling ∷ GetChild ∷ GetParent ∷ GetPropLen ∷ Inc ∷ Dec ∷ PrintAddr ∷ Call1s ∷ RemoveObj ∷ PrintObj ∷ Ret ∷ Jump ∷ PrintPaddr ∷ Load ∷ Call1n ∷ Rtrue ∷ Rfalse ∷ Print ∷ PrintRet ∷ Nop ∷ Restart ∷ RetPopped ∷ Catch ∷ Quit ∷ NewLine ∷ Verify ∷ Piracy ∷ CallVs ∷ Storew ∷ Storeb ∷ PutProp ∷ Aread ∷ PrintChar ∷ PrintNum ∷ Random ∷ Push ∷ Pull ∷ SplitWindow ∷ SetWindow ∷ CallVs2 ∷ EraseWindow ∷ EraseLine ∷ SetCursor ∷ GetCursor ∷ SetTextStyle ∷ BufferMode ∷ OutputStream ∷ InputStream ∷ SoundEffect ∷ ReadChar ∷ ScanTable ∷ Not ∷ CallVn ∷ CallVn2 ∷ Tokenise ∷ EncodeText ∷ CopyTable ∷ PrintTable ∷ CheckArgCount ∷ Save ∷ Restore ∷ LogShift ∷ ArtShift ∷ SetFont ∷ SaveUndo ∷ RestoreUndo ∷ PrintUnicode ∷ CheckUnicode ∷ SetTrueColour ∷ []
+opcodes = Je ∷ Jl ∷ Jg ∷ DecChk ∷ IncChk ∷ Jin ∷ Test ∷ Or ∷ And ∷ TestAttr ∷ SetAttr ∷ ClearAttr ∷ Store ∷ InsertObj ∷ Loadw ∷ Loadb ∷
+    GetProp ∷ GetPropAddr ∷ GetNextProp ∷ Add ∷ Sub ∷ Mul ∷ Div ∷ Mod ∷ Call2s ∷ Call2n ∷ SetColour ∷ Throw ∷ Jz ∷ GetSibling ∷ GetChild ∷
+    GetParent ∷ GetPropLen ∷ Inc ∷ Dec ∷ PrintAddr ∷ Call1s ∷ RemoveObj ∷ PrintObj ∷ Ret ∷ Jump ∷ PrintPaddr ∷ Load ∷ Call1n ∷ Rtrue ∷
+    Rfalse ∷ Print ∷ PrintRet ∷ Nop ∷ Restart ∷ RetPopped ∷ Catch ∷ Quit ∷ NewLine ∷ Verify ∷ Piracy ∷ CallVs ∷ Storew ∷ Storeb ∷ PutProp ∷
+    Aread ∷ PrintChar ∷ PrintNum ∷ Random ∷ Push ∷ Pull ∷ SplitWindow ∷ SetWindow ∷ CallVs2 ∷ EraseWindow ∷ EraseLine ∷ SetCursor ∷
+    GetCursor ∷ SetTextStyle ∷ BufferMode ∷ OutputStream ∷ InputStream ∷ SoundEffect ∷ ReadChar ∷ ScanTable ∷ Not ∷ CallVn ∷ CallVn2 ∷
+    Tokenise ∷ EncodeText ∷ CopyTable ∷ PrintTable ∷ CheckArgCount ∷ Save ∷ Restore ∷ LogShift ∷ ArtShift ∷ SetFont ∷ SaveUndo ∷
+    RestoreUndo ∷ PrintUnicode ∷ CheckUnicode ∷ SetTrueColour ∷ []
 
 -- whether a name is that of an opcode, in any case
 abbrev pub has_name : List ℕ → Opcode → Bool

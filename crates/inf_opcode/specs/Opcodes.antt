@@ -24,7 +24,19 @@ greatest Extended = 4
 -- a row with the operands that its count allows, and nothing behind them
 abbrev pub plain : OperandCount → ℕ → OpcodeRow
 plain count number =
-    record { count = count; number = number; least = fewest count; most = greatest count; names_variable = false; jumps = false; stores = false; branches = false; has_text = false; is_final = false }
+    record {
+      count = count;
+      number = number;
+      least = fewest count;
+      most = greatest count;
+      names_variable = false;
+      jumps = false;
+      stores =
+          false;
+      branches = false;
+      has_text = false;
+      is_final = false;
+    }
 
 -- a row whose first operand names a variable, and one whose operand is the offset to a label
 abbrev pub naming : OpcodeRow → OpcodeRow

@@ -4,4 +4,10 @@ use Rattle.inf_opcode.specs.Instructions.{Parts}
 
 abbrev pub parts_of : Instruction → Parts
 parts_of instruction =
-    record { opcode = instruction.opcode; operands = instruction.operands.now; store = instruction.store; branch = instruction.branch; text = instruction.text.now }
+    record {
+      opcode = instruction.opcode;
+      operands = instruction.operands.now;
+      store = instruction.store;
+      branch = instruction.branch;
+      text = instruction.text.now;
+    }

@@ -4,7 +4,8 @@
 //! behind it. While a routine is open, an instruction's bytes stand in an area: a branch takes two of them, and
 //! offsets and numbers that are known later are zero. What is no plain byte is kept beside them, with its place.
 //!
-//! In `specs/`, `Opcodes` has the table, `Names` the opcodes' names, `Instructions` the formats of the Z-Machine Standard 1.1, sections 4 and 5,
+//! In `specs/`, `Opcodes` has the table, `Names` the opcodes' names, `Instructions` the formats of the Z-Machine Standard 1.1, sections 4
+//! and 5,
 //! `Cells` what is written and kept, and `Grown` what is added by a call.
 #![tactic(auto)]
 

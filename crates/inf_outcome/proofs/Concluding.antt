@@ -35,8 +35,10 @@ front_behind : (xs ys zs : List ℕ) → IsFront ys zs → IsFront (xs ++ ys) (x
 front_behind xs ys zs f = record { rest = f.rest; is_cut = ap (λ l. xs ++ l) f.is_cut ∙ sym (append_assoc xs ys f.rest) }
 
 -- behind reading to the end, the ending's messages were written
-pub concludes : (sources : Sources) (o : Choices) (serial : List ℕ) (was now : List ℕ → State) (start after : Openings) (f : Open) (old mid new : Option (List ℕ)) (turns : ℕ) (c : Compiled)
-    → Writes (run sources o turns) was now old mid → ((told : List ℕ) → has_ended (now told) ≡ true) → ((told : List ℕ) → (now told).told ≡ told)
+pub concludes : (sources : Sources) (o : Choices) (serial : List ℕ) (was now : List ℕ → State) (start after : Openings) (f : Open)
+    (old mid new : Option (List ℕ)) (turns : ℕ) (c : Compiled)
+    → Writes (run sources o turns) was now old mid → ((told : List ℕ) → has_ended (now told) ≡ true) →
+    ((told : List ℕ) → (now told).told ≡ told)
     → IsNested start after f → ((told : List ℕ) → (now told).nesting ≡ nesting sources start after f)
     → ((told : List ℕ) → Delivers (finished serial (now told).nesting.names (now told).work) c mid new)
     → Concludes sources o serial (was []) start after f old new c
@@ -62,15 +64,20 @@ stops_reading sources o serial was old new turns cut = record {
   begins = λ final read.
       let s = was [] in
       let some : IsFront (run sources o turns s).told final.told =
-      subst (λ (t : State). IsFront (run sources o turns s).told t.told) read.leads (end_begins sources o turns read.turns s (ap has_ended read.leads ∙ read.ends)) in
-      front_then cut.front final.told (ending_of serial final).messages (front_then cut.front (run sources o turns s).told final.told (cut.begins []) some)
+      subst (λ (t : State). IsFront (run sources o turns s).told t.told) read.leads
+      (end_begins sources o turns read.turns s (ap has_ended read.leads ∙ read.ends)) in
+      front_then cut.front final.told (ending_of serial final).messages
+      (front_then cut.front (run sources o turns s).told final.told (cut.begins []) some)
       (front_more final.told (finished serial final.nesting.names final.work).messages);
 }
 
 -- all was read, and the last messages were not all written
-pub stops_ending : (sources : Sources) (o : Choices) (serial : List ℕ) (was now : List ℕ → State) (old mid new : Option (List ℕ)) (turns : ℕ)
-    → Writes (run sources o turns) was now old mid → ((told : List ℕ) → has_ended (now told) ≡ true) → ((told : List ℕ) → (now told).told ≡ told)
-    → ((told : List ℕ) → TakesFront (finished serial (now told).nesting.names (now told).work).messages mid new) → Stops sources o serial (was []) old new
+pub stops_ending : (sources : Sources) (o : Choices) (serial : List ℕ) (was now : List ℕ → State) (old mid new : Option (List ℕ))
+    (turns : ℕ)
+    → Writes (run sources o turns) was now old mid → ((told : List ℕ) → has_ended (now told) ≡ true) →
+    ((told : List ℕ) → (now told).told ≡ told)
+    → ((told : List ℕ) → TakesFront (finished serial (now told).nesting.names (now told).work).messages mid new) → Stops sources o serial
+    (was []) old new
 stops_ending sources o serial was now old mid new turns w over told_is t = record {
   front = w.lines ++ (t w.lines).front;
   takes = takes_then old mid new w.lines (t w.lines).front w.takes (t w.lines).takes;
@@ -78,10 +85,13 @@ stops_ending sources o serial was now old mid new turns w over told_is t = recor
       let s = was [] in
       let here : run sources o turns s ≡ now w.lines = sym (w.same []) in
       let same : now w.lines ≡ final =
-      sym here ∙ same_end sources o turns read.turns s (ap has_ended here ∙ over w.lines) (ap has_ended read.leads ∙ read.ends) ∙ read.leads in
+      sym here ∙ same_end sources o turns read.turns s (ap has_ended here ∙ over w.lines) (ap has_ended read.leads ∙ read.ends)
+      ∙ read.leads in
       subst (λ (x : State). IsFront (w.lines ++ (t w.lines).front) (ending_of serial x).messages) same
-      (subst (λ l. IsFront (w.lines ++ (t w.lines).front) (l ++ (finished serial (now w.lines).nesting.names (now w.lines).work).messages)) (sym (told_is w.lines))
-      (front_behind w.lines (t w.lines).front (finished serial (now w.lines).nesting.names (now w.lines).work).messages (t w.lines).begins));
+      (subst (λ l. IsFront (w.lines ++ (t w.lines).front) (l ++ (finished serial (now w.lines).nesting.names (now w.lines).work).messages))
+      (sym (told_is w.lines))
+      (front_behind w.lines (t w.lines).front (finished serial (now w.lines).nesting.names (now w.lines).work).messages
+      (t w.lines).begins));
 }
 
 -- a fault that is none of reading
@@ -91,7 +101,8 @@ unread_none (fault.Read name) P Q c = absurd c
 unread_none fault.Messages P Q c = tt
 unread_none (fault.Story n) P Q c = tt
 
-pub if_read_none : {T : Type 0} (r : Result T Fault) (P : List ℕ → Type 0) (Q : Type 0) → IfErr r (λ f. Caused f (λ name. ⊥) Q) → IfErr r (λ f. IfRead f P)
+pub if_read_none : {T : Type 0} (r : Result T Fault) (P : List ℕ → Type 0) (Q : Type 0) → IfErr r (λ f. Caused f (λ name. ⊥) Q) →
+    IfErr r (λ f. IfRead f P)
 if_read_none (Ok x) P Q c = tt
 if_read_none (Err f) P Q c = unread_none f P Q c
 
@@ -110,20 +121,24 @@ if_ok_both (Err fault) P Q p q = tt
 
 -- A main source that is there
 
-outcome_of : (x : Option (List ℕ)) (s : Sources) (o : Choices) (serial name : List ℕ) (e : Outcome) → (x ≡ None → ⊥) → IsCompiled s o serial name e → IsOutcomeOf x s o serial name e
+outcome_of : (x : Option (List ℕ)) (s : Sources) (o : Choices) (serial name : List ℕ) (e : Outcome) → (x ≡ None → ⊥) →
+    IsCompiled s o serial name e → IsOutcomeOf x s o serial name e
 outcome_of None s o serial name e there c = absurd (there refl)
 outcome_of (Some source) s o serial name e there c = c
 
-compiled_of : (x : Option (List ℕ)) (s : Sources) (o : Choices) (serial name : List ℕ) (e : Outcome) → (x ≡ None → ⊥) → IsOutcomeOf x s o serial name e → IsCompiled s o serial name e
+compiled_of : (x : Option (List ℕ)) (s : Sources) (o : Choices) (serial name : List ℕ) (e : Outcome) → (x ≡ None → ⊥) →
+    IsOutcomeOf x s o serial name e → IsCompiled s o serial name e
 compiled_of None s o serial name e there c = absurd (there refl)
 compiled_of (Some source) s o serial name e there c = c
 
-opened_of : (x : Option (List ℕ)) (s : Sources) (o : Choices) (name : List ℕ) (old new : Openings) → (x ≡ None → ⊥) → WereOpened s o name old new → OpenedBy x s o name old new
+opened_of : (x : Option (List ℕ)) (s : Sources) (o : Choices) (name : List ℕ) (old new : Openings) → (x ≡ None → ⊥) →
+    WereOpened s o name old new → OpenedBy x s o name old new
 opened_of None s o name old new there w = absurd (there refl)
 opened_of (Some source) s o name old new there w = w
 
 -- what is in view of an open file is what was given of it and not taken
-near_one : (s : Sources) (o : Opening) (view : View) → IsFrontOf s o → IsCounted s o view → length o.given + length (rest_of s o view) ≤ length (unwrap_or (s o.name) []) + 4096
+near_one : (s : Sources) (o : Opening) (view : View) → IsFrontOf s o → IsCounted s o view →
+    length o.given + length (rest_of s o view) ≤ length (unwrap_or (s o.name) []) + 4096
 near_one s o view front counted = by_over view.is_over refl
   where
     whole : length (unwrap_or (s o.name) []) ≡ length o.given + length (unread_of s o)
@@ -137,8 +152,10 @@ near_one s o view front counted = by_over view.is_over refl
         let rest : rest_of s o view ≡ view.left ++ unread_of s o = ap (λ (b : Bool). view.left ++ cond b [] (unread_of s o)) e in
         omega (arith, whole, counted.window, ap length rest, length-append view.left (unread_of s o))
 
-near_places : (s : Sources) (n : ℕ) (names : List (List ℕ)) (all : List Opening) (places : List ℕ) (readers : List Reader) → Each (IsFrontOf s) n all → (bound : ℕ)
-    → bound ≤ length all → AreNested bound places readers → AreTracked s n names all places readers → AreNear s all places (cursors_at s all places readers)
+near_places : (s : Sources) (n : ℕ) (names : List (List ℕ)) (all : List Opening) (places : List ℕ) (readers : List Reader) →
+    Each (IsFrontOf s) n all → (bound : ℕ)
+    → bound ≤ length all → AreNested bound places readers → AreTracked s n names all places readers → AreNear s all places
+    (cursors_at s all places readers)
 near_places s n names all [] [] each bound le nested tracked = tt
 near_places s n names all (p ∷ places) [] each bound le nested tracked = tt
 near_places s n names all [] (r ∷ readers) each bound le nested tracked = absurd tracked
@@ -154,17 +171,20 @@ near_all s old now f n g =
     let at = innermost_of (length now.all) (reverse now.open_places) f.lexer (reverse f.outer) n.nested in
     let place : innermost_place now ≡ at.place = last_of now.open_places at.place at.rest at.is in
     let near : AreNear s now.all (at.place ∷ at.rest) (cursors_at s now.all (at.place ∷ at.rest) (f.lexer ∷ reverse f.outer)) =
-    near_places s (length old.all) f.nest.names now.all (at.place ∷ at.rest) (f.lexer ∷ reverse f.outer) g.each (length now.all) (omega arith)
+    near_places s (length old.all) f.nest.names now.all (at.place ∷ at.rest) (f.lexer ∷ reverse f.outer) g.each (length now.all)
+    (omega arith)
     (subst (λ (ps : List ℕ). AreNested (length now.all) ps (f.lexer ∷ reverse f.outer)) at.is n.nested)
     (subst (λ (ps : List ℕ). AreTracked s (length old.all) f.nest.names now.all ps (f.lexer ∷ reverse f.outer)) at.is g.tracked) in
     let first : cursor_of f.lexer (rest_of s (get_or now.all at.place (opened [])) f.lexer.window) ≡ (nesting s old now f).cursor =
     ap (λ (i : ℕ). cursor_of f.lexer (rest_of s (get_or now.all i (opened [])) f.lexer.window)) (sym place) in
     subst (λ (ps : List ℕ). AreNear s now.all ps ((nesting s old now f).cursor ∷ (nesting s old now f).waiting)) (sym at.is)
-    (subst (λ (ps : List ℕ). AreNear s now.all (at.place ∷ at.rest) ((nesting s old now f).cursor ∷ cursors_at s now.all (drop 1 ps) (reverse f.outer))) (sym at.is)
+    (subst (λ (ps : List ℕ). AreNear s now.all (at.place ∷ at.rest)
+    ((nesting s old now f).cursor ∷ cursors_at s now.all (drop 1 ps) (reverse f.outer))) (sym at.is)
     (subst (λ (c : Cursor). AreNear s now.all (at.place ∷ at.rest) (c ∷ cursors_at s now.all at.rest (reverse f.outer))) first near))
 
 -- where their openings stand
-at_places : (s : Sources) (n bound : ℕ) (names : List (List ℕ)) (all : List Opening) (places : List ℕ) (readers : List Reader) → AreNested bound places readers
+at_places : (s : Sources) (n bound : ℕ) (names : List (List ℕ)) (all : List Opening) (places : List ℕ) (readers : List Reader) →
+    AreNested bound places readers
     → AreTracked s n names all places readers → AreAt n bound names all places (files_of readers)
 at_places s n bound names all places [] nested tracked = tt
 at_places s n bound names all [] (r ∷ readers) nested tracked = absurd nested
@@ -173,32 +193,40 @@ at_places s n bound names all (p ∷ places) (r ∷ readers) nested tracked =
 
 at_all : (s : Sources) (old now : Openings) (f : Open) → IsNested old now f → AllGiven s (length old.all) now f
     → AreAt (length old.all) (length now.all) f.nest.names now.all (reverse now.open_places) (files_of (f.lexer ∷ reverse f.outer))
-at_all s old now f n g = at_places s (length old.all) (length now.all) f.nest.names now.all (reverse now.open_places) (f.lexer ∷ reverse f.outer) n.nested g.tracked
+at_all s old now f n g = at_places s (length old.all) (length now.all) f.nest.names now.all (reverse now.open_places)
+    (f.lexer ∷ reverse f.outer) n.nested g.tracked
 
-pub comes_of : (s : Sources) (o : Choices) (serial name : List ℕ) (old now new : Openings) (f : Open) (was : State) (before after : Option (List ℕ)) (c : Compiled)
-    → (s name ≡ None → ⊥) → was ≡ start s o name → new ≡ closed_to old now → AllGiven s (length old.all) now f → Each Fits (length old.all) now.all
+pub comes_of : (s : Sources) (o : Choices) (serial name : List ℕ) (old now new : Openings) (f : Open) (was : State)
+    (before after : Option (List ℕ)) (c : Compiled)
+    → (s name ≡ None → ⊥) → was ≡ start s o name → new ≡ closed_to old now → AllGiven s (length old.all) now f → Each Fits (length old.all)
+    now.all
     → Concludes s o serial was old now f before after c → Comes s o serial name old new before after c
 comes_of s o serial name old now new f was before after c there begun closed given fit k =
     let n : ℕ = length old.all in
     let read : IsRead s o (start s o name) k.final = subst (λ (x : State). IsRead s o x k.final) begun k.is_read in
     let all : new.all ≡ now.all = ap (λ (p : Openings). p.all) closed in
     let at : AreAt n (length now.all) f.nest.names now.all (reverse now.open_places) (numbers_of (nesting s old now f)) =
-    subst (λ (fs : List ℕ). AreAt n (length now.all) f.nest.names now.all (reverse now.open_places) fs) (sym (files_are s old now f k.nested)) (at_all s old now f k.nested given) in
+    subst (λ (fs : List ℕ). AreAt n (length now.all) f.nest.names now.all (reverse now.open_places) fs)
+    (sym (files_are s old now f k.nested)) (at_all s old now f k.nested given) in
     record {
       ending = ending_of serial k.final;
-      is_outcome = outcome_of (s name) s o serial name (ending_of serial k.final) there (record { final = k.final; is_read = read; is_ending = refl });
+      is_outcome = outcome_of (s name) s o serial name (ending_of serial k.final) there
+          (record { final = k.final; is_read = read; is_ending = refl });
       delivers = k.delivers;
       opened = opened_of (s name) s o name old new there (record {
         final = k.final;
         is_read = read;
         names = ap (λ (p : Openings). map (λ (q : Opening). q.name) (drop n p.all)) closed ∙ ap (λ (x : Nesting). x.openings) k.nesting_is;
         closed = ap (λ (p : Openings). p.open_places) closed;
-        each = subst (λ (xs : List Opening). Each (IsGiven s) n xs) (sym all) (λ i le lt. record { is_cut = given.each i le lt; fits = fit i le lt });
+        each = subst (λ (xs : List Opening). Each (IsGiven s) n xs) (sym all)
+            (λ i le lt. record { is_cut = given.each i le lt; fits = fit i le lt });
         places = reverse now.open_places;
         at = subst (λ (x : Nesting). AreAt n (length new.all) x.names new.all (reverse now.open_places) (numbers_of x)) k.nesting_is
-            (subst (λ (xs : List Opening). AreAt n (length xs) f.nest.names xs (reverse now.open_places) (numbers_of (nesting s old now f))) (sym all) at);
+            (subst (λ (xs : List Opening). AreAt n (length xs) f.nest.names xs (reverse now.open_places) (numbers_of (nesting s old now f)))
+            (sym all) at);
         near = subst (λ (x : Nesting). AreNear s new.all (reverse now.open_places) (x.cursor ∷ x.waiting)) k.nesting_is
-            (subst (λ (xs : List Opening). AreNear s xs (reverse now.open_places) ((nesting s old now f).cursor ∷ (nesting s old now f).waiting)) (sym all) (near_all s old now f k.nested given));
+            (subst (λ (xs : List Opening). AreNear s xs (reverse now.open_places)
+            ((nesting s old now f).cursor ∷ (nesting s old now f).waiting)) (sym all) (near_all s old now f k.nested given));
       });
     }
 
@@ -214,8 +242,10 @@ begins_of s o serial name was before after there begun k = record {
 }
 
 -- a session at the front of the main source
-pub begun_is : (s : Sources) (o : Choices) (name : List ℕ) (old now : Openings) (x : Session) → nesting s old now x.open_files ≡ main_opened o.set (most_quoted o) s name
-    → standing x.progress ≡ begun_with o x.open_files.nest.names → x.is_over ≡ false → x.conditionals ≡ no_conditions o.settings → x.quoted ≡ 0 → state s old now x [] ≡ start s o name
+pub begun_is : (s : Sources) (o : Choices) (name : List ℕ) (old now : Openings) (x : Session) →
+    nesting s old now x.open_files ≡ main_opened o.set (most_quoted o) s name
+    → standing x.progress ≡ begun_with o x.open_files.nest.names → x.is_over ≡ false → x.conditionals ≡ no_conditions o.settings → x.quoted
+    ≡ 0 → state s old now x [] ≡ start s o name
 begun_is s o name old now x files at going none unquoted =
     let main = main_opened o.set (most_quoted o) s name in
     let front = begun_with o main.names in
@@ -236,17 +266,22 @@ pub none_given : (set : CharSet) (limit : ℕ) (f : Open) → (f.lexer ≡ at_fr
 none_given set limit f front = omega (arith, ap (λ (r : Reader). r.window.given) front.0, ap given_to front.1)
 
 -- A file was not read, between the moment when the main source was entered and that when all were closed.
-pub unread_by : {S : Type 0} (f : Files S) (first entered read last : S) (main now : Open) → Kept f first entered → f.given entered ≡ f.given first
+pub unread_by : {S : Type 0} (f : Files S) (first entered read last : S) (main now : Open) → Kept f first entered →
+    f.given entered ≡ f.given first
     → min (f.opened first + length main.nest.names) last_count ≤ f.opened entered → given_all main ≡ 0 → Went f entered read main now
-    → Kept f read last → (f.faults last ≡ f.faults read) × (f.given last ≡ f.given read) → IsUnreadable f entered read main now → IsUnread f first last
-unread_by f first entered read last main now kept given opened front went closed same (inl (inl less)) = inl (inl (omega (arith, less, kept.faults, same.0)))
+    → Kept f read last → (f.faults last ≡ f.faults read) × (f.given last ≡ f.given read) → IsUnreadable f entered read main now → IsUnread f
+    first last
+unread_by f first entered read last main now kept given opened front went closed same (inl (inl less)) =
+    inl (inl (omega (arith, less, kept.faults, same.0)))
 unread_by f first entered read last main now kept given opened front went closed same (inl (inr far)) = inl (inr (same.0 ∙ far))
-unread_by f first entered read last main now kept given opened front went closed same (inr (inl long)) = inr (inl (omega (arith, long, went.given, front, given, same.1)))
+unread_by f first entered read last main now kept given opened front went closed same (inr (inl long)) =
+    inr (inl (omega (arith, long, went.given, front, given, same.1)))
 unread_by f first entered read last main now kept given opened front went closed same (inr (inr many)) =
     inr (inr (omega (arith, many.names, many.opened, opened, closed.opened)))
 
 -- in a token
-stops_reading_of : (failed : Type 0) (s : Sources) (t : State) (old now new : Openings) (f : Open) (told : List ℕ) → new.all ≡ now.all → IsNested old now f
+stops_reading_of : (failed : Type 0) (s : Sources) (t : State) (old now new : Openings) (f : Open) (told : List ℕ) → new.all ≡ now.all →
+    IsNested old now f
     → AllGiven s (length old.all) now f → StopsInToken failed s t old now f told → StopsReading failed s t old new told
 stops_reading_of failed s t old now new f told all nested given h =
     let n : ℕ = length old.all in
@@ -254,17 +289,21 @@ stops_reading_of failed s t old now new f told all nested given h =
     let place : innermost_place now ≡ at.place = last_of now.open_places at.place at.rest at.is in
     let tracked : AreTracked s n f.nest.names now.all (at.place ∷ at.rest) (f.lexer ∷ reverse f.outer) =
     subst (λ (ps : List ℕ). AreTracked s n f.nest.names now.all ps (f.lexer ∷ reverse f.outer)) at.is given.tracked in
-    let counted : IsCounted s (innermost now) f.lexer.window = subst (λ (i : ℕ). IsCounted s (get_or now.all i (opened [])) f.lexer.window) (sym place) tracked.0.counted in
+    let counted : IsCounted s (innermost now) f.lexer.window =
+    subst (λ (i : ℕ). IsCounted s (get_or now.all i (opened [])) f.lexer.window) (sym place) tracked.0.counted in
     let stands : AreAt n (length now.all) t.nesting.names now.all (innermost_place now ∷ at.rest) (numbers_of t.nesting) =
     subst (λ (i : ℕ). AreAt n (length now.all) t.nesting.names now.all (i ∷ at.rest) (numbers_of t.nesting)) (sym place)
     (subst (λ (ps : List ℕ). AreAt n (length now.all) t.nesting.names now.all ps (numbers_of t.nesting)) at.is
     (subst (λ (names : List (List ℕ)). AreAt n (length now.all) names now.all (reverse now.open_places) (numbers_of t.nesting)) h.names
-    (subst (λ (fs : List ℕ). AreAt n (length now.all) f.nest.names now.all (reverse now.open_places) fs) h.numbers (at_all s old now f nested given)))) in
-    let here : get_or new.all (innermost_place now) (opened []) ≡ innermost now = ap (λ (xs : List Opening). get_or xs (innermost_place now) (opened [])) all in
+    (subst (λ (fs : List ℕ). AreAt n (length now.all) f.nest.names now.all (reverse now.open_places) fs) h.numbers
+    (at_all s old now f nested given)))) in
+    let here : get_or new.all (innermost_place now) (opened []) ≡ innermost now =
+    ap (λ (xs : List Opening). get_or xs (innermost_place now) (opened [])) all in
     record {
       place = innermost_place now;
       places = at.rest;
-      at = subst (λ (xs : List Opening). AreAt n (length xs) t.nesting.names xs (innermost_place now ∷ at.rest) (numbers_of t.nesting)) (sym all) stands;
+      at = subst (λ (xs : List Opening). AreAt n (length xs) t.nesting.names xs (innermost_place now ∷ at.rest) (numbers_of t.nesting))
+          (sym all) stands;
       openings = ap (λ (xs : List Opening). map (λ (q : Opening). q.name) (drop n xs)) all ∙ h.openings;
       cause = subst (λ (o : Opening). failed ⊎ (16777216 < length o.given)) (sym here) (subst (λ (k : ℕ). failed ⊎ (16777216 < k)) (sym counted.count) h.cause);
       not_ended = subst (λ (o : Opening). Unfinished t.nesting.cursor (length o.given - 16777216) (unread_of s o)) (sym here)
@@ -273,34 +312,43 @@ stops_reading_of failed s t old now new f told all nested given h =
       name_is = h.name_is;
     }
 
-stops_of : (failed : Type 0) (s : Sources) (o : Choices) (t : State) (old now new : Openings) (f : Open) (told : List ℕ) → new.all ≡ now.all → IsNested old now f
+stops_of : (failed : Type 0) (s : Sources) (o : Choices) (t : State) (old now new : Openings) (f : Open) (told : List ℕ) →
+    new.all ≡ now.all → IsNested old now f
     → AllGiven s (length old.all) now f → StopsFor failed s o t old now f told
     → StopsReading failed s t old new told ⊎ StopsAtInclusion failed s o (stepped t) (opened_since old new) told
 stops_of failed s o t old now new f told all nested given (inl h) = inl (stops_reading_of failed s t old now new f told all nested given h)
 stops_of failed s o t old now new f told all nested given (inr h) =
-    inr (subst (λ (names : List (List ℕ)). StopsAtInclusion failed s o (stepped t) names told) (ap (λ (xs : List Opening). map (λ (q : Opening). q.name) (drop (length old.all) xs)) (sym all)) h)
+    inr (subst (λ (names : List (List ℕ)). StopsAtInclusion failed s o (stepped t) names told)
+    (ap (λ (xs : List Opening). map (λ (q : Opening). q.name) (drop (length old.all) xs)) (sym all)) h)
 
 -- all was written that comes with some turns
-heard_of : (failed : Type 0) (s : Sources) (o : Choices) (name : List ℕ) (was : List ℕ → State) (old now new : Openings) (f : Open) (before after : Option (List ℕ)) (told : List ℕ)
-    → was [] ≡ start s o name → new.all ≡ now.all → IsNested old now f → AllGiven s (length old.all) now f → GivenUp failed s o was before after old now f told
+heard_of : (failed : Type 0) (s : Sources) (o : Choices) (name : List ℕ) (was : List ℕ → State) (old now new : Openings) (f : Open)
+    (before after : Option (List ℕ)) (told : List ℕ)
+    → was [] ≡ start s o name → new.all ≡ now.all → IsNested old now f → AllGiven s (length old.all) now f → GivenUp failed s o was before
+    after old now f told
     → Heard failed s o name old new before after told
 heard_of failed s o name was old now new f before after told begun all nested given g = inr (record {
   turns = g.turns;
-  takes = subst (λ (x : State). Takes before after (run s o g.turns x).told) begun (subst (λ (lines : List ℕ). Takes before after lines) (sym (g.wrote.same [])) g.wrote.takes);
+  takes = subst (λ (x : State). Takes before after (run s o g.turns x).told) begun
+      (subst (λ (lines : List ℕ). Takes before after lines) (sym (g.wrote.same [])) g.wrote.takes);
   goes_on = ap (λ (x : State). has_ended (run s o g.turns x)) (sym begun) ∙ g.goes_on [];
-  stops = subst (λ (x : State). StopsReading failed s (run s o g.turns x) old new told ⊎ StopsAtInclusion failed s o (stepped (run s o g.turns x)) (opened_since old new) told) begun
+  stops = subst (λ (x : State). StopsReading failed s (run s o g.turns x) old new told ⊎ StopsAtInclusion failed s o
+      (stepped (run s o g.turns x)) (opened_since old new) told) begun
       (stops_of failed s o (run s o g.turns (was [])) old now new f told all nested given (g.stops []));
 })
 
-pub heard_from : {T : Type 0} (r : Result T Fault) (failed : Type 0) (s : Sources) (o : Choices) (name : List ℕ) (was : List ℕ → State) (old now new : Openings) (f : Open)
+pub heard_from : {T : Type 0} (r : Result T Fault) (failed : Type 0) (s : Sources) (o : Choices) (name : List ℕ) (was : List ℕ → State)
+    (old now new : Openings) (f : Open)
     (before after : Option (List ℕ)) → was [] ≡ start s o name → new.all ≡ now.all → IsNested old now f → AllGiven s (length old.all) now f
-    → IfErr r (λ x. IfRead x (λ told. GivenUp failed s o was before after old now f told)) → IfErr r (λ x. IfRead x (λ told. Heard failed s o name old new before after told))
+    → IfErr r (λ x. IfRead x (λ told. GivenUp failed s o was before after old now f told)) → IfErr r
+    (λ x. IfRead x (λ told. Heard failed s o name old new before after told))
 heard_from r failed s o name was old now new f before after begun all nested given g =
     if_read_more r (λ told. GivenUp failed s o was before after old now f told) (λ told. Heard failed s o name old new before after told)
     (λ told h. heard_of failed s o name was old now new f before after told begun all nested given h) g
 
 -- the cause lies between later moments
-given_up_more : (failed more : Type 0) (s : Sources) (o : Choices) (was : List ℕ → State) (old new : Option (List ℕ)) (start now : Openings) (f : Open) (told : List ℕ) → (failed → more)
+given_up_more : (failed more : Type 0) (s : Sources) (o : Choices) (was : List ℕ → State) (old new : Option (List ℕ)) (start now : Openings)
+    (f : Open) (told : List ℕ) → (failed → more)
     → GivenUp failed s o was old new start now f told → GivenUp more s o was old new start now f told
 given_up_more failed more s o was old new start now f told later g = record {
   turns = g.turns;
@@ -309,21 +357,31 @@ given_up_more failed more s o was old new start now f told later g = record {
   stops = λ lines. stops_more failed more s o (run s o g.turns (was lines)) start now f told later (g.stops lines);
 }
 
-pub given_up_between : {T : Type 0} (r : Result T Fault) (failed more : Type 0) (s : Sources) (o : Choices) (was : List ℕ → State) (old new : Option (List ℕ)) (start now : Openings) (f : Open)
-    → (failed → more) → IfErr r (λ x. IfRead x (λ told. GivenUp failed s o was old new start now f told)) → IfErr r (λ x. IfRead x (λ told. GivenUp more s o was old new start now f told))
+pub given_up_between : {T : Type 0} (r : Result T Fault) (failed more : Type 0) (s : Sources) (o : Choices) (was : List ℕ → State)
+    (old new : Option (List ℕ)) (start now : Openings) (f : Open)
+    → (failed → more) → IfErr r (λ x. IfRead x (λ told. GivenUp failed s o was old new start now f told)) → IfErr r
+    (λ x. IfRead x (λ told. GivenUp more s o was old new start now f told))
 given_up_between r failed more s o was old new start now f later g =
     if_read_more r (λ told. GivenUp failed s o was old new start now f told) (λ told. GivenUp more s o was old new start now f told)
     (λ told h. given_up_more failed more s o was old new start now f told later h) g
 
 -- before the first turn nothing is
-pub heard_none : (failed : Type 0) (s : Sources) (o : Choices) (name : List ℕ) (old new : Openings) (before after : Option (List ℕ)) (told : List ℕ) → failed → new ≡ old → after ≡ before
+pub heard_none : (failed : Type 0) (s : Sources) (o : Choices) (name : List ℕ) (old new : Openings) (before after : Option (List ℕ))
+    (told : List ℕ) → failed → new ≡ old → after ≡ before
     → told ≡ name → Heard failed s o name old new before after told
 heard_none failed s o name old new before after told cause same e is =
-    inl (record { cause = cause; opened = same; takes = subst (λ (n : Option (List ℕ)). Takes before n []) (sym e) (takes_none before); name_is = is })
+    inl (record {
+      cause = cause;
+      opened = same;
+      takes = subst (λ (n : Option (List ℕ)). Takes before n []) (sym e) (takes_none before);
+      name_is = is;
+    })
 
 -- what was opened where reading was given up
-pub opened_some : (s : Sources) (o : Choices) (name : List ℕ) (old now new : Openings) (f : Open) (was : List ℕ → State) (turns : ℕ) → was [] ≡ start s o name
-    → new ≡ closed_to old now → AllGiven s (length old.all) now f → OpensAll (run s o turns) was (opened_since old now) → OpenedSome s o name old new
+pub opened_some : (s : Sources) (o : Choices) (name : List ℕ) (old now new : Openings) (f : Open) (was : List ℕ → State) (turns : ℕ) →
+    was [] ≡ start s o name
+    → new ≡ closed_to old now → AllGiven s (length old.all) now f → OpensAll (run s o turns) was (opened_since old now) → OpenedSome s o
+    name old new
 opened_some s o name old now new f was turns begun closed given h = record {
   turns = turns;
   names = ap (λ (p : Openings). opened_since old p) closed ∙ h [] ∙ ap (λ (x : State). (run s o turns x).nesting.openings) begun;
@@ -332,7 +390,8 @@ opened_some s o name old now new f was turns begun closed given h = record {
 }
 
 -- before the first turn the main source alone is open
-pub opened_first : (s : Sources) (o : Choices) (name : List ℕ) (old now new : Openings) (f : Open) (set : CharSet) (limit : ℕ) → new ≡ closed_to old now → AllGiven s (length old.all) now f
+pub opened_first : (s : Sources) (o : Choices) (name : List ℕ) (old now new : Openings) (f : Open) (set : CharSet) (limit : ℕ) →
+    new ≡ closed_to old now → AllGiven s (length old.all) now f
     → nesting s old now f ≡ main_opened set limit s name → OpenedSome s o name old new
 opened_first s o name old now new f set limit closed given is = record {
   turns = zero;

@@ -48,27 +48,39 @@ unfolding digits more system.system_names
 empty_source serial = record { final = _; is_read = record { turns = 10; leads = refl; ends = refl }; is_ending = refl }
 
 pub text_is_missing : TextIsMissing
-unfolding digits more units.order units.next_place output.laid output.instruction output.behind meaning.call_of parts.calling statements.statement_in effects.statement_laid effects.statement_finding work_parts.part_effect language.grammar language.known system.system_names
+unfolding digits more units.order units.next_place output.laid output.instruction output.behind meaning.call_of parts.calling
+    statements.statement_in effects.statement_laid effects.statement_finding work_parts.part_effect language.grammar language.known
+    system.system_names
 text_is_missing serial = record { final = _; is_read = record { turns = 20; leads = refl; ends = refl }; is_ending = refl }
 
 pub names_are_undeclared : NamesAreUndeclared
-unfolding digits more units.order units.next_place output.laid output.instruction output.behind meaning.call_of parts.calling statements.statement_in effects.statement_laid effects.statement_finding work_parts.part_effect language.grammar language.known system.system_names
+unfolding digits more units.order units.next_place output.laid output.instruction output.behind meaning.call_of parts.calling
+    statements.statement_in effects.statement_laid effects.statement_finding work_parts.part_effect language.grammar language.known
+    system.system_names
 names_are_undeclared serial = record { final = _; is_read = record { turns = 40; leads = refl; ends = refl }; is_ending = refl }
 
 pub files_are_included : FilesAreIncluded
-unfolding digits more text_of piece_at escape_piece spelled spellings zscii_of zscii_of_unicode accented units.order units.next_place output.laid output.instruction output.behind meaning.call_of parts.calling statements.statement_in effects.statement_laid effects.statement_finding work_parts.part_effect language.grammar language.known system.system_names
+unfolding digits more text_of piece_at escape_piece spelled spellings zscii_of zscii_of_unicode accented units.order units.next_place
+    output.laid output.instruction output.behind meaning.call_of parts.calling statements.statement_in effects.statement_laid
+    effects.statement_finding work_parts.part_effect language.grammar language.known system.system_names
 files_are_included serial = record { final = _; is_read = record { turns = 40; leads = refl; ends = refl }; is_ending = refl }
 
 pub conditionals_choose : ConditionalsChoose
-unfolding digits more text_of piece_at escape_piece spelled spellings zscii_of zscii_of_unicode accented units.order units.next_place output.laid output.instruction output.behind meaning.call_of parts.calling statements.statement_in effects.statement_laid effects.statement_finding work_parts.part_effect language.grammar language.known system.system_names
+unfolding digits more text_of piece_at escape_piece spelled spellings zscii_of zscii_of_unicode accented units.order units.next_place
+    output.laid output.instruction output.behind meaning.call_of parts.calling statements.statement_in effects.statement_laid
+    effects.statement_finding work_parts.part_effect language.grammar language.known system.system_names
 conditionals_choose serial = record { final = _; is_read = record { turns = 80; leads = refl; ends = refl }; is_ending = refl }
 
 pub conditions_choose : ConditionsChoose
-unfolding digits more text_of piece_at escape_piece spelled spellings zscii_of zscii_of_unicode accented units.order units.next_place output.laid output.instruction output.behind meaning.call_of parts.calling statements.statement_in effects.statement_laid effects.statement_finding work_parts.part_effect language.grammar language.known system.system_names
+unfolding digits more text_of piece_at escape_piece spelled spellings zscii_of zscii_of_unicode accented units.order units.next_place
+    output.laid output.instruction output.behind meaning.call_of parts.calling statements.statement_in effects.statement_laid
+    effects.statement_finding work_parts.part_effect language.grammar language.known system.system_names
 conditions_choose serial = record { final = _; is_read = record { turns = 80; leads = refl; ends = refl }; is_ending = refl }
 
 pub sixteen_are_open : SixteenAreOpen
-unfolding digits more text_of piece_at escape_piece spelled spellings zscii_of zscii_of_unicode accented units.order units.next_place output.laid output.instruction output.behind meaning.call_of parts.calling statements.statement_in effects.statement_laid effects.statement_finding work_parts.part_effect language.grammar language.known system.system_names
+unfolding digits more text_of piece_at escape_piece spelled spellings zscii_of zscii_of_unicode accented units.order units.next_place
+    output.laid output.instruction output.behind meaning.call_of parts.calling statements.statement_in effects.statement_laid
+    effects.statement_finding work_parts.part_effect language.grammar language.known system.system_names
 sixteen_are_open serial = record { final = _; is_read = record { turns = 120; leads = refl; ends = refl }; is_ending = refl }
 
 -- the code of the routine: no locals, `print`, `rtrue`, and a zero
@@ -82,14 +94,19 @@ abbrev hello : List ℕ → List ℕ
 hello serial = story (fields serial) 8 (value.Later (target.Place area.Code 8) ∷ []) hello_code [] (no_tables defaults)
 
 plain_size : (map_of (cells_sizes (plain.plain_areas 8 hello_code [])) scale.Four).end ≡ 976
-unfolding packed longest character_zs tables.three_spaces tables.abbreviations plain.property_defaults plain.objects plain.property_tables plain.class_numbers plain.globals plain.dictionary
+unfolding packed longest character_zs tables.three_spaces tables.abbreviations plain.property_defaults plain.objects plain.property_tables
+    plain.class_numbers plain.globals plain.dictionary
 plain_size = refl
 
 hello_size : (map_of (cells_sizes (tables.areas 8 hello_code [] (no_tables defaults))) scale.Four).end ≡ 976
-hello_size = ap (λ (cells : Areas (List Cell)). (map_of (cells_sizes cells) scale.Four).end) (tables_are_plain defaults 8 hello_code []) ∙ plain_size
+hello_size =
+    ap (λ (cells : Areas (List Cell)). (map_of (cells_sizes cells) scale.Four).end) (tables_are_plain defaults 8 hello_code []) ∙ plain_size
 
 pub hello_is_a_story : HelloIsAStory
-unfolding digits more text_of piece_at escape_piece spelled spellings zscii_of zscii_of_unicode accented packed longest character_zs punctuation units.order units.next_place output.laid output.instruction output.behind meaning.call_of parts.calling statements.statement_in effects.statement_laid effects.statement_finding work_parts.part_effect language.grammar language.known system.system_names too_long tables.three_spaces tables.abbreviations first_names no_attributes attribute_cells flag_byte all_falling
+unfolding digits more text_of piece_at escape_piece spelled spellings zscii_of zscii_of_unicode accented packed longest character_zs
+    punctuation units.order units.next_place output.laid output.instruction output.behind meaning.call_of parts.calling
+    statements.statement_in effects.statement_laid effects.statement_finding work_parts.part_effect language.grammar language.known
+    system.system_names too_long tables.three_spaces tables.abbreviations first_names no_attributes attribute_cells flag_byte all_falling
 hello_is_a_story serial six =
     let says = story_tells (fields serial) 8 (value.Later (target.Place area.Code 8) ∷ []) hello_code [] (no_tables defaults) six in
     let size : length (hello serial) ≡ 976 = says.as_mapped ∙ hello_size in

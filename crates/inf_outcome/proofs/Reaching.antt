@@ -1,4 +1,5 @@
--- Reading ends, whatever the sources are: a turn ends it, takes something of the innermost file, leaves that file, or enters another one; and
+-- Reading ends, whatever the sources are: a turn ends it, takes something of the innermost file, leaves that file, or enters another one;
+-- and
 -- no more than sixteen are open.
 use Rattle.std.proofs.Common.{◌≡◌, ◌⊎◌, inl, inr, ℕ, zero, suc, ◌+◌, ◌<◌, ◌≤◌, ◌||◌, List, [], ◌∷◌, length, Bool, true, false, not, nat_le, cond, Option, Some, None, refl, sym, ap, subst, ◌∙◌, arith}
 use Rattle.std.proofs.lemmas.Bool.{leb-false}
@@ -47,21 +48,25 @@ mode_ends : (s : State) → is_mode_ended s.reading.mode ≡ true → has_ended 
 mode_ends s e = or_second s.is_over _ (or_second s.work.report.counts.is_over _ e)
 
 -- the innermost file is left
-left_goes : (was : Nesting) (waiting : List Cursor) (s : State) → was.waiting ≡ waiting → is_mode_ended s.reading.mode ≡ true → Goes was (left_by waiting (file_closed s))
+left_goes : (was : Nesting) (waiting : List Cursor) (s : State) → was.waiting ≡ waiting → is_mode_ended s.reading.mode ≡ true →
+    Goes was (left_by waiting (file_closed s))
 left_goes was [] s same e = inl (mode_ends (file_closed s) e)
 left_goes was (c ∷ waiting) s same e = inr (Leaves c waiting same refl refl)
 
 -- a file is entered, or none is
-opens_room : (can deep : Bool) (first : Option (List ℕ)) (name : List ℕ) → cond (not can) (OpensNone included.NotThere) (cond deep (OpensNone included.TooDeep) (by_first first)) ≡ Opens name
+opens_room : (can deep : Bool) (first : Option (List ℕ)) (name : List ℕ) →
+    cond (not can) (OpensNone included.NotThere) (cond deep (OpensNone included.TooDeep) (by_first first)) ≡ Opens name
     → deep ≡ false
 opens_room false deep first name e = cc
 opens_room true true first name e = cc
 opens_room true false first name e = refl
 
-has_room : (sources : Sources) (directories : List (List ℕ)) (text name : List ℕ) (n : Nesting) → inclusion sources directories text n ≡ Opens name → length n.waiting < 15
+has_room : (sources : Sources) (directories : List (List ℕ)) (text name : List ℕ) (n : Nesting) →
+    inclusion sources directories text n ≡ Opens name → length n.waiting < 15
 has_room sources directories text name n e =
     let flat : nat_le 16 (length n.waiting + 1) ≡ false =
-    opens_room (can_name text) (nat_le 16 (length n.waiting + 1)) (first_there sources (candidates directories (innermost_name n) text)) name e in
+    opens_room (can_name text) (nat_le 16 (length n.waiting + 1)) (first_there sources (candidates directories (innermost_name n) text))
+    name e in
     omega (arith, leb-false 16 (length n.waiting + 1) flat)
 
 none_stays : (unit : Place) (text : List ℕ) (why : Included) (s : State) → (none_included unit text why s).nesting ≡ s.nesting
@@ -69,17 +74,22 @@ none_stays unit text included.Entered s = refl
 none_stays unit text included.NotThere s = refl
 none_stays unit text included.TooDeep s = refl
 
-included_goes : (was : Nesting) (sources : Sources) (o : Choices) (unit : Place) (text : List ℕ) (i : Inclusion) (s : State) → inclusion sources o.directories text s.nesting ≡ i
-    → s.nesting.waiting ≡ was.waiting → length s.nesting.cursor.rest < length was.cursor.rest → Goes was (included_by sources o unit text i s)
+included_goes : (was : Nesting) (sources : Sources) (o : Choices) (unit : Place) (text : List ℕ) (i : Inclusion) (s : State) →
+    inclusion sources o.directories text s.nesting ≡ i
+    → s.nesting.waiting ≡ was.waiting → length s.nesting.cursor.rest < length was.cursor.rest → Goes was
+    (included_by sources o unit text i s)
 included_goes was sources o unit text (Opens name) s e same less =
     let room = has_room sources o.directories text name s.nesting e in
-    inr (Enters s.nesting.cursor (ap (λ (waiting : List Cursor). s.nesting.cursor ∷ waiting) same) less (omega (arith, room, ap length same)))
+    inr (Enters s.nesting.cursor (ap (λ (waiting : List Cursor). s.nesting.cursor ∷ waiting) same) less
+    (omega (arith, room, ap length same)))
 included_goes was sources o unit text (OpensNone why) s e same less =
     inr (subst (λ (n : Nesting). Moves was n) (sym (none_stays unit text why s)) (Stays same less))
 
-answered_goes : (was : Nesting) (a : Request) (sources : Sources) (o : Choices) (s : State) → s.nesting.waiting ≡ was.waiting → length s.nesting.cursor.rest < length was.cursor.rest
+answered_goes : (was : Nesting) (a : Request) (sources : Sources) (o : Choices) (s : State) → s.nesting.waiting ≡ was.waiting →
+    length s.nesting.cursor.rest < length was.cursor.rest
     → Goes was (answered a sources o s)
-answered_goes was (Include text unit) sources o s same less = included_goes was sources o unit text (inclusion sources o.directories text s.nesting) s refl same less
+answered_goes was (Include text unit) sources o s same less =
+    included_goes was sources o unit text (inclusion sources o.directories text s.nesting) s refl same less
 answered_goes was End sources o s same less = inl refl
 answered_goes was Nothing sources o s same less = inr (Stays same less)
 
@@ -88,7 +98,8 @@ carried_out_goes : (was : Nesting) (sources : Sources) (o : Choices) (s : State)
     → (is_mode_ended s.reading.mode ≡ true) ⊎ (length s.nesting.cursor.rest < length was.cursor.rest) → Goes was (carried_out sources o s)
 carried_out_goes was sources o s same took =
     of_both (Goes was) s.work.report.counts.is_over s _ (λ over. inl (over_ends s over))
-    (λ _. of_both (Goes was) (is_mode_ended s.reading.mode) (left s) (answered s.work.asked sources o (asked_nothing s)) (λ e. left_goes was s.nesting.waiting s (sym same) e)
+    (λ _. of_both (Goes was) (is_mode_ended s.reading.mode) (left s) (answered s.work.asked sources o (asked_nothing s))
+    (λ e. left_goes was s.nesting.waiting s (sym same) e)
     (λ reads. elim took as (λ _. Goes was (answered s.work.asked sources o (asked_nothing s))) [
       | inl e ↦ absurd (let never : true ≡ false = sym e ∙ reads in cc)
       | inr less ↦ answered_goes was s.work.asked sources o (asked_nothing s) same less
@@ -104,21 +115,24 @@ rested_goes was s g =
     ]) (λ _. g))
 
 -- a token takes something, or is the end of its file, and ends it
-stepped_takes : (s : State) → (is_mode_ended (stepped s).reading.mode ≡ true) ⊎ (length (stepped s).nesting.cursor.rest < length s.nesting.cursor.rest)
+stepped_takes : (s : State) →
+    (is_mode_ended (stepped s).reading.mode ≡ true) ⊎ (length (stepped s).nesting.cursor.rest < length s.nesting.cursor.rest)
 stepped_takes s =
     let c = s.nesting.cursor in
     let t = token_of c in
     let b = judged (site_of s.reading) s.work.output t s.conditions in
     elim (tokens_take_bytes c.set c.limit c.lines c.rest).one as
     (λ _. (is_mode_ended (stepped s).reading.mode ≡ true) ⊎ (length (stepped s).nesting.cursor.rest < length s.nesting.cursor.rest)) [
-      | inl end ↦ inl (end_ends s.nesting.names t.kind t.bytes t.place s.work.output s.conditions (said_told b.now.said s.nesting.names (stand_of s)) (site_of s.reading)
+      | inl end ↦ inl (end_ends s.nesting.names t.kind t.bytes t.place s.work.output s.conditions
+          (said_told b.now.said s.nesting.names (stand_of s)) (site_of s.reading)
           b.now b.judged refl end)
       | inr less ↦ inr less
     ]
 
 turn_goes : (sources : Sources) (o : Choices) (s : State) → Goes s.nesting (turn sources o s)
 turn_goes sources o s =
-    elim (rested_goes s.nesting (carried_out sources o (stepped s)) (carried_out_goes s.nesting sources o (stepped s) refl (stepped_takes s))) as (λ _. Goes s.nesting (turn sources o s)) [
+    elim (rested_goes s.nesting (carried_out sources o (stepped s))
+    (carried_out_goes s.nesting sources o (stepped s) refl (stepped_takes s))) as (λ _. Goes s.nesting (turn sources o s)) [
       | inl e ↦ inl e
       | inr m ↦ inr m
     ]
@@ -136,9 +150,11 @@ Reaches sources o s waiting = (turns : ℕ) × ((has_ended (run sources o turns 
 
 -- where so many files more may be open, and less than n bytes are left of the innermost
 abbrev AllReach : Sources → Choices → ℕ → ℕ → Type 0
-AllReach sources o room n = (s : State) → length s.nesting.cursor.rest < n → 15 ≤ length s.nesting.waiting + room → Reaches sources o s s.nesting.waiting
+AllReach sources o room n =
+    (s : State) → length s.nesting.cursor.rest < n → 15 ≤ length s.nesting.waiting + room → Reaches sources o s s.nesting.waiting
 
-reaches_by : (sources : Sources) (o : Choices) (s t : State) (a : ℕ) (waiting : List Cursor) → run sources o a s ≡ t → Reaches sources o t waiting → Reaches sources o s waiting
+reaches_by : (sources : Sources) (o : Choices) (s t : State) (a : ℕ) (waiting : List Cursor) → run sources o a s ≡ t →
+    Reaches sources o t waiting → Reaches sources o s waiting
 reaches_by sources o s t a waiting leads r =
     let same : run sources o r.0 t ≡ run sources o (a + r.0) s = ap (run sources o r.0) (sym leads) ∙ sym (run_sum sources o a r.0 s) in (
       a + r.0,
@@ -149,20 +165,26 @@ reaches_by sources o s t a waiting leads r =
     )
 
 -- behind a file inside it the outer one goes on
-inside_by : (sources : Sources) (o : Choices) (room n : ℕ) (s t : State) (c : Cursor) → AllReach sources o room n → t.nesting.waiting ≡ c ∷ s.nesting.waiting
-    → length c.rest < n → 15 ≤ length s.nesting.waiting + room → Reaches sources o t (c ∷ s.nesting.waiting) → Reaches sources o t s.nesting.waiting
+inside_by : (sources : Sources) (o : Choices) (room n : ℕ) (s t : State) (c : Cursor) → AllReach sources o room n →
+    t.nesting.waiting ≡ c ∷ s.nesting.waiting
+    → length c.rest < n → 15 ≤ length s.nesting.waiting + room → Reaches sources o t (c ∷ s.nesting.waiting) → Reaches sources o t
+    s.nesting.waiting
 inside_by sources o room n s t c later opens less deep r = by r.1
   where
-    by : (has_ended (run sources o r.0 t) ≡ true) ⊎ Popped (c ∷ s.nesting.waiting) (run sources o r.0 t) → Reaches sources o t s.nesting.waiting
+    by : (has_ended (run sources o r.0 t) ≡ true) ⊎ Popped (c ∷ s.nesting.waiting) (run sources o r.0 t) →
+        Reaches sources o t s.nesting.waiting
     by (inl e) = (r.0, inl e)
     by (inr p) =
         let out : State = run sources o r.0 t in
-        let on : Reaches sources o out out.nesting.waiting = later out (omega (arith, ap (λ (x : Cursor). length x.rest) p.0, less)) (omega (arith, ap length p.1, deep)) in
+        let on : Reaches sources o out out.nesting.waiting =
+        later out (omega (arith, ap (λ (x : Cursor). length x.rest) p.0, less)) (omega (arith, ap length p.1, deep)) in
         reaches_by sources o t out r.0 s.nesting.waiting refl (subst (λ (waiting : List Cursor). Reaches sources o out waiting) p.1 on)
 
 -- one turn, and what comes then
-step_by : (sources : Sources) (o : Choices) (room n : ℕ) (s : State) → ((inner : ℕ) → room ≡ suc inner → (m : ℕ) → AllReach sources o inner m) → AllReach sources o room n
-    → length s.nesting.cursor.rest < suc n → 15 ≤ length s.nesting.waiting + room → has_ended s ≡ false → Reaches sources o s s.nesting.waiting
+step_by : (sources : Sources) (o : Choices) (room n : ℕ) (s : State) →
+    ((inner : ℕ) → room ≡ suc inner → (m : ℕ) → AllReach sources o inner m) → AllReach sources o room n
+    → length s.nesting.cursor.rest < suc n → 15 ≤ length s.nesting.waiting + room → has_ended s ≡ false → Reaches sources o s
+    s.nesting.waiting
 step_by sources o room n s inside later less deep going = by (turn_goes sources o s)
   where
     next : State
@@ -171,7 +193,8 @@ step_by sources o room n s inside later less deep going = by (turn_goes sources 
     one : run sources o (suc zero) s ≡ next
     one = run_going sources o zero s going
 
-    entered : (room : ℕ) (c : Cursor) → 15 ≤ length s.nesting.waiting + room → ((inner : ℕ) → room ≡ suc inner → (m : ℕ) → AllReach sources o inner m) → length s.nesting.waiting < 15
+    entered : (room : ℕ) (c : Cursor) → 15 ≤ length s.nesting.waiting + room →
+        ((inner : ℕ) → room ≡ suc inner → (m : ℕ) → AllReach sources o inner m) → length s.nesting.waiting < 15
         → next.nesting.waiting ≡ c ∷ s.nesting.waiting → Reaches sources o next (c ∷ s.nesting.waiting)
     entered zero c deep inside few opens = absurd (omega (arith, deep, few))
     entered (suc inner) c deep inside few opens =
@@ -181,15 +204,21 @@ step_by sources o room n s inside later less deep going = by (turn_goes sources 
     by : Goes s.nesting next → Reaches sources o s s.nesting.waiting
     by (inl e) = (suc zero, inl (ap has_ended one ∙ e))
     by (inr (Stays same takes)) =
-        let on : Reaches sources o next next.nesting.waiting = later next (omega (arith, takes, less)) (omega (arith, ap length same, deep)) in
-        reaches_by sources o s next (suc zero) s.nesting.waiting one (subst (λ (waiting : List Cursor). Reaches sources o next waiting) same on)
-    by (inr (Leaves c waiting was cursor rest)) =
-        (suc zero, inr (subst (λ (ws : List Cursor). Popped ws (run sources o (suc zero) s)) (sym was) (subst (λ (x : State). Popped (c ∷ waiting) x) (sym one) (cursor, rest))))
+        let on : Reaches sources o next next.nesting.waiting =
+        later next (omega (arith, takes, less)) (omega (arith, ap length same, deep)) in
+        reaches_by sources o s next (suc zero) s.nesting.waiting one
+        (subst (λ (waiting : List Cursor). Reaches sources o next waiting) same on)
+    by (inr (Leaves c waiting was cursor rest)) = (
+      suc zero,
+      inr (subst (λ (ws : List Cursor). Popped ws (run sources o (suc zero) s)) (sym was)
+          (subst (λ (x : State). Popped (c ∷ waiting) x) (sym one) (cursor, rest))),
+    )
     by (inr (Enters c opens takes few)) =
         reaches_by sources o s next (suc zero) s.nesting.waiting one
         (inside_by sources o room n s next c later opens (omega (arith, takes, less)) deep (entered room c deep inside few opens))
 
-by_rest : (sources : Sources) (o : Choices) (room : ℕ) → ((inner : ℕ) → room ≡ suc inner → (m : ℕ) → AllReach sources o inner m) → (n : ℕ) → AllReach sources o room n
+by_rest : (sources : Sources) (o : Choices) (room : ℕ) → ((inner : ℕ) → room ≡ suc inner → (m : ℕ) → AllReach sources o inner m) → (n : ℕ) →
+    AllReach sources o room n
 by_rest sources o room inside zero s less deep = absurd (omega (arith, less))
 by_rest sources o room inside (suc n) s less deep = by (has_ended s) refl (by_rest sources o room inside n)
   where
@@ -199,13 +228,16 @@ by_rest sources o room inside (suc n) s less deep = by (has_ended s) refl (by_re
 
 reach : (sources : Sources) (o : Choices) (room n : ℕ) → AllReach sources o room n
 reach sources o zero n = by_rest sources o zero (λ inner never m. absurd (omega (arith, never))) n
-reach sources o (suc room) n = by_rest sources o (suc room) (λ inner is m. subst (λ (k : ℕ). AllReach sources o k m) (omega (arith, is)) (reach sources o room m)) n
+reach sources o (suc room) n =
+    by_rest sources o (suc room) (λ inner is m. subst (λ (k : ℕ). AllReach sources o k m) (omega (arith, is)) (reach sources o room m)) n
 
 -- An outcome
 
-outcome_by : (x : Option (List ℕ)) (sources : Sources) (o : Choices) (serial name : List ℕ) → (e : Outcome) × IsOutcomeOf x sources o serial name e
+outcome_by : (x : Option (List ℕ)) (sources : Sources) (o : Choices) (serial name : List ℕ) →
+    (e : Outcome) × IsOutcomeOf x sources o serial name e
 outcome_by None sources o serial name = (missing name, refl)
-outcome_by (Some source) sources o serial name = by (reach sources o 15 (suc (length first.nesting.cursor.rest)) first (omega arith) (omega arith))
+outcome_by (Some source) sources o serial name =
+    by (reach sources o 15 (suc (length first.nesting.cursor.rest)) first (omega arith) (omega arith))
   where
     first : State
     first = start sources o name

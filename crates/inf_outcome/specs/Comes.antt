@@ -65,7 +65,8 @@ abbrev pub OpenedPart : Sources → Choices → List ℕ → Openings → Openin
 OpenedPart sources o name old new = (new ≡ old) ⊎ OpenedSome sources o name old new
 
 -- What was written, answered and opened is what comes of the main source of this name.
-pub record Comes (sources : Sources) (o : Choices) (serial name : List ℕ) (old new : Openings) (before after : Option (List ℕ)) (c : Compiled) : Type 0 where
+pub record Comes (sources : Sources) (o : Choices) (serial name : List ℕ) (old new : Openings) (before after : Option (List ℕ))
+    (c : Compiled) : Type 0 where
   pub ending : Outcome
   pub is_outcome : IsOutcome sources o serial name ending
   pub delivers : Delivers ending c before after
@@ -78,7 +79,8 @@ pub record Begins (sources : Sources) (o : Choices) (serial name : List ℕ) (be
   pub begins : (e : Outcome) → IsOutcome sources o serial name e → IsFront front e.messages
 
 -- Reading went on from here to its end, and story, status and messages are those of its ending; these files are still open.
-pub record Concludes (sources : Sources) (o : Choices) (serial : List ℕ) (s : State) (start now : Openings) (f : Open) (before after : Option (List ℕ)) (c : Compiled) : Type 0 where
+pub record Concludes (sources : Sources) (o : Choices) (serial : List ℕ) (s : State) (start now : Openings) (f : Open)
+    (before after : Option (List ℕ)) (c : Compiled) : Type 0 where
   pub final : State
   pub is_read : IsRead sources o s final
   pub delivers : Delivers (ending_of serial final) c before after
@@ -107,13 +109,15 @@ pub record StopsReading (failed : Type 0) (sources : Sources) (s : State) (old n
   pub at : AreAt (length old.all) (length new.all) s.nesting.names new.all (place ∷ places) (numbers_of s.nesting)
   pub openings : opened_since old new ≡ s.nesting.openings
   pub cause : failed ⊎ (most_source_bytes < length (get_or new.all place (opened [])).given)
-  pub not_ended : Unfinished s.nesting.cursor (length (get_or new.all place (opened [])).given - most_source_bytes) (unread_of sources (get_or new.all place (opened [])))
+  pub not_ended : Unfinished s.nesting.cursor (length (get_or new.all place (opened [])).given - most_source_bytes)
+      (unread_of sources (get_or new.all place (opened [])))
   pub goes_on : (get_or new.all place (opened [])).is_read_out ≡ false
   pub name_is : told ≡ innermost_name s.nesting
 
 -- What was written is all that comes with so many turns from the start, which end nothing. Behind them the next token could not be read; or
 -- that token asks for a file, which could not be opened, or is one more than can be numbered, and was closed again.
-pub record HeardTurns (failed : Type 0) (sources : Sources) (o : Choices) (s : State) (old new : Openings) (before after : Option (List ℕ)) (told : List ℕ) : Type 0 where
+pub record HeardTurns (failed : Type 0) (sources : Sources) (o : Choices) (s : State) (old new : Openings) (before after : Option (List ℕ))
+    (told : List ℕ) : Type 0 where
   pub turns : ℕ
   pub takes : Takes before after (run sources o turns s).told
   pub goes_on : has_ended (run sources o turns s) ≡ false
@@ -121,18 +125,21 @@ pub record HeardTurns (failed : Type 0) (sources : Sources) (o : Choices) (s : S
       ⊎ StopsAtInclusion failed sources o (stepped (run sources o turns s)) (opened_since old new) told
 
 -- The main source could not be opened, and nothing was written.
-pub record HeardNothing (failed : Type 0) (name : List ℕ) (old new : Openings) (before after : Option (List ℕ)) (told : List ℕ) : Type 0 where
-  pub cause : failed
-  pub opened : new ≡ old
-  pub takes : Takes before after []
-  pub name_is : told ≡ name
+pub record HeardNothing (failed : Type 0) (name : List ℕ) (old new : Openings) (before after : Option (List ℕ)) (told : List ℕ) : Type 0
+  where
+    pub cause : failed
+    pub opened : new ≡ old
+    pub takes : Takes before after []
+    pub name_is : told ≡ name
 
 -- what was written where a file of the name that is told was not read, and why not
 abbrev pub Heard : Type 0 → Sources → Choices → List ℕ → Openings → Openings → Option (List ℕ) → Option (List ℕ) → List ℕ → Type 0
 Heard failed sources o name old new before after told =
     HeardNothing failed name old new before after told ⊎ HeardTurns failed sources o (start sources o name) old new before after told
 
--- A file could not be opened or read, with any reader, between two moments: the device failed; or it gave more bytes than a source may have; or
+-- A file could not be opened or read, with any reader, between two moments: the device failed; or it gave more bytes than a source may
+-- have; or
 -- more sources were opened than can be numbered. Each of the three counts rose by so much, or stands at its last value.
 abbrev pub IsUnread : {S : Type 0} → Files S → S → S → Type 0
-IsUnread f old new = Rose (f.faults old) (f.faults new) ⊎ (GaveTooMuch (f.given old) (f.given new) ⊎ (min (f.opened old + 65536) last_count ≤ f.opened new))
+IsUnread f old new =
+    Rose (f.faults old) (f.faults new) ⊎ (GaveTooMuch (f.given old) (f.given new) ⊎ (min (f.opened old + 65536) last_count ≤ f.opened new))

@@ -29,7 +29,8 @@ plain = record { set = set.Latin1; has_warnings = true; settings = defaults; dir
 
 -- sources with errors: these messages, no story
 abbrev pub Refuses : Sources → List ℕ → Type 0
-Refuses sources messages = (serial : List ℕ) → IsOutcome sources plain serial name (record { messages = messages; story = None; status = status.Errors })
+Refuses sources messages =
+    (serial : List ℕ) → IsOutcome sources plain serial name (record { messages = messages; story = None; status = status.Errors })
 
 abbrev pub NoSource : Type 0
 NoSource = Refuses no_sources (codes "t.inf(1): Fatal error: No file \"t.inf\"\n")
@@ -74,12 +75,14 @@ times (suc n) bytes = bytes ++ times n bytes
 -- a file that includes itself, up to sixteen of it
 abbrev pub SixteenAreOpen : Type 0
 SixteenAreOpen =
-    Refuses (only (codes "Message \"x\";\nInclude \"t.inf\";")) (times 16 (codes "x\n") ++ codes "t.inf(2): Fatal error: More than 16 files open\n")
+    Refuses (only (codes "Message \"x\";\nInclude \"t.inf\";"))
+    (times 16 (codes "x\n") ++ codes "t.inf(2): Fatal error: More than 16 files open\n")
 
 -- a story of 976 bytes, which says that it has 244 fours
 pub record IsHello (serial : List ℕ) : Type 0 where
   pub story : List ℕ
-  pub is_outcome : IsOutcome (only (codes "[ Main; print \"hello\"; ];")) plain serial name (record { messages = codes "Errors: 0, warnings: 0\n"; story = Some story; status = status.Success })
+  pub is_outcome : IsOutcome (only (codes "[ Main; print \"hello\"; ];")) plain serial name
+      (record { messages = codes "Errors: 0, warnings: 0\n"; story = Some story; status = status.Success })
   pub size : length story ≡ 976
   pub length_word : HasAt 0x1A story (number_bytes 244)
 

@@ -7,7 +7,8 @@ use Rattle.inf_outcome.specs.Outcome.{IsOutcome}
 
 abbrev pub OutcomesAreUnique : Type 0
 OutcomesAreUnique =
-    (sources : Sources) (o : Choices) (serial name : List ℕ) (e f : Outcome) → IsOutcome sources o serial name e → IsOutcome sources o serial name f → e ≡ f
+    (sources : Sources) (o : Choices) (serial name : List ℕ) (e f : Outcome) → IsOutcome sources o serial name e → IsOutcome sources o
+    serial name f → e ≡ f
 
 abbrev pub OutcomesExist : Type 0
 OutcomesExist = (sources : Sources) (o : Choices) (serial name : List ℕ) → (e : Outcome) × IsOutcome sources o serial name e

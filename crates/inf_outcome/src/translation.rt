@@ -39,7 +39,8 @@ pub fn translate<F: Files, M: Sink>(
     requires { 0 < length name.now }
 
     // With an honest reader it is the outcome of its sources, and all messages were written.
-    ensures comes { IsTrue (F.is_honest files.old) → IfOk result (λ compiled. Comes (F.sources files.old) (chosen setup.entry) serial.now name.now
+    ensures comes { IsTrue (F.is_honest files.old) →
+        IfOk result (λ compiled. Comes (F.sources files.old) (chosen setup.entry) serial.now name.now
         (F.openings files.old) (F.openings files.new) (M.taken messages.old) (M.taken messages.new) compiled) }
     ensures begins { IsTrue (F.is_honest files.old) → OnErr result (Begins (F.sources files.old) (chosen setup.entry) serial.now name.now
         (M.taken messages.old) (M.taken messages.new)) }
@@ -47,8 +48,10 @@ pub fn translate<F: Files, M: Sink>(
     ensures opened { IsTrue (F.is_honest files.old) → OnErr result (OpenedPart (F.sources files.old) (chosen setup.entry) name.now
         (F.openings files.old) (F.openings files.new)) }
     // After a fault of reading these are all that come with the tokens that were read, and the fault has its cause.
-    ensures heard { IsTrue (F.is_honest files.old) → IfErr result (λ fault. IfRead fault (λ told. Heard (Rose (F.faults files.old) (F.faults files.new))
-        (F.sources files.old) (chosen setup.entry) name.now (F.openings files.old) (F.openings files.new) (M.taken messages.old) (M.taken messages.new) told)) }
+    ensures heard { IsTrue (F.is_honest files.old) →
+        IfErr result (λ fault. IfRead fault (λ told. Heard (Rose (F.faults files.old) (F.faults files.new))
+        (F.sources files.old) (chosen setup.entry) name.now (F.openings files.old) (F.openings files.new) (M.taken messages.old)
+        (M.taken messages.new) told)) }
 
     // With any reader nothing is left open, no story comes with an error, and a fault has its cause.
     ensures kept { Kept F.Files files.old files.new }
@@ -90,13 +93,15 @@ fn read_out<F: Files, M: Sink>(
     requires goes { session.open_files.lexer.has_failed ≡ false }
     requires set { IsSet session }
     ensures concludes { Honestly F.Files files.old session.entry.open_files (λ start. IfOk result.1 (λ compiled.
-        Concludes (F.sources files.old) (chosen session.entry.setup) serial.now (state (F.sources files.old) start (F.openings files.old) session.entry [])
+        Concludes (F.sources files.old) (chosen session.entry.setup) serial.now
+        (state (F.sources files.old) start (F.openings files.old) session.entry [])
         start (F.openings files.new) result.0 (M.taken messages.old) (M.taken messages.new) compiled)) }
     ensures stops { Honestly F.Files files.old session.entry.open_files (λ start.
         OnErr result.1 (Stops (F.sources files.old) (chosen session.entry.setup) serial.now
         (state (F.sources files.old) start (F.openings files.old) session.entry []) (M.taken messages.old) (M.taken messages.new))) }
     ensures heard { Honestly F.Files files.old session.entry.open_files (λ start.
-        IfErr result.1 (λ fault. IfRead fault (λ name. GivenUp (Rose (F.faults files.old) (F.faults files.new)) (F.sources files.old) (chosen session.entry.setup)
+        IfErr result.1 (λ fault. IfRead fault (λ name. GivenUp (Rose (F.faults files.old) (F.faults files.new)) (F.sources files.old)
+        (chosen session.entry.setup)
         (state (F.sources files.old) start (F.openings files.old) session.entry) (M.taken messages.old) (M.taken messages.new)
         start (F.openings files.new) result.0 name))) }
     ensures opened { Honestly F.Files files.old session.entry.open_files (λ start.
@@ -106,7 +111,8 @@ fn read_out<F: Files, M: Sink>(
     ensures went { Went F.Files files.old files.new session.entry.open_files result.0 }
     ensures errors { IfOk result.1 (λ compiled. compiled.status ≡ Status.Errors → compiled.story ≡ None) }
     ensures clean { IfOk result.1 (λ compiled. compiled.status ≡ Status.Success → EndsClean (M.taken messages.old) (M.taken messages.new)) }
-    ensures fault { IfErr result.1 (λ fault. Caused fault (λ name. IsUnreadable F.Files files.old files.new session.entry.open_files result.0)
+    ensures fault { IfErr result.1 (λ fault. Caused fault (λ name. IsUnreadable F.Files files.old files.new session.entry.open_files
+        result.0)
         (Rose (M.failures messages.old) (M.failures messages.new))) }
     ensures is_open { length result.0.outer < F.depth files.new }
 {

@@ -111,7 +111,8 @@ laid_keeps item o = laid_by_keeps o.kept item o
 
 pub laid_all_keeps : (items : List Item) → Keeps (laid_all items)
 laid_all_keeps [] o = (refl, refl)
-laid_all_keeps (item ∷ items) o = same_then o (laid item o) (laid_all items (laid item o)) (laid_keeps item o) (laid_all_keeps items (laid item o))
+laid_all_keeps (item ∷ items) o =
+    same_then o (laid item o) (laid_all items (laid item o)) (laid_keeps item o) (laid_all_keeps items (laid item o))
 
 -- code that is kept apart
 pub apart_keeps : Keeps apart
@@ -165,7 +166,8 @@ with_used_same (found.Declared m first) name place t = refl
 with_used_same found.Used name place t = refl
 with_used_same found.Unknown name place t = refl
 
-declared_by_keeps : (fault : Option (DeclareFault Place)) (name : List ℕ) (place : Place) (m : Meaning) → Keeps (declared_by fault name place m)
+declared_by_keeps : (fault : Option (DeclareFault Place)) (name : List ℕ) (place : Place) (m : Meaning) →
+    Keeps (declared_by fault name place m)
 declared_by_keeps None name place m o = (refl, refl)
 declared_by_keeps (Some declaring.Full) name place m o = (refl, refl)
 declared_by_keeps (Some (declaring.Present first)) name place m o = (refl, refl)
@@ -198,13 +200,15 @@ numbered_as_same (Some routine) o = numbered_by_same (action_fault routine o.tab
 routine_used_same : (routine : List ℕ) (place : Place) (o : Out) → SameLimits o (routine_used routine place o).0
 routine_used_same routine place o =
     let r = referred routine place o in
-    same_then o r (routine_used routine place o).0 (referred_keeps routine place o) (numbered_as_same (routine_of (referred_as routine o)) r)
+    same_then o r (routine_used routine place o).0 (referred_keeps routine place o)
+    (numbered_as_same (routine_of (referred_as routine o)) r)
 
 action_by_same : (fake : Option ℕ) (name : List ℕ) (place : Place) (o : Out) → SameLimits o (action_by fake name place o).0
 action_by_same (Some number) name place o = (refl, refl)
 action_by_same None name place o =
     let seen = appeared (key_of name) place o in
-    same_then o seen (routine_used (routine_name name) place seen).0 (seen_by_keeps (declare_fault (key_of name) o.seen) (key_of name) place o)
+    same_then o seen (routine_used (routine_name name) place seen).0
+    (seen_by_keeps (declare_fault (key_of name) o.seen) (key_of name) place o)
     (routine_used_same (routine_name name) place seen)
 
 pub action_same : (name : List ℕ) (place : Place) (o : Out) → SameLimits o (action_of name place o).0
@@ -238,7 +242,8 @@ with_low_text_by_keeps false text o = (refl, refl)
 pub with_low_text_keeps : (text : List ℕ) → Keeps (with_low_text text)
 with_low_text_keeps text o = with_low_text_by_keeps (low_fits text o.tables.low_strings) text o
 
-with_word_by_keeps : (fault : Option WordFault) (text : Text) (how : WordUse) (is_plural : Bool) → Keeps (with_word_by fault text how is_plural)
+with_word_by_keeps : (fault : Option WordFault) (text : Text) (how : WordUse) (is_plural : Bool) →
+    Keeps (with_word_by fault text how is_plural)
 with_word_by_keeps None text how is_plural o = (refl, refl)
 with_word_by_keeps (Some word_fault.Full) text how is_plural o = (refl, refl)
 with_word_by_keeps (Some word_fault.OtherVerb) text how is_plural o = (refl, refl)
@@ -250,11 +255,13 @@ with_word_keeps text how is_plural o =
 
 -- Words
 
-pub instruction_keeps : (opcode : Opcode) (operands : List Simple) (store : Option ℕ) (branch : Option Branch) → Keeps (instruction opcode operands store branch)
+pub instruction_keeps : (opcode : Opcode) (operands : List Simple) (store : Option ℕ) (branch : Option Branch) →
+    Keeps (instruction opcode operands store branch)
 unfolding instruction
 instruction_keeps opcode operands store branch o = laid_keeps _ o
 
-pub naming_keeps : (opcode : Opcode) (variable : ℕ) (operands : List Simple) (store : Option ℕ) (branch : Option Branch) → Keeps (naming opcode variable operands store branch)
+pub naming_keeps : (opcode : Opcode) (variable : ℕ) (operands : List Simple) (store : Option ℕ) (branch : Option Branch) →
+    Keeps (naming opcode variable operands store branch)
 unfolding naming
 naming_keeps opcode variable operands store branch o = laid_keeps _ o
 

@@ -14,7 +14,8 @@ use Rattle.inf_output.specs.Operands.{written}
 use Rattle.inf_output.specs.Output.{Takes, TakesVariable}
 
 -- no simple operand is an offset
-no_offset_known : (b : Bool) (number : ℕ) (operands : List Operand) → has_no_offset operands ≡ true → has_no_offset (cond b (Small number) (Large number) ∷ operands) ≡ true
+no_offset_known : (b : Bool) (number : ℕ) (operands : List Operand) → has_no_offset operands ≡ true →
+    has_no_offset (cond b (Small number) (Large number) ∷ operands) ≡ true
 no_offset_known true number operands others = others
 no_offset_known false number operands others = others
 
@@ -24,7 +25,8 @@ no_offset (Known number ∷ operands) = no_offset_known (nat_lt number 256) numb
 no_offset (Variable number ∷ operands) = no_offset operands
 no_offset (Later target ∷ operands) = no_offset operands
 
-proper : (opcode : Opcode) (operands : List Simple) (store : Option ℕ) (branch : Option Branch) → Takes opcode (length operands) (is_some store) (is_some branch)
+proper : (opcode : Opcode) (operands : List Simple) (store : Option ℕ) (branch : Option Branch) →
+    Takes opcode (length operands) (is_some store) (is_some branch)
     → IsProper (record { opcode = opcode; operands = map written operands; store = store; branch = branch; text = [] })
 proper opcode operands store branch takes =
     record {
@@ -41,7 +43,8 @@ naming_fits : (b : Bool) (variable : ℕ) (operands : List Operand) → IsTrue (
 naming_fits true variable operands = refl
 naming_fits false variable operands = refl
 
-proper_naming : (opcode : Opcode) (variable : ℕ) (operands : List Simple) (store : Option ℕ) (branch : Option Branch) → TakesVariable opcode (length operands) (is_some store) (is_some branch)
+proper_naming : (opcode : Opcode) (variable : ℕ) (operands : List Simple) (store : Option ℕ) (branch : Option Branch) →
+    TakesVariable opcode (length operands) (is_some store) (is_some branch)
     → IsProper (record { opcode = opcode; operands = Small variable ∷ map written operands; store = store; branch = branch; text = [] })
 proper_naming opcode variable operands store branch takes =
     record {
@@ -55,12 +58,17 @@ proper_naming opcode variable operands store branch takes =
     }
 
 -- the same of operands that were made
-pub is_proper : (opcode : Opcode) (operands : List Simple) (all : List Operand) (store : Option ℕ) (branch : Option Branch) → all ≡ map written operands → Takes opcode (length operands) (is_some store) (is_some branch)
+pub is_proper : (opcode : Opcode) (operands : List Simple) (all : List Operand) (store : Option ℕ) (branch : Option Branch) →
+    all ≡ map written operands → Takes opcode (length operands) (is_some store) (is_some branch)
     → IsProper (record { opcode = opcode; operands = all; store = store; branch = branch; text = [] })
 is_proper opcode operands all store branch are takes =
-    subst (λ os. IsProper (record { opcode = opcode; operands = os; store = store; branch = branch; text = [] })) (sym are) (proper opcode operands store branch takes)
+    subst (λ os. IsProper (record { opcode = opcode; operands = os; store = store; branch = branch; text = [] })) (sym are)
+    (proper opcode operands store branch takes)
 
-pub is_proper_naming : (opcode : Opcode) (variable : ℕ) (operands : List Simple) (all : List Operand) (store : Option ℕ) (branch : Option Branch) → all ≡ Small variable ∷ map written operands
-    → TakesVariable opcode (length operands) (is_some store) (is_some branch) → IsProper (record { opcode = opcode; operands = all; store = store; branch = branch; text = [] })
+pub is_proper_naming : (opcode : Opcode) (variable : ℕ) (operands : List Simple) (all : List Operand) (store : Option ℕ)
+    (branch : Option Branch) → all ≡ Small variable ∷ map written operands
+    → TakesVariable opcode (length operands) (is_some store) (is_some branch) → IsProper
+    (record { opcode = opcode; operands = all; store = store; branch = branch; text = [] })
 is_proper_naming opcode variable operands all store branch are takes =
-    subst (λ os. IsProper (record { opcode = opcode; operands = os; store = store; branch = branch; text = [] })) (sym are) (proper_naming opcode variable operands store branch takes)
+    subst (λ os. IsProper (record { opcode = opcode; operands = os; store = store; branch = branch; text = [] })) (sym are)
+    (proper_naming opcode variable operands store branch takes)

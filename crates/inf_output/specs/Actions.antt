@@ -25,7 +25,8 @@ routine_name name = name ++ codes "Sub"
 
 -- Numbers
 
--- The number that a key stands for: a fake action is declared under its key among the names of the source, and any other that appeared among those that did.
+-- The number that a key stands for: a fake action is declared under its key among the names of the source, and any other that appeared
+-- among those that did.
 abbrev pub number_of_meaning : Meaning → Option ℕ
 number_of_meaning (meaning.FakeAction number) = Some number
 number_of_meaning _ = None

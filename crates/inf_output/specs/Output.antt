@@ -52,7 +52,8 @@ use Rattle.inf_tables.specs.declared.tables.Tables.{Tables}
 use Rattle.inf_tables.specs.Tables.{references}
 use Rattle.inf_output.specs.Veneer.{name_of}
 
--- What is laid: the routines of the story, its strings, its tables, the names, the actions that appeared, the place of the first token of the unit at hand, the number of the next label of the
+-- What is laid: the routines of the story, its strings, its tables, the names, the actions that appeared, the place of the first token of
+-- the unit at hand, the number of the next label of the
 -- routine, what is left of each limit once one was passed, and the items of code that is kept apart, if there is such code.
 abbrev pub Out : Type 0
 Out = Output
@@ -64,7 +65,15 @@ Code = Out → Out
 
 -- what is left beside some code
 abbrev pub whole : Routines → Past
-whole code = record { symbols = false; labels = labels_left code; tables = None; code = code_left code; strings = false; refs = references_left code }
+whole code = record {
+  symbols = false;
+  labels = labels_left code;
+  tables = None;
+  code = code_left code;
+  strings = false;
+  refs =
+      references_left code;
+}
 
 -- so much more of a limit; nothing is left of one that is passed
 abbrev pub less : Option ℕ → ℕ → Option ℕ
@@ -137,7 +146,8 @@ abbrev pub grown : Item → Routines → Routines
 grown (Instruction parts) routines = record routines { opened = with_item parts routines.opened }
 grown (Mark label) routines = record routines { opened = with_mark label routines.opened }
 
--- An item is laid: into the code that is kept apart, if there is such code, and else into the open routine. From the first item on that would pass
+-- An item is laid: into the code that is kept apart, if there is such code, and else into the open routine. From the first item on that
+-- would pass
 -- a limit nothing is laid any more.
 abbrev pub fitted : Option CodeLimit → Item → Code
 fitted None item o = record o { code = grown item o.code }
@@ -187,7 +197,8 @@ opened_by (Some limit) locals is_lost o =
 abbrev pub opened : ℕ → Bool → Code
 opened locals is_lost o = opened_by (full_opened is_lost o.code) locals is_lost o
 
--- Code begins with the first routine of the story, unless it has begun. Where that would pass a limit it does not begin, and the limit is passed.
+-- Code begins with the first routine of the story, unless it has begun. Where that would pass a limit it does not begin, and the limit is
+-- passed.
 abbrev pub begun_by : Option CodeLimit → Code
 begun_by None o = record o { code = code_begun o.code }
 begun_by (Some limit) o = record o { code = code_begun o.code; past = Some (passed_limit limit (past_of o)) }
@@ -198,7 +209,8 @@ begun o = begun_by (full_begun o.code) o
 -- The open routine is closed, if there is one. Where something is wrong with it, it is given up.
 abbrev pub closed_by : Option CloseFault → RoutineKind → Code
 closed_by None kind o = record o { code = with_closed kind o.code }
-closed_by (Some (close_fault.Full limit)) kind o = record o { code = with_none_open o.code; past = Some (passed_limit limit (past_by o.past (with_none_open o.code))) }
+closed_by (Some (close_fault.Full limit)) kind o =
+    record o { code = with_none_open o.code; past = Some (passed_limit limit (past_by o.past (with_none_open o.code))) }
 closed_by (Some fault) kind o = record o { code = with_none_open o.code }
 
 abbrev pub code_closed : RoutineKind → Code
@@ -257,7 +269,8 @@ with_word_by (Some word_fault.OtherVerb) text how is_plural o = o
 with_word_by (Some word_fault.Memory) text how is_plural o = o
 
 abbrev pub with_word : Text → WordUse → Bool → Code
-with_word text how is_plural o = with_word_by (add_fault (word_of text o.tables.dictionary.list) how o.tables.dictionary) text how is_plural o
+with_word text how is_plural o =
+    with_word_by (add_fault (word_of text o.tables.dictionary.list) how o.tables.dictionary) text how is_plural o
 
 -- Names
 
@@ -317,7 +330,13 @@ instruction opcode operands store branch o =
 
 unfoldable pub naming : Opcode → ℕ → List Simple → Option ℕ → Option Branch → Code
 naming opcode variable operands store branch o =
-    laid (Instruction (record { opcode = opcode; operands = Small variable ∷ map written operands; store = store; branch = branch; text = [] })) o
+    laid (Instruction (record {
+      opcode = opcode;
+      operands = Small variable ∷ map written operands;
+      store = store;
+      branch = branch;
+      text = [];
+    })) o
 
 -- a label's place, a jump to it, and a branch that is taken where the truth of a test is this
 unfoldable pub marked : Label → Code
@@ -330,7 +349,8 @@ jumped label o =
 abbrev pub to : Bool → Label → Option Branch
 to sense label = Some (record { sense = sense; target = To label })
 
--- that an opcode takes so many operands of which none names a variable, with a store and a branch or without (Z-Machine Standard 1.1, section 14)
+-- that an opcode takes so many operands of which none names a variable, with a store and a branch or without (Z-Machine Standard 1.1,
+-- section 14)
 pub record Takes (opcode : Opcode) (operands : ℕ) (with_store with_branch : Bool) : Type 0 where
   pub enough : (row_of opcode).least ≤ operands
   pub few : operands ≤ (row_of opcode).most
@@ -381,7 +401,8 @@ found_simple (found.Declared meaning place) number = simple_by (standing_simple 
 found_simple found.Used number = simple_by None number
 found_simple found.Unknown number = simple_by None number
 
--- The operand by which a routine is called: its name is looked up where it is called, and no local hides it. A name that is one too many is no
+-- The operand by which a routine is called: its name is looked up where it is called, and no local hides it. A name that is one too many is
+-- no
 -- reference to anything, since nothing is laid any more.
 abbrev pub routine_by : Option ReferFault → List ℕ → Table Place → Simple
 routine_by None name names = found_simple (found_in name names) (number_of name names)

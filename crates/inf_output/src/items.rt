@@ -25,7 +25,14 @@ impl Model for KeptInstruction {
 
     ghost view = { λ k. record { opcode = k.opcode; operands = k.operands.items; store = k.store; branch = k.branch; text = k.text.items } };
 
-    ghost invariant = { λ k. IsProper (record { opcode = k.opcode; operands = k.operands.items; store = k.store; branch = k.branch; text = k.text.items }) };
+    ghost invariant = { λ k. IsProper (record {
+      opcode = k.opcode;
+      operands = k.operands.items;
+      store = k.store;
+      branch = k.branch;
+      text =
+          k.text.items;
+    }) };
 }
 
 /// What code is made of.

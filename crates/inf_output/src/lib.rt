@@ -1,6 +1,7 @@
 //! What the units of a routine are laid into: the code of a story, its strings, the names that it uses, and the number of the next label.
 //!
-//! Code is defined as what it adds to an `Output`, and pieces of code are put together by a few words: one behind another, with a label of its
+//! Code is defined as what it adds to an `Output`, and pieces of code are put together by a few words: one behind another, with a label of
+//! its
 //! own, with a routine of the veneer. A limit that is passed is no error of the call that passes it: nothing more is laid, but counted, so
 //! that at the end of the unit the first of all limits that it passed can be told.
 //!

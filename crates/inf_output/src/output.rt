@@ -247,7 +247,17 @@ impl Output {
         first: Place,
     ) -> Output
         ensures { result
-            ≡ record { code = code; strings = strings; tables = tables; names = names; seen = seen; first = first; next = 0; past = None; kept = None } }
+            ≡ record {
+              code = code;
+              strings = strings;
+              tables = tables;
+              names = names;
+              seen = seen;
+              first = first;
+              next = 0;
+              past = None;
+              kept = None;
+            } }
     {
         Output {
             code,
@@ -262,7 +272,8 @@ impl Output {
         }
     }
 
-    /// The first limit that was passed, in the order of the settings, counted over all that was laid since. The references of tables count with those of
+    /// The first limit that was passed, in the order of the settings, counted over all that was laid since. The references of tables count
+    /// with those of
     /// code.
     pub fn full(&self) -> Option<Setting>
         ensures { result ≡ full self.now }
@@ -270,7 +281,8 @@ impl Output {
         self.rest().counted(self.tables.references()).full()
     }
 
-    /// Opens a routine of so many locals, at most 15, which is lost or not; its labels are counted from 0. Where that would pass a limit none
+    /// Opens a routine of so many locals, at most 15, which is lost or not; its labels are counted from 0. Where that would pass a limit
+    /// none
     /// is open, and the limit is passed. One that is open is given up.
     pub fn open(&mut self, alloc: Global, locals: u8, is_lost: bool) -> Result<(), AllocError>
         requires { locals ≤ 15 }
@@ -450,7 +462,8 @@ impl Output {
         })
     }
 
-    /// Code begins with the first routine of the story, unless it has begun. Where that would pass a limit it does not begin, and the limit is passed.
+    /// Code begins with the first routine of the story, unless it has begun. Where that would pass a limit it does not begin, and the limit
+    /// is passed.
     pub fn begin(&mut self)
         ensures { self.new ≡ begun self.old }
     {
@@ -459,7 +472,8 @@ impl Output {
         }
     }
 
-    /// The open routine is closed, if there is one. Answers what is wrong with it, if anything is: then it is given up, and where that is a limit, it is
+    /// The open routine is closed, if there is one. Answers what is wrong with it, if anything is: then it is given up, and where that is a
+    /// limit, it is
     /// passed. So is the limit of labels where it had too many.
     pub fn close(&mut self, kind: RoutineKind) -> Result<Option<CloseFault>, AllocError>
         ensures value { OnOk result (self.new ≡ closed kind self.old) }
@@ -473,7 +487,8 @@ impl Output {
         Ok(fault)
     }
 
-    /// The code of the open routine is closed, if there is one. Answers what is wrong with it, if anything is: then it is given up, and where that is a
+    /// The code of the open routine is closed, if there is one. Answers what is wrong with it, if anything is: then it is given up, and
+    /// where that is a
     /// limit, it is passed.
     fn close_code(&mut self, kind: RoutineKind) -> Result<Option<CloseFault>, AllocError>
         ensures value { OnOk result (self.new ≡ code_closed kind self.old) }
@@ -490,7 +505,8 @@ impl Output {
         }
     }
 
-    /// A name is declared with what it stands for. Answers what is wrong with that, if anything is: then nothing is declared, and where it would be one
+    /// A name is declared with what it stands for. Answers what is wrong with that, if anything is: then nothing is declared, and where it
+    /// would be one
     /// too many, that limit is passed.
     pub fn declare(
         &mut self,
@@ -513,7 +529,8 @@ impl Output {
         }
     }
 
-    /// A name is used at a place. Answers what looking for it found, with its number; nothing where it would be one too many: then that limit is passed.
+    /// A name is used at a place. Answers what looking for it found, with its number; nothing where it would be one too many: then that
+    /// limit is passed.
     pub fn refer(
         &mut self,
         name: &[u8],
@@ -543,7 +560,8 @@ impl Output {
         });
     }
 
-    /// A string of these bytes is added, which are a packed text. Answers what it is. Where it would pass the limit nothing is added, and the limit is passed.
+    /// A string of these bytes is added, which are a packed text. Answers what it is. Where it would pass the limit nothing is added, and
+    /// the limit is passed.
     pub fn string(&mut self, text: &[u8]) -> Result<Target, AllocError>
         ensures target { IfOk result (λ target. target ≡ string_at self.old) }
         ensures value { OnOk result (self.new ≡ with_text text.now self.old) }
@@ -558,7 +576,8 @@ impl Output {
         Ok(Target::Place(AreaName::Strings, place))
     }
 
-    /// A low string of these bytes is added, which are a packed text. Answers what it is. Where it would pass the limit nothing is added, and the limit is
+    /// A low string of these bytes is added, which are a packed text. Answers what it is. Where it would pass the limit nothing is added,
+    /// and the limit is
     /// passed.
     pub fn low_string(&mut self, text: &[u8]) -> Result<Target, AllocError>
         ensures target { IfOk result (λ target. target ≡ low_string_at self.old) }
@@ -578,7 +597,8 @@ impl Output {
         self.past = Some(self.rest().table_passed(limit));
     }
 
-    /// A use of the word with this text. Where it would be one too many it is not added, and the limit is passed; nor is it where it would become a word
+    /// A use of the word with this text. Where it would be one too many it is not added, and the limit is passed; nor is it where it would
+    /// become a word
     /// of another verb.
     pub fn word(
         &mut self,

@@ -7,7 +7,8 @@ use inf_cells::Scale;
 use std::alloc::{AllocError, Global};
 use std::marker::Model;
 
-/// The packed texts of a story's strings, one behind the other in the order in which they came, each filled up with zeros to a packed address
+/// The packed texts of a story's strings, one behind the other in the order in which they came, each filled up with zeros to a packed
+/// address
 /// (Z-Machine Standard 1.1, section 1.2.3).
 #[derive(Drop)]
 pub struct Strings {
@@ -30,7 +31,8 @@ impl Model for Strings {
 impl Strings {
     ghost use Rattle.inf_output.specs.Strings.{no_strings};
 
-    /// None, of at most so many bytes, in a story whose packed addresses are multiplied by this. They take no memory until the first one comes.
+    /// None, of at most so many bytes, in a story whose packed addresses are multiplied by this. They take no memory until the first one
+    /// comes.
     pub fn new(alloc: Global, limit: usize, scale: Scale) -> Strings
         ensures { result ≡ no_strings limit scale }
     {

@@ -14,7 +14,8 @@ at_place number properties (Some place) = checked number (slice_get properties p
 -- the same, where the first property of the list stands at a place
 abbrev at_place_from : ℕ → ℕ → List Property → Option ℕ → Option Property
 at_place_from first number properties None = None
-at_place_from first number properties (Some place) = if nat_lt place first then None else checked number (slice_get properties (place - first))
+at_place_from first number properties (Some place) =
+    if nat_lt place first then None else checked number (slice_get properties (place - first))
 
 if-true : {A : Type 0} (b : Bool) (x y : A) → b ≡ true → (if b then x else y) ≡ x
 if-true true x y e = refl
@@ -37,17 +38,21 @@ other_further : (first n : ℕ) (p : Property) (ps : List Property) (d : ℕ) �
     → at_place_from (first + 1) n ps (Some (first + d)) ≡ at_place_from first n (p ∷ ps) (Some (first + d))
 other_further first n p ps zero e =
     let back : first + 0 - first ≡ 0 = omega arith in
-    if-true (ltb (first + 0) (first + 1)) None (checked n (slice_get ps (first + 0 - (first + 1)))) (lt-ltb (first + 0) (first + 1) (omega arith))
+    if-true (ltb (first + 0) (first + 1)) None (checked n (slice_get ps (first + 0 - (first + 1))))
+    (lt-ltb (first + 0) (first + 1) (omega arith))
     ∙ sym (if-false (p.number == n) (Some p) None e)
     ∙ sym (ap (λ k. checked n (slice_get (p ∷ ps) k)) back)
-    ∙ sym (if-false (ltb (first + 0) first) None (checked n (slice_get (p ∷ ps) (first + 0 - first))) (le-ltb (first + 0) first (omega arith)))
+    ∙ sym (if-false (ltb (first + 0) first) None (checked n (slice_get (p ∷ ps) (first + 0 - first)))
+    (le-ltb (first + 0) first (omega arith)))
 other_further first n p ps (suc d) e =
     let back : first + suc d - first ≡ suc d = omega arith in
     let nearer : first + suc d - (first + 1) ≡ d = omega arith in
-    if-false (ltb (first + suc d) (first + 1)) None (checked n (slice_get ps (first + suc d - (first + 1)))) (le-ltb (first + suc d) (first + 1) (omega arith))
+    if-false (ltb (first + suc d) (first + 1)) None (checked n (slice_get ps (first + suc d - (first + 1))))
+    (le-ltb (first + suc d) (first + 1) (omega arith))
     ∙ ap (λ k. checked n (slice_get ps k)) nearer
     ∙ sym (ap (λ k. checked n (slice_get (p ∷ ps) k)) back)
-    ∙ sym (if-false (ltb (first + suc d) first) None (checked n (slice_get (p ∷ ps) (first + suc d - first))) (le-ltb (first + suc d) first (omega arith)))
+    ∙ sym (if-false (ltb (first + suc d) first) None (checked n (slice_get (p ∷ ps) (first + suc d - first)))
+    (le-ltb (first + suc d) first (omega arith)))
 
 other_before : (first n place : ℕ) (p : Property) (ps : List Property) → place < first
     → at_place_from (first + 1) n ps (Some place) ≡ at_place_from first n (p ∷ ps) (Some place)
@@ -63,7 +68,8 @@ other_there first n p ps (Some place) e =
       | inl h ↦ other_before first n place p ps h
       | inr h ↦
           let sum : first + (place - first) ≡ place = omega arith in
-          subst (λ k. at_place_from (first + 1) n ps (Some k) ≡ at_place_from first n (p ∷ ps) (Some k)) sum (other_further first n p ps (place - first) e)
+          subst (λ k. at_place_from (first + 1) n ps (Some k) ≡ at_place_from first n (p ∷ ps) (Some k)) sum
+          (other_further first n p ps (place - first) e)
     ]
 
 -- the first property itself
@@ -128,7 +134,8 @@ AreAt-set first places (p ∷ ps) n k h e =
       AreAt-set (first + 1) places ps n k h.1 absent.1,
     )
 
-AreAt-last : (first : ℕ) (places : List ℕ) (ps : List Property) (p : Property) → AreAt first places ps → slice_get places p.number ≡ Some (first + length ps)
+AreAt-last : (first : ℕ) (places : List ℕ) (ps : List Property) (p : Property) → AreAt first places ps →
+    slice_get places p.number ≡ Some (first + length ps)
     → AreAt first places (ps ++ p ∷ [])
 AreAt-last first places [] p h e =
     let here : first + 0 ≡ first = omega arith in
@@ -137,7 +144,8 @@ AreAt-last first places (q ∷ ps) p h e =
     let there : first + length (q ∷ ps) ≡ first + 1 + length ps = omega arith in
     (h.0, AreAt-last (first + 1) places ps p h.1 (e ∙ ap (λ k. Some k) there))
 
-pub AreAt-push : (places : List ℕ) (ps : List Property) (p : Property) → AreAt 0 places ps → has p.number ps ≡ false → p.number < length places
+pub AreAt-push : (places : List ℕ) (ps : List Property) (p : Property) → AreAt 0 places ps → has p.number ps ≡ false →
+    p.number < length places
     → AreAt 0 (slice_set places p.number (length ps)) (ps ++ p ∷ [])
 AreAt-push places ps p h absent within =
     let here : 0 + length ps ≡ length ps = omega arith in
@@ -156,7 +164,8 @@ pub AreCovered-kept : (old new : List ℕ) (ps : List Property) → KeepsPlaces 
 AreCovered-kept old new [] k h = tt
 AreCovered-kept old new (p ∷ ps) k h = (AreCovered_one old new p.number k h.0, AreCovered-kept old new ps k h.1)
 
-pub AreCovered-push : (places : List ℕ) (ps : List Property) (p : Property) → AreCovered places ps → p.number < length places → AreCovered places (ps ++ p ∷ [])
+pub AreCovered-push : (places : List ℕ) (ps : List Property) (p : Property) → AreCovered places ps → p.number < length places →
+    AreCovered places (ps ++ p ∷ [])
 AreCovered-push places [] p h within = (within, tt)
 AreCovered-push places (q ∷ ps) p h within = (h.0, AreCovered-push places ps p h.1 within)
 

@@ -13,9 +13,11 @@ use Rattle.inf_properties.proofs.Opening.{is_last_short_push, with_last_value-pu
 use Rattle.inf_properties.proofs.Sums.{Changes, given_changes, replaced_changes, size-joined}
 
 -- equal parts change alike
-alike : (old old' lost lost' gained gained' new : Size) → old ≡ old' → lost ≡ lost' → gained ≡ gained' → Changes old' lost' gained' new → Changes old lost gained new
+alike : (old old' lost lost' gained gained' new : Size) → old ≡ old' → lost ≡ lost' → gained ≡ gained' → Changes old' lost' gained' new →
+    Changes old lost gained new
 alike old old' lost lost' gained gained' new a b c h =
-    subst (λ x. Changes x lost gained new) (sym a) (subst (λ x. Changes old' x gained new) (sym b) (subst (λ x. Changes old' lost' x new) (sym c) h))
+    subst (λ x. Changes x lost gained new) (sym a)
+    (subst (λ x. Changes old' x gained new) (sym b) (subst (λ x. Changes old' lost' x new) (sym c) h))
 
 -- what a property needs, by counts
 pub sized_by : (o o' : Owner) (n : ℕ) (b : Bool) (count later : ℕ) (values above own : List Value)
@@ -34,7 +36,8 @@ pub given_fits : (view s : Open) (size lost gained : Size) (n : ℕ) (b : Bool) 
     → Changes size lost gained (total s.owner (inherited (s.own ++ given_first n b first ∷ []) s.above))
 given_fits view s size lost gained n b first is once absent sized was now =
     let new = given_changes s.owner s.own s.above (given_first n b first) (subst (λ (o : Open). AreNew [] o.above) is once) absent in
-    alike size (total s.owner (inherited s.own s.above)) lost (size_option s.owner (found n s.above)) gained (size_of s.owner (joined s.above (given_first n b first)))
+    alike size (total s.owner (inherited s.own s.above)) lost (size_option s.owner (found n s.above)) gained
+    (size_of s.owner (joined s.above (given_first n b first)))
     (total s.owner (inherited (s.own ++ given_first n b first ∷ []) s.above))
     (sized ∙ ap (λ (o : Open). total o.owner (inherited o.own o.above)) is) was
     (now ∙ sym (size-joined s.owner n b (option_to_list first) (values_in (found n s.above)))) new
@@ -52,15 +55,19 @@ valued_fits view s front p v size lost gained is last sized was now =
     let old = sized ∙ ap (λ (o : Open). total o.owner (inherited o.own o.above)) is ∙ ap (λ ps. total s.owner (inherited ps s.above)) own in
     let then = ap (λ ps. total s.owner (inherited ps s.above)) (ap (with_last_value v) own ∙ with_last_value-push front p v) in
     subst (Changes size lost gained) (sym then)
-    (alike size (total s.owner (inherited (front ++ p ∷ []) s.above)) lost (size_of s.owner (joined s.above p)) gained (size_of s.owner (joined s.above q))
+    (alike size (total s.owner (inherited (front ++ p ∷ []) s.above)) lost (size_of s.owner (joined s.above p)) gained
+    (size_of s.owner (joined s.above q))
     (total s.owner (inherited (front ++ q ∷ []) s.above)) old was now new)
 
 -- what a property needs with the values of classes
 pub sized_as : (o o' : Owner) (p : Property) (values : List Value) (above : List Property) → o ≡ o' → values ≡ values_of p.number above
-    → size_by o p.number (length (joined_values p.is_additive p.values values)) (later_count (joined_values p.is_additive p.values values)) ≡ size_of o' (joined above p)
+    → size_by o p.number (length (joined_values p.is_additive p.values values)) (later_count (joined_values p.is_additive p.values values))
+    ≡ size_of o' (joined above p)
 sized_as o o' p values above a b =
-    ap (λ x. size_by x p.number (length (joined_values p.is_additive p.values values)) (later_count (joined_values p.is_additive p.values values))) a
-    ∙ ap (λ vs. size_by o' p.number (length (joined_values p.is_additive p.values vs)) (later_count (joined_values p.is_additive p.values vs))) b
+    ap (λ x. size_by x p.number (length (joined_values p.is_additive p.values values))
+    (later_count (joined_values p.is_additive p.values values))) a
+    ∙ ap (λ vs. size_by o' p.number (length (joined_values p.is_additive p.values vs))
+    (later_count (joined_values p.is_additive p.values vs))) b
 
 -- whether the last property would be short
 pub last_short_is : (own front above : List Property) (p : Property) (v : Value) → own ≡ front ++ p ∷ []

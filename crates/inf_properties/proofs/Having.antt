@@ -65,7 +65,11 @@ absent_both own above n e h = ap is_some (found-inherited own above n) ∙ go (f
     go (Some p) there = cc
 
 pub AreFree-inherited : (own above : List Property) → AreFree own → AreFree above → AreFree (inherited own above)
-AreFree-inherited own above h k = record { no_classes = absent_both own above 2 h.no_classes k.no_classes; no_address = absent_both own above 3 h.no_address k.no_address }
+AreFree-inherited own above h k = record {
+  no_classes = absent_both own above 2 h.no_classes k.no_classes;
+  no_address = absent_both own
+      above 3 h.no_address k.no_address;
+}
 
 neither : (a b : Bool) → (a || b) ≡ false → (a ≡ false) × (b ≡ false)
 neither true b e = cc
@@ -81,7 +85,8 @@ has-valued : (v : Value) (ps : List Property) (n : ℕ) → has n (with_last_val
 has-valued v [] n = refl
 has-valued v (p ∷ []) n = go (p.number == n)
   where
-    go : (b : Bool) → is_some (if b then Some (record p { values = p.values ++ v ∷ [] }) else found n []) ≡ is_some (if b then Some p else found n [])
+    go : (b : Bool) →
+        is_some (if b then Some (record p { values = p.values ++ v ∷ [] }) else found n []) ≡ is_some (if b then Some p else found n [])
     go true = refl
     go false = refl
 has-valued v (p ∷ q ∷ ps) n = go (p.number == n) (has-valued v (q ∷ ps) n)
@@ -94,7 +99,8 @@ has-valued v (p ∷ q ∷ ps) n = go (p.number == n) (has-valued v (q ∷ ps) n)
 pub AreFree-valued : (v : Value) (ps : List Property) → AreFree ps → AreFree (with_last_value v ps)
 AreFree-valued v ps h = record { no_classes = has-valued v ps 2 ∙ h.no_classes; no_address = has-valued v ps 3 ∙ h.no_address }
 
-pub found_one : (n : ℕ) (ps : List Property) (p : Property) → found n ps ≡ Some p → are_short ps ≡ true → (p.number ≡ n) × (length p.values ≤ 32)
+pub found_one : (n : ℕ) (ps : List Property) (p : Property) → found n ps ≡ Some p → are_short ps ≡ true →
+    (p.number ≡ n) × (length p.values ≤ 32)
 found_one n [] p is short = cc
 found_one n (q ∷ ps) p is short = go (q.number == n) refl is (found_one n ps p)
   where
@@ -105,15 +111,18 @@ found_one n (q ∷ ps) p is short = go (q.number == n) refl is (found_one n ps p
         → (found n ps ≡ Some p → are_short ps ≡ true → (p.number ≡ n) × (length p.values ≤ 32)) → (p.number ≡ n) × (length p.values ≤ 32)
     go true same is later =
         let this : q ≡ p = cc in
-        subst (λ (r : Property). (r.number ≡ n) × (length r.values ≤ 32)) this (eqb-true q.number n same, leb-true (length q.values) 32 parts.0)
+        subst (λ (r : Property). (r.number ≡ n) × (length r.values ≤ 32)) this
+        (eqb-true q.number n same, leb-true (length q.values) 32 parts.0)
     go false other is later = later is parts.1
 
 module _ {A : Type 0} where
   -- what is found, seen through a reference
-  pub found_number : (f : A → Property) (o : Option A) (n : ℕ) (ps : List Property) → option_map f o ≡ found n ps → are_short ps ≡ true → IfSome o (λ a. (f a).number ≡ n)
+  pub found_number : (f : A → Property) (o : Option A) (n : ℕ) (ps : List Property) → option_map f o ≡ found n ps → are_short ps ≡ true →
+      IfSome o (λ a. (f a).number ≡ n)
   found_number f None n ps is short = tt
   found_number f (Some a) n ps is short = (found_one n ps (f a) (sym is) short).0
 
-  pub found_short : (f : A → Property) (o : Option A) (n : ℕ) (ps : List Property) → option_map f o ≡ found n ps → are_short ps ≡ true → IfSome o (λ a. length (f a).values ≤ 32)
+  pub found_short : (f : A → Property) (o : Option A) (n : ℕ) (ps : List Property) → option_map f o ≡ found n ps → are_short ps ≡ true →
+      IfSome o (λ a. length (f a).values ≤ 32)
   found_short f None n ps is short = tt
   found_short f (Some a) n ps is short = (found_one n ps (f a) (sym is) short).1

@@ -18,7 +18,8 @@ pub has-push_other : (p : Property) (ps : List Property) (n : ℕ) → (p.number
 has-push_other p [] n e = ap (λ (b : Bool). is_some (if b then Some p else found n [])) e
 has-push_other p (q ∷ ps) n e = go (q.number == n) (has-push_other p ps n e)
   where
-    go : (b : Bool) → has n (ps ++ p ∷ []) ≡ has n ps → is_some (if b then Some q else found n (ps ++ p ∷ [])) ≡ is_some (if b then Some q else found n ps)
+    go : (b : Bool) → has n (ps ++ p ∷ []) ≡ has n ps →
+        is_some (if b then Some q else found n (ps ++ p ∷ [])) ≡ is_some (if b then Some q else found n ps)
     go true later = refl
     go false later = later
 
@@ -32,7 +33,8 @@ has-push_true p (q ∷ ps) n e = go (q.number == n) e (has-push_true p ps n)
     go false e later = later e
 
 -- absent with one more: neither that one nor one of the others
-pub absent_push : (p : Property) (ps : List Property) (n : ℕ) → has n (ps ++ p ∷ []) ≡ false → ((p.number == n) ≡ false) × (has n ps ≡ false)
+pub absent_push : (p : Property) (ps : List Property) (n : ℕ) → has n (ps ++ p ∷ []) ≡ false →
+    ((p.number == n) ≡ false) × (has n ps ≡ false)
 absent_push p [] n e = (absent_head p [] n e)
 absent_push p (q ∷ ps) n e =
     let parts = absent_head q (ps ++ p ∷ []) n e in
@@ -48,7 +50,8 @@ absent_later before (p ∷ ps) n h e = go (p.number == n) refl (absent_later (be
     go true same later = let is = ap (λ k. has k before) (eqb-true p.number n same) in cc
     go false other later = later
 
-pub AreNew-push : (before ps : List Property) (p : Property) → AreNew before ps → has p.number before ≡ false → has p.number ps ≡ false → AreNew before (ps ++ p ∷ [])
+pub AreNew-push : (before ps : List Property) (p : Property) → AreNew before ps → has p.number before ≡ false → has p.number ps ≡ false →
+    AreNew before (ps ++ p ∷ [])
 AreNew-push before [] p h e f = (e, tt)
 AreNew-push before (q ∷ ps) p h e f =
     let parts = absent_head q ps p.number f in
@@ -56,7 +59,8 @@ AreNew-push before (q ∷ ps) p h e f =
 
 pub AreNew-append : (before xs ys : List Property) → AreNew before xs → AreNew (before ++ xs) ys → AreNew before (xs ++ ys)
 AreNew-append before [] ys h k = subst (λ b. AreNew b ys) (append-nil before) k
-AreNew-append before (x ∷ xs) ys h k = (h.0, AreNew-append (before ++ x ∷ []) xs ys h.1 (subst (λ b. AreNew b ys) (sym (append_assoc before (x ∷ []) xs)) k))
+AreNew-append before (x ∷ xs) ys h k =
+    (h.0, AreNew-append (before ++ x ∷ []) xs ys h.1 (subst (λ b. AreNew b ys) (sym (append_assoc before (x ∷ []) xs)) k))
 
 -- joining values changes no number
 pub has-joined : (above own : List Property) (n : ℕ) → has n (with_joined above own) ≡ has n own
@@ -72,7 +76,8 @@ has-joined above (p ∷ own) n = go (p.number == n) (has-joined above own n)
 abbrev pub SameNumbers : List Property → List Property → Type 0
 SameNumbers xs ys = (n : ℕ) → has n xs ≡ has n ys
 
-pub SameNumbers-push : (xs ys : List Property) (p q : Property) → p.number ≡ q.number → SameNumbers xs ys → SameNumbers (xs ++ p ∷ []) (ys ++ q ∷ [])
+pub SameNumbers-push : (xs ys : List Property) (p q : Property) → p.number ≡ q.number → SameNumbers xs ys →
+    SameNumbers (xs ++ p ∷ []) (ys ++ q ∷ [])
 SameNumbers-push xs ys p q e same n = go (q.number == n) refl
   where
     go : (b : Bool) → (q.number == n) ≡ b → has n (xs ++ p ∷ []) ≡ has n (ys ++ q ∷ [])
@@ -81,10 +86,14 @@ SameNumbers-push xs ys p q e same n = go (q.number == n) refl
         (subst (λ k. has k (xs ++ p ∷ []) ≡ has q.number (ys ++ q ∷ [])) e (has-push_same p xs ∙ sym (has-push_same q ys)))
     go false is = has-push_other p xs n (ap (λ k. k == n) e ∙ is) ∙ same n ∙ sym (has-push_other q ys n is)
 
-AreNew-joined : (above own before before' : List Property) → SameNumbers before before' → AreNew before own → AreNew before' (with_joined above own)
+AreNew-joined : (above own before before' : List Property) → SameNumbers before before' → AreNew before own →
+    AreNew before' (with_joined above own)
 AreNew-joined above [] before before' same h = tt
-AreNew-joined above (p ∷ own) before before' same h =
-    (sym (same p.number) ∙ h.0, AreNew-joined above own (before ++ p ∷ []) (before' ++ joined above p ∷ []) (SameNumbers-push before before' p (joined above p) refl same) h.1)
+AreNew-joined above (p ∷ own) before before' same h = (
+  sym (same p.number) ∙ h.0,
+  AreNew-joined above own (before ++ p ∷ []) (before' ++ joined above p ∷ [])
+      (SameNumbers-push before before' p (joined above p) refl same) h.1,
+)
 
 -- what stands before them: own properties, and those of classes
 AreNew-lacked : (own above before before' : List Property) → ((n : ℕ) → has n own ≡ false → has n before ≡ false → has n before' ≡ false)
@@ -93,7 +102,8 @@ AreNew-lacked own [] before before' all h = tt
 AreNew-lacked own (p ∷ above) before before' all h =
     go (has p.number own) refl
     (AreNew-lacked own above (before ++ p ∷ []) before' (λ n lacks absent. all n lacks (absent_push p before n absent).1) h.1)
-    (AreNew-lacked own above (before ++ p ∷ []) (before' ++ p ∷ []) (λ n lacks absent. let parts = absent_push p before n absent in has-push_other p before' n parts.0 ∙ all n lacks parts.1) h.1)
+    (AreNew-lacked own above (before ++ p ∷ []) (before' ++ p ∷ [])
+    (λ n lacks absent. let parts = absent_push p before n absent in has-push_other p before' n parts.0 ∙ all n lacks parts.1) h.1)
   where
     go : (b : Bool) → has p.number own ≡ b → AreNew before' (lacked own above) → AreNew (before' ++ p ∷ []) (lacked own above)
         → AreNew before' (if b then lacked own above else p ∷ lacked own above)

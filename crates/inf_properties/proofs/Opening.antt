@@ -19,7 +19,8 @@ use Rattle.inf_properties.proofs.Sums.{few}
 -- any lists with the size of all
 opens : (o : Owner) (own above : List Property) (own_places above_places : List ℕ) (size : Size)
     → AreAt 0 own_places own → AreAt 0 above_places above → AreNew [] own → AreNew [] above → AreFree own → AreFree above
-    → are_short (inherited own above) ≡ true → size ≡ total o (inherited own above) → size.bytes < 2 ^ 32 → IsOpen o own above own_places above_places size
+    → are_short (inherited own above) ≡ true → size ≡ total o (inherited own above) → size.bytes < 2 ^ 32 → IsOpen o own above own_places
+    above_places size
 opens o own above own_places above_places size own_at above_at own_new above_new own_free above_free short sized small =
     let within = few o (inherited own above) in
     record {
@@ -47,11 +48,13 @@ opens_given o own above own_places above_places places size new p h absent at fr
 
 pub opens_placed : (o : Owner) (own above : List Property) (own_places above_places places : List ℕ) (size : Size)
     → IsOpen o own above own_places above_places size → AreAt 0 places own → IsOpen o own above places above_places size
-opens_placed o own above own_places above_places places size h at = opens o own above places above_places size at h.above_at h.own_new h.above_new h.own_free h.above_free h.short h.sized h.small
+opens_placed o own above own_places above_places places size h at =
+    opens o own above places above_places size at h.above_at h.own_new h.above_new h.own_free h.above_free h.short h.sized h.small
 
 pub opens_covered : (o : Owner) (own above : List Property) (own_places above_places places : List ℕ) (size : Size)
     → IsOpen o own above own_places above_places size → KeepsPlaces above_places places → IsOpen o own above own_places places size
-opens_covered o own above own_places above_places places size h kept = opens o own above own_places places size h.own_at (AreAt-kept 0 above_places places above kept h.above_at) h.own_new h.above_new h.own_free h.above_free h.short h.sized h.small
+opens_covered o own above own_places above_places places size h kept = opens o own above own_places places size h.own_at
+    (AreAt-kept 0 above_places places above kept h.above_at) h.own_new h.above_new h.own_free h.above_free h.short h.sized h.small
 
 pub opens_inherited : (o : Owner) (own above class : List Property) (own_places above_places places : List ℕ) (size new : Size)
     → IsOpen o own above own_places above_places size → AreNew [] class → AreFree class → AreAt 0 places (inherited above class)
@@ -73,7 +76,8 @@ set_last (q ∷ r ∷ ps) (suc k) p v h is = ap (λ xs. q ∷ xs) (set_last (r �
 abbrev with_more : Value → Property → Property
 with_more v p = record p { values = p.values ++ v ∷ [] }
 
-pub with_last_value-push : (front : List Property) (p : Property) (v : Value) → with_last_value v (front ++ p ∷ []) ≡ front ++ record p { values = p.values ++ v ∷ [] } ∷ []
+pub with_last_value-push : (front : List Property) (p : Property) (v : Value) →
+    with_last_value v (front ++ p ∷ []) ≡ front ++ record p { values = p.values ++ v ∷ [] } ∷ []
 with_last_value-push [] p v = refl
 with_last_value-push (q ∷ []) p v = refl
 with_last_value-push (q ∷ r ∷ front) p v = ap (λ xs. q ∷ xs) (with_last_value-push (r ∷ front) p v)
@@ -113,7 +117,8 @@ last_of (p ∷ ps) = go (last_of ps)
     go (inl e) = inr ([], p, ap (λ qs. p ∷ qs) e)
     go (inr h) = inr (p ∷ h.0, h.1, ap (λ qs. p ∷ qs) h.2)
 
-short-valued : (own above : List Property) (v : Value) → are_short (inherited own above) ≡ true → is_last_short above (with_last_value v own) ≡ true
+short-valued : (own above : List Property) (v : Value) → are_short (inherited own above) ≡ true →
+    is_last_short above (with_last_value v own) ≡ true
     → are_short (inherited (with_last_value v own) above) ≡ true
 short-valued own above v h k = go (last_of own)
   where
@@ -128,10 +133,12 @@ short-valued own above v h k = go (last_of own)
 
 pub opens_valued : (o : Owner) (own above : List Property) (own_places above_places : List ℕ) (size new : Size) (v : Value)
     → IsOpen o own above own_places above_places size → is_last_short above (with_last_value v own) ≡ true
-    → new ≡ total o (inherited (with_last_value v own) above) → new.bytes < 2 ^ 32 → IsOpen o (with_last_value v own) above own_places above_places new
+    → new ≡ total o (inherited (with_last_value v own) above) → new.bytes < 2 ^ 32 → IsOpen o (with_last_value v own) above own_places
+    above_places new
 opens_valued o own above own_places above_places size new v h short sized small =
     opens o (with_last_value v own) above own_places above_places new (AreAt-valued 0 own_places v own h.own_at) h.above_at
-    (AreNew-valued [] v own h.own_new) h.above_new (AreFree-valued v own h.own_free) h.above_free (short-valued own above v h.short short) sized small
+    (AreNew-valued [] v own h.own_new) h.above_new (AreFree-valued v own h.own_free) h.above_free (short-valued own above v h.short short)
+    sized small
 
 -- what was written over all of a list
 pub take_front : (n : ℕ) (xs ys : List ℕ) → length xs ≡ n → take n (xs ++ ys) ≡ xs

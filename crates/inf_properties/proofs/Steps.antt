@@ -16,19 +16,23 @@ taken ps i p h is = take_more ps i p h ∙ ap (λ q. take i ps ++ q ∷ []) (sym
 left : (ps : List Property) (i : ℕ) (p : Property) → i < length ps → p ≡ get_or ps i p → drop i ps ≡ p ∷ drop (i + 1) ps
 left ps i p h is = drop_more ps i p h ∙ ap (λ q. q ∷ drop (i + 1) ps) (sym is)
 
-pub covered_step : (old new : List ℕ) (ps : List Property) (i : ℕ) (p : Property) → i < length ps → p ≡ get_or ps i p → KeepsPlaces old new → p.number < length new
+pub covered_step : (old new : List ℕ) (ps : List Property) (i : ℕ) (p : Property) → i < length ps → p ≡ get_or ps i p →
+    KeepsPlaces old new → p.number < length new
     → AreCovered old (take i ps) → AreCovered new (take (i + 1) ps)
 covered_step old new ps i p h is kept within covered =
-    subst (AreCovered new) (sym (taken ps i p h is)) (AreCovered-push new (take i ps) p (AreCovered-kept old new (take i ps) kept covered) within)
+    subst (AreCovered new) (sym (taken ps i p h is))
+    (AreCovered-push new (take i ps) p (AreCovered-kept old new (take i ps) kept covered) within)
 
 pub at_step : (places : List ℕ) (ps : List Property) (i : ℕ) (p : Property) → i < length ps → p ≡ get_or ps i p
-    → AreAt 0 places (take i ps) → AreCovered places (drop i ps) → AreNew (take i ps) (drop i ps) → AreAt 0 (slice_set places p.number i) (take (i + 1) ps)
+    → AreAt 0 places (take i ps) → AreCovered places (drop i ps) → AreNew (take i ps) (drop i ps) → AreAt 0 (slice_set places p.number i)
+    (take (i + 1) ps)
 at_step places ps i p h is at covered once =
     let parts = subst (AreCovered places) (left ps i p h is) covered in
     let new = subst (AreNew (take i ps)) (left ps i p h is) once in
     let count : length (take i ps) ≡ i = omega (arith, length-take i ps) in
     subst (λ n. AreAt 0 (slice_set places p.number n) (take (i + 1) ps)) count
-    (subst (AreAt 0 (slice_set places p.number (length (take i ps)))) (sym (taken ps i p h is)) (AreAt-push places (take i ps) p at new.0 parts.0))
+    (subst (AreAt 0 (slice_set places p.number (length (take i ps)))) (sym (taken ps i p h is))
+    (AreAt-push places (take i ps) p at new.0 parts.0))
 
 pub covered_rest : (places : List ℕ) (ps : List Property) (i n k : ℕ) (p : Property) → i < length ps → p ≡ get_or ps i p
     → AreCovered places (drop i ps) → AreCovered (slice_set places n k) (drop (i + 1) ps)

@@ -22,7 +22,8 @@ abbrev pub measure : (Property → ℕ) → Option Property → ℕ
 measure f None = 0
 measure f (Some p) = f p
 
-sum-if : (f : Property → ℕ) (b : Bool) (q : Property) (xs : List Property) → sum_by f (if b then xs else q ∷ xs) ≡ (if b then 0 else f q) + sum_by f xs
+sum-if : (f : Property → ℕ) (b : Bool) (q : Property) (xs : List Property) →
+    sum_by f (if b then xs else q ∷ xs) ≡ (if b then 0 else f q) + sum_by f xs
 sum-if f true q xs = omega arith
 sum-if f false q xs = sum_by-cons f q xs
 
@@ -39,29 +40,39 @@ sum-lacked_push : (f : Property → ℕ) (own above before : List Property) (p :
 sum-lacked_push f own [] before p h e = refl
 sum-lacked_push f own (q ∷ above) before p h e = go (q.number == p.number) refl (sum-lacked_push f own above (before ++ q ∷ []) p h.1 e)
   where
-    go : (b : Bool) → (q.number == p.number) ≡ b → sum_by f (lacked own above) ≡ sum_by f (lacked (own ++ p ∷ []) above) + measure f (found p.number above)
-        → sum_by f (lacked own (q ∷ above)) ≡ sum_by f (lacked (own ++ p ∷ []) (q ∷ above)) + measure f (if b then Some q else found p.number above)
+    go : (b : Bool) → (q.number == p.number) ≡ b →
+        sum_by f (lacked own above) ≡ sum_by f (lacked (own ++ p ∷ []) above) + measure f (found p.number above)
+        → sum_by f (lacked own (q ∷ above)) ≡ sum_by f (lacked (own ++ p ∷ []) (q ∷ above)) + measure f
+        (if b then Some q else found p.number above)
     go true same later =
         let is = eqb-true q.number p.number same in
         let here : has q.number own ≡ false = ap (λ k. has k own) is ∙ e in
         let there : has q.number (own ++ p ∷ []) ≡ true = ap (λ k. has k (own ++ p ∷ [])) is ∙ has-push_same p own in
-        let gone : has p.number above ≡ false = absent_later (before ++ q ∷ []) above p.number h.1 (ap (λ k. has k (before ++ q ∷ [])) (sym is) ∙ has-push_same q before) in
-        let left = sum-if f (has q.number own) q (lacked own above) ∙ ap (λ (b : Bool). (if b then 0 else f q) + sum_by f (lacked own above)) here in
-        let right = sum-if f (has q.number (own ++ p ∷ [])) q (lacked (own ++ p ∷ []) above) ∙ ap (λ (b : Bool). (if b then 0 else f q) + sum_by f (lacked (own ++ p ∷ []) above)) there in
+        let gone : has p.number above ≡ false =
+        absent_later (before ++ q ∷ []) above p.number h.1 (ap (λ k. has k (before ++ q ∷ [])) (sym is) ∙ has-push_same q before) in
+        let left =
+        sum-if f (has q.number own) q (lacked own above) ∙ ap (λ (b : Bool). (if b then 0 else f q) + sum_by f (lacked own above)) here in
+        let right =
+        sum-if f (has q.number (own ++ p ∷ [])) q (lacked (own ++ p ∷ []) above)
+        ∙ ap (λ (b : Bool). (if b then 0 else f q) + sum_by f (lacked (own ++ p ∷ []) above)) there in
         let equal = ap (sum_by f) (lacked-absent own above p gone) in
         omega arith
     go false other later =
         let same : has q.number (own ++ p ∷ []) ≡ has q.number own = has-push_other p own q.number (other_way q.number p.number other) in
         let left = sum-if f (has q.number own) q (lacked own above) in
-        let right = sum-if f (has q.number (own ++ p ∷ [])) q (lacked (own ++ p ∷ []) above) ∙ ap (λ (b : Bool). (if b then 0 else f q) + sum_by f (lacked (own ++ p ∷ []) above)) same in
+        let right =
+        sum-if f (has q.number (own ++ p ∷ [])) q (lacked (own ++ p ∷ []) above)
+        ∙ ap (λ (b : Bool). (if b then 0 else f q) + sum_by f (lacked (own ++ p ∷ []) above)) same in
         omega arith
 
-with_joined-push : (above own : List Property) (p : Property) → with_joined above (own ++ p ∷ []) ≡ with_joined above own ++ joined above p ∷ []
+with_joined-push : (above own : List Property) (p : Property) →
+    with_joined above (own ++ p ∷ []) ≡ with_joined above own ++ joined above p ∷ []
 with_joined-push above [] p = refl
 with_joined-push above (q ∷ own) p = ap (λ xs. joined above q ∷ xs) (with_joined-push above own p)
 
 sum-with_joined_push : (f : Property → ℕ) (own above : List Property) (p : Property)
-    → sum_by f (inherited (own ++ p ∷ []) above) ≡ sum_by f (with_joined above own) + f (joined above p) + sum_by f (lacked (own ++ p ∷ []) above)
+    → sum_by f (inherited (own ++ p ∷ []) above) ≡ sum_by f (with_joined above own) + f (joined above p) + sum_by f
+    (lacked (own ++ p ∷ []) above)
 sum-with_joined_push f own above p =
     sum_by-append f (with_joined above (own ++ p ∷ [])) (lacked (own ++ p ∷ []) above)
     ∙ ap (λ xs. sum_by f xs + sum_by f (lacked (own ++ p ∷ []) above)) (with_joined-push above own p)
@@ -86,7 +97,8 @@ lacked-same own own' (q ∷ above) same =
 
 -- another one in place of the last
 pub sum-replaced : (f : Property → ℕ) (front above : List Property) (p q : Property) → p.number ≡ q.number
-    → (sum_by f (inherited (front ++ q ∷ []) above) + f (joined above p) ≡ sum_by f (inherited (front ++ p ∷ []) above) + f (joined above q))
+    → (sum_by f (inherited (front ++ q ∷ []) above) + f (joined above p) ≡ sum_by f (inherited (front ++ p ∷ []) above) + f
+    (joined above q))
     × (f (joined above p) ≤ sum_by f (inherited (front ++ p ∷ []) above))
 sum-replaced f front above p q e =
     let new = sum-with_joined_push f front above q in
@@ -116,7 +128,8 @@ measure_individuals o None = refl
 measure_individuals o (Some p) = refl
 
 pub given_changes : (o : Owner) (own above : List Property) (p : Property) → AreNew [] above → has p.number own ≡ false
-    → Changes (total o (inherited own above)) (size_option o (found p.number above)) (size_of o (joined above p)) (total o (inherited (own ++ p ∷ []) above))
+    → Changes (total o (inherited own above)) (size_option o (found p.number above)) (size_of o (joined above p))
+    (total o (inherited (own ++ p ∷ []) above))
 given_changes o own above p h e =
     let bytes = sum-given (λ p. (size_of o p).bytes) own above p h e in
     let fixups = sum-given (λ p. (size_of o p).fixups) own above p h e in
@@ -134,7 +147,8 @@ given_changes o own above p h e =
     }
 
 pub replaced_changes : (o : Owner) (front above : List Property) (p q : Property) → p.number ≡ q.number
-    → Changes (total o (inherited (front ++ p ∷ []) above)) (size_of o (joined above p)) (size_of o (joined above q)) (total o (inherited (front ++ q ∷ []) above))
+    → Changes (total o (inherited (front ++ p ∷ []) above)) (size_of o (joined above p)) (size_of o (joined above q))
+    (total o (inherited (front ++ q ∷ []) above))
 replaced_changes o front above p q e =
     let bytes = sum-replaced (λ p. (size_of o p).bytes) front above p q e in
     let fixups = sum-replaced (λ p. (size_of o p).fixups) front above p q e in
@@ -152,7 +166,12 @@ abbrev sized : ℕ → ℕ → ℕ → Size
 sized bytes fixups individuals = record { bytes = bytes; fixups = fixups; individuals = individuals }
 
 pub changed_is : (old lost gained new : Size) → Changes old lost gained new
-    → record { bytes = old.bytes - lost.bytes + gained.bytes; fixups = old.fixups - lost.fixups + gained.fixups; individuals = old.individuals - lost.individuals + gained.individuals } ≡ new
+    → record {
+      bytes = old.bytes - lost.bytes + gained.bytes;
+      fixups = old.fixups - lost.fixups + gained.fixups;
+      individuals =
+          old.individuals - lost.individuals + gained.individuals;
+    } ≡ new
 changed_is old lost gained new h =
     let b : old.bytes - lost.bytes + gained.bytes ≡ new.bytes = omega (arith, h.bytes, h.lost_bytes) in
     let f : old.fixups - lost.fixups + gained.fixups ≡ new.fixups = omega (arith, h.fixups, h.lost_fixups) in
@@ -179,7 +198,8 @@ later-joined true own above = later_count-append own above
 later-joined false own above = omega arith
 
 pub size-joined : (o : Owner) (n : ℕ) (b : Bool) (own above : List Value)
-    → size_by o n (length (joined_values b own above)) (later_count (joined_values b own above)) ≡ joined_size o n b (length own) (later_count own) above
+    → size_by o n (length (joined_values b own above)) (later_count (joined_values b own above)) ≡ joined_size o n b (length own)
+    (later_count own) above
 size-joined o n b own above =
     ap (λ k. size_by o n k (later_count (joined_values b own above))) (length-joined b own above)
     ∙ ap (λ k. size_by o n (joined_count b (length own) above) k) (later-joined b own above)
@@ -193,10 +213,12 @@ later_within [] = omega arith
 later_within (value.Known n ∷ values) = omega (arith, later_within values)
 later_within (value.Later t ∷ values) = omega (arith, later_within values)
 
-few_by : (o : Owner) (n count later : ℕ) → later ≤ count → ((size_by o n count later).fixups ≤ (size_by o n count later).bytes) × ((size_by o n count later).individuals ≤ (size_by o n count later).bytes)
+few_by : (o : Owner) (n count later : ℕ) → later ≤ count → ((size_by o n count later).fixups ≤ (size_by o n count later).bytes) ×
+    ((size_by o n count later).individuals ≤ (size_by o n count later).bytes)
 few_by owner.Object n count later h = go (nat_lt n 64) (nat_le count 1) refl
   where
-    go : (b t : Bool) → nat_le count 1 ≡ t → ((if b then sized (if t then 3 else 2 + 2 * count) later 0 else sized (if t then 5 else 3 + 2 * count) later 1).fixups
+    go : (b t : Bool) → nat_le count 1 ≡ t →
+        ((if b then sized (if t then 3 else 2 + 2 * count) later 0 else sized (if t then 5 else 3 + 2 * count) later 1).fixups
         ≤ (if b then sized (if t then 3 else 2 + 2 * count) later 0 else sized (if t then 5 else 3 + 2 * count) later 1).bytes)
         × ((if b then sized (if t then 3 else 2 + 2 * count) later 0 else sized (if t then 5 else 3 + 2 * count) later 1).individuals
         ≤ (if b then sized (if t then 3 else 2 + 2 * count) later 0 else sized (if t then 5 else 3 + 2 * count) later 1).bytes)

@@ -61,7 +61,8 @@ abbrev pub individuals_of : Owner → List Property → ℕ
 individuals_of owner properties = sum_by (λ p. (size_of owner p).individuals) properties
 
 abbrev pub total : Owner → List Property → Size
-total owner properties = record { bytes = bytes_of owner properties; fixups = fixups_of owner properties; individuals = individuals_of owner properties }
+total owner properties =
+    record { bytes = bytes_of owner properties; fixups = fixups_of owner properties; individuals = individuals_of owner properties }
 
 -- with the end of an individual table, and the property that has its address, where there is one
 abbrev pub with_table : Size → Size
@@ -78,7 +79,8 @@ abbrev pub joined_later : Bool → ℕ → List Value → ℕ
 joined_later is_additive later above = later + (if is_additive then later_count above else 0)
 
 abbrev pub joined_size : Owner → ℕ → Bool → ℕ → ℕ → List Value → Size
-joined_size owner number is_additive count later above = size_by owner number (joined_count is_additive count above) (joined_later is_additive later above)
+joined_size owner number is_additive count later above =
+    size_by owner number (joined_count is_additive count above) (joined_later is_additive later above)
 
 -- whether so many bytes, beside those of others, are more than there may be
 abbrev pub lacks : Room → ℕ → Bool

@@ -31,7 +31,8 @@ impl Model for Properties {
 
     ghost view = { λ properties. properties.list.items };
 
-    ghost invariant = { λ properties. AreNew [] properties.list.items × (are_short properties.list.items ≡ true) × AreFree properties.list.items };
+    ghost invariant = { λ properties. AreNew [] properties.list.items × (are_short properties.list.items ≡ true) × AreFree
+        properties.list.items };
 }
 
 impl Properties {

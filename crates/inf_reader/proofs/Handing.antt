@@ -17,13 +17,15 @@ use Rattle.inf_reader.proofs.Turns.{end_at}
 abbrev end_of : List ℕ → Place → SourceToken
 end_of bytes place = record { kind = kind.End; bytes = bytes; place = place }
 
-unfit_end : (m : Recovery) (files : FileNames) (bytes : List ℕ) (place : Place) (s : ReaderState) → s.reading.mode ≡ m → (unfit_in m files (end_of bytes place) s).reading.mode ≡ mode.Ended
+unfit_end : (m : Recovery) (files : FileNames) (bytes : List ℕ) (place : Place) (s : ReaderState) → s.reading.mode ≡ m →
+    (unfit_in m files (end_of bytes place) s).reading.mode ≡ mode.Ended
 unfit_end mode.Reads files bytes place s e = refl
 unfit_end mode.SkipsRoutine files bytes place s e = end_at s.reading.mode files kind.End bytes place s.reading s.work refl refl
 unfit_end mode.SkipsDirective files bytes place s e = end_at s.reading.mode files kind.End bytes place s.reading s.work refl refl
 unfit_end mode.Ended files bytes place s e = end_at s.reading.mode files kind.End bytes place s.reading s.work refl refl
 
-end_handed : (h : Forwarded) (files : FileNames) (bytes : List ℕ) (place : Place) (s : ReaderState) → is_on h ≡ true → (handed_as h files (end_of bytes place) s).reading.mode ≡ mode.Ended
+end_handed : (h : Forwarded) (files : FileNames) (bytes : List ℕ) (place : Place) (s : ReaderState) → is_on h ≡ true →
+    (handed_as h files (end_of bytes place) s).reading.mode ≡ mode.Ended
 end_handed handed.Condition files bytes place s on = let never : false ≡ true = on in cc
 end_handed handed.Kept files bytes place s on = end_at s.reading.mode files kind.End bytes place s.reading s.work refl refl
 end_handed handed.Unfit files bytes place s on = unfit_end s.reading.mode files bytes place s refl
@@ -36,7 +38,8 @@ ended_mode : (ended : Option Place) (files : FileNames) (s : ReaderState) → (u
 ended_mode None files s = refl
 ended_mode (Some place) files s = refl
 
-pub end_taken : (files : FileNames) (bytes : List ℕ) (place : Place) (j : Filtered) (h : Forwarded) (s : ReaderState) → j.token ≡ Some h → is_on h ≡ true
+pub end_taken : (files : FileNames) (bytes : List ℕ) (place : Place) (j : Filtered) (h : Forwarded) (s : ReaderState) → j.token ≡ Some h →
+    is_on h ≡ true
     → (judged_taken files (end_of bytes place) j s).reading.mode ≡ mode.Ended
 end_taken files bytes place j h s e on =
     let told = lone_told j.unmatched files (token_taken j.token files (end_of bytes place) (sign_taken j.sign files s)) in

@@ -8,11 +8,13 @@ use Rattle.inf_work.specs.Actions.{Compilation, piece_begun as work_begun}
 use Rattle.inf_reader.specs.Reading.{Reading, judged, piece_begun, read_at}
 use Rattle.inf_reader.specs.declared.mode.Recovery.TheVariants as mode
 
-pub read_inside : (files : FileNames) (t : SourceToken) (stack : List (Symbol Action)) (r : Reading) (w : Compilation) → (stack ≡ [] → ⊥) → read_at files t stack r w ≡ judged files t r w
+pub read_inside : (files : FileNames) (t : SourceToken) (stack : List (Symbol Action)) (r : Reading) (w : Compilation) → (stack ≡ [] → ⊥) →
+    read_at files t stack r w ≡ judged files t r w
 read_inside files t [] r w some = absurd (some refl)
 read_inside files t (symbol ∷ symbols) r w some = refl
 
-pub read_first : (files : FileNames) (t : SourceToken) (stack : List (Symbol Action)) (r : Reading) (w : Compilation) → stack ≡ [] → is_end t.kind ≡ false
+pub read_first : (files : FileNames) (t : SourceToken) (stack : List (Symbol Action)) (r : Reading) (w : Compilation) → stack ≡ [] →
+    is_end t.kind ≡ false
     → read_at files t stack r w ≡ judged files t (piece_begun r) (work_begun w)
 read_first files t stack r w empty going =
     ap (λ s. read_at files t s r w) empty

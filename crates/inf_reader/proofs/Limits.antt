@@ -48,11 +48,14 @@ took_same files t r w =
 
 judged_same : (files : FileNames) (t : SourceToken) (r : Reading) (w : Compilation) → Keeps w (judged files t r w)
 judged_same files t r w =
-    of_both (Keeps w) (fits grammar known (atom_as (is_class t w) t) r.stack) (took files t r w) (bad files t r w) (λ _. took_same files t r w) (λ _. bad_same files t r w)
+    of_both (Keeps w) (fits grammar known (atom_as (is_class t w) t) r.stack) (took files t r w) (bad files t r w)
+    (λ _. took_same files t r w) (λ _. bad_same files t r w)
 
-read_same : (files : FileNames) (t : SourceToken) (stack : List (Symbol Action)) (r : Reading) (w : Compilation) → Keeps w (read_at files t stack r w)
+read_same : (files : FileNames) (t : SourceToken) (stack : List (Symbol Action)) (r : Reading) (w : Compilation) →
+    Keeps w (read_at files t stack r w)
 read_same files t [] r w =
-    of_both (Keeps w) (is_end t.kind) (record { reading = record r { mode = mode.Ended }; work = w }) (judged files t (piece_begun r) (work_begun w))
+    of_both (Keeps w) (is_end t.kind) (record { reading = record r { mode = mode.Ended }; work = w })
+    (judged files t (piece_begun r) (work_begun w))
     (λ _. (refl, refl)) (λ _. judged_same files t (piece_begun r) (work_begun w))
 read_same files t (s ∷ stack) r w = judged_same files t r w
 
@@ -92,9 +95,11 @@ ended_same : (o : Option Place) (files : FileNames) (s : ReaderState) → Keeps 
 ended_same None files s = (refl, refl)
 ended_same (Some place) files s =
     let closed = closed_ahead (closings s.reading.stack) s.work in
-    same_then s.work closed (begun_at files place closed) (closed_ahead_same (closings s.reading.stack) s.work) (begun_at_same files place closed)
+    same_then s.work closed (begun_at files place closed) (closed_ahead_same (closings s.reading.stack) s.work)
+    (begun_at_same files place closed)
 
-pub judged_taken_same : (files : FileNames) (t : SourceToken) (j : Filtered) (s : ReaderState) → SameLimits s.work (judged_taken files t j s).work
+pub judged_taken_same : (files : FileNames) (t : SourceToken) (j : Filtered) (s : ReaderState) →
+    SameLimits s.work (judged_taken files t j s).work
 judged_taken_same files t j s =
     let signed = sign_taken j.sign files s in
     let token = token_taken j.token files t signed in

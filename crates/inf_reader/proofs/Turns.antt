@@ -28,7 +28,8 @@ end_read files bytes place [] r w = refl
 end_read files bytes place (symbol ∷ stack) r w =
     end_in_piece files bytes place r w
 
-pub end_at : (m : Recovery) (files : FileNames) (k : TokenKind) (bytes : List ℕ) (place : Place) (r : Reading) (w : Compilation) → is_end k ≡ true → r.mode ≡ m
+pub end_at : (m : Recovery) (files : FileNames) (k : TokenKind) (bytes : List ℕ) (place : Place) (r : Reading) (w : Compilation) →
+    is_end k ≡ true → r.mode ≡ m
     → (step_in m files (record { kind = k; bytes = bytes; place = place }) r w).reading.mode ≡ mode.Ended
 end_at mode.Reads files kind.End bytes place r w h e = end_read files bytes place r.stack r w
 end_at mode.SkipsRoutine files kind.End bytes place r w h e = refl

@@ -65,7 +65,8 @@ abbrev pub token_taken : Option Forwarded → FileNames → SourceToken → Read
 token_taken None files t s = s
 token_taken (Some h) files t s = handed_as h files t s
 
--- What there is to tell of a condition comes before anything else that its token does; the actions of one with which nothing is wrong appear.
+-- What there is to tell of a condition comes before anything else that its token does; the actions of one with which nothing is wrong
+-- appear.
 abbrev pub said_told : Option Said → FileNames → ReaderState → ReaderState
 said_told said files s =
     record s { work = record s.work { report = with_said files said s.work.report; output = with_right said s.work.output } }

@@ -38,7 +38,8 @@ work_by (_ ∷ _) w = w
 -- A token that is faulty by itself fits nowhere.
 abbrev pub FaultyTokensFitNothing : Type 0
 FaultyTokensFitNothing =
-    (t : SourceToken) (is_class : Bool) (m : Message) (stack : List (Symbol Action)) → fault_of t ≡ Some m → fits grammar known (atom_as is_class t) stack ≡ false
+    (t : SourceToken) (is_class : Bool) (m : Message) (stack : List (Symbol Action)) → fault_of t ≡ Some m → fits grammar known
+    (atom_as is_class t) stack ≡ false
 
 -- A piece begins one, and so does each front of what begins one.
 abbrev pub PiecesBegin : Type 0

@@ -30,26 +30,31 @@ rose_since : (a b c : ℕ) → a ≤ b → Rose b c → Rose a c
 rose_since a b c le rose = elim rose [ inl less ↦ inl (omega (arith, le, less)) | inr last ↦ inr last ]
 
 -- writing goes on behind what was written
-pub goes_on : (old mid new : Option (List ℕ)) (a b c : ℕ) (xs ys : List ℕ) (r : Result Unit ReportFault) → Takes old mid xs × (a ≤ b) → Writes mid new b c ys r → Writes old new a c (xs ++ ys) r
+pub goes_on : (old mid new : Option (List ℕ)) (a b c : ℕ) (xs ys : List ℕ) (r : Result Unit ReportFault) → Takes old mid xs × (a ≤ b) →
+    Writes mid new b c ys r → Writes old new a c (xs ++ ys) r
 goes_on old mid new a b c xs ys (Ok _) first next = (Takes-append old mid new xs ys first.0 next.0, omega (arith, first.1, next.1))
 goes_on old mid new a b c xs ys (Err _) first next =
     (part_behind old mid new xs ys first.0 next.0, omega (arith, first.1, next.1), rose_since a b c first.1 next.2)
 
 -- writing stops where the sink failed, whatever was to follow
-pub stops : (old new : Option (List ℕ)) (a c : ℕ) (xs ys : List ℕ) (r : Result Unit ReportFault) → IsErr r → TakesPart old new xs × (a ≤ c) × Rose a c → Writes old new a c (xs ++ ys) r
+pub stops : (old new : Option (List ℕ)) (a c : ℕ) (xs ys : List ℕ) (r : Result Unit ReportFault) → IsErr r →
+    TakesPart old new xs × (a ≤ c) × Rose a c → Writes old new a c (xs ++ ys) r
 stops old new a c xs ys (Ok _) is writes = cc
 stops old new a c xs ys (Err _) is writes = (part_of_more old new xs ys writes.0, writes.1, writes.2)
 
 -- a write that failed
-pub failed : (old new : Option (List ℕ)) (a c : ℕ) (xs : List ℕ) (r : Result Unit ReportFault) → IsErr r → TakesPart old new xs × (a ≤ c) × Rose a c → Writes old new a c xs r
+pub failed : (old new : Option (List ℕ)) (a c : ℕ) (xs : List ℕ) (r : Result Unit ReportFault) → IsErr r →
+    TakesPart old new xs × (a ≤ c) × Rose a c → Writes old new a c xs r
 failed old new a c xs (Ok _) is writes = cc
 failed old new a c xs (Err _) is writes = writes
 
 -- what was not written whole was not written with more behind it
-pub with_more : (old new : Option (List ℕ)) (a c : ℕ) (xs ys : List ℕ) (r : Result Unit ReportFault) → IsErr r → Writes old new a c xs r → Writes old new a c (xs ++ ys) r
+pub with_more : (old new : Option (List ℕ)) (a c : ℕ) (xs ys : List ℕ) (r : Result Unit ReportFault) → IsErr r → Writes old new a c xs r →
+    Writes old new a c (xs ++ ys) r
 with_more old new a c xs ys (Ok _) is writes = cc
 with_more old new a c xs ys (Err e) is writes = stops old new a c xs ys (Err e) is writes
 
 -- two writes that both went well
-pub both_whole : (old mid new : Option (List ℕ)) (a b c : ℕ) (xs ys : List ℕ) → Takes old mid xs × (a ≤ b) → Takes mid new ys × (b ≤ c) → Takes old new (xs ++ ys) × (a ≤ c)
+pub both_whole : (old mid new : Option (List ℕ)) (a b c : ℕ) (xs ys : List ℕ) → Takes old mid xs × (a ≤ b) → Takes mid new ys × (b ≤ c) →
+    Takes old new (xs ++ ys) × (a ≤ c)
 both_whole old mid new a b c xs ys first next = (Takes-append old mid new xs ys first.0 next.0, omega (arith, first.1, next.1))

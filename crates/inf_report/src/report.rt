@@ -143,7 +143,8 @@ impl Report {
 
     /// A line of the source's own words alone.
     pub fn plain<S: Sink>(&self, to: &mut S, words: OwnWords<'_>) -> Result<(), ReportFault>
-        ensures writes { Writes (S.taken to.old) (S.taken to.new) (S.failures to.old) (S.failures to.new) (plain_lines (worded words.entry) self.now) result }
+        ensures writes { Writes (S.taken to.old) (S.taken to.new) (S.failures to.old) (S.failures to.new)
+            (plain_lines (worded words.entry) self.now) result }
     {
         if self.is_over {
             return Ok(());
@@ -153,7 +154,8 @@ impl Report {
 
     /// A line of the statistics: a word and its number.
     pub fn statistic<S: Sink>(&self, to: &mut S, word: &str, number: u64) -> Result<(), ReportFault>
-        ensures writes { Writes (S.taken to.old) (S.taken to.new) (S.failures to.old) (S.failures to.new) (statistic_lines word.now number self.now) result }
+        ensures writes { Writes (S.taken to.old) (S.taken to.new) (S.failures to.old) (S.failures to.new)
+            (statistic_lines word.now number self.now) result }
     {
         if self.is_over {
             return Ok(());

@@ -67,7 +67,8 @@ takes_more set limit (state.Mark m) seen h = mark_takes set limit m seen h
 takes_more set limit state.Text seen h = record { more = 65 ∷ []; takes = omega arith }
 takes_more set limit (state.Quote after_at) seen h = record { more = 65 ∷ []; takes = omega arith }
 
-after_within : (set : CharSet) (limit : ℕ) (t : Turn) (seen : Sight) (b : ℕ) (bs : List ℕ) → ((next : State) → length (find set limit next seen bs).rest ≤ length bs)
+after_within : (set : CharSet) (limit : ℕ) (t : Turn) (seen : Sight) (b : ℕ) (bs : List ℕ) →
+    ((next : State) → length (find set limit next seen bs).rest ≤ length bs)
     → length (after_turn set limit (t, seen) b bs).rest ≤ length (b ∷ bs)
 after_within set limit (turn_to.On next) seen b bs h = omega (arith, h next)
 after_within set limit (turn_to.Last e) seen b bs h = omega arith

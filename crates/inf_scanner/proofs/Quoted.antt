@@ -29,10 +29,12 @@ text_ends set limit (b ∷ bs) seen =
     cond_both (b == 34) (step_to.Close ending.Text) (step_to.Keep state.Text) (λ s. is_quoted (after set limit s b seen bs).ending ≡ true)
     (λ _. refl) (λ _. text_ends set limit bs (kept limit b seen))
 
-quote_ends : (set : CharSet) (limit : ℕ) (bs : List ℕ) (a : Bool) (seen : Sight) → is_quoted (find set limit (state.Quote a) seen bs).ending ≡ true
+quote_ends : (set : CharSet) (limit : ℕ) (bs : List ℕ) (a : Bool) (seen : Sight) →
+    is_quoted (find set limit (state.Quote a) seen bs).ending ≡ true
 quote_ends set limit [] a seen = refl
 quote_ends set limit (b ∷ bs) a seen =
-    cond_both (is_line_end b) (step_to.Behind ending.Unclosed) (cond (b == 39 && not a) (step_to.Close ending.Quote) (step_to.Keep (state.Quote (b == 64))))
+    cond_both (is_line_end b) (step_to.Behind ending.Unclosed)
+    (cond (b == 39 && not a) (step_to.Close ending.Quote) (step_to.Keep (state.Quote (b == 64))))
     (λ s. is_quoted (after set limit s b seen bs).ending ≡ true)
     (λ _. refl)
     (λ _. cond_both (b == 39 && not a) (step_to.Close ending.Quote) (step_to.Keep (state.Quote (b == 64)))
@@ -41,11 +43,13 @@ quote_ends set limit (b ∷ bs) a seen =
 
 -- no other byte of a token is kept beyond 32
 
-mark_first : (limit : ℕ) (o : Option Mark) → most_behind limit (elim o [ Some m ↦ step_to.Keep (state.Mark m) | None ↦ step_to.Close ending.Unfit ]) ≤ 32
+mark_first : (limit : ℕ) (o : Option Mark) →
+    most_behind limit (elim o [ Some m ↦ step_to.Keep (state.Mark m) | None ↦ step_to.Close ending.Unfit ]) ≤ 32
 mark_first limit (Some m) = omega arith
 mark_first limit None = omega arith
 
-mark_more : (limit : ℕ) (m : Mark) (o : Option Mark) → most_behind limit (elim o [ Some x ↦ step_to.Keep (state.Mark x) | None ↦ step_to.Behind (ending.Mark m) ]) ≤ 32
+mark_more : (limit : ℕ) (m : Mark) (o : Option Mark) →
+    most_behind limit (elim o [ Some x ↦ step_to.Keep (state.Mark x) | None ↦ step_to.Behind (ending.Mark m) ]) ≤ 32
 mark_more limit m (Some x) = omega arith
 mark_more limit m None = omega arith
 
@@ -60,10 +64,12 @@ first_kept set limit b =
     (λ _. mark_first limit (first_mark b))))))
 
 run_kept : (set : CharSet) (limit b : ℕ) (n : Bool) → most_behind limit (step_of set (state.Run n) b) ≤ 32
-run_kept set limit b n = cond_both (is_run_byte b) (step_to.Keep (state.Run (n || b == 36))) (step_to.Behind (ending.Run n)) (λ s. most_behind limit s ≤ 32) (λ _. omega arith) (λ _. omega arith)
+run_kept set limit b n = cond_both (is_run_byte b) (step_to.Keep (state.Run (n || b == 36))) (step_to.Behind (ending.Run n))
+    (λ s. most_behind limit s ≤ 32) (λ _. omega arith) (λ _. omega arith)
 
 -- a token of which more than 32 bytes may be kept ends as a quoted one
-keeps_quoted : (set : CharSet) (limit : ℕ) (s : State) (b : ℕ) (seen : Sight) (bs : List ℕ) → 32 < most_behind limit (step_of set s b) → is_quoted (find set limit s seen bs).ending ≡ true
+keeps_quoted : (set : CharSet) (limit : ℕ) (s : State) (b : ℕ) (seen : Sight) (bs : List ℕ) → 32 < most_behind limit (step_of set s b) →
+    is_quoted (find set limit s seen bs).ending ≡ true
 keeps_quoted set limit state.Gap b seen bs less = absurd (omega (arith, first_kept set limit b))
 keeps_quoted set limit state.Comment b seen bs less = absurd (omega arith)
 keeps_quoted set limit (state.Run n) b seen bs less = absurd (omega (arith, run_kept set limit b n))
@@ -71,12 +77,14 @@ keeps_quoted set limit (state.Mark m) b seen bs less = absurd (omega (arith, mar
 keeps_quoted set limit state.Text b seen bs less = text_ends set limit bs seen
 keeps_quoted set limit (state.Quote a) b seen bs less = quote_ends set limit bs a seen
 
-pub quoted_from : (set : CharSet) (limit : ℕ) (s : State) (b : ℕ) (seen : Sight) (bs : List ℕ) (f : Found) → 32 < most_behind limit (step_of set s b)
+pub quoted_from : (set : CharSet) (limit : ℕ) (s : State) (b : ℕ) (seen : Sight) (bs : List ℕ) (f : Found) →
+    32 < most_behind limit (step_of set s b)
     → find set limit s seen bs ≡ f → is_quoted f.ending ≡ true
 quoted_from set limit s b seen bs f less e = ap (λ (g : Found). is_quoted g.ending) (sym e) ∙ keeps_quoted set limit s b seen bs less
 
 -- a token of which more than 32 bytes may be kept in this state ends as a quoted one
-pub quoted_in : (set : CharSet) (limit : ℕ) (s : State) (seen : Sight) (bs : List ℕ) (f : Found) → 32 < most limit s → find set limit s seen bs ≡ f → is_quoted f.ending ≡ true
+pub quoted_in : (set : CharSet) (limit : ℕ) (s : State) (seen : Sight) (bs : List ℕ) (f : Found) → 32 < most limit s →
+    find set limit s seen bs ≡ f → is_quoted f.ending ≡ true
 quoted_in set limit s seen bs f less e = ap (λ (g : Found). is_quoted g.ending) (sym e) ∙ by s less
   where
     by : (s : State) → 32 < most limit s → is_quoted (find set limit s seen bs).ending ≡ true

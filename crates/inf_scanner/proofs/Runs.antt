@@ -66,7 +66,8 @@ calm lines = record { line = lines.line; after_return = false }
 past_calm : (b : ℕ) (lines : Lines) → is_line_end b ≡ false → past b lines ≡ calm lines
 past_calm b lines fails = by (b == 10) (b == 13) fails
   where
-    by : (t u : Bool) → (t || u) ≡ false → record { line = cond (u || (t && not lines.after_return)) (lines.line + 1) lines.line; after_return = u } ≡ calm lines
+    by : (t u : Bool) → (t || u) ≡ false →
+        record { line = cond (u || (t && not lines.after_return)) (lines.line + 1) lines.line; after_return = u } ≡ calm lines
     by true u e = cc
     by false true e = cc
     by false false e = refl
@@ -82,7 +83,8 @@ name_runs false false z e = cc
 
 run_on : (set : CharSet) (n : Bool) (b : ℕ) → is_name_byte b ≡ true → step_of set (state.Run n) b ≡ step_to.Keep (state.Run n)
 run_on set n b passes =
-    cond-true (is_run_byte b) (step_to.Keep (state.Run (n || b == 36))) (step_to.Behind (ending.Run n)) (name_runs (is_letter b || is_digit b) (b == 95) (b == 36) passes)
+    cond-true (is_run_byte b) (step_to.Keep (state.Run (n || b == 36))) (step_to.Behind (ending.Run n))
+    (name_runs (is_letter b || is_digit b) (b == 95) (b == 36) passes)
     ∙ ap (λ t. step_to.Keep (state.Run (n || t))) (other is_name_byte b 36 refl passes)
     ∙ ap (λ t. step_to.Keep (state.Run t)) (or_none n)
 
@@ -91,7 +93,8 @@ text_on set b passes = cond-false (b == 34) (step_to.Close ending.Text) (step_to
 
 quote_on : (set : CharSet) (b : ℕ) → is_plain b ≡ true → step_of set (state.Quote false) b ≡ step_to.Keep (state.Quote false)
 quote_on set b passes =
-    cond-false (is_line_end b) (step_to.Behind ending.Unclosed) (cond (b == 39 && not false) (step_to.Close ending.Quote) (step_to.Keep (state.Quote (b == 64)))) (no_end state.Text b passes)
+    cond-false (is_line_end b) (step_to.Behind ending.Unclosed)
+    (cond (b == 39 && not false) (step_to.Close ending.Quote) (step_to.Keep (state.Quote (b == 64)))) (no_end state.Text b passes)
     ∙ ap (λ t. cond (t && not false) (step_to.Close ending.Quote) (step_to.Keep (state.Quote (b == 64)))) (other is_plain b 39 refl passes)
     ∙ ap (λ t. step_to.Keep (state.Quote t)) (other is_plain b 64 refl passes)
 
@@ -124,7 +127,8 @@ seen_on seen kept = record { first = seen.first; kept = kept; lines = calm seen.
 
 -- what a byte does that leaves the state as it is
 abbrev Steps : CharSet → ℕ → State → (ℕ → Sight → Sight) → Type 0
-Steps set limit s on = (b : ℕ) (bs : List ℕ) (seen : Sight) → stays s b ≡ true → find set limit s seen (b ∷ bs) ≡ find set limit s (on b seen) bs
+Steps set limit s on =
+    (b : ℕ) (bs : List ℕ) (seen : Sight) → stays s b ≡ true → find set limit s seen (b ∷ bs) ≡ find set limit s (on b seen) bs
 
 abbrev with_kept : ℕ → ℕ → Sight → Sight
 with_kept most b seen = seen_on seen (with_byte most b seen.kept)
@@ -132,12 +136,14 @@ with_kept most b seen = seen_on seen (with_byte most b seen.kept)
 abbrev skipped : ℕ → Sight → Sight
 skipped b seen = seen_on seen seen.kept
 
-keeps : (set : CharSet) (limit : ℕ) (s : State) (b : ℕ) (bs : List ℕ) (seen : Sight) → marked s seen ≡ seen → step_of set s b ≡ step_to.Keep s → stays s b ≡ true
+keeps : (set : CharSet) (limit : ℕ) (s : State) (b : ℕ) (bs : List ℕ) (seen : Sight) → marked s seen ≡ seen →
+    step_of set s b ≡ step_to.Keep s → stays s b ≡ true
     → find set limit s seen (b ∷ bs) ≡ find set limit s (with_kept (most limit s) b seen) bs
 keeps set limit s b bs seen same step passes =
     ap (λ (x : Sight). after set limit (step_of set s b) b x bs) same
     ∙ ap (λ (x : Step). after set limit x b seen bs) step
-    ∙ ap (λ (l : Lines). find set limit s (record { first = seen.first; kept = with_byte (most limit s) b seen.kept; lines = l }) bs) (past_calm b seen.lines (no_end s b passes))
+    ∙ ap (λ (l : Lines). find set limit s (record { first = seen.first; kept = with_byte (most limit s) b seen.kept; lines = l }) bs)
+    (past_calm b seen.lines (no_end s b passes))
 
 run_kept : (set : CharSet) (limit : ℕ) (s : State) → is_gap s ≡ false → Steps set limit s (with_kept (most limit s))
 run_kept set limit state.Gap fails b bs seen passes = cc
@@ -145,12 +151,14 @@ run_kept set limit state.Comment fails b bs seen passes = cc
 run_kept set limit (state.Run n) fails b bs seen passes = keeps set limit (state.Run n) b bs seen refl (run_on set n b passes) passes
 run_kept set limit (state.Mark m) fails b bs seen passes = cc
 run_kept set limit state.Text fails b bs seen passes = keeps set limit state.Text b bs seen refl (text_on set b passes) passes
-run_kept set limit (state.Quote false) fails b bs seen passes = keeps set limit (state.Quote false) b bs seen refl (quote_on set b passes) passes
+run_kept set limit (state.Quote false) fails b bs seen passes =
+    keeps set limit (state.Quote false) b bs seen refl (quote_on set b passes) passes
 run_kept set limit (state.Quote true) fails b bs seen passes = cc
 
 -- before a token it makes fails difference where it was thought to begin
 first_free : (set : CharSet) (limit : ℕ) (s : State) (first other : ℕ) (kept : Kept) (lines : Lines) (bs : List ℕ) → is_gap s ≡ true
-    → find set limit s (record { first = first; kept = kept; lines = lines }) bs ≡ find set limit s (record { first = other; kept = kept; lines = lines }) bs
+    → find set limit s (record { first = first; kept = kept; lines = lines }) bs ≡ find set limit s
+    (record { first = other; kept = kept; lines = lines }) bs
 first_free set limit state.Gap first other kept lines [] gap = refl
 first_free set limit state.Gap first other kept lines (b ∷ bs) gap = refl
 first_free set limit state.Comment first other kept lines [] gap = refl
@@ -160,11 +168,13 @@ first_free set limit (state.Mark m) first other kept lines bs gap = cc
 first_free set limit state.Text first other kept lines bs gap = cc
 first_free set limit (state.Quote a) first other kept lines bs gap = cc
 
-skips : (set : CharSet) (limit : ℕ) (s : State) (b : ℕ) (bs : List ℕ) (seen : Sight) → is_gap s ≡ true → step_of set s b ≡ step_to.Skip s → stays s b ≡ true
+skips : (set : CharSet) (limit : ℕ) (s : State) (b : ℕ) (bs : List ℕ) (seen : Sight) → is_gap s ≡ true → step_of set s b ≡ step_to.Skip s →
+    stays s b ≡ true
     → find set limit s seen (b ∷ bs) ≡ find set limit s (skipped b seen) bs
 skips set limit s b bs seen gap step passes =
     ap (λ (x : Step). after set limit x b (marked s seen) bs) step
-    ∙ ap (λ (l : Lines). find set limit s (record { first = (marked s seen).first; kept = seen.kept; lines = l }) bs) (past_calm b seen.lines (no_end s b passes))
+    ∙ ap (λ (l : Lines). find set limit s (record { first = (marked s seen).first; kept = seen.kept; lines = l }) bs)
+    (past_calm b seen.lines (no_end s b passes))
     ∙ first_free set limit s (marked s seen).first seen.first seen.kept (calm seen.lines) bs gap
 
 run_skipped : (set : CharSet) (limit : ℕ) (s : State) → is_gap s ≡ true → Steps set limit s skipped
@@ -194,7 +204,8 @@ run_found set limit s on step [] rest seen = refl
 run_found set limit s on step (b ∷ bytes) rest seen = by (stays s b) refl (run_found set limit s on step bytes rest)
   where
     by : (t : Bool) → stays s b ≡ t → RunFound set limit s on bytes rest (prefix_len (stays s) bytes)
-        → find set limit s (ran on (take (cond t (1 + prefix_len (stays s) bytes) 0) (b ∷ bytes)) seen) (drop (cond t (1 + prefix_len (stays s) bytes) 0) (b ∷ bytes) ++ rest)
+        → find set limit s (ran on (take (cond t (1 + prefix_len (stays s) bytes) 0) (b ∷ bytes)) seen)
+        (drop (cond t (1 + prefix_len (stays s) bytes) 0) (b ∷ bytes) ++ rest)
         ≡ find set limit s seen (b ∷ (bytes ++ rest))
     by true e later =
         ap (λ n. find set limit s (ran on (take n (b ∷ bytes)) seen) (drop n (b ∷ bytes) ++ rest)) (one_and (prefix_len (stays s) bytes))
@@ -214,11 +225,14 @@ none_more most k =
 
 all_kept : (most : ℕ) (bs : List ℕ) (k : Kept) → length bs + length k.bytes ≤ most → with_bytes most bs k ≡ kept_as (k.bytes ++ bs) k.is_cut
 all_kept most bs k room =
-    cond-true (nat_le (length bs) (most - length k.bytes)) (kept_as (k.bytes ++ bs) k.is_cut) (kept_as (k.bytes ++ take (most - length k.bytes) bs) true) (le-leb (length bs) (most - length k.bytes) (omega arith))
+    cond-true (nat_le (length bs) (most - length k.bytes)) (kept_as (k.bytes ++ bs) k.is_cut)
+    (kept_as (k.bytes ++ take (most - length k.bytes) bs) true) (le-leb (length bs) (most - length k.bytes) (omega arith))
 
-some_kept : (most : ℕ) (bs : List ℕ) (k : Kept) → most - length k.bytes < length bs → with_bytes most bs k ≡ kept_as (k.bytes ++ take (most - length k.bytes) bs) true
+some_kept : (most : ℕ) (bs : List ℕ) (k : Kept) → most - length k.bytes < length bs →
+    with_bytes most bs k ≡ kept_as (k.bytes ++ take (most - length k.bytes) bs) true
 some_kept most bs k full =
-    cond-false (nat_le (length bs) (most - length k.bytes)) (kept_as (k.bytes ++ bs) k.is_cut) (kept_as (k.bytes ++ take (most - length k.bytes) bs) true) (lt-leb (length bs) (most - length k.bytes) full)
+    cond-false (nat_le (length bs) (most - length k.bytes)) (kept_as (k.bytes ++ bs) k.is_cut)
+    (kept_as (k.bytes ++ take (most - length k.bytes) bs) true) (lt-leb (length bs) (most - length k.bytes) full)
 
 -- where there is no room at all
 full_kept : (most : ℕ) (bs bytes : List ℕ) → most ≤ length bytes → with_bytes most bs (kept_as bytes true) ≡ kept_as bytes true
@@ -229,13 +243,15 @@ full_kept most (b ∷ bs) bytes full =
     ∙ ap (λ n. kept_as (bytes ++ take n (b ∷ bs)) true) none
     ∙ ap (λ x. kept_as x true) (append-nil bytes)
 
-room_kept : (most b : ℕ) (bs : List ℕ) (k : Kept) → length k.bytes < most → with_bytes most (b ∷ bs) k ≡ with_bytes most bs (kept_as (k.bytes ++ b ∷ []) k.is_cut)
+room_kept : (most b : ℕ) (bs : List ℕ) (k : Kept) → length k.bytes < most →
+    with_bytes most (b ∷ bs) k ≡ with_bytes most bs (kept_as (k.bytes ++ b ∷ []) k.is_cut)
 room_kept most b bs k room = by (cases_lt most (length bs + 1 + length k.bytes))
   where
     more : length (k.bytes ++ b ∷ []) ≡ length k.bytes + 1
     more = omega (arith, length-append k.bytes (b ∷ []))
 
-    by : (most < length bs + 1 + length k.bytes) ⊎ (length bs + 1 + length k.bytes ≤ most) → with_bytes most (b ∷ bs) k ≡ with_bytes most bs (kept_as (k.bytes ++ b ∷ []) k.is_cut)
+    by : (most < length bs + 1 + length k.bytes) ⊎ (length bs + 1 + length k.bytes ≤ most) →
+        with_bytes most (b ∷ bs) k ≡ with_bytes most bs (kept_as (k.bytes ++ b ∷ []) k.is_cut)
     by (inl full) =
         let next : most - length k.bytes ≡ suc (most - length (k.bytes ++ b ∷ [])) = omega (arith, more, room) in
         some_kept most (b ∷ bs) k (omega arith)
@@ -254,41 +270,50 @@ one_more most b bs k = by (cases_lt (length k.bytes) most)
     by : (length k.bytes < most) ⊎ (most ≤ length k.bytes) → with_bytes most (b ∷ bs) k ≡ with_bytes most bs (with_byte most b k)
     by (inl room) =
         room_kept most b bs k room
-        ∙ ap (with_bytes most bs) (sym (cond-true (nat_lt (length k.bytes) most) (kept_as (k.bytes ++ b ∷ []) k.is_cut) (kept_as k.bytes true) (lt-ltb (length k.bytes) most room)))
+        ∙ ap (with_bytes most bs) (sym (cond-true (nat_lt (length k.bytes) most) (kept_as (k.bytes ++ b ∷ []) k.is_cut)
+        (kept_as k.bytes true) (lt-ltb (length k.bytes) most room)))
     by (inr full) =
         let none : most - length k.bytes ≡ 0 = omega arith in
         some_kept most (b ∷ bs) k (omega (arith, none))
         ∙ ap (λ n. kept_as (k.bytes ++ take n (b ∷ bs)) true) none
         ∙ ap (λ x. kept_as x true) (append-nil k.bytes)
         ∙ sym (full_kept most bs k.bytes full)
-        ∙ ap (with_bytes most bs) (sym (cond-false (nat_lt (length k.bytes) most) (kept_as (k.bytes ++ b ∷ []) k.is_cut) (kept_as k.bytes true) (le-ltb (length k.bytes) most full)))
+        ∙ ap (with_bytes most bs) (sym (cond-false (nat_lt (length k.bytes) most) (kept_as (k.bytes ++ b ∷ []) k.is_cut)
+        (kept_as k.bytes true) (le-ltb (length k.bytes) most full)))
 
 ran_skipped : (bs : List ℕ) (b : ℕ) (seen : Sight) → ran skipped (b ∷ bs) seen ≡ seen_on seen seen.kept
 ran_skipped [] b seen = refl
 ran_skipped (x ∷ bs) b seen = ran_skipped bs x (skipped b seen)
 
-ran_kept : (most : ℕ) (bs : List ℕ) (b : ℕ) (seen : Sight) → ran (with_kept most) (b ∷ bs) seen ≡ seen_on seen (with_bytes most (b ∷ bs) seen.kept)
-ran_kept most [] b seen = ap (λ (k : Kept). seen_on seen k) (sym (none_more most (with_byte most b seen.kept)) ∙ sym (one_more most b [] seen.kept))
+ran_kept : (most : ℕ) (bs : List ℕ) (b : ℕ) (seen : Sight) →
+    ran (with_kept most) (b ∷ bs) seen ≡ seen_on seen (with_bytes most (b ∷ bs) seen.kept)
+ran_kept most [] b seen =
+    ap (λ (k : Kept). seen_on seen k) (sym (none_more most (with_byte most b seen.kept)) ∙ sym (one_more most b [] seen.kept))
 ran_kept most (x ∷ bs) b seen =
     ran_kept most bs x (with_kept most b seen) ∙ ap (λ (k : Kept). seen_on seen k) (sym (one_more most b (x ∷ bs) seen.kept))
 
 -- behind a run that is kept
-pub found_kept : (set : CharSet) (limit : ℕ) (s : State) (n : ℕ) (bytes rest : List ℕ) (seen : Sight) → is_gap s ≡ false → n ≡ prefix_len (stays s) bytes → (n ≡ 0 → ⊥)
-    → find set limit s (seen_on seen (with_bytes (most limit s) (take n bytes) seen.kept)) (drop n bytes ++ rest) ≡ find set limit s seen (bytes ++ rest)
+pub found_kept : (set : CharSet) (limit : ℕ) (s : State) (n : ℕ) (bytes rest : List ℕ) (seen : Sight) → is_gap s ≡ false →
+    n ≡ prefix_len (stays s) bytes → (n ≡ 0 → ⊥)
+    → find set limit s (seen_on seen (with_bytes (most limit s) (take n bytes) seen.kept)) (drop n bytes ++ rest) ≡ find set limit s seen
+    (bytes ++ rest)
 found_kept set limit s zero bytes rest seen fails is some = absurd (some refl)
 found_kept set limit s (suc n) [] rest seen fails is some = cc
 found_kept set limit s (suc n) (b ∷ bytes) rest seen fails is some =
     ap (λ (x : Sight). find set limit s x (drop n bytes ++ rest)) (sym (ran_kept (most limit s) (take n bytes) b seen))
-    ∙ subst (RunFound set limit s (with_kept (most limit s)) (b ∷ bytes) rest) (sym is) (run_found set limit s (with_kept (most limit s)) (run_kept set limit s fails) (b ∷ bytes) rest) seen
+    ∙ subst (RunFound set limit s (with_kept (most limit s)) (b ∷ bytes) rest) (sym is)
+    (run_found set limit s (with_kept (most limit s)) (run_kept set limit s fails) (b ∷ bytes) rest) seen
 
 -- behind a run that is passed over
-pub found_skipped : (set : CharSet) (limit : ℕ) (s : State) (n : ℕ) (bytes rest : List ℕ) (seen : Sight) → is_gap s ≡ true → n ≡ prefix_len (stays s) bytes → (n ≡ 0 → ⊥)
+pub found_skipped : (set : CharSet) (limit : ℕ) (s : State) (n : ℕ) (bytes rest : List ℕ) (seen : Sight) → is_gap s ≡ true →
+    n ≡ prefix_len (stays s) bytes → (n ≡ 0 → ⊥)
     → find set limit s (seen_on seen seen.kept) (drop n bytes ++ rest) ≡ find set limit s seen (bytes ++ rest)
 found_skipped set limit s zero bytes rest seen gap is some = absurd (some refl)
 found_skipped set limit s (suc n) [] rest seen gap is some = cc
 found_skipped set limit s (suc n) (b ∷ bytes) rest seen gap is some =
     ap (λ (x : Sight). find set limit s x (drop n bytes ++ rest)) (sym (ran_skipped (take n bytes) b seen))
-    ∙ subst (RunFound set limit s skipped (b ∷ bytes) rest) (sym is) (run_found set limit s skipped (run_skipped set limit s gap) (b ∷ bytes) rest) seen
+    ∙ subst (RunFound set limit s skipped (b ∷ bytes) rest) (sym is)
+    (run_found set limit s skipped (run_skipped set limit s gap) (b ∷ bytes) rest) seen
 
 -- The first byte of a name, and a mark that none is longer than
 
@@ -332,15 +357,19 @@ pub found_name : (set : CharSet) (limit b : ℕ) (behind rest : List ℕ) (seen 
 found_name set limit b [] rest seen is passes = cc
 found_name set limit b (x ∷ behind) rest seen is passes = by x is
   where
-    by : (x : ℕ) → Some x ≡ Some b → find set limit (state.Run (is_digit b)) (marked state.Gap seen) (x ∷ (behind ++ rest)) ≡ find set limit state.Gap seen (x ∷ (behind ++ rest))
+    by : (x : ℕ) → Some x ≡ Some b → find set limit (state.Run (is_digit b)) (marked state.Gap seen) (x ∷ (behind ++ rest)) ≡ find set limit
+        state.Gap seen (x ∷ (behind ++ rest))
     by x is =
         let same : x ≡ b = cc in
-        subst (λ (y : ℕ). find set limit (state.Run (is_digit b)) (marked state.Gap seen) (y ∷ (behind ++ rest)) ≡ find set limit state.Gap seen (y ∷ (behind ++ rest))) (sym same)
-        (ap (λ (s : Step). after set limit s b (marked state.Gap seen) (behind ++ rest)) (run_on set (is_digit b) b passes ∙ sym (name_first set b passes)))
+        subst (λ (y : ℕ). find set limit (state.Run (is_digit b)) (marked state.Gap seen) (y ∷ (behind ++ rest)) ≡ find set limit state.Gap
+        seen (y ∷ (behind ++ rest))) (sym same)
+        (ap (λ (s : Step). after set limit s b (marked state.Gap seen) (behind ++ rest))
+        (run_on set (is_digit b) b passes ∙ sym (name_first set b passes)))
 
 -- a mark that none is longer than ends at once
 pub found_mark : (set : CharSet) (limit : ℕ) (m : Mark) (seen : Sight) (bs : List ℕ) → ((b : ℕ) → longer_mark m b ≡ None)
     → record { ending = ending.Mark m; seen = seen; rest = bs } ≡ find set limit (state.Mark m) seen bs
 found_mark set limit m seen [] whole = refl
 found_mark set limit m seen (b ∷ bs) whole =
-    sym (ap (λ (o : Option Mark). after set limit (elim o [ Some x ↦ step_to.Keep (state.Mark x) | None ↦ step_to.Behind (ending.Mark m) ]) b seen bs) (whole b))
+    sym (ap (λ (o : Option Mark). after set limit (elim o [ Some x ↦ step_to.Keep (state.Mark x) | None ↦ step_to.Behind (ending.Mark m) ])
+    b seen bs) (whole b))

@@ -35,7 +35,8 @@ is_other _ = true
 abbrev Other : TokenKind → Type 0
 Other k = is_other k ≡ true
 
-read_other : (f : List TextItem → TokenKind) (r : Result (List TextItem) TextFault) → ((items : List TextItem) → Other (f items)) → Other (read_by f r)
+read_other : (f : List TextItem → TokenKind) (r : Result (List TextItem) TextFault) → ((items : List TextItem) → Other (f items)) →
+    Other (read_by f r)
 read_other f (Ok items) all = all items
 read_other f (Err fault.UnknownEscape) all = refl
 read_other f (Err fault.NoZscii) all = refl
@@ -72,10 +73,13 @@ end_only : (set : CharSet) (e : Ending) (k : Kept) → kind_of set e k ≡ kind.
 end_only set ending.End k is = refl
 end_only set ending.Unfit k is = cc
 end_only set (ending.Mark m) k is = cc
-end_only set (ending.Run false) k is = absurd (cond_both k.is_cut (kind.Bad bad.LongName) kind.Name (λ x. x ≡ kind.End → ⊥) (λ _ e. cc) (λ _ e. cc) is)
+end_only set (ending.Run false) k is =
+    absurd (cond_both k.is_cut (kind.Bad bad.LongName) kind.Name (λ x. x ≡ kind.End → ⊥) (λ _ e. cc) (λ _ e. cc) is)
 end_only set (ending.Run true) k is =
-    absurd (cond_both k.is_cut (kind.Bad bad.Number) (number_kind (number_of k.bytes)) (λ x. x ≡ kind.End → ⊥) (λ _ e. cc) (λ _. number_no_end (number_of k.bytes)) is)
-end_only set ending.Unclosed k is = absurd (cond_both k.is_cut (kind.Bad bad.TooLong) (kind.Bad bad.Unclosed) (λ x. x ≡ kind.End → ⊥) (λ _ e. cc) (λ _ e. cc) is)
+    absurd (cond_both k.is_cut (kind.Bad bad.Number) (number_kind (number_of k.bytes)) (λ x. x ≡ kind.End → ⊥) (λ _ e. cc)
+    (λ _. number_no_end (number_of k.bytes)) is)
+end_only set ending.Unclosed k is =
+    absurd (cond_both k.is_cut (kind.Bad bad.TooLong) (kind.Bad bad.Unclosed) (λ x. x ≡ kind.End → ⊥) (λ _ e. cc) (λ _ e. cc) is)
 end_only set ending.Text k is =
     absurd (cond_both k.is_cut (kind.Bad bad.TooLong) (text_kind set k.bytes) (λ x. x ≡ kind.End → ⊥) (λ _ e. cc)
     (λ _. other_no_end (text_kind set k.bytes) (read_other (λ _. kind.Text) (text_of set mode.Text k.bytes) (λ _. refl))) is)
@@ -110,12 +114,15 @@ run_only set limit ending.End k is = refl
 run_only set limit ending.Unfit k is = refl
 run_only set limit (ending.Mark m) k is = refl
 run_only set limit (ending.Run n) k is = refl
-run_only set limit ending.Unclosed k is = no_run limit ending.Unclosed (kind_of set ending.Unclosed k) (cond_both k.is_cut (kind.Bad bad.TooLong) (kind.Bad bad.Unclosed) Other (λ _. refl) (λ _. refl)) is
+run_only set limit ending.Unclosed k is = no_run limit ending.Unclosed (kind_of set ending.Unclosed k)
+    (cond_both k.is_cut (kind.Bad bad.TooLong) (kind.Bad bad.Unclosed) Other (λ _. refl) (λ _. refl)) is
 run_only set limit ending.Text k is =
-    no_run limit ending.Text (kind_of set ending.Text k) (cond_both k.is_cut (kind.Bad bad.TooLong) (text_kind set k.bytes) Other (λ _. refl)
+    no_run limit ending.Text (kind_of set ending.Text k)
+    (cond_both k.is_cut (kind.Bad bad.TooLong) (text_kind set k.bytes) Other (λ _. refl)
     (λ _. read_other (λ _. kind.Text) (text_of set mode.Text k.bytes) (λ _. refl))) is
 run_only set limit ending.Quote k is =
-    no_run limit ending.Quote (kind_of set ending.Quote k) (cond_both k.is_cut (kind.Bad bad.TooLong) (quote_kind set k.bytes) Other (λ _. refl) (λ _. quote_other set k.bytes)) is
+    no_run limit ending.Quote (kind_of set ending.Quote k)
+    (cond_both k.is_cut (kind.Bad bad.TooLong) (quote_kind set k.bytes) Other (λ _. refl) (λ _. quote_other set k.bytes)) is
 
 span_end : (set : CharSet) (e : Ending) (bytes span behind : List ℕ) → Spans set e bytes span behind → e ≡ ending.End → behind ≡ []
 span_end set ending.End bytes span behind spans is = spans.2
@@ -148,7 +155,9 @@ runs_are_short set limit lines [] is = omega arith
 runs_are_short set limit lines (b ∷ bytes) is =
     let s = next_spelled set limit lines (b ∷ bytes) (omega arith) in
     let p : Piece = s.piece in
-    let most : most_of limit s.is.ending ≡ 32 = run_only set limit s.is.ending p.read.kept (ap is_run (sym s.is.is_told ∙ ap (λ (r : Read). r.kind) s.is.is_read) ∙ is) in
-    let kept : length (next_token set limit lines (b ∷ bytes)).kept.bytes ≡ length p.read.kept.bytes = ap (λ (r : Read). length r.kept.bytes) (sym s.is.is_read) in
+    let most : most_of limit s.is.ending ≡ 32 =
+    run_only set limit s.is.ending p.read.kept (ap is_run (sym s.is.is_told ∙ ap (λ (r : Read). r.kind) s.is.is_read) ∙ is) in
+    let kept : length (next_token set limit lines (b ∷ bytes)).kept.bytes ≡ length p.read.kept.bytes =
+    ap (λ (r : Read). length r.kept.bytes) (sym s.is.is_read) in
     let cut = ap (λ (k : Kept). length k.bytes) s.is.keeps in
     omega (arith, most, kept, cut, length-take (most_of limit s.is.ending) s.is.bytes)

@@ -17,7 +17,8 @@ pub record Read : Type 0 where
   pub rest : List ℕ
 
 abbrev pub read_of : CharSet → Found → Read
-read_of set f = record { kind = kind_of set f.ending f.seen.kept; line = f.seen.first; kept = f.seen.kept; lines = f.seen.lines; rest = f.rest }
+read_of set f =
+    record { kind = kind_of set f.ending f.seen.kept; line = f.seen.first; kept = f.seen.kept; lines = f.seen.lines; rest = f.rest }
 
 -- the next token of these bytes, which begin on this line; at their end that is the end, again and again
 abbrev pub next_token : CharSet → ℕ → Lines → List ℕ → Read

@@ -293,7 +293,8 @@ impl Seen {
         ensures all { IfOk result (λ r. is_on r.1 ≡ true → r.0 ≡ length bytes.now) }
         ensures opens { IfOk result (λ r. goes_on from ≡ true → is_open r.1 ≡ true) }
         ensures few { IfOk result (λ r. self.new.lines.line ≤ self.old.lines.line + r.0) }
-        ensures memory { IsErr result → (rest : List ℕ) → is_quoted (find set limit from (sight self.old) (bytes.now ++ rest)).ending ≡ true }
+        ensures memory { IsErr result → (rest : List ℕ) →
+            is_quoted (find set limit from (sight self.old) (bytes.now ++ rest)).ending ≡ true }
     {
         let mut state = from;
         let mut taken = 0;

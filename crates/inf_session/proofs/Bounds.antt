@@ -49,12 +49,14 @@ kind_within (kind.Bad bad.BadCode) bytes most few = few refl
 kind_within (kind.Bad bad.TooLong) bytes most few = few refl
 kind_within kind.End bytes most few = omega arith
 
-pub quoted_within : (site : Site) (j : Filtered) (t : SourceToken) (quoted most : ℕ) → (is_quoted_kind t.kind ≡ true → length t.bytes ≤ most) → quoted ≤ most
+pub quoted_within : (site : Site) (j : Filtered) (t : SourceToken) (quoted most : ℕ) →
+    (is_quoted_kind t.kind ≡ true → length t.bytes ≤ most) → quoted ≤ most
     → quoted_behind site j t quoted ≤ most
 quoted_within site j t quoted most few before =
     let longer = cond (nat_lt quoted (quoted_bytes t)) (quoted_bytes t) quoted in
     of_both (λ n. n ≤ most) (site.is_quiet || is_none j.token) quoted longer (λ _. before)
-    (λ _. of_both (λ n. n ≤ most) (nat_lt quoted (quoted_bytes t)) (quoted_bytes t) quoted (λ _. kind_within t.kind t.bytes most few) (λ _. before))
+    (λ _. of_both (λ n. n ≤ most) (nat_lt quoted (quoted_bytes t)) (quoted_bytes t) quoted (λ _. kind_within t.kind t.bytes most few)
+    (λ _. before))
 
 -- The limits
 
@@ -158,13 +160,15 @@ pub record FitBounds (c : TableCounts) (b : TableBounds) : Type 0 where
 at_most : (n least most : ℕ) → n ≤ max least most → least ≤ most → n ≤ most
 at_most n least most few room = omega (arith, few, room)
 
-pub within : (s : Session) (tokens names labels code strings refs : ℕ) (tables : TableCounts) → IsBounded s → is_fatal s ≡ false → names ≤ s.progress.work.output.names.limit
+pub within : (s : Session) (tokens names labels code strings refs : ℕ) (tables : TableCounts) → IsBounded s → is_fatal s ≡ false →
+    names ≤ s.progress.work.output.names.limit
     → code ≤ s.progress.work.output.code.limits.code → strings ≤ s.progress.work.output.strings.limit
     → refs ≤ number_of References (chosen s.setup).settings
     → tokens ≤ number_of ExpressionNodes (chosen s.setup).settings
     → labels ≤ number_of Labels (chosen s.setup).settings
     → FitBounds tables (table_bounds s.progress.work.output.tables)
-    → AreWithin (s.quoted ∷ tokens ∷ names ∷ labels ∷ tables.words ∷ tables.objects ∷ tables.verbs ∷ tables.actions ∷ tables.lines ∷ tables.properties ∷ tables.arrays ∷ tables.low_strings
+    → AreWithin (s.quoted ∷ tokens ∷ names ∷ labels ∷ tables.words ∷ tables.objects ∷ tables.verbs ∷ tables.actions ∷ tables.lines ∷
+    tables.properties ∷ tables.arrays ∷ tables.low_strings
     ∷ code ∷ strings ∷ refs ∷ []) all_settings (chosen s.setup).settings
 within s tokens names labels code strings refs tables bounded going few_names few_code few_strings few_refs few_tokens few_labels few =
     let settings = (chosen s.setup).settings in
@@ -177,8 +181,28 @@ within s tokens names labels code strings refs tables bounded going few_names fe
     let stringed = subst (λ n. strings ≤ n) most_strings few_strings in
     let objects = at_most tables.objects 4 (number_of Objects settings) most.objects has.0 in
     let properties = at_most tables.properties 30 (number_of PropertyTables settings) most.properties has.1 in
-    let low = at_most tables.low_strings 2 (number_of LowStrings settings) most.low_strings has.2 in
-    (bounded.1.1.0, (few_tokens, (named, (few_labels, (most.words, (objects, (most.verbs, (most.actions, (most.lines, (properties, (most.arrays, (low, (coded, (stringed, (few_refs, tt)))))))))))))))
+    let low = at_most tables.low_strings 2 (number_of LowStrings settings) most.low_strings has.2 in (
+      bounded.1.1.0,
+      (
+        few_tokens,
+        (
+          named,
+          (
+            few_labels,
+            (
+              most.words,
+              (
+                objects,
+                (
+                  most.verbs,
+                  (most.actions, (most.lines, (properties, (most.arrays, (low, (coded, (stringed, (few_refs, tt)))))))),
+                ),
+              ),
+            ),
+          ),
+        ),
+      ),
+    )
 
 -- the lesser of two numbers is at most the second
 pub min_few : (a b n : ℕ) → n ≡ min a b → n ≤ b

@@ -17,7 +17,8 @@ takes_no_front lines old = record { front = []; takes = takes_none old; begins =
 
 -- some of the bytes were written
 pub takes_part : (lines : List ℕ) (n : ℕ) (old new : Option (List ℕ)) → Takes old new (take n lines) → TakesFront lines old new
-takes_part lines n old new taken = record { front = take n lines; takes = taken; begins = record { rest = drop n lines; is_cut = sym (take-append-drop n lines) } }
+takes_part lines n old new taken =
+    record { front = take n lines; takes = taken; begins = record { rest = drop n lines; is_cut = sym (take-append-drop n lines) } }
 
 pub appends_none : {S : Type 0} (m : Sink S) (old : S) → Appends m old old
 appends_none m old = record { lines = []; takes = takes_none (m.taken old); failures = omega arith }
@@ -31,7 +32,8 @@ appends_then m a b c p q = record {
 }
 
 -- the last of them are the last of all
-pub ends_behind : {S : Type 0} (m : Sink S) (a b c : S) → Appends m a b → EndsClean (m.taken b) (m.taken c) → EndsClean (m.taken a) (m.taken c)
+pub ends_behind : {S : Type 0} (m : Sink S) (a b c : S) → Appends m a b → EndsClean (m.taken b) (m.taken c) →
+    EndsClean (m.taken a) (m.taken c)
 ends_behind m a b c p q = record {
   front = p.lines ++ q.front;
   warnings = q.warnings;
@@ -40,7 +42,8 @@ ends_behind m a b c p q = record {
 }
 
 -- of an ending whose messages end so
-pub ends_clean : (e : Outcome) (c : Compiled) (old new : Option (List ℕ)) → (e.status ≡ status.Success → IsClean e.messages) → Delivers e c old new
+pub ends_clean : (e : Outcome) (c : Compiled) (old new : Option (List ℕ)) → (e.status ≡ status.Success → IsClean e.messages) →
+    Delivers e c old new
     → c.status ≡ status.Success → EndsClean old new
 ends_clean e c old new clean d is =
     let k = clean (sym d.status ∙ is) in

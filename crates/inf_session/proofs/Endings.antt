@@ -32,21 +32,26 @@ most_is_small scale.Eight = refl
 
 -- What a compilation ends with whose last names are told is what it ends with.
 pub told_is_finished : {E : Type 0} (serial : List ℕ) (files : FileNames) (w told : Compilation) (result : Result CodeOutcome E)
-    → told ≡ record (begun_at files first_place w) { report = with_all_undeclared files (begun_at files first_place w).output.names.names (begun_at files first_place w).report }
+    → told ≡ record (begun_at files first_place w)
+    { report = with_all_undeclared files (begun_at files first_place w).output.names.names (begun_at files first_place w).report }
     → IfOk result (λ t. seen t ≡ begun serial files told.output told.report (main_of told.output.names))
     → IfOk result (λ t. seen t ≡ finished serial files w)
 told_is_finished serial files w told result same given =
     subst (λ v. IfOk result (λ t. seen t ≡ begun serial files v.output v.report (main_of v.output.names))) same given
 
 -- A story that would be too long for its version, as it is told.
-pub longest_told : {E : Type 0} (serial : List ℕ) (files : FileNames) (main : ℕ) (names : List Value) (code : Routines) (strings : StringArea) (tables : Tables) (r : Reported)
+pub longest_told : {E : Type 0} (serial : List ℕ) (files : FileNames) (main : ℕ) (names : List Value) (code : Routines)
+    (strings : StringArea) (tables : Tables) (r : Reported)
     (s : Scale) (bytes : List ℕ) (most : ℕ) (fault : LinkFault)
     (result : Result CodeOutcome E) → s ≡ code.scale → bytes ≡ strings.bytes → most ≡ most_bytes s → fault ≡ link_fault.StoryTooLong
-    → (fault ≡ link_fault.Memory) ⊎ (too_long (record { release = 1; serial = serial; scale = s }) main code.finished bytes tables ≡ Some fault)
+    → (fault ≡ link_fault.Memory) ⊎ (too_long (record { release = 1; serial = serial; scale = s }) main code.finished bytes tables ≡ Some
+    fault)
     → IfOk result (λ t. seen t ≡ refused (with_fatal (first_line files) (StoryTooLong most) r))
-    → IfOk result (λ t. seen t ≡ linked serial files main names code strings tables r (too_long (fields_of serial code) main code.finished strings.bytes tables))
+    → IfOk result (λ t. seen t ≡ linked serial files main names code strings tables r
+    (too_long (fields_of serial code) main code.finished strings.bytes tables))
 longest_told serial files main names code strings tables r s bytes most fault result same all longest is why given =
-    let long : Scale → List ℕ → Option LinkFault = λ q a. too_long (record { release = 1; serial = serial; scale = q }) main code.finished a tables in
+    let long : Scale → List ℕ → Option LinkFault =
+    λ q a. too_long (record { release = 1; serial = serial; scale = q }) main code.finished a tables in
     let found : long code.scale strings.bytes ≡ Some link_fault.StoryTooLong = elim why [
       | inl memory ↦ (let never : link_fault.Memory ≡ link_fault.StoryTooLong = sym memory ∙ is in cc)
       | inr told ↦ sym (ap (λ q. long q strings.bytes) same) ∙ sym (ap (λ a. long s a) all) ∙ told ∙ ap (λ f. Some f) is
@@ -59,15 +64,18 @@ longest_told serial files main names code strings tables r s bytes most fault re
 abbrev HasNone : Outcome → Type 0
 HasNone e = e.status ≡ status.Errors → e.story ≡ None
 
-linked_none : (serial : List ℕ) (files : FileNames) (main : ℕ) (names : List Value) (code : Routines) (strings : StringArea) (tables : Tables) (r : Reported) (long : Option LinkFault) → HasNone (linked serial files main names code strings tables r long)
+linked_none : (serial : List ℕ) (files : FileNames) (main : ℕ) (names : List Value) (code : Routines) (strings : StringArea)
+    (tables : Tables) (r : Reported) (long : Option LinkFault) → HasNone (linked serial files main names code strings tables r long)
 linked_none serial files main names code strings tables r None = λ e. cc
 linked_none serial files main names code strings tables r (Some link_fault.ReadableTooLong) = λ _. refl
 linked_none serial files main names code strings tables r (Some link_fault.StoryTooLong) = λ _. refl
 linked_none serial files main names code strings tables r (Some link_fault.Memory) = λ _. refl
 
-named_none : (serial : List ℕ) (files : FileNames) (main : ℕ) (code : Routines) (strings : StringArea) (tables : Tables) (r : Reported) (names : Option (List Value)) → HasNone (named serial files main code strings tables r names)
+named_none : (serial : List ℕ) (files : FileNames) (main : ℕ) (code : Routines) (strings : StringArea) (tables : Tables) (r : Reported)
+    (names : Option (List Value)) → HasNone (named serial files main code strings tables r names)
 named_none serial files main code strings tables r None = λ _. refl
-named_none serial files main code strings tables r (Some names) = linked_none serial files main names code strings tables r (too_long (fields_of serial code) main code.finished strings.bytes tables)
+named_none serial files main code strings tables r (Some names) =
+    linked_none serial files main names code strings tables r (too_long (fields_of serial code) main code.finished strings.bytes tables)
 
 laid_none : (serial : List ℕ) (files : FileNames) (main : ℕ) (o : Out) (r : Reported) → HasNone (laid serial files main o r)
 laid_none serial files main o r = named_none serial files main o.code o.strings o.tables r (values_of o.names.names)
@@ -77,7 +85,8 @@ begun_none serial files o r None = λ _. refl
 begun_none serial files o r (Some main) =
     of_both HasNone (is_clean r) (laid serial files main o r) (refused r) (λ _. laid_none serial files main o r) (λ _ _. refl)
 
-pub errors_none : (serial : List ℕ) (files : FileNames) (w : Compilation) → (finished serial files w).status ≡ status.Errors → (finished serial files w).story ≡ None
+pub errors_none : (serial : List ℕ) (files : FileNames) (w : Compilation) → (finished serial files w).status ≡ status.Errors →
+    (finished serial files w).story ≡ None
 errors_none serial files w =
     let b = begun_at files first_place w in
     begun_none serial files b.output (with_all_undeclared files b.output.names.names b.report) (main_of b.output.names)
@@ -107,17 +116,22 @@ closes_clean r e =
 abbrev EndsSo : Outcome → Type 0
 EndsSo e = e.status ≡ status.Success → IsClean e.messages
 
-linked_clean : (serial : List ℕ) (files : FileNames) (main : ℕ) (names : List Value) (code : Routines) (strings : StringArea) (tables : Tables) (r : Reported) → is_clean r ≡ true → (long : Option LinkFault) → EndsSo (linked serial files main names code strings tables r long)
+linked_clean : (serial : List ℕ) (files : FileNames) (main : ℕ) (names : List Value) (code : Routines) (strings : StringArea)
+    (tables : Tables) (r : Reported) → is_clean r ≡ true → (long : Option LinkFault) → EndsSo
+    (linked serial files main names code strings tables r long)
 linked_clean serial files main names code strings tables r clean None = λ _. closes_clean r clean
 linked_clean serial files main names code strings tables r clean (Some link_fault.ReadableTooLong) = λ e. cc
 linked_clean serial files main names code strings tables r clean (Some link_fault.StoryTooLong) = λ e. cc
 linked_clean serial files main names code strings tables r clean (Some link_fault.Memory) = λ e. cc
 
-named_clean : (serial : List ℕ) (files : FileNames) (main : ℕ) (code : Routines) (strings : StringArea) (tables : Tables) (r : Reported) → is_clean r ≡ true → (names : Option (List Value)) → EndsSo (named serial files main code strings tables r names)
+named_clean : (serial : List ℕ) (files : FileNames) (main : ℕ) (code : Routines) (strings : StringArea) (tables : Tables) (r : Reported) →
+    is_clean r ≡ true → (names : Option (List Value)) → EndsSo (named serial files main code strings tables r names)
 named_clean serial files main code strings tables r clean None = λ e. cc
-named_clean serial files main code strings tables r clean (Some names) = linked_clean serial files main names code strings tables r clean (too_long (fields_of serial code) main code.finished strings.bytes tables)
+named_clean serial files main code strings tables r clean (Some names) = linked_clean serial files main names code strings tables r clean
+    (too_long (fields_of serial code) main code.finished strings.bytes tables)
 
-laid_clean : (serial : List ℕ) (files : FileNames) (main : ℕ) (o : Out) (r : Reported) → is_clean r ≡ true → EndsSo (laid serial files main o r)
+laid_clean : (serial : List ℕ) (files : FileNames) (main : ℕ) (o : Out) (r : Reported) → is_clean r ≡ true →
+    EndsSo (laid serial files main o r)
 laid_clean serial files main o r clean = named_clean serial files main o.code o.strings o.tables r clean (values_of o.names.names)
 
 begun_clean : (serial : List ℕ) (files : FileNames) (o : Out) (r : Reported) (main : Option ℕ) → EndsSo (begun serial files o r main)
@@ -125,7 +139,8 @@ begun_clean serial files o r None = λ e. cc
 begun_clean serial files o r (Some main) =
     of_both EndsSo (is_clean r) (laid serial files main o r) (refused r) (λ clean. laid_clean serial files main o r clean) (λ _ e. cc)
 
-pub success_clean : (serial : List ℕ) (files : FileNames) (w : Compilation) → (finished serial files w).status ≡ status.Success → IsClean (finished serial files w).messages
+pub success_clean : (serial : List ℕ) (files : FileNames) (w : Compilation) → (finished serial files w).status ≡ status.Success →
+    IsClean (finished serial files w).messages
 success_clean serial files w =
     let b = begun_at files first_place w in
     begun_clean serial files b.output (with_all_undeclared files b.output.names.names b.report) (main_of b.output.names)

@@ -49,7 +49,8 @@ none_told unit text answer.Entered s = refl
 none_told unit text answer.NotThere s = refl
 none_told unit text answer.TooDeep s = refl
 
-included_told : (sources : Sources) (o : Choices) (unit : Place) (text : List ℕ) (i : Inclusion) (s : State) → SameTold s (included_by sources o unit text i s)
+included_told : (sources : Sources) (o : Choices) (unit : Place) (text : List ℕ) (i : Inclusion) (s : State) →
+    SameTold s (included_by sources o unit text i s)
 included_told sources o unit text (Opens name) s = refl
 included_told sources o unit text (OpensNone why) s = none_told unit text why s
 
@@ -61,7 +62,8 @@ answered_told Nothing sources o s = refl
 carried_out_told : (sources : Sources) (o : Choices) (s : State) → SameTold s (carried_out sources o s)
 carried_out_told sources o s =
     of_both (SameTold s) s.work.report.counts.is_over s _ (λ _. refl)
-    (λ _. of_both (SameTold s) (is_mode_ended s.reading.mode) (left s) (answered s.work.asked sources o (asked_nothing s)) (λ _. left_told s)
+    (λ _. of_both (SameTold s) (is_mode_ended s.reading.mode) (left s) (answered s.work.asked sources o (asked_nothing s))
+    (λ _. left_told s)
     (λ _. answered_told s.work.asked sources o (asked_nothing s)))
 
 rested_told : (s : State) → SameTold s (rested s)
@@ -71,7 +73,8 @@ rested_told s =
 followed_told : (sources : Sources) (o : Choices) (s : State) → SameTold s (followed sources o s)
 followed_told sources o s = rested_told (carried_out sources o s) ∙ carried_out_told sources o s
 
-pub turn_adds : (sources : Sources) (o : Choices) (s : State) → (turn sources o s).told ≡ s.told ++ (followed sources o (stepped s)).work.report.lines
+pub turn_adds : (sources : Sources) (o : Choices) (s : State) →
+    (turn sources o s).told ≡ s.told ++ (followed sources o (stepped s)).work.report.lines
 turn_adds sources o s = ap (λ told. told ++ (followed sources o (stepped s)).work.report.lines) (followed_told sources o (stepped s))
 
 pub turn_begins : (sources : Sources) (o : Choices) (s : State) → IsFront s.told (turn sources o s).told
@@ -79,7 +82,8 @@ turn_begins sources o s = record { rest = (followed sources o (stepped s)).work.
 
 -- Runs
 
-pub run_going : (sources : Sources) (o : Choices) (n : ℕ) (s : State) → has_ended s ≡ false → run sources o (suc n) s ≡ run sources o n (turn sources o s)
+pub run_going : (sources : Sources) (o : Choices) (n : ℕ) (s : State) → has_ended s ≡ false →
+    run sources o (suc n) s ≡ run sources o n (turn sources o s)
 run_going sources o n s going = ap (λ b. cond b s (run sources o n (turn sources o s))) going
 
 pub run_ended : (sources : Sources) (o : Choices) (n : ℕ) (s : State) → has_ended s ≡ true → run sources o n s ≡ s
@@ -88,7 +92,8 @@ run_ended sources o (suc n) s e = ap (λ b. cond b s (run sources o n (turn sour
 
 -- one turn more
 more_by : (sources : Sources) (o : Choices) (n : ℕ) (s : State) (b : Bool) → has_ended s ≡ b
-    → ((m : ℕ) → n ≡ suc m → has_ended (run sources o m (turn sources o s)) ≡ false → run sources o (suc m) (turn sources o s) ≡ turn sources o (run sources o m (turn sources o s)))
+    → ((m : ℕ) → n ≡ suc m → has_ended (run sources o m (turn sources o s)) ≡ false → run sources o (suc m) (turn sources o s) ≡ turn
+    sources o (run sources o m (turn sources o s)))
     → has_ended (run sources o n s) ≡ false → run sources o (suc n) s ≡ turn sources o (run sources o n s)
 more_by sources o n s true e later going = let never : true ≡ false = sym (ap has_ended (run_ended sources o n s e) ∙ e) ∙ going in cc
 more_by sources o zero s false e later going = run_going sources o zero s e
@@ -96,7 +101,8 @@ more_by sources o (suc m) s false e later going =
     let on = run_going sources o m s e in
     run_going sources o (suc m) s e ∙ later m refl (ap has_ended (sym on) ∙ going) ∙ ap (turn sources o) (sym on)
 
-pub run_more : (sources : Sources) (o : Choices) (n : ℕ) (s : State) → has_ended (run sources o n s) ≡ false → run sources o (suc n) s ≡ turn sources o (run sources o n s)
+pub run_more : (sources : Sources) (o : Choices) (n : ℕ) (s : State) → has_ended (run sources o n s) ≡ false →
+    run sources o (suc n) s ≡ turn sources o (run sources o n s)
 run_more sources o zero s going = more_by sources o zero s (has_ended s) refl (λ m never h. cc) going
 run_more sources o (suc n) s going =
     more_by sources o (suc n) s (has_ended s) refl (λ m is h.
@@ -108,11 +114,13 @@ pub run_begins : (sources : Sources) (o : Choices) (n : ℕ) (s : State) → IsF
 run_begins sources o zero s = front_same s.told
 run_begins sources o (suc n) s =
     of_both (λ t. IsFront s.told t.told) (has_ended s) s (run sources o n (turn sources o s)) (λ _. front_same s.told)
-    (λ _. front_then s.told (turn sources o s).told (run sources o n (turn sources o s)).told (turn_begins sources o s) (run_begins sources o n (turn sources o s)))
+    (λ _. front_then s.told (turn sources o s).told (run sources o n (turn sources o s)).told (turn_begins sources o s)
+    (run_begins sources o n (turn sources o s)))
 
 -- what was written after some turns begins what is at the end
 begins_by : (sources : Sources) (o : Choices) (m n : ℕ) (s : State) (b : Bool) → has_ended s ≡ b
-    → (has_ended (run sources o n (turn sources o s)) ≡ true → IsFront (run sources o m (turn sources o s)).told (run sources o n (turn sources o s)).told)
+    → (has_ended (run sources o n (turn sources o s)) ≡ true → IsFront (run sources o m (turn sources o s)).told
+    (run sources o n (turn sources o s)).told)
     → has_ended (run sources o (suc n) s) ≡ true → IsFront (run sources o (suc m) s).told (run sources o (suc n) s).told
 begins_by sources o m n s true is later e =
     subst (λ t. IsFront t.told (run sources o (suc n) s).told) (sym (run_ended sources o (suc m) s is)) (run_begins sources o (suc n) s)
@@ -121,22 +129,27 @@ begins_by sources o m n s false is later e =
     subst (λ t. IsFront t.told (run sources o (suc n) s).told) (sym (run_going sources o m s is))
     (subst (λ t. IsFront (run sources o m (turn sources o s)).told t.told) (sym on) (later (ap has_ended (sym on) ∙ e)))
 
-pub end_begins : (sources : Sources) (o : Choices) (m n : ℕ) (s : State) → has_ended (run sources o n s) ≡ true → IsFront (run sources o m s).told (run sources o n s).told
+pub end_begins : (sources : Sources) (o : Choices) (m n : ℕ) (s : State) → has_ended (run sources o n s) ≡ true →
+    IsFront (run sources o m s).told (run sources o n s).told
 end_begins sources o zero n s e = run_begins sources o n s
 end_begins sources o (suc m) zero s e = subst (λ t. IsFront t.told s.told) (sym (run_ended sources o (suc m) s e)) (front_same s.told)
-end_begins sources o (suc m) (suc n) s e = begins_by sources o m n s (has_ended s) refl (λ later. end_begins sources o m n (turn sources o s) later) e
+end_begins sources o (suc m) (suc n) s e =
+    begins_by sources o m n s (has_ended s) refl (λ later. end_begins sources o m n (turn sources o s) later) e
 
 -- two ends are the same
 same_by : (sources : Sources) (o : Choices) (m n : ℕ) (s : State) (b : Bool) → has_ended s ≡ b
-    → (has_ended (run sources o m (turn sources o s)) ≡ true → has_ended (run sources o n (turn sources o s)) ≡ true → run sources o m (turn sources o s) ≡ run sources o n (turn sources o s))
-    → has_ended (run sources o (suc m) s) ≡ true → has_ended (run sources o (suc n) s) ≡ true → run sources o (suc m) s ≡ run sources o (suc n) s
+    → (has_ended (run sources o m (turn sources o s)) ≡ true → has_ended (run sources o n (turn sources o s)) ≡ true → run sources o m
+    (turn sources o s) ≡ run sources o n (turn sources o s))
+    → has_ended (run sources o (suc m) s) ≡ true → has_ended (run sources o (suc n) s) ≡ true → run sources o (suc m) s ≡ run sources o
+    (suc n) s
 same_by sources o m n s true is later e f = run_ended sources o (suc m) s is ∙ sym (run_ended sources o (suc n) s is)
 same_by sources o m n s false is later e f =
     let left = run_going sources o m s is in
     let right = run_going sources o n s is in
     left ∙ later (ap has_ended (sym left) ∙ e) (ap has_ended (sym right) ∙ f) ∙ sym right
 
-pub same_end : (sources : Sources) (o : Choices) (m n : ℕ) (s : State) → has_ended (run sources o m s) ≡ true → has_ended (run sources o n s) ≡ true
+pub same_end : (sources : Sources) (o : Choices) (m n : ℕ) (s : State) → has_ended (run sources o m s) ≡ true →
+    has_ended (run sources o n s) ≡ true
     → run sources o m s ≡ run sources o n s
 same_end sources o zero n s e f = sym (run_ended sources o n s e)
 same_end sources o (suc m) zero s e f = run_ended sources o (suc m) s f
@@ -161,8 +174,10 @@ pub writes_none : (sources : Sources) (o : Choices) (s : List ℕ → State) (ol
 writes_none sources o s old = record { lines = []; takes = takes_none old; same = λ told. ap s (append-nil told) }
 
 -- one turn more, behind others
-pub writes_then : (sources : Sources) (o : Choices) (n : ℕ) (was mid now : List ℕ → State) (old between new : Option (List ℕ)) → ((told : List ℕ) → has_ended (mid told) ≡ false)
-    → Writes (run sources o n) was mid old between → Writes (turn sources o) mid now between new → Writes (run sources o (suc n)) was now old new
+pub writes_then : (sources : Sources) (o : Choices) (n : ℕ) (was mid now : List ℕ → State) (old between new : Option (List ℕ)) →
+    ((told : List ℕ) → has_ended (mid told) ≡ false)
+    → Writes (run sources o n) was mid old between → Writes (turn sources o) mid now between new → Writes (run sources o (suc n)) was now
+    old new
 writes_then sources o n was mid now old between new going a b = record {
   lines = a.lines ++ b.lines;
   takes = takes_then old between new a.lines b.lines a.takes b.takes;
@@ -172,19 +187,24 @@ writes_then sources o n was mid now old between new going a b = record {
 }
 
 -- a turn that was given up, behind others
-pub cuts_then : (sources : Sources) (o : Choices) (n : ℕ) (was mid : List ℕ → State) (old between new : Option (List ℕ)) → ((told : List ℕ) → has_ended (mid told) ≡ false)
-    → Writes (run sources o n) was mid old between → CutsShort (turn sources o) mid between new → CutsShort (run sources o (suc n)) was old new
+pub cuts_then : (sources : Sources) (o : Choices) (n : ℕ) (was mid : List ℕ → State) (old between new : Option (List ℕ)) →
+    ((told : List ℕ) → has_ended (mid told) ≡ false)
+    → Writes (run sources o n) was mid old between → CutsShort (turn sources o) mid between new → CutsShort (run sources o (suc n)) was old
+    new
 cuts_then sources o n was mid old between new going a b = record {
   front = a.lines ++ b.front;
   takes = takes_then old between new a.lines b.front a.takes b.takes;
   begins = λ told.
-      let more = ap (turn sources o) (a.same told) ∙ sym (run_more sources o n (was told) (ap has_ended (sym (a.same told)) ∙ going (told ++ a.lines))) in
+      let more =
+      ap (turn sources o) (a.same told)
+      ∙ sym (run_more sources o n (was told) (ap has_ended (sym (a.same told)) ∙ going (told ++ a.lines))) in
       subst (λ l. IsFront l (run sources o (suc n) (was told)).told) (append_assoc told a.lines b.front)
       (subst (λ t. IsFront ((told ++ a.lines) ++ b.front) t.told) more (b.begins (told ++ a.lines)));
 }
 
 -- nothing of a turn was written
-pub cut_at_once : (sources : Sources) (o : Choices) (was : List ℕ → State) (old new : Option (List ℕ)) → ((told : List ℕ) → (was told).told ≡ told) → new ≡ old
+pub cut_at_once : (sources : Sources) (o : Choices) (was : List ℕ → State) (old new : Option (List ℕ)) →
+    ((told : List ℕ) → (was told).told ≡ told) → new ≡ old
     → CutsShort (turn sources o) was old new
 cut_at_once sources o was old new told_is e = record {
   front = [];
@@ -195,7 +215,8 @@ cut_at_once sources o was old new told_is e = record {
 
 -- One step of reading behind another
 
-pub writes_on : (f g step : State → State) (was mid now : List ℕ → State) (old between new : Option (List ℕ)) → ((told : List ℕ) → g (was told) ≡ step (f (was told)))
+pub writes_on : (f g step : State → State) (was mid now : List ℕ → State) (old between new : Option (List ℕ)) →
+    ((told : List ℕ) → g (was told) ≡ step (f (was told)))
     → Writes f was mid old between → Writes step mid now between new → Writes g was now old new
 writes_on f g step was mid now old between new more a b = record {
   lines = a.lines ++ b.lines;
@@ -203,21 +224,24 @@ writes_on f g step was mid now old between new more a b = record {
   same = λ told. ap now (sym (append_assoc told a.lines b.lines)) ∙ b.same (told ++ a.lines) ∙ ap step (a.same told) ∙ sym (more told);
 }
 
-pub cuts_on : (f g step : State → State) (was mid : List ℕ → State) (old between new : Option (List ℕ)) → ((told : List ℕ) → g (was told) ≡ step (f (was told)))
+pub cuts_on : (f g step : State → State) (was mid : List ℕ → State) (old between new : Option (List ℕ)) →
+    ((told : List ℕ) → g (was told) ≡ step (f (was told)))
     → Writes f was mid old between → CutsShort step mid between new → CutsShort g was old new
 cuts_on f g step was mid old between new more a b = record {
   front = a.lines ++ b.front;
   takes = takes_then old between new a.lines b.front a.takes b.takes;
   begins = λ told.
       subst (λ l. IsFront l (g (was told)).told) (append_assoc told a.lines b.front)
-      (subst (λ (t : State). IsFront ((told ++ a.lines) ++ b.front) t.told) (ap step (a.same told) ∙ sym (more told)) (b.begins (told ++ a.lines)));
+      (subst (λ (t : State). IsFront ((told ++ a.lines) ++ b.front) t.told) (ap step (a.same told) ∙ sym (more told))
+      (b.begins (told ++ a.lines)));
 }
 
 -- some turns behind others
 sum_by : (sources : Sources) (o : Choices) (a b : ℕ) (s : State) (ended : Bool) → has_ended s ≡ ended
     → (run sources o (a + b) (turn sources o s) ≡ run sources o b (run sources o a (turn sources o s)))
     → run sources o (suc (a + b)) s ≡ run sources o b (run sources o (suc a) s)
-sum_by sources o a b s true e later = run_ended sources o (suc (a + b)) s e ∙ sym (run_ended sources o b s e) ∙ ap (run sources o b) (sym (run_ended sources o (suc a) s e))
+sum_by sources o a b s true e later =
+    run_ended sources o (suc (a + b)) s e ∙ sym (run_ended sources o b s e) ∙ ap (run sources o b) (sym (run_ended sources o (suc a) s e))
 sum_by sources o a b s false e later = run_going sources o (a + b) s e ∙ later ∙ ap (run sources o b) (sym (run_going sources o a s e))
 
 pub run_sum : (sources : Sources) (o : Choices) (a b : ℕ) (s : State) → run sources o (a + b) s ≡ run sources o b (run sources o a s)
@@ -243,9 +267,11 @@ still_going s e = or_not (has_ended s) _ e
 -- a part of one turn
 pub part_one : (sources : Sources) (o : Choices) (s : State) → has_ended s ≡ false → part sources o (suc zero) s ≡ turn sources o s
 part_one sources o s going =
-    ap (λ b. cond b s (cond (is_parted (turn sources o s)) (turn sources o s) (turn sources o s))) going ∙ same_both (is_parted (turn sources o s)) (turn sources o s)
+    ap (λ b. cond b s (cond (is_parted (turn sources o s)) (turn sources o s) (turn sources o s))) going
+    ∙ same_both (is_parted (turn sources o s)) (turn sources o s)
 
-part_stops : (sources : Sources) (o : Choices) (n : ℕ) (s : State) → has_ended s ≡ false → is_parted (turn sources o s) ≡ true → part sources o (suc n) s ≡ turn sources o s
+part_stops : (sources : Sources) (o : Choices) (n : ℕ) (s : State) → has_ended s ≡ false → is_parted (turn sources o s) ≡ true →
+    part sources o (suc n) s ≡ turn sources o s
 part_stops sources o n s going e =
     ap (λ b. cond b s (cond (is_parted (turn sources o s)) (turn sources o s) (part sources o n (turn sources o s)))) going
     ∙ ap (λ b. cond b (turn sources o s) (part sources o n (turn sources o s))) e
@@ -260,19 +286,22 @@ part_goes sources o n s going e =
 longer_by : (sources : Sources) (o : Choices) (n : ℕ) (s : State) (b : Bool) → has_ended s ≡ false → is_parted (turn sources o s) ≡ b
     → (has_ended (turn sources o s) ≡ false → is_parted (part sources o (suc n) (turn sources o s)) ≡ false
     → part sources o (suc (suc n)) (turn sources o s) ≡ turn sources o (part sources o (suc n) (turn sources o s)))
-    → is_parted (part sources o (suc (suc n)) s) ≡ false → part sources o (suc (suc (suc n))) s ≡ turn sources o (part sources o (suc (suc n)) s)
+    → is_parted (part sources o (suc (suc n)) s) ≡ false → part sources o (suc (suc (suc n))) s ≡ turn sources o
+    (part sources o (suc (suc n)) s)
 longer_by sources o n s true going e later open_still =
     let never : true ≡ false = sym (ap is_parted (part_stops sources o (suc n) s going e) ∙ e) ∙ open_still in cc
 longer_by sources o n s false going e later open_still =
     let on = part_goes sources o (suc n) s going e in
-    part_goes sources o (suc (suc n)) s going e ∙ later (still_going (turn sources o s) e) (ap is_parted (sym on) ∙ open_still) ∙ ap (turn sources o) (sym on)
+    part_goes sources o (suc (suc n)) s going e ∙ later (still_going (turn sources o s) e) (ap is_parted (sym on) ∙ open_still)
+    ∙ ap (turn sources o) (sym on)
 
 pub part_more : (sources : Sources) (o : Choices) (n : ℕ) (s : State) → has_ended s ≡ false → is_parted (part sources o (suc n) s) ≡ false
     → part sources o (suc (suc n)) s ≡ turn sources o (part sources o (suc n) s)
 part_more sources o zero s going open_still =
     let one = part_one sources o s going in
     let still : is_parted (turn sources o s) ≡ false = ap is_parted (sym one) ∙ open_still in
-    part_goes sources o (suc zero) s going still ∙ part_one sources o (turn sources o s) (still_going (turn sources o s) still) ∙ ap (turn sources o) (sym one)
+    part_goes sources o (suc zero) s going still ∙ part_one sources o (turn sources o s) (still_going (turn sources o s) still)
+    ∙ ap (turn sources o) (sym one)
 part_more sources o (suc n) s going open_still =
     longer_by sources o n s (is_parted (turn sources o s)) going refl (λ x y. part_more sources o n (turn sources o s) x y) open_still
 
@@ -281,7 +310,8 @@ pub part_none : (sources : Sources) (o : Choices) (s : List ℕ → State) (old 
 part_none sources o s old = record { lines = []; takes = takes_none old; same = λ told. ap s (append-nil told) }
 
 -- a part begins with a turn, and goes on with another
-pub part_first : (sources : Sources) (o : Choices) (was now : List ℕ → State) (old new : Option (List ℕ)) → ((told : List ℕ) → has_ended (was told) ≡ false)
+pub part_first : (sources : Sources) (o : Choices) (was now : List ℕ → State) (old new : Option (List ℕ)) →
+    ((told : List ℕ) → has_ended (was told) ≡ false)
     → Writes (turn sources o) was now old new → Writes (part sources o (suc zero)) was now old new
 part_first sources o was now old new going w = record {
   lines = w.lines;
@@ -289,9 +319,11 @@ part_first sources o was now old new going w = record {
   same = λ told. w.same told ∙ sym (part_one sources o (was told) (going told));
 }
 
-pub part_then : (sources : Sources) (o : Choices) (n : ℕ) (was mid now : List ℕ → State) (old between new : Option (List ℕ)) → ((told : List ℕ) → has_ended (was told) ≡ false)
+pub part_then : (sources : Sources) (o : Choices) (n : ℕ) (was mid now : List ℕ → State) (old between new : Option (List ℕ)) →
+    ((told : List ℕ) → has_ended (was told) ≡ false)
     → ((told : List ℕ) → is_parted (mid told) ≡ false)
-    → Writes (part sources o (suc n)) was mid old between → Writes (turn sources o) mid now between new → Writes (part sources o (suc (suc n))) was now old new
+    → Writes (part sources o (suc n)) was mid old between → Writes (turn sources o) mid now between new → Writes
+    (part sources o (suc (suc n))) was now old new
 part_then sources o n was mid now old between new going open_still a b = record {
   lines = a.lines ++ b.lines;
   takes = takes_then old between new a.lines b.lines a.takes b.takes;
@@ -303,7 +335,8 @@ part_then sources o n was mid now old between new going open_still a b = record 
 -- Where reading was given up for a file
 
 -- all was written that some turns write
-pub wrote_all : (f : State → State) (was mid : List ℕ → State) (old between new : Option (List ℕ)) → ((told : List ℕ) → (mid told).told ≡ told)
+pub wrote_all : (f : State → State) (was mid : List ℕ → State) (old between new : Option (List ℕ)) →
+    ((told : List ℕ) → (mid told).told ≡ told)
     → Writes f was mid old between → new ≡ between → WroteAll f was old new
 wrote_all f was mid old between new told_is a e = record {
   lines = a.lines;
@@ -313,7 +346,8 @@ wrote_all f was mid old between new told_is a e = record {
 
 -- behind others
 pub wrote_on : (sources : Sources) (o : Choices) (a b : ℕ) (was mid : List ℕ → State) (old between new : Option (List ℕ))
-    → Writes (run sources o a) was mid old between → WroteAll (run sources o b) mid between new → WroteAll (run sources o (a + b)) was old new
+    → Writes (run sources o a) was mid old between → WroteAll (run sources o b) mid between new → WroteAll (run sources o (a + b)) was old
+    new
 wrote_on sources o a b was mid old between new w all = record {
   lines = w.lines ++ all.lines;
   takes = takes_then old between new w.lines all.lines w.takes all.takes;
@@ -325,8 +359,10 @@ wrote_on sources o a b was mid old between new w all = record {
 -- What has been opened where reading was given up
 
 -- in a turn, behind others
-pub opened_then : (sources : Sources) (o : Choices) (n : ℕ) (was mid : List ℕ → State) (old between : Option (List ℕ)) (openings : List (List ℕ))
-    → ((told : List ℕ) → has_ended (mid told) ≡ false) → Writes (run sources o n) was mid old between → OpensWithin (turn sources o) mid openings
+pub opened_then : (sources : Sources) (o : Choices) (n : ℕ) (was mid : List ℕ → State) (old between : Option (List ℕ))
+    (openings : List (List ℕ))
+    → ((told : List ℕ) → has_ended (mid told) ≡ false) → Writes (run sources o n) was mid old between → OpensWithin (turn sources o) mid
+    openings
     → (turns : ℕ) × OpensAll (run sources o turns) was openings
 opened_then sources o n was mid old between openings going w (inl h) =
     (n, λ told. h (told ++ w.lines) ∙ ap (λ (s : State). s.nesting.openings) (w.same told))
@@ -334,31 +370,36 @@ opened_then sources o n was mid old between openings going w (inr h) = (
   suc n,
   λ told.
       h (told ++ w.lines) ∙ ap (λ (s : State). (turn sources o s).nesting.openings) (w.same told)
-      ∙ ap (λ (s : State). s.nesting.openings) (sym (run_more sources o n (was told) (ap has_ended (sym (w.same told)) ∙ going (told ++ w.lines)))),
+      ∙ ap (λ (s : State). s.nesting.openings) (sym (run_more sources o n (was told)
+      (ap has_ended (sym (w.same told)) ∙ going (told ++ w.lines)))),
 )
 
 -- in some turns, behind others
-pub opened_on : (sources : Sources) (o : Choices) (a b : ℕ) (was mid : List ℕ → State) (old between : Option (List ℕ)) (openings : List (List ℕ))
+pub opened_on : (sources : Sources) (o : Choices) (a b : ℕ) (was mid : List ℕ → State) (old between : Option (List ℕ))
+    (openings : List (List ℕ))
     → Writes (run sources o a) was mid old between → OpensAll (run sources o b) mid openings → OpensAll (run sources o (a + b)) was openings
 opened_on sources o a b was mid old between openings w h = λ told.
     h (told ++ w.lines) ∙ ap (λ (s : State). (run sources o b s).nesting.openings) (w.same told)
     ∙ ap (λ (s : State). s.nesting.openings) (sym (run_sum sources o a b (was told)))
 
 -- behind turns that came to their end
-pub opened_behind : (sources : Sources) (o : Choices) (n : ℕ) (was now : List ℕ → State) (old new : Option (List ℕ)) (openings : List (List ℕ))
+pub opened_behind : (sources : Sources) (o : Choices) (n : ℕ) (was now : List ℕ → State) (old new : Option (List ℕ))
+    (openings : List (List ℕ))
     → Writes (run sources o n) was now old new → OpensAll (λ s. s) now openings → OpensAll (run sources o n) was openings
 opened_behind sources o n was now old new openings w h = λ told. h (told ++ w.lines) ∙ ap (λ (s : State). s.nesting.openings) (w.same told)
 
 -- Given up for a file
 
-not_tried_more : (failed more : Type 0) (sources : Sources) (directories : List (List ℕ)) (text : List ℕ) (n : Nesting) (openings : List (List ℕ)) → (failed → more)
+not_tried_more : (failed more : Type 0) (sources : Sources) (directories : List (List ℕ)) (text : List ℕ) (n : Nesting)
+    (openings : List (List ℕ)) → (failed → more)
     → NotTried failed sources directories text n openings → NotTried more sources directories text n openings
 not_tried_more failed more sources directories text n openings later h = record {
   cause = elim h.cause as (λ _. more ⊎ OpensTooMany (inclusion sources directories text n) n openings) [ inl rose ↦ inl (later rose) | inr many ↦ inr many ];
   openings_are = h.openings_are;
 }
 
-pub stops_at_more : (failed more : Type 0) (sources : Sources) (o : Choices) (s : State) (openings : List (List ℕ)) (name : List ℕ) → (failed → more)
+pub stops_at_more : (failed more : Type 0) (sources : Sources) (o : Choices) (s : State) (openings : List (List ℕ)) (name : List ℕ) →
+    (failed → more)
     → StopsAtInclusion failed sources o s openings name → StopsAtInclusion more sources o s openings name
 stops_at_more failed more sources o s openings name later h = record {
   unit = h.unit;
@@ -368,7 +409,8 @@ stops_at_more failed more sources o s openings name later h = record {
   not_tried = not_tried_more failed more sources o.directories name s.nesting openings later h.not_tried;
 }
 
-pub stops_more : (failed more : Type 0) (sources : Sources) (o : Choices) (s : State) (start now : Openings) (files : Open) (name : List ℕ) → (failed → more)
+pub stops_more : (failed more : Type 0) (sources : Sources) (o : Choices) (s : State) (start now : Openings) (files : Open) (name : List ℕ)
+    → (failed → more)
     → StopsFor failed sources o s start now files name → StopsFor more sources o s start now files name
 stops_more failed more sources o s start now files name later (inl h) = inl (record {
   cause = elim h.cause as (λ _. more ⊎ (16777216 < files.lexer.window.given)) [ inl rose ↦ inl (later rose) | inr far ↦ inr far ];
@@ -379,12 +421,16 @@ stops_more failed more sources o s start now files name later (inl h) = inl (rec
   numbers = h.numbers;
   name_is = h.name_is;
 })
-stops_more failed more sources o s start now files name later (inr h) = inr (stops_at_more failed more sources o (stepped s) (opened_since start now) name later h)
+stops_more failed more sources o s start now files name later (inr h) =
+    inr (stops_at_more failed more sources o (stepped s) (opened_since start now) name later h)
 
 -- behind some turns
-pub given_up : (failed : Type 0) (sources : Sources) (o : Choices) (n : ℕ) (was mid : List ℕ → State) (old between new : Option (List ℕ)) (start now : Openings) (files : Open)
-    (name : List ℕ) → Writes (run sources o n) was mid old between → ((told : List ℕ) → (mid told).told ≡ told) → new ≡ between → ((told : List ℕ) → has_ended (mid told) ≡ false)
-    → ((told : List ℕ) → StopsFor failed sources o (mid told) start now files name) → GivenUp failed sources o was old new start now files name
+pub given_up : (failed : Type 0) (sources : Sources) (o : Choices) (n : ℕ) (was mid : List ℕ → State) (old between new : Option (List ℕ))
+    (start now : Openings) (files : Open)
+    (name : List ℕ) → Writes (run sources o n) was mid old between → ((told : List ℕ) → (mid told).told ≡ told) → new ≡ between →
+    ((told : List ℕ) → has_ended (mid told) ≡ false)
+    → ((told : List ℕ) → StopsFor failed sources o (mid told) start now files name) → GivenUp failed sources o was old new start now files
+    name
 given_up failed sources o n was mid old between new start now files name w told_is e going stops = record {
   turns = n;
   wrote = wrote_all (run sources o n) was mid old between new told_is w e;
@@ -393,8 +439,10 @@ given_up failed sources o n was mid old between new start now files name w told_
 }
 
 -- behind others
-pub given_up_on : (failed more : Type 0) (sources : Sources) (o : Choices) (a : ℕ) (was mid : List ℕ → State) (old between new : Option (List ℕ)) (start now : Openings) (files : Open)
-    (name : List ℕ) → (failed → more) → Writes (run sources o a) was mid old between → GivenUp failed sources o mid between new start now files name
+pub given_up_on : (failed more : Type 0) (sources : Sources) (o : Choices) (a : ℕ) (was mid : List ℕ → State)
+    (old between new : Option (List ℕ)) (start now : Openings) (files : Open)
+    (name : List ℕ) → (failed → more) → Writes (run sources o a) was mid old between → GivenUp failed sources o mid between new start now
+    files name
     → GivenUp more sources o was old new start now files name
 given_up_on failed more sources o a was mid old between new start now files name later w g = record {
   turns = a + g.turns;

@@ -32,21 +32,27 @@ included_opens sources o unit text set limit (Opens name) s = refl
 included_opens sources o unit text set limit (OpensNone why) s = ap (λ (n : Nesting). n.openings) (sym (none_opened unit text why s))
 
 -- it was tried
-pub tried : (sources : Sources) (o : Choices) (unit : Place) (text : List ℕ) (set : CharSet) (limit : ℕ) (start old new : Openings) (before : Session) (after : Open)
+pub tried : (sources : Sources) (o : Choices) (unit : Place) (text : List ℕ) (set : CharSet) (limit : ℕ) (start old new : Openings)
+    (before : Session) (after : Open)
     → nesting sources start new after
-    ≡ nested_by set limit sources (inclusion sources o.directories text (nesting sources start old before.open_files)) (nesting sources start old before.open_files)
+    ≡ nested_by set limit sources (inclusion sources o.directories text (nesting sources start old before.open_files))
+    (nesting sources start old before.open_files)
     → OpensWithin (included sources o unit text) (state sources start old before) (opened_since start new)
 tried sources o unit text set limit start old new before after e =
     inr (λ told. ap (λ (n : Nesting). n.openings) e
-    ∙ included_opens sources o unit text set limit (inclusion sources o.directories text (nesting sources start old before.open_files)) (state sources start old before told))
+    ∙ included_opens sources o unit text set limit (inclusion sources o.directories text (nesting sources start old before.open_files))
+    (state sources start old before told))
 
 -- it could not be tried, or its file is one too many
-pub in_vain : (sources : Sources) (o : Choices) (unit : Place) (text : List ℕ) (start old : Openings) (before : Session) (openings : List (List ℕ))
-    → OpenedInVain vain.Device (inclusion sources o.directories text (nesting sources start old before.open_files)) (nesting sources start old before.open_files) openings
+pub in_vain : (sources : Sources) (o : Choices) (unit : Place) (text : List ℕ) (start old : Openings) (before : Session)
+    (openings : List (List ℕ))
+    → OpenedInVain vain.Device (inclusion sources o.directories text (nesting sources start old before.open_files))
+    (nesting sources start old before.open_files) openings
     → OpensWithin (included sources o unit text) (state sources start old before) openings
 in_vain sources o unit text start old before openings (inl same) = inl (λ told. same)
 in_vain sources o unit text start old before openings (inr t) =
-    inr (λ told. t.openings_are ∙ sym (ap (λ (i : Inclusion). (included_by sources o unit text i (state sources start old before told)).nesting.openings) t.is_opened))
+    inr (λ told. t.openings_are ∙ sym (ap (λ (i : Inclusion). (included_by sources o unit text i
+    (state sources start old before told)).nesting.openings) t.is_opened))
 
 -- What a directive asks
 
@@ -56,14 +62,16 @@ not_ended mode.SkipsDirective h = refl
 not_ended mode.SkipsRoutine h = refl
 not_ended mode.Ended h = absurd (h refl)
 
-pub heeds : (sources : Sources) (o : Choices) (unit : Place) (text : List ℕ) (s : State) → s.work.report.counts.is_over ≡ false → is_mode_ended s.reading.mode ≡ false
+pub heeds : (sources : Sources) (o : Choices) (unit : Place) (text : List ℕ) (s : State) → s.work.report.counts.is_over ≡ false →
+    is_mode_ended s.reading.mode ≡ false
     → s.work.asked ≡ Include text unit → included sources o unit text (asked_nothing s) ≡ carried_out sources o s
 heeds sources o unit text s going reads asks =
     sym (ap (λ b. cond b s (cond (is_mode_ended s.reading.mode) (left s) (answered s.work.asked sources o (asked_nothing s)))) going
     ∙ ap (λ b. cond b (left s) (answered s.work.asked sources o (asked_nothing s))) reads
     ∙ ap (λ (a : Request). answered a sources o (asked_nothing s)) asks)
 
-pub carried_out_within : (sources : Sources) (o : Choices) (unit : Place) (text : List ℕ) (was mid : List ℕ → State) (openings : List (List ℕ))
+pub carried_out_within : (sources : Sources) (o : Choices) (unit : Place) (text : List ℕ) (was mid : List ℕ → State)
+    (openings : List (List ℕ))
     → ((told : List ℕ) → (was told).work.report.counts.is_over ≡ false) → ((told : List ℕ) → is_mode_ended (was told).reading.mode ≡ false)
     → ((told : List ℕ) → (was told).work.asked ≡ Include text unit) → ((told : List ℕ) → mid told ≡ asked_nothing (was told))
     → OpensWithin (included sources o unit text) mid openings → OpensWithin (carried_out sources o) was openings
@@ -83,12 +91,15 @@ rested_nesting s =
 pub followed_within : (sources : Sources) (o : Choices) (was : List ℕ → State) (openings : List (List ℕ))
     → OpensWithin (carried_out sources o) was openings → OpensWithin (followed sources o) was openings
 followed_within sources o was openings (inl h) = inl h
-followed_within sources o was openings (inr h) = inr (λ told. h told ∙ ap (λ (n : Nesting). n.openings) (sym (rested_nesting (carried_out sources o (was told)))))
+followed_within sources o was openings (inr h) =
+    inr (λ told. h told ∙ ap (λ (n : Nesting). n.openings) (sym (rested_nesting (carried_out sources o (was told)))))
 
 -- A turn
 
 -- behind its token
-pub turned_within : (sources : Sources) (o : Choices) (was mid : List ℕ → State) (openings : List (List ℕ)) → ((told : List ℕ) → mid told ≡ stepped (was told))
+pub turned_within : (sources : Sources) (o : Choices) (was mid : List ℕ → State) (openings : List (List ℕ)) →
+    ((told : List ℕ) → mid told ≡ stepped (was told))
     → OpensWithin (followed sources o) mid openings → OpensWithin (turn sources o) was openings
 turned_within sources o was mid openings first (inl h) = inl (λ told. h told ∙ ap (λ (s : State). s.nesting.openings) (first told))
-turned_within sources o was mid openings first (inr h) = inr (λ told. h told ∙ ap (λ (s : State). (followed sources o s).nesting.openings) (first told))
+turned_within sources o was mid openings first (inr h) =
+    inr (λ told. h told ∙ ap (λ (s : State). (followed sources o s).nesting.openings) (first told))

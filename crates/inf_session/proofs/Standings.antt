@@ -29,12 +29,14 @@ pub record Waiting (waiting : List Cursor) : Type 0 where
   pub others : List Cursor
   pub is : waiting ≡ first ∷ others
 
-pub one_waits : (s : Sources) (start now : Openings) (f : Open) (outer : List Reader) (r : Reader) → IsNested start now f → f.outer ≡ outer ++ r ∷ []
+pub one_waits : (s : Sources) (start now : Openings) (f : Open) (outer : List Reader) (r : Reader) → IsNested start now f →
+    f.outer ≡ outer ++ r ∷ []
     → Waiting (nesting s start now f).waiting
 one_waits s start now f outer r n e =
     let around : reverse f.outer ≡ r ∷ reverse outer = ap reverse e ∙ reverse_last outer r in
     let at = innermost_of (length now.all) (reverse now.open_places) f.lexer (reverse f.outer) n.nested in
-    let inner = innermost_of at.place at.rest r (reverse outer) (subst (λ (rs : List Reader). AreNested at.place at.rest rs) around at.inner) in
+    let inner =
+    innermost_of at.place at.rest r (reverse outer) (subst (λ (rs : List Reader). AreNested at.place at.rest rs) around at.inner) in
     record {
       first = cursor_of r (rest_of s (get_or now.all inner.place (opened [])) r.window);
       others = cursors_at s now.all inner.rest (reverse outer);
@@ -50,7 +52,8 @@ none_at s now (p ∷ places) = refl
 
 pub none_waits : (s : Sources) (start now : Openings) (f : Open) → f.outer ≡ [] → (nesting s start now f).waiting ≡ []
 none_waits s start now f e =
-    ap (λ (rs : List Reader). cursors_at s now.all (drop 1 (reverse now.open_places)) (reverse rs)) e ∙ none_at s now (drop 1 (reverse now.open_places))
+    ap (λ (rs : List Reader). cursors_at s now.all (drop 1 (reverse now.open_places)) (reverse rs)) e
+    ∙ none_at s now (drop 1 (reverse now.open_places))
 
 -- a file was left, and reading goes on in the one that waits
 abbrev going_on : Nesting → Compilation → State → State
@@ -65,32 +68,41 @@ resumes (c ∷ waiting) first others s e = refl
 abbrev closed_as : Conditions → Reported → State → State
 closed_as c r s = record s { conditions = c; work = record s.work { report = r } }
 
-closed_is : (s : State) (c : Conditions) (r : Reported) → c ≡ file_left s.conditions → r ≡ file_told s.nesting.names s.conditions s.work.report → closed_as c r s ≡ file_closed s
-closed_is s c r left told = ap (λ (x : Conditions). closed_as x r s) left ∙ ap (λ (x : Reported). closed_as (file_left s.conditions) x s) told
+closed_is : (s : State) (c : Conditions) (r : Reported) → c ≡ file_left s.conditions →
+    r ≡ file_told s.nesting.names s.conditions s.work.report → closed_as c r s ≡ file_closed s
+closed_is s c r left told =
+    ap (λ (x : Conditions). closed_as x r s) left ∙ ap (λ (x : Reported). closed_as (file_left s.conditions) x s) told
 
-pub left_is : (s : State) (n : Nesting) (c : Conditions) (r : Reported) (w : Compilation) → c ≡ file_left s.conditions → r ≡ file_told s.nesting.names s.conditions s.work.report
-    → w ≡ left_file (record s.work { report = r }) → n ≡ closed s.nesting → Waiting s.nesting.waiting → going_on n w (closed_as c r s) ≡ left s
+pub left_is : (s : State) (n : Nesting) (c : Conditions) (r : Reported) (w : Compilation) → c ≡ file_left s.conditions →
+    r ≡ file_told s.nesting.names s.conditions s.work.report
+    → w ≡ left_file (record s.work { report = r }) → n ≡ closed s.nesting → Waiting s.nesting.waiting → going_on n w (closed_as c r s) ≡
+    left s
 left_is s n c r w left told marked e one =
     ap (λ (x : Compilation). going_on n x (closed_as c r s)) marked
     ∙ ap (λ (x : State). going_on n (left_file x.work) x) (closed_is s c r left told)
-    ∙ ap (λ (m : Nesting). going_on m (left_file (file_closed s).work) (file_closed s)) e ∙ resumes s.nesting.waiting one.first one.others (file_closed s) one.is
+    ∙ ap (λ (m : Nesting). going_on m (left_file (file_closed s).work) (file_closed s)) e
+    ∙ resumes s.nesting.waiting one.first one.others (file_closed s) one.is
 
 -- nothing was left
-pub stays : (s : State) (n : Nesting) (c : Conditions) (r : Reported) → c ≡ file_left s.conditions → r ≡ file_told s.nesting.names s.conditions s.work.report
+pub stays : (s : State) (n : Nesting) (c : Conditions) (r : Reported) → c ≡ file_left s.conditions →
+    r ≡ file_told s.nesting.names s.conditions s.work.report
     → n ≡ s.nesting → s.nesting.waiting ≡ [] → record (closed_as c r s) { nesting = n } ≡ left s
 stays s n c r left told e none =
     ap (λ (x : State). record x { nesting = n }) (closed_is s c r left told)
-    ∙ ap (λ (m : Nesting). record (file_closed s) { nesting = m }) e ∙ sym (ap (λ (waiting : List Cursor). left_by waiting (file_closed s)) none)
+    ∙ ap (λ (m : Nesting). record (file_closed s) { nesting = m }) e
+    ∙ sym (ap (λ (waiting : List Cursor). left_by waiting (file_closed s)) none)
 
 -- Faults
 
-pub caused_more : (f : Fault) (P Q : List ℕ → Type 0) (A B : Type 0) → ((name : List ℕ) → P name → Q name) → (A → B) → Caused f P A → Caused f Q B
+pub caused_more : (f : Fault) (P Q : List ℕ → Type 0) (A B : Type 0) → ((name : List ℕ) → P name → Q name) → (A → B) → Caused f P A →
+    Caused f Q B
 caused_more fault.Memory P Q A B h k p = tt
 caused_more (fault.Read name) P Q A B h k p = h _ p
 caused_more fault.Messages P Q A B h k p = k p
 caused_more (fault.Story n) P Q A B h k p = p
 
-pub if_caused_more : {T : Type 0} (r : Result T Fault) (P Q : List ℕ → Type 0) (A B : Type 0) → ((name : List ℕ) → P name → Q name) → (A → B)
+pub if_caused_more : {T : Type 0} (r : Result T Fault) (P Q : List ℕ → Type 0) (A B : Type 0) → ((name : List ℕ) → P name → Q name) →
+    (A → B)
     → IfErr r (λ f. Caused f P A) → IfErr r (λ f. Caused f Q B)
 if_caused_more (Ok x) P Q A B h k p = tt
 if_caused_more (Err f) P Q A B h k p = caused_more f P Q A B h k p
@@ -101,11 +113,13 @@ read_more (fault.Read name) P Q h p = h _ p
 read_more fault.Messages P Q h p = tt
 read_more (fault.Story n) P Q h p = tt
 
-pub if_read_more : {T : Type 0} (r : Result T Fault) (P Q : List ℕ → Type 0) → ((name : List ℕ) → P name → Q name) → IfErr r (λ f. IfRead f P) → IfErr r (λ f. IfRead f Q)
+pub if_read_more : {T : Type 0} (r : Result T Fault) (P Q : List ℕ → Type 0) → ((name : List ℕ) → P name → Q name) →
+    IfErr r (λ f. IfRead f P) → IfErr r (λ f. IfRead f Q)
 if_read_more (Ok x) P Q h p = tt
 if_read_more (Err f) P Q h p = read_more f P Q h p
 
-pub if_read_both : {T : Type 0} (r : Result T Fault) (A : Type 0) (P Q : List ℕ → Type 0) → ((name : List ℕ) → A → P name → Q name) → IfErr r (λ f. IfRead f (λ name. A))
+pub if_read_both : {T : Type 0} (r : Result T Fault) (A : Type 0) (P Q : List ℕ → Type 0) → ((name : List ℕ) → A → P name → Q name) →
+    IfErr r (λ f. IfRead f (λ name. A))
     → IfErr r (λ f. IfRead f P) → IfErr r (λ f. IfRead f Q)
 if_read_both (Ok x) A P Q h a p = tt
 if_read_both (Err fault.Memory) A P Q h a p = tt

@@ -40,14 +40,16 @@ told_stand s b = said_told b.now.said s.nesting.names (stand_of s)
 -- what it is by what becomes of the token among conditionals
 abbrev by_behind : State → SourceToken → Behind → State
 by_behind s t b =
-    with_all s (moved s) (silent b.now) (judged_taken s.nesting.names t b.judged (told_stand s b)) (quoted_behind (site_of s.reading) b.judged t s.quoted)
+    with_all s (moved s) (silent b.now) (judged_taken s.nesting.names t b.judged (told_stand s b))
+    (quoted_behind (site_of s.reading) b.judged t s.quoted)
 
 abbrev by_token : State → SourceToken → State
 by_token s t = by_behind s t (judged (site_of s.reading) s.work.output t s.conditions)
 
 pub step_is : (s : State) (n : Nesting) (b : Behind) (c : Conditions) (x : ReaderState) (quoted : ℕ) (t : SourceToken)
     → n ≡ moved s → t ≡ token_of s.nesting.cursor → b ≡ judged (site_of s.reading) s.work.output t s.conditions
-    → c ≡ silent b.now → x ≡ judged_taken s.nesting.names t b.judged (told_stand s b) → quoted ≡ quoted_behind (site_of s.reading) b.judged t s.quoted
+    → c ≡ silent b.now → x ≡ judged_taken s.nesting.names t b.judged (told_stand s b) → quoted ≡ quoted_behind (site_of s.reading) b.judged
+    t s.quoted
     → with_all s n c x quoted ≡ stepped s
 step_is s n b c x quoted t goes is behind_it quiet taken longest =
     ap (λ n. with_all s n c x quoted) goes

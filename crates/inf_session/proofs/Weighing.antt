@@ -51,7 +51,8 @@ Falls before after = weight after < weight before
 stays_less : (before mid after : Open) → mid.outer ≡ before.outer → room mid.lexer < room before.lexer → after ≡ mid → Falls before after
 stays_less before mid after outer less same =
     let was = weight_in before before.outer refl in
-    let now : weight after ≡ weigh_from 0 before.outer + scale (15 - length before.outer) (room mid.lexer) = ap weight same ∙ weight_in mid before.outer outer in
+    let now : weight after ≡ weigh_from 0 before.outer + scale (15 - length before.outer) (room mid.lexer) =
+    ap weight same ∙ weight_in mid before.outer outer in
     let more = scale_more (15 - length before.outer) (room mid.lexer) (room before.lexer) less in
     omega (arith, was, now, more)
 
@@ -64,22 +65,26 @@ leaves_less before mid after outer left =
 
 -- another was entered, which can have no more than what was taken weighs
 enters_less : (before mid after : Open) → mid.outer ≡ before.outer → room mid.lexer < room before.lexer
-    → after.lexer.window.given ≡ 0 → after.lexer.window.left ≡ [] → after.outer ≡ mid.outer ++ mid.lexer ∷ [] → length mid.outer < 15 → Falls before after
+    → after.lexer.window.given ≡ 0 → after.lexer.window.left ≡ [] → after.outer ≡ mid.outer ++ mid.lexer ∷ [] → length mid.outer < 15 →
+    Falls before after
 enters_less before mid after outer less none empty entered deep =
     let levels : 15 - length before.outer ≡ suc (14 - length before.outer) = omega (arith, deep, ap length outer) in
     let was : weight before ≡ weigh_from 0 before.outer + scale (14 - length before.outer) (16777218 * room before.lexer) =
     weight_in before before.outer refl ∙ ap (λ n. weigh_from 0 before.outer + scale n (room before.lexer)) levels in
-    let size : length (before.outer ++ mid.lexer ∷ []) ≡ suc (length before.outer) = omega (arith, length-append before.outer (mid.lexer ∷ [])) in
+    let size : length (before.outer ++ mid.lexer ∷ []) ≡ suc (length before.outer) =
+    omega (arith, length-append before.outer (mid.lexer ∷ [])) in
     let inner : 15 - length (before.outer ++ mid.lexer ∷ []) ≡ 14 - length before.outer = omega (arith, size) in
     let all : room after.lexer ≡ 16777217 = omega (arith, none, ap length empty) in
-    let around : weigh_from 0 (before.outer ++ mid.lexer ∷ []) ≡ weigh_from 0 before.outer + scale (14 - length before.outer) (16777218 * room mid.lexer) =
+    let around : weigh_from 0 (before.outer ++ mid.lexer ∷ []) ≡ weigh_from 0 before.outer + scale (14 - length before.outer)
+    (16777218 * room mid.lexer) =
     weight_is before.outer mid.lexer ∙ ap (λ n. weigh_from 0 before.outer + scale n (room mid.lexer)) levels in
     let now : weight after ≡ weigh_from 0 (before.outer ++ mid.lexer ∷ []) + scale (14 - length before.outer) 16777217 =
     weight_in after (before.outer ++ mid.lexer ∷ []) (entered ∙ ap (λ rs. rs ++ mid.lexer ∷ []) outer)
     ∙ ap (λ n. weigh_from 0 (before.outer ++ mid.lexer ∷ []) + scale n (room after.lexer)) inner
     ∙ ap (λ n. weigh_from 0 (before.outer ++ mid.lexer ∷ []) + scale (14 - length before.outer) n) all in
     let both = scale_sum (14 - length before.outer) (16777218 * room mid.lexer) 16777217 in
-    let more = scale_more (14 - length before.outer) (16777218 * room mid.lexer + 16777217) (16777218 * room before.lexer) (omega (arith, less)) in
+    let more =
+    scale_more (14 - length before.outer) (16777218 * room mid.lexer + 16777217) (16777218 * room before.lexer) (omega (arith, less)) in
     omega (arith, was, around, now, both, more)
 
 -- a token was taken of the innermost file, or its end was read; and then reading went on
@@ -89,7 +94,8 @@ falls before mid after is_at_end outer moved (Leaves is) = leaves_less before mi
 falls before mid after is_at_end outer (inl at_end) (Stays going same) = let never : true ≡ false = sym at_end ∙ going in cc
 falls before mid after is_at_end outer (inl at_end) (Enters going none empty is deep) = let never : true ≡ false = sym at_end ∙ going in cc
 falls before mid after is_at_end outer (inr less) (Stays going same) = stays_less before mid after outer less same
-falls before mid after is_at_end outer (inr less) (Enters going none empty is deep) = enters_less before mid after outer less none empty is deep
+falls before mid after is_at_end outer (inr less) (Enters going none empty is deep) =
+    enters_less before mid after outer less none empty is deep
 
 -- a token was taken of what was in view and given
 pub room_less : (before after : Reader) → before.window.given + length after.window.left < after.window.given + length before.window.left
@@ -97,7 +103,8 @@ pub room_less : (before after : Reader) → before.window.given + length after.w
 room_less before after less few = omega (arith, less, few)
 
 -- a turn that does not end reading weighs less than what weighed less before
-pub falls_then : (over ended : Bool) (first mid last : ℕ) → (over ≡ true) ⊎ (mid < first) → over ≡ false → (ended ≡ true) ⊎ (last < mid) → (ended ≡ true) ⊎ (last < first)
+pub falls_then : (over ended : Bool) (first mid last : ℕ) → (over ≡ true) ⊎ (mid < first) → over ≡ false → (ended ≡ true) ⊎ (last < mid) →
+    (ended ≡ true) ⊎ (last < first)
 falls_then over ended first mid last (inl is) going after = let never : true ≡ false = sym is ∙ going in cc
 falls_then over ended first mid last (inr less) going (inl is) = inl is
 falls_then over ended first mid last (inr less) going (inr more) = inr (omega (arith, less, more))

@@ -19,4 +19,5 @@ most_quoted o = number_of QuotedText o.settings
 
 -- what the code's setup stands for
 abbrev pub chosen : Setup → Choices
-chosen s = record { set = s.set; has_warnings = s.has_warnings; settings = s.settings.now; directories = map (λ d. d.now) s.directories.now }
+chosen s =
+    record { set = s.set; has_warnings = s.has_warnings; settings = s.settings.now; directories = map (λ d. d.now) s.directories.now }

@@ -41,19 +41,27 @@ first_line files = location files first_place
 abbrev pub fields_of : List ℕ → Routines → HeaderFields
 fields_of serial code = record { release = 1; serial = serial; scale = code.scale }
 
--- The story of the code, the strings and the tables, in which a routine is called first and names are these: or why it is too long, which is a fatal error. What can be read is
+-- The story of the code, the strings and the tables, in which a routine is called first and names are these: or why it is too long, which
+-- is a fatal error. What can be read is
 -- looked at first.
 abbrev pub linked : List ℕ → FileNames → ℕ → List Value → Routines → StringArea → Tables → Reported → Option LinkFault → Outcome
 linked serial files main names code strings tables r None =
-    record { messages = (with_closing r).lines; story = Some (story (fields_of serial code) main names code.finished strings.bytes tables); status = status.Success }
-linked serial files main names code strings tables r (Some link_fault.ReadableTooLong) = refused (with_fatal (first_line files) ReadableTooLong r)
-linked serial files main names code strings tables r (Some link_fault.StoryTooLong) = refused (with_fatal (first_line files) (StoryTooLong (most_bytes code.scale)) r)
+    record {
+      messages = (with_closing r).lines;
+      story = Some (story (fields_of serial code) main names code.finished strings.bytes tables);
+      status = status.Success;
+    }
+linked serial files main names code strings tables r (Some link_fault.ReadableTooLong) =
+    refused (with_fatal (first_line files) ReadableTooLong r)
+linked serial files main names code strings tables r (Some link_fault.StoryTooLong) =
+    refused (with_fatal (first_line files) (StoryTooLong (most_bytes code.scale)) r)
 linked serial files main names code strings tables r (Some link_fault.Memory) = refused r
 
 -- A name of a kind that is no number in a story is an error.
 abbrev pub named : List ℕ → FileNames → ℕ → Routines → StringArea → Tables → Reported → Option (List Value) → Outcome
 named serial files main code strings tables r None = refused (with_error (first_line files) (first_line files) NotConstant r)
-named serial files main code strings tables r (Some names) = linked serial files main names code strings tables r (too_long (fields_of serial code) main code.finished strings.bytes tables)
+named serial files main code strings tables r (Some names) =
+    linked serial files main names code strings tables r (too_long (fields_of serial code) main code.finished strings.bytes tables)
 
 abbrev pub laid : List ℕ → FileNames → ℕ → Out → Reported → Outcome
 laid serial files main o r = named serial files main o.code o.strings o.tables r (values_of o.names.names)
@@ -65,7 +73,8 @@ begun serial files o r (Some main) = if is_clean r then laid serial files main o
 
 -- The names are told that were used and never declared.
 abbrev pub finished_with : List ℕ → FileNames → Compilation → Outcome
-finished_with serial files w = begun serial files w.output (with_all_undeclared files w.output.names.names w.report) (main_of w.output.names)
+finished_with serial files w =
+    begun serial files w.output (with_all_undeclared files w.output.names.names w.report) (main_of w.output.names)
 
 -- At the end, at the latest, code begins.
 abbrev pub finished : List ℕ → FileNames → Compilation → Outcome

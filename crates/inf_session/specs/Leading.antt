@@ -46,22 +46,25 @@ OpensWithin step was openings = OpensAll (λ s. s) was openings ⊎ OpensAll ste
 
 -- Reading was given up in a token, where these files are open: it is not ended by what was given of the innermost file, of a source
 -- that has too many bytes by as many as it may have. The device failed, or the source has too many.
-pub record StopsInToken (failed : Type 0) (sources : Sources) (s : State) (start now : Openings) (files : Open) (name : List ℕ) : Type 0 where
-  pub cause : failed ⊎ (16777216 < files.lexer.window.given)
-  pub not_ended : Unfinished s.nesting.cursor (files.lexer.window.given - 16777216) (unread sources now)
-  pub goes_on : files.lexer.window.is_over ≡ false
-  pub openings : opened_since start now ≡ s.nesting.openings
-  pub names : files.nest.names ≡ s.nesting.names
-  pub numbers : files_of (files.lexer ∷ reverse files.outer) ≡ map (λ (c : Cursor). c.file) (s.nesting.cursor ∷ s.nesting.waiting)
-  pub name_is : name ≡ innermost_name s.nesting
+pub record StopsInToken (failed : Type 0) (sources : Sources) (s : State) (start now : Openings) (files : Open) (name : List ℕ) : Type 0
+  where
+    pub cause : failed ⊎ (16777216 < files.lexer.window.given)
+    pub not_ended : Unfinished s.nesting.cursor (files.lexer.window.given - 16777216) (unread sources now)
+    pub goes_on : files.lexer.window.is_over ≡ false
+    pub openings : opened_since start now ≡ s.nesting.openings
+    pub names : files.nest.names ≡ s.nesting.names
+    pub numbers : files_of (files.lexer ∷ reverse files.outer) ≡ map (λ (c : Cursor). c.file) (s.nesting.cursor ∷ s.nesting.waiting)
+    pub name_is : name ≡ innermost_name s.nesting
 
 -- A file that an inclusion names could not be opened, or is one more than can be numbered.
-pub record NotTried (failed : Type 0) (sources : Sources) (directories : List (List ℕ)) (text : List ℕ) (n : Nesting) (openings : List (List ℕ)) : Type 0 where
+pub record NotTried (failed : Type 0) (sources : Sources) (directories : List (List ℕ)) (text : List ℕ) (n : Nesting)
+    (openings : List (List ℕ)) : Type 0 where
   pub cause : failed ⊎ OpensTooMany (inclusion sources directories text n) n openings
   pub openings_are : OpenedInVain fault.Device (inclusion sources directories text n) n openings
 
 -- Reading was given up behind a token that ends a directive, which asks for a file by this name.
-pub record StopsAtInclusion (failed : Type 0) (sources : Sources) (o : Choices) (s : State) (openings : List (List ℕ)) (name : List ℕ) : Type 0 where
+pub record StopsAtInclusion (failed : Type 0) (sources : Sources) (o : Choices) (s : State) (openings : List (List ℕ)) (name : List ℕ) :
+    Type 0 where
   pub unit : Place
   pub asks : s.work.asked ≡ Include name unit
   pub reads : is_mode_ended s.reading.mode ≡ false
@@ -74,7 +77,8 @@ StopsFor failed sources o s start now files name =
     StopsInToken failed sources s start now files name ⊎ StopsAtInclusion failed sources o (stepped s) (opened_since start now) name
 
 -- Reading was given up for the file of a name: what was written is all that so many turns write, and behind them reading stops so.
-pub record GivenUp (failed : Type 0) (sources : Sources) (o : Choices) (was : List ℕ → State) (old new : Option (List ℕ)) (start now : Openings) (files : Open) (name : List ℕ) : Type 0 where
+pub record GivenUp (failed : Type 0) (sources : Sources) (o : Choices) (was : List ℕ → State) (old new : Option (List ℕ))
+    (start now : Openings) (files : Open) (name : List ℕ) : Type 0 where
   pub turns : ℕ
   pub wrote : WroteAll (run sources o turns) was old new
   pub goes_on : (told : List ℕ) → has_ended (run sources o turns (was told)) ≡ false

@@ -47,7 +47,8 @@ pub record State : Type 0 where
 abbrev pub first_place : Place
 first_place = record { file = 0; line = 1 }
 
--- Each story has four objects, whose property tables have 30 bytes and their addresses four references, and a low string of two bytes. Where they alone would
+-- Each story has four objects, whose property tables have 30 bytes and their addresses four references, and a low string of two bytes.
+-- Where they alone would
 -- pass a setting, this is told before the first token.
 abbrev pub tables_full : Settings → Option Setting
 tables_full settings =
@@ -67,7 +68,16 @@ abbrev pub start : Sources → Choices → List ℕ → State
 start sources o name =
     let main = main_opened o.set (most_quoted o) sources name in
     let s = begun_with o main.names in
-    record { nesting = main; conditions = no_conditions o.settings; reading = s.reading; work = s.work; told = []; is_over = false; quoted = 0 }
+    record {
+      nesting = main;
+      conditions = no_conditions o.settings;
+      reading = s.reading;
+      work = s.work;
+      told = [];
+      is_over = false;
+      quoted =
+          0;
+    }
 
 -- how it is read and what was compiled
 abbrev pub stand_of : State → ReaderState
@@ -120,12 +130,14 @@ stepped s =
 
 -- At the end of a file the conditionals are told that are open in it.
 abbrev pub file_closed : State → State
-file_closed s = record s { conditions = file_left s.conditions; work = record s.work { report = file_told s.nesting.names s.conditions s.work.report } }
+file_closed s =
+    record s { conditions = file_left s.conditions; work = record s.work { report = file_told s.nesting.names s.conditions s.work.report } }
 
 -- An included file is closed then, and reading goes on in the one that includes it.
 abbrev pub left_by : List Cursor → State → State
 left_by [] s = s
-left_by (c ∷ waiting) s = record s { nesting = resumed (c ∷ waiting) s.nesting; reading = record s.reading { mode = mode.Reads }; work = left_file s.work }
+left_by (c ∷ waiting) s =
+    record s { nesting = resumed (c ∷ waiting) s.nesting; reading = record s.reading { mode = mode.Reads }; work = left_file s.work }
 
 abbrev pub left : State → State
 left s = left_by s.nesting.waiting (file_closed s)
@@ -146,7 +158,8 @@ file_begun s = record s { conditions = file_entered s.conditions; work = entered
 
 -- the file that an inclusion opens is the innermost
 abbrev pub included_by : Sources → Choices → Place → List ℕ → Inclusion → State → State
-included_by sources o unit text (Opens name) s = file_begun (record s { nesting = with_opened o.set (most_quoted o) sources name s.nesting })
+included_by sources o unit text (Opens name) s =
+    file_begun (record s { nesting = with_opened o.set (most_quoted o) sources name s.nesting })
 included_by sources o unit text (OpensNone why) s = none_included unit text why s
 
 -- the file that the text of an inclusion names is entered, for a unit at a place

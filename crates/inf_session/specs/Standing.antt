@@ -59,9 +59,11 @@ bounds_of settings = (limits_of settings, number_of Strings settings, table_boun
 -- that the first four objects and the first low string alone pass no setting
 abbrev pub HasObjects : Settings → Type 0
 HasObjects settings =
-    (4 ≤ number_of Objects settings) × (30 ≤ number_of PropertyTables settings) × (2 ≤ number_of LowStrings settings) × (4 ≤ number_of References settings)
+    (4 ≤ number_of Objects settings) × (30 ≤ number_of PropertyTables settings) × (2 ≤ number_of LowStrings settings) ×
+    (4 ≤ number_of References settings)
 
--- What the settings bound stands under them: the names, the code, the strings, the tables, the quoted tokens, and, unless a fatal message came, the first
+-- What the settings bound stands under them: the names, the code, the strings, the tables, the quoted tokens, and, unless a fatal message
+-- came, the first
 -- four objects.
 abbrev pub IsBounded : Session → Type 0
 IsBounded s =
@@ -91,8 +93,10 @@ parted s = ended s || ((site_of (reading s.progress.reader)).is_between && may_p
 abbrev pub came_to : Bool → Session → Step
 came_to had_ended s = if is_fatal s then step.Fatal else if had_ended then step.End else step.More
 
--- How much there is so far of what each setting bounds, in the order of the settings: the longest quoted token, the tokens of the longest expression, the names, the
--- most labels of a routine, the words, objects, verbs and actions, the bytes of grammar, properties, arrays, low strings, code and strings, and the references; of
+-- How much there is so far of what each setting bounds, in the order of the settings: the longest quoted token, the tokens of the longest
+-- expression, the names, the
+-- most labels of a routine, the words, objects, verbs and actions, the bytes of grammar, properties, arrays, low strings, code and strings,
+-- and the references; of
 -- tokens, labels and references at most as many as there may be.
 abbrev pub held : Session → List ℕ
 held s =
@@ -102,6 +106,8 @@ held s =
     let tables = output.tables in
     s.quoted ∷ min (max w.most_tokens s.conditionals.most_tokens) (number_of ExpressionNodes settings) ∷ length output.names.names
     ∷ min w.most_labels (number_of Labels settings)
-    ∷ length tables.dictionary.list ∷ object_count tables.world ∷ length tables.verbs.list ∷ length tables.actions.routines ∷ verbs_size tables.verbs.list
+    ∷ length tables.dictionary.list ∷ object_count tables.world ∷ length tables.verbs.list ∷ length tables.actions.routines ∷ verbs_size
+    tables.verbs.list
     ∷ bytes_now tables.world ∷ arrays_size (all_of tables.arrays) ∷ low_size tables.low_strings
-    ∷ code_count output.code ∷ length output.strings.bytes ∷ min (references_with (reference_count output.code) tables) (number_of References settings) ∷ []
+    ∷ code_count output.code ∷ length output.strings.bytes ∷ min (references_with (reference_count output.code) tables)
+    (number_of References settings) ∷ []

@@ -26,4 +26,5 @@ weight f = weigh_from 0 (f.outer ++ f.lexer ∷ [])
 pub data GoesOn (is_at_end : Bool) (before after : Open) : Type 0 where
   Leaves : before.outer ≡ after.outer ++ after.lexer ∷ [] → GoesOn is_at_end before after
   Stays : is_at_end ≡ false → after ≡ before → GoesOn is_at_end before after
-  Enters : is_at_end ≡ false → after.lexer.window.given ≡ 0 → after.lexer.window.left ≡ [] → after.outer ≡ before.outer ++ before.lexer ∷ [] → length before.outer < 15 → GoesOn is_at_end before after
+  Enters : is_at_end ≡ false → after.lexer.window.given ≡ 0 → after.lexer.window.left ≡ [] →
+      after.outer ≡ before.outer ++ before.lexer ∷ [] → length before.outer < 15 → GoesOn is_at_end before after

@@ -39,7 +39,8 @@ pub(crate) fn conclude<M: Sink>(
 ) -> Result<Compiled, Fault>
     ensures ok { IfOk result (λ compiled. Delivers (finished serial.now names.now.names (work_of work)) compiled
         (M.taken messages.old) (M.taken messages.new)) }
-    ensures err { OnErr result (TakesFront (finished serial.now names.now.names (work_of work)).messages (M.taken messages.old) (M.taken messages.new)) }
+    ensures err { OnErr result (TakesFront (finished serial.now names.now.names (work_of work)).messages (M.taken messages.old)
+        (M.taken messages.new)) }
     ensures errors { IfOk result (λ compiled. compiled.status ≡ Status.Errors → compiled.story ≡ None) }
     ensures clean { IfOk result (λ compiled. compiled.status ≡ Status.Success → EndsClean (M.taken messages.old) (M.taken messages.new)) }
     ensures fault { IfErr result (λ fault. Caused fault (λ name. ⊥) (Rose (M.failures messages.old) (M.failures messages.new))) }

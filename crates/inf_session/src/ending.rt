@@ -152,7 +152,8 @@ fn parts_of(work: Compilation) -> (Code, Contents, Diagnostics)
     (code, contents, report)
 }
 
-/// Ends the compilation of a source without an error, in which the routine at a place is called first. A name that is no number in a story is an
+/// Ends the compilation of a source without an error, in which the routine at a place is called first. A name that is no number in a story
+/// is an
 /// error.
 fn laid(
     alloc: Global,
@@ -242,7 +243,11 @@ fn linked(
 
 /// The outcome of a compilation without an error.
 fn compiled(story: Story, mut report: Diagnostics) -> Result<Outcome, AllocError>
-    ensures { IfOk result (λ t. seen t ≡ record { messages = (with_closing report).lines; story = Some story.bytes; status = Status.Success }) }
+    ensures { IfOk result (λ t. seen t ≡ record {
+      messages = (with_closing report).lines;
+      story = Some story.bytes;
+      status = Status.Success;
+    }) }
 {
     report.close()?;
     Ok(Outcome {

@@ -73,7 +73,8 @@ impl<'a> Session<'a> {
         open_files: OpenFiles,
     ) -> Result<Session<'a>, OpenFiles>
         ensures files { IfOk result (λ session. session.open_files ≡ open_files) }
-        ensures standing { IfOk result (λ session. standing session.progress ≡ begun_with (chosen setup.entry) session.open_files.nest.names) }
+        ensures standing { IfOk result (λ session. standing session.progress ≡ begun_with (chosen setup.entry)
+            session.open_files.nest.names) }
         ensures going { IfOk result (λ session. session.is_over ≡ false) }
         ensures conditionals { IfOk result (λ session. session.conditionals ≡ no_conditions (chosen setup.entry).settings) }
         ensures quoted { IfOk result (λ session. session.quoted ≡ 0) }
@@ -112,7 +113,8 @@ impl<'a> Session<'a> {
         // With an honest reader.
         ensures read { Honestly F.Files files.old self.old.open_files (λ start.
             OnOk result ((turns : ℕ) × Writes (run (F.sources files.old) (chosen self.old.setup) turns)
-            (state (F.sources files.old) start (F.openings files.old) self.old) (state (F.sources files.old) start (F.openings files.new) self.new)
+            (state (F.sources files.old) start (F.openings files.old) self.old)
+            (state (F.sources files.old) start (F.openings files.new) self.new)
             (M.taken messages.old) (M.taken messages.new))) }
         ensures cut { Honestly F.Files files.old self.old.open_files (λ start.
             OnErr result ((turns : ℕ) × CutsShort (run (F.sources files.old) (chosen self.old.setup) turns)
@@ -125,10 +127,12 @@ impl<'a> Session<'a> {
         ensures went { Went F.Files files.old files.new self.old.open_files self.new.open_files }
         ensures ended { OnOk result (ended self.new ≡ true) }
         ensures is_open { length self.new.open_files.outer < F.depth files.new }
-        ensures fault { IfErr result (λ fault. Caused fault (λ name. IsUnreadable F.Files files.old files.new self.old.open_files self.new.open_files)
+        ensures fault { IfErr result (λ fault. Caused fault (λ name. IsUnreadable F.Files files.old files.new self.old.open_files
+            self.new.open_files)
             (Rose (M.failures messages.old) (M.failures messages.new))) }
         ensures unread { Honestly F.Files files.old self.old.open_files (λ start.
-            IfErr result (λ fault. IfRead fault (λ name. GivenUp (Rose (F.faults files.old) (F.faults files.new)) (F.sources files.old) (chosen self.old.setup)
+            IfErr result (λ fault. IfRead fault (λ name. GivenUp (Rose (F.faults files.old) (F.faults files.new)) (F.sources files.old)
+            (chosen self.old.setup)
             (state (F.sources files.old) start (F.openings files.old) self.old) (M.taken messages.old) (M.taken messages.new)
             start (F.openings files.new) self.new.open_files name))) }
         ensures fits { OnOk result (StaysFit F.Files files.old files.new self.old.open_files) }
@@ -157,10 +161,12 @@ impl<'a> Session<'a> {
         // With an honest reader.
         ensures part { Honestly F.Files files.old self.old.open_files (λ start.
             OnOk result ((turns : ℕ) × (Writes (part (F.sources files.old) (chosen self.old.setup) turns)
-            (state (F.sources files.old) start (F.openings files.old) self.old) (state (F.sources files.old) start (F.openings files.new) self.new)
+            (state (F.sources files.old) start (F.openings files.old) self.old)
+            (state (F.sources files.old) start (F.openings files.new) self.new)
             (M.taken messages.old) (M.taken messages.new)
             × Writes (run (F.sources files.old) (chosen self.old.setup) turns)
-            (state (F.sources files.old) start (F.openings files.old) self.old) (state (F.sources files.old) start (F.openings files.new) self.new)
+            (state (F.sources files.old) start (F.openings files.old) self.old)
+            (state (F.sources files.old) start (F.openings files.new) self.new)
             (M.taken messages.old) (M.taken messages.new)))) }
         ensures cut { Honestly F.Files files.old self.old.open_files (λ start.
             OnErr result ((turns : ℕ) × CutsShort (run (F.sources files.old) (chosen self.old.setup) turns)
@@ -181,10 +187,12 @@ impl<'a> Session<'a> {
         ensures goes { OnOk result (self.new.open_files.lexer.has_failed ≡ false) }
         ensures set { IsSet self.new }
         ensures is_open { length self.new.open_files.outer < F.depth files.new }
-        ensures fault { IfErr result (λ fault. Caused fault (λ name. IsUnreadable F.Files files.old files.new self.old.open_files self.new.open_files)
+        ensures fault { IfErr result (λ fault. Caused fault (λ name. IsUnreadable F.Files files.old files.new self.old.open_files
+            self.new.open_files)
             (Rose (M.failures messages.old) (M.failures messages.new))) }
         ensures unread { Honestly F.Files files.old self.old.open_files (λ start.
-            IfErr result (λ fault. IfRead fault (λ name. GivenUp (Rose (F.faults files.old) (F.faults files.new)) (F.sources files.old) (chosen self.old.setup)
+            IfErr result (λ fault. IfRead fault (λ name. GivenUp (Rose (F.faults files.old) (F.faults files.new)) (F.sources files.old)
+            (chosen self.old.setup)
             (state (F.sources files.old) start (F.openings files.old) self.old) (M.taken messages.old) (M.taken messages.new)
             start (F.openings files.new) self.new.open_files name))) }
         ensures fits { OnOk result (StaysFit F.Files files.old files.new self.old.open_files) }
@@ -211,12 +219,15 @@ impl<'a> Session<'a> {
         messages: &mut M,
     ) -> (OpenFiles, Result<Compiled, Fault>)
         ensures files { result.0 ≡ self.entry.open_files }
-        ensures ok { IfOk result.1 (λ compiled. Delivers (finished serial.now self.entry.open_files.nest.names (work_of self.entry.progress.work)) compiled
+        ensures ok { IfOk result.1 (λ compiled. Delivers (finished serial.now self.entry.open_files.nest.names
+            (work_of self.entry.progress.work)) compiled
             (M.taken messages.old) (M.taken messages.new)) }
-        ensures err { OnErr result.1 (TakesFront (finished serial.now self.entry.open_files.nest.names (work_of self.entry.progress.work)).messages
+        ensures err { OnErr result.1 (TakesFront (finished serial.now self.entry.open_files.nest.names
+            (work_of self.entry.progress.work)).messages
             (M.taken messages.old) (M.taken messages.new)) }
         ensures errors { IfOk result.1 (λ compiled. compiled.status ≡ Status.Errors → compiled.story ≡ None) }
-        ensures clean { IfOk result.1 (λ compiled. compiled.status ≡ Status.Success → EndsClean (M.taken messages.old) (M.taken messages.new)) }
+        ensures clean { IfOk result.1 (λ compiled. compiled.status ≡ Status.Success → EndsClean (M.taken messages.old)
+            (M.taken messages.new)) }
         ensures fault { IfErr result.1 (λ fault. Caused fault (λ name. ⊥) (Rose (M.failures messages.old) (M.failures messages.new))) }
         ensures wrote { Appends M.Sink messages.old messages.new }
     {
@@ -257,9 +268,12 @@ impl<'a> Session<'a> {
         self.progress.site().is_between && self.conditionals.is_resting()
     }
 
-    /// How much there is so far of what each setting bounds, in the order of the settings: the bytes of the longest quoted token, the tokens of the longest
-    /// expression, the names, the most labels of a routine, the words, objects, verbs and actions, the bytes of grammar, properties, arrays, low strings, code and
-    /// strings, and the references; of tokens, labels and references at most as many as there may be. None is above its setting unless a fatal message came.
+    /// How much there is so far of what each setting bounds, in the order of the settings: the bytes of the longest quoted token, the
+    /// tokens of the longest
+    /// expression, the names, the most labels of a routine, the words, objects, verbs and actions, the bytes of grammar, properties,
+    /// arrays, low strings, code and
+    /// strings, and the references; of tokens, labels and references at most as many as there may be. None is above its setting unless a
+    /// fatal message came.
     pub fn held(&self) -> [usize; 15]
         ensures counts { result ≡ held self.now }
         ensures within { IsBounded self.now → is_fatal self.now ≡ false → AreWithin result all_settings (chosen self.now.setup).settings }
@@ -296,7 +310,8 @@ impl<'a> Session<'a> {
         requires set { IsSet self.old }
         ensures turned { Honestly F.Files files.old self.old.open_files (λ start.
             OnOk result (Writes (turn (F.sources files.old) (chosen self.old.setup))
-            (state (F.sources files.old) start (F.openings files.old) self.old) (state (F.sources files.old) start (F.openings files.new) self.new)
+            (state (F.sources files.old) start (F.openings files.old) self.old)
+            (state (F.sources files.old) start (F.openings files.new) self.new)
             (M.taken messages.old) (M.taken messages.new))) }
         ensures cut { Honestly F.Files files.old self.old.open_files (λ start.
             OnErr result (CutsShort (turn (F.sources files.old) (chosen self.old.setup))
@@ -312,12 +327,15 @@ impl<'a> Session<'a> {
         ensures set { IsSet self.new }
         ensures limits { OnOk result (SameLimits (work_of self.old.progress.work) (work_of self.new.progress.work)) }
         ensures longest { let most = most_quoted (chosen self.old.setup) in self.old.quoted ≤ most → OnOk result (self.new.quoted ≤ most) }
-        ensures fault { IfErr result (λ fault. Caused fault (λ name. IsUnreadable F.Files files.old files.new self.old.open_files self.new.open_files)
+        ensures fault { IfErr result (λ fault. Caused fault (λ name. IsUnreadable F.Files files.old files.new self.old.open_files
+            self.new.open_files)
             (Rose (M.failures messages.old) (M.failures messages.new))) }
         ensures unread { IfErr result (λ fault. IfRead fault (λ name. M.taken messages.new ≡ M.taken messages.old)) }
         ensures stops { Honestly F.Files files.old self.old.open_files (λ start.
-            IfErr result (λ fault. IfRead fault (λ name. (told : List ℕ) → StopsFor (Rose (F.faults files.old) (F.faults files.new)) (F.sources files.old) (chosen self.old.setup)
-            (state (F.sources files.old) start (F.openings files.old) self.old told) start (F.openings files.new) self.new.open_files name))) }
+            IfErr result (λ fault. IfRead fault (λ name. (told : List ℕ) → StopsFor (Rose (F.faults files.old) (F.faults files.new))
+            (F.sources files.old) (chosen self.old.setup)
+            (state (F.sources files.old) start (F.openings files.old) self.old told) start (F.openings files.new) self.new.open_files
+            name))) }
         ensures fits { OnOk result (StaysFit F.Files files.old files.new self.old.open_files) }
         ensures wrote { Appends M.Sink messages.old messages.new }
     {
@@ -337,7 +355,8 @@ impl<'a> Session<'a> {
         ensures opened { Honestly F.Files files.old self.old.open_files (λ start.
             opened_since start (F.openings files.new) ≡ opened_since start (F.openings files.old)) }
         ensures went { Went F.Files files.old files.new self.old.open_files self.new.open_files }
-        ensures moves { OnOk result ((is_mode_ended self.new.progress.reader.mode ≡ true) ⊎ (room self.new.open_files.lexer < room self.old.open_files.lexer)) }
+        ensures moves { OnOk result ((is_mode_ended self.new.progress.reader.mode ≡ true) ⊎
+            (room self.new.open_files.lexer < room self.old.open_files.lexer)) }
         ensures goes { OnOk result (self.new.open_files.lexer.has_failed ≡ false) }
         ensures same { (self.new.open_files.nest ≡ self.old.open_files.nest) × (self.new.open_files.outer ≡ self.old.open_files.outer) }
         ensures setup { (self.new.setup ≡ self.old.setup) × (self.new.is_over ≡ self.old.is_over) }
@@ -345,9 +364,12 @@ impl<'a> Session<'a> {
         ensures limits { OnOk result (SameLimits (work_of self.old.progress.work) (work_of self.new.progress.work)) }
         ensures longest { let most = self.old.open_files.nest.limit in self.old.quoted ≤ most → OnOk result (self.new.quoted ≤ most) }
         ensures stops { Honestly F.Files files.old self.old.open_files (λ start.
-            IfErr result (λ fault. IfRead fault (λ name. (told : List ℕ) → StopsInToken (Rose (F.faults files.old) (F.faults files.new)) (F.sources files.old)
-            (state (F.sources files.old) start (F.openings files.old) self.old told) start (F.openings files.new) self.new.open_files name))) }
-        ensures fault { IfErr result (λ fault. Caused fault (λ name. IsUnreadable F.Files files.old files.new self.old.open_files self.new.open_files) ⊥) }
+            IfErr result (λ fault. IfRead fault (λ name. (told : List ℕ) → StopsInToken (Rose (F.faults files.old) (F.faults files.new))
+            (F.sources files.old)
+            (state (F.sources files.old) start (F.openings files.old) self.old told) start (F.openings files.new) self.new.open_files
+            name))) }
+        ensures fault { IfErr result (λ fault. Caused fault (λ name. IsUnreadable F.Files files.old files.new self.old.open_files
+            self.new.open_files) ⊥) }
         ensures fits { OnOk result (StaysFit F.Files files.old files.new self.old.open_files) }
     {
         let token = match self.open_files.next(files) {
@@ -383,19 +405,23 @@ impl<'a> Session<'a> {
         requires set { IsSet self.old }
         ensures followed { Honestly F.Files files.old self.old.open_files (λ start.
             OnOk result ((told : List ℕ) → state (F.sources files.old) start (F.openings files.new) self.new told
-            ≡ followed (F.sources files.old) (chosen self.old.setup) (state (F.sources files.old) start (F.openings files.old) self.old told))) }
+            ≡ followed (F.sources files.old) (chosen self.old.setup)
+            (state (F.sources files.old) start (F.openings files.old) self.old told))) }
         ensures opened { Honestly F.Files files.old self.old.open_files (λ start.
             OnErr result (OpensWithin (followed (F.sources files.old) (chosen self.old.setup))
             (state (F.sources files.old) start (F.openings files.old) self.old) (opened_since start (F.openings files.new)))) }
         ensures went { Went F.Files files.old files.new self.old.open_files self.new.open_files }
-        ensures goes_on { OnOk result ((ended self.new ≡ true) ⊎ GoesOn (is_mode_ended self.old.progress.reader.mode) self.old.open_files self.new.open_files) }
+        ensures goes_on { OnOk result ((ended self.new ≡ true) ⊎ GoesOn (is_mode_ended self.old.progress.reader.mode) self.old.open_files
+            self.new.open_files) }
         ensures goes { OnOk result (self.new.open_files.lexer.has_failed ≡ false) }
         ensures setup { self.new.setup ≡ self.old.setup }
         ensures set { IsSet self.new }
         ensures stays { OnOk result (SameBounds self.old self.new) }
-        ensures fault { IfErr result (λ fault. Caused fault (λ name. IsUnreadable F.Files files.old files.new self.old.open_files self.new.open_files) ⊥) }
+        ensures fault { IfErr result (λ fault. Caused fault (λ name. IsUnreadable F.Files files.old files.new self.old.open_files
+            self.new.open_files) ⊥) }
         ensures stops { Honestly F.Files files.old self.old.open_files (λ start.
-            IfErr result (λ fault. IfRead fault (λ name. (told : List ℕ) → StopsAtInclusion (Rose (F.faults files.old) (F.faults files.new)) (F.sources files.old) (chosen self.old.setup)
+            IfErr result (λ fault. IfRead fault (λ name. (told : List ℕ) → StopsAtInclusion (Rose (F.faults files.old) (F.faults files.new))
+            (F.sources files.old) (chosen self.old.setup)
             (state (F.sources files.old) start (F.openings files.old) self.old told) (opened_since start (F.openings files.new)) name))) }
         ensures fits { OnOk result (StaysFit F.Files files.old files.new self.old.open_files) }
     {
@@ -412,19 +438,23 @@ impl<'a> Session<'a> {
         requires set { IsSet self.old }
         ensures carried_out { Honestly F.Files files.old self.old.open_files (λ start.
             OnOk result ((told : List ℕ) → state (F.sources files.old) start (F.openings files.new) self.new told
-            ≡ carried_out (F.sources files.old) (chosen self.old.setup) (state (F.sources files.old) start (F.openings files.old) self.old told))) }
+            ≡ carried_out (F.sources files.old) (chosen self.old.setup)
+            (state (F.sources files.old) start (F.openings files.old) self.old told))) }
         ensures opened { Honestly F.Files files.old self.old.open_files (λ start.
             OnErr result (OpensWithin (carried_out (F.sources files.old) (chosen self.old.setup))
             (state (F.sources files.old) start (F.openings files.old) self.old) (opened_since start (F.openings files.new)))) }
         ensures went { Went F.Files files.old files.new self.old.open_files self.new.open_files }
-        ensures goes_on { OnOk result ((ended self.new ≡ true) ⊎ GoesOn (is_mode_ended self.old.progress.reader.mode) self.old.open_files self.new.open_files) }
+        ensures goes_on { OnOk result ((ended self.new ≡ true) ⊎ GoesOn (is_mode_ended self.old.progress.reader.mode) self.old.open_files
+            self.new.open_files) }
         ensures goes { OnOk result (self.new.open_files.lexer.has_failed ≡ false) }
         ensures setup { self.new.setup ≡ self.old.setup }
         ensures set { IsSet self.new }
         ensures stays { OnOk result (SameBounds self.old self.new) }
-        ensures fault { IfErr result (λ fault. Caused fault (λ name. IsUnreadable F.Files files.old files.new self.old.open_files self.new.open_files) ⊥) }
+        ensures fault { IfErr result (λ fault. Caused fault (λ name. IsUnreadable F.Files files.old files.new self.old.open_files
+            self.new.open_files) ⊥) }
         ensures stops { Honestly F.Files files.old self.old.open_files (λ start.
-            IfErr result (λ fault. IfRead fault (λ name. (told : List ℕ) → StopsAtInclusion (Rose (F.faults files.old) (F.faults files.new)) (F.sources files.old) (chosen self.old.setup)
+            IfErr result (λ fault. IfRead fault (λ name. (told : List ℕ) → StopsAtInclusion (Rose (F.faults files.old) (F.faults files.new))
+            (F.sources files.old) (chosen self.old.setup)
             (state (F.sources files.old) start (F.openings files.old) self.old told) (opened_since start (F.openings files.new)) name))) }
         ensures fits { OnOk result (StaysFit F.Files files.old files.new self.old.open_files) }
     {
@@ -473,7 +503,8 @@ impl<'a> Session<'a> {
         requires set { IsSet self.old }
         ensures included { Honestly F.Files files.old self.old.open_files (λ start.
             OnOk result ((told : List ℕ) → state (F.sources files.old) start (F.openings files.new) self.new told
-            ≡ included (F.sources files.old) (chosen self.old.setup) unit text.now (state (F.sources files.old) start (F.openings files.old) self.old told))) }
+            ≡ included (F.sources files.old) (chosen self.old.setup) unit text.now
+            (state (F.sources files.old) start (F.openings files.old) self.old told))) }
         ensures opened { Honestly F.Files files.old self.old.open_files (λ start.
             OnErr result (OpensWithin (included (F.sources files.old) (chosen self.old.setup) unit text.now)
             (state (F.sources files.old) start (F.openings files.old) self.old) (opened_since start (F.openings files.new)))) }
@@ -483,9 +514,11 @@ impl<'a> Session<'a> {
         ensures setup { self.new.setup ≡ self.old.setup }
         ensures set { IsSet self.new }
         ensures stays { OnOk result (SameBounds self.old self.new) }
-        ensures fault { IfErr result (λ fault. Caused fault (λ name. IsUnreadable F.Files files.old files.new self.old.open_files self.new.open_files) ⊥) }
+        ensures fault { IfErr result (λ fault. Caused fault (λ name. IsUnreadable F.Files files.old files.new self.old.open_files
+            self.new.open_files) ⊥) }
         ensures stops { Honestly F.Files files.old self.old.open_files (λ start. IfErr result (λ fault. IfRead fault (λ name.
-            (name ≡ text.now) × NotTried (Rose (F.faults files.old) (F.faults files.new)) (F.sources files.old) (chosen self.old.setup).directories text.now
+            (name ≡ text.now) × NotTried (Rose (F.faults files.old) (F.faults files.new)) (F.sources files.old)
+            (chosen self.old.setup).directories text.now
             (nesting (F.sources files.old) start (F.openings files.old) self.old.open_files) (opened_since start (F.openings files.new))))) }
         ensures fits { OnOk result (StaysFit F.Files files.old files.new self.old.open_files) }
     {

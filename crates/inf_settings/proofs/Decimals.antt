@@ -10,9 +10,11 @@ step_capped n m d same = omega (arith, same)
 -- two numbers that stop at the same one write the same with the digits behind them
 pub capped_alike : (n m : ℕ) (ds : List ℕ) → min n greatest ≡ min m greatest → capped (decimal_from n ds) ≡ capped (decimal_from m ds)
 capped_alike n m [] same = ap Some same
-capped_alike n m (d ∷ ds) same = go (nat_le 48 d && nat_le d 57) (capped_alike (n * 10 + (d - 48)) (m * 10 + (d - 48)) ds (step_capped n m (d - 48) same))
+capped_alike n m (d ∷ ds) same =
+    go (nat_le 48 d && nat_le d 57) (capped_alike (n * 10 + (d - 48)) (m * 10 + (d - 48)) ds (step_capped n m (d - 48) same))
   where
-    go : (t : Bool) → capped (decimal_from (n * 10 + (d - 48)) ds) ≡ capped (decimal_from (m * 10 + (d - 48)) ds) → capped (cond t (decimal_from (n * 10 + (d - 48)) ds) None) ≡ capped (cond t (decimal_from (m * 10 + (d - 48)) ds) None)
+    go : (t : Bool) → capped (decimal_from (n * 10 + (d - 48)) ds) ≡ capped (decimal_from (m * 10 + (d - 48)) ds) →
+        capped (cond t (decimal_from (n * 10 + (d - 48)) ds) None) ≡ capped (cond t (decimal_from (m * 10 + (d - 48)) ds) None)
     go true later = later
     go false later = refl
 

@@ -5,5 +5,6 @@ use Rattle.inf_settings.specs.Settings.{name_of, named_among}
 use Rattle.inf_settings.specs.declared.setting.Setting.{Setting}
 
 -- a setting of another name is passed over
-pub named_next : (name : List ℕ) (settings : List Setting) (i : ℕ) (d : Setting) → i < length settings → bytes_eq name (name_of (get_or settings i d)) ≡ false → named_among name (drop (i + 1) settings) ≡ named_among name (drop i settings)
+pub named_next : (name : List ℕ) (settings : List Setting) (i : ℕ) (d : Setting) → i < length settings →
+    bytes_eq name (name_of (get_or settings i d)) ≡ false → named_among name (drop (i + 1) settings) ≡ named_among name (drop i settings)
 named_next name settings i d within other = rw (add-one, drop-cons settings i d within, other) refl

@@ -58,43 +58,56 @@ same_depth s start now files n e =
 abbrev by_tests : (can deep : Bool) → Option (List ℕ) → Inclusion
 by_tests can deep first = cond (not can) (OpensNone included.NotThere) (cond deep (OpensNone included.TooDeep) (by_first first))
 
-tested : (s : Sources) (directories : List (List ℕ)) (text : List ℕ) (start now : Openings) (files : Open) → IsNested start now files → IsNumbered files
+tested : (s : Sources) (directories : List (List ℕ)) (text : List ℕ) (start now : Openings) (files : Open) → IsNested start now files →
+    IsNumbered files
     → inclusion s directories text (nesting s start now files)
-    ≡ by_tests (can_name text) (nat_le 16 (length files.nest.open_files)) (first_there s (candidates directories (innermost_name files.nest) text))
+    ≡ by_tests (can_name text) (nat_le 16 (length files.nest.open_files))
+    (first_there s (candidates directories (innermost_name files.nest) text))
 tested s directories text start now files n e =
-    ap (λ (k : ℕ). by_tests (can_name text) (nat_le 16 k) (first_there s (candidates directories (unwrap_or (slice_get files.nest.names files.lexer.file) []) text)))
+    ap (λ (k : ℕ). by_tests (can_name text) (nat_le 16 k)
+    (first_there s (candidates directories (unwrap_or (slice_get files.nest.names files.lexer.file) []) text)))
     (sym (same_depth s start now files n e))
-    ∙ ap (λ (name : List ℕ). by_tests (can_name text) (nat_le 16 (length files.nest.open_files)) (first_there s (candidates directories name text))) (sym (same_name files e))
+    ∙ ap (λ (name : List ℕ). by_tests (can_name text) (nat_le 16 (length files.nest.open_files))
+    (first_there s (candidates directories name text))) (sym (same_name files e))
 
 abbrev Comes : Sources → List (List ℕ) → List ℕ → Openings → Openings → Open → Inclusion → Type 0
 Comes s directories text start now files i = inclusion s directories text (nesting s start now files) ≡ i
 
-pub unfit_is : (s : Sources) (directories : List (List ℕ)) (text : List ℕ) (start now : Openings) (files : Open) → IsNested start now files → IsNumbered files
+pub unfit_is : (s : Sources) (directories : List (List ℕ)) (text : List ℕ) (start now : Openings) (files : Open) →
+    IsNested start now files → IsNumbered files
     → can_name text ≡ false → Comes s directories text start now files (OpensNone included.NotThere)
 unfit_is s directories text start now files n e unfit =
     tested s directories text start now files n e
-    ∙ ap (λ b. by_tests b (nat_le 16 (length files.nest.open_files)) (first_there s (candidates directories (innermost_name files.nest) text))) unfit
+    ∙ ap (λ b. by_tests b (nat_le 16 (length files.nest.open_files))
+    (first_there s (candidates directories (innermost_name files.nest) text))) unfit
 
-pub deep_is : (s : Sources) (directories : List (List ℕ)) (text : List ℕ) (start now : Openings) (files : Open) → IsNested start now files → IsNumbered files
-    → (can_name text ≡ false → ⊥) → 16 ≤ length files.nest.open_files → Comes s directories text start now files (OpensNone included.TooDeep)
+pub deep_is : (s : Sources) (directories : List (List ℕ)) (text : List ℕ) (start now : Openings) (files : Open) → IsNested start now files →
+    IsNumbered files
+    → (can_name text ≡ false → ⊥) → 16 ≤ length files.nest.open_files → Comes s directories text start now files
+    (OpensNone included.TooDeep)
 deep_is s directories text start now files n e fit deep =
     tested s directories text start now files n e
-    ∙ ap (λ b. by_tests b (nat_le 16 (length files.nest.open_files)) (first_there s (candidates directories (innermost_name files.nest) text))) (is_true (can_name text) fit)
+    ∙ ap (λ b. by_tests b (nat_le 16 (length files.nest.open_files))
+    (first_there s (candidates directories (innermost_name files.nest) text))) (is_true (can_name text) fit)
     ∙ ap (λ b. by_tests true b (first_there s (candidates directories (innermost_name files.nest) text)))
     (le-leb 16 (length files.nest.open_files) deep)
 
-pub first_is : (s : Sources) (directories : List (List ℕ)) (text : List ℕ) (start now : Openings) (files : Open) (first : Option (List ℕ)) → IsNested start now files
+pub first_is : (s : Sources) (directories : List (List ℕ)) (text : List ℕ) (start now : Openings) (files : Open) (first : Option (List ℕ)) →
+    IsNested start now files
     → IsNumbered files → (can_name text ≡ false → ⊥) → (16 ≤ length files.nest.open_files → ⊥)
-    → first_there s (candidates directories (innermost_name files.nest) text) ≡ first → Comes s directories text start now files (by_first first)
+    → first_there s (candidates directories (innermost_name files.nest) text) ≡ first → Comes s directories text start now files
+    (by_first first)
 first_is s directories text start now files first n e fit flat there =
     tested s directories text start now files n e
-    ∙ ap (λ b. by_tests b (nat_le 16 (length files.nest.open_files)) (first_there s (candidates directories (innermost_name files.nest) text))) (is_true (can_name text) fit)
+    ∙ ap (λ b. by_tests b (nat_le 16 (length files.nest.open_files))
+    (first_there s (candidates directories (innermost_name files.nest) text))) (is_true (can_name text) fit)
     ∙ ap (λ b. by_tests true b (first_there s (candidates directories (innermost_name files.nest) text)))
     (is_false (nat_le 16 (length files.nest.open_files)) (λ h. flat (leb-true 16 (length files.nest.open_files) h)))
     ∙ ap (λ o. by_tests true false o) there
 
 -- what was opened where the file was one too many
-pub opens_too_many : (s : Sources) (directories : List (List ℕ)) (text : List ℕ) (start old new : Openings) (before : Open) → IsNested start old before
+pub opens_too_many : (s : Sources) (directories : List (List ℕ)) (text : List ℕ) (start old new : Openings) (before : Open) →
+    IsNested start old before
     → IsNumbered before → (can_name text ≡ false → ⊥) → (16 ≤ length before.nest.open_files → ⊥)
     → ClosedAgain s before.nest.names (candidates directories (innermost_name before.nest) text) old new
     → OpensTooMany (inclusion s directories text (nesting s start old before)) (nesting s start old before) (opened_since start new)
@@ -106,39 +119,56 @@ opens_too_many s directories text start old new before n e fit flat c = record {
 }
 
 -- or the device refused
-pub opened_in_vain : (s : Sources) (directories : List (List ℕ)) (text : List ℕ) (start old new : Openings) (before : Open) → IsNested start old before
+pub opened_in_vain : (s : Sources) (directories : List (List ℕ)) (text : List ℕ) (start old new : Openings) (before : Open) →
+    IsNested start old before
     → IsNumbered before → (can_name text ≡ false → ⊥) → (16 ≤ length before.nest.open_files → ⊥)
     → (new ≡ old) ⊎ ClosedAgain s before.nest.names (candidates directories (innermost_name before.nest) text) old new
-    → OpenedInVain vain.Device (inclusion s directories text (nesting s start old before)) (nesting s start old before) (opened_since start new)
+    → OpenedInVain vain.Device (inclusion s directories text (nesting s start old before)) (nesting s start old before)
+    (opened_since start new)
 opened_in_vain s directories text start old new before n e fit flat (inl same) = inl (ap (λ (o : Openings). opened_since start o) same)
-opened_in_vain s directories text start old new before n e fit flat (inr c) = inr (opens_too_many s directories text start old new before n e fit flat c)
+opened_in_vain s directories text start old new before n e fit flat (inr c) =
+    inr (opens_too_many s directories text start old new before n e fit flat c)
 
 -- what is open behind a file that was entered
-pub entered_is : (s : Sources) (start old new : Openings) (before : Open) (name : List ℕ) (nest : Nest) (lexer : Reader) (outer : List Reader) → IsNested start old before
-    → new ≡ with_opened name old → nest ≡ entered name before.nest → lexer ≡ at_front before.nest.set before.nest.limit (number_of name before.nest.names)
+pub entered_is : (s : Sources) (start old new : Openings) (before : Open) (name : List ℕ) (nest : Nest) (lexer : Reader)
+    (outer : List Reader) → IsNested start old before
+    → new ≡ with_opened name old → nest ≡ entered name before.nest → lexer ≡ at_front before.nest.set before.nest.limit
+    (number_of name before.nest.names)
     → outer ≡ before.outer ++ before.lexer ∷ []
-    → nesting s start new (record { nest = nest; lexer = lexer; outer = outer }) ≡ nested_by before.nest.set before.nest.limit s (Opens name) (nesting s start old before)
+    → nesting s start new (record { nest = nest; lexer = lexer; outer = outer }) ≡ nested_by before.nest.set before.nest.limit s
+    (Opens name) (nesting s start old before)
 entered_is s start old new before name nest lexer outer n opens enters fronts waits =
     ap (λ (o : Openings). nesting s start o (record { nest = nest; lexer = lexer; outer = outer })) opens
     ∙ ap (λ (x : Nest). nesting s start (with_opened name old) (record { nest = x; lexer = lexer; outer = outer })) enters
-    ∙ ap (λ (r : Reader). nesting s start (with_opened name old) (record { nest = entered name before.nest; lexer = r; outer = outer })) fronts
-    ∙ ap (λ (o : List Reader). nesting s start (with_opened name old) (record { nest = entered name before.nest; lexer = at_front before.nest.set before.nest.limit (number_of name before.nest.names); outer = o })) waits
+    ∙ ap (λ (r : Reader). nesting s start (with_opened name old) (record { nest = entered name before.nest; lexer = r; outer = outer }))
+    fronts
+    ∙ ap (λ (o : List Reader). nesting s start (with_opened name old)
+    (record {
+      nest = entered name before.nest;
+      lexer = at_front before.nest.set before.nest.limit (number_of name before.nest.names);
+      outer = o;
+    })) waits
     ∙ entered_nesting s start old before name before.nest.set before.nest.limit n
 
-pub entered_nested_of : (start old new : Openings) (before : Open) (name : List ℕ) (nest : Nest) (lexer : Reader) (outer : List Reader) → IsNested start old before
-    → new ≡ with_opened name old → outer ≡ before.outer ++ before.lexer ∷ [] → IsNested start new (record { nest = nest; lexer = lexer; outer = outer })
+pub entered_nested_of : (start old new : Openings) (before : Open) (name : List ℕ) (nest : Nest) (lexer : Reader) (outer : List Reader) →
+    IsNested start old before
+    → new ≡ with_opened name old → outer ≡ before.outer ++ before.lexer ∷ [] → IsNested start new
+    (record { nest = nest; lexer = lexer; outer = outer })
 entered_nested_of start old new before name nest lexer outer n opens waits =
     subst (λ (o : Openings). IsNested start o (record { nest = nest; lexer = lexer; outer = outer })) (sym opens)
     (subst (λ (o : List Reader). IsNested start (with_opened name old) (record { nest = nest; lexer = lexer; outer = o })) (sym waits)
     (entered_nested start old before name nest lexer n))
 
 -- the numbers and settings behind it
-pub entered_fits : (nest after : Nest) (outer new : List Reader) (waits lexer : Reader) (name : List ℕ) → nest.open_files ≡ files_of outer ++ waits.file ∷ []
+pub entered_fits : (nest after : Nest) (outer new : List Reader) (waits lexer : Reader) (name : List ℕ) →
+    nest.open_files ≡ files_of outer ++ waits.file ∷ []
     → AllWait nest.set nest.limit outer → Waits nest.set nest.limit waits → new ≡ outer ++ waits ∷ [] → after ≡ entered name nest
     → lexer ≡ at_front nest.set nest.limit (number_of name nest.names) → Fits after lexer new
 entered_fits nest after outer new waits lexer name files all w e enters fronts =
-    let made : Fits (entered name nest) (at_front nest.set nest.limit (number_of name nest.names)) (outer ++ waits ∷ []) =
-    (ap (λ fs. fs ++ number_of name nest.names ∷ []) (files ∙ sym (files_more outer waits)), (refl, (refl, waits_more nest.set nest.limit outer waits all w))) in
+    let made : Fits (entered name nest) (at_front nest.set nest.limit (number_of name nest.names)) (outer ++ waits ∷ []) = (
+      ap (λ fs. fs ++ number_of name nest.names ∷ []) (files ∙ sym (files_more outer waits)),
+      (refl, (refl, waits_more nest.set nest.limit outer waits all w)),
+    ) in
     subst (λ (n : Nest). Fits n lexer new) (sym enters)
     (subst (λ (r : Reader). Fits (entered name nest) r new) (sym fronts)
     (subst (λ (rs : List Reader). Fits (entered name nest) (at_front nest.set nest.limit (number_of name nest.names)) rs) (sym e) made))

@@ -53,25 +53,30 @@ went_then f a b c x y z p q =
 pub fit_then : {S : Type 0} (f : Files S) (a b c : S) (x y : Open) → Went f a b x y → StaysFit f a b x → StaysFit f b c y → StaysFit f a c x
 fit_then f a b c x y w p q = λ honest start n given fit.
     q (subst (λ t. IsTrue t) (sym w.honesty) honest) start (w.nested honest start n)
-    (subst (λ (s : Sources). AllGiven s (length start.all) (f.openings b) y) (sym w.sources) (w.stays_given honest start n given)) (p honest start n given fit)
+    (subst (λ (s : Sources). AllGiven s (length start.all) (f.openings b) y) (sym w.sources) (w.stays_given honest start n given))
+    (p honest start n given fit)
 
 -- the open files may be told in another way
 pub went_as : {S : Type 0} (f : Files S) (a b : S) (x y z : Open) → z ≡ y → Went f a b x y → Went f a b x z
 went_as f a b x y z e w = subst (λ (o : Open). Went f a b x o) (sym e) w
 
 -- a file that was not read behind a call
-pub unreadable_then : {S : Type 0} (f : Files S) (a b c : S) (x y z : Open) → Went f a b x y → IsUnreadable f b c y z → IsUnreadable f a c x z
+pub unreadable_then : {S : Type 0} (f : Files S) (a b c : S) (x y z : Open) → Went f a b x y → IsUnreadable f b c y z →
+    IsUnreadable f a c x z
 unreadable_then f a b c x y z w (inl (inl less)) = inl (inl (omega (arith, w.faults, less)))
 unreadable_then f a b c x y z w (inl (inr last)) = inl (inr last)
 unreadable_then f a b c x y z w (inr (inl long)) = inr (inl long)
 unreadable_then f a b c x y z w (inr (inr many)) = inr (inr (record { names = many.names; opened = omega (arith, w.opened, many.opened) }))
 
 -- A token was read of the innermost file.
-pub went_read : {S : Type 0} (f : Files S) (old new : S) (nest : Nest) (before after : Reader) (outer : List Reader) → f.sources new ≡ f.sources old
+pub went_read : {S : Type 0} (f : Files S) (old new : S) (nest : Nest) (before after : Reader) (outer : List Reader) →
+    f.sources new ≡ f.sources old
     → f.is_honest new ≡ f.is_honest old → f.faults old ≤ f.faults new → f.depth new ≡ f.depth old
     → min (f.given old + (after.window.given - before.window.given)) last_count ≤ f.given new → f.opened new ≡ f.opened old
-    → (IsTrue (f.is_honest old) → Along (f.sources old) (f.openings old) (f.openings new) before.window.given after.window.given) → after.file ≡ before.file
-    → length after.window.left ≤ 4096 → (IsTrue (f.is_honest old) → Ends (f.sources old) (f.openings old) before.window → Ends (f.sources old) (f.openings new) after.window)
+    → (IsTrue (f.is_honest old) → Along (f.sources old) (f.openings old) (f.openings new) before.window.given after.window.given) →
+    after.file ≡ before.file
+    → length after.window.left ≤ 4096 → (IsTrue (f.is_honest old) → Ends (f.sources old) (f.openings old) before.window → Ends
+    (f.sources old) (f.openings new) after.window)
     → (IsTrue (f.is_honest old) → StillGives (f.openings old) before.window → StillGives (f.openings new) after.window)
     → Went f old new (record { nest = nest; lexer = before; outer = outer }) (record { nest = nest; lexer = after; outer = outer })
 went_read f old new nest before after outer sources honesty faults depth given opened along file window ends still =
@@ -84,18 +89,22 @@ went_read f old new nest before after outer sources honesty faults depth given o
       depth = omega (arith, depth);
       given = omega (arith, given);
       opened = omega (arith, opened);
-      nested = λ honest start n. let gave = (along honest).gave in nested_on start (f.openings old) (f.openings new) was now n gave.places gave.count refl;
-      stays_given = λ honest start n g. read_given (f.sources old) start (f.openings old) (f.openings new) was now n refl refl file (along honest) window (ends honest) (still honest) g;
+      nested = λ honest start n. let gave = (along honest).gave in nested_on start (f.openings old) (f.openings new) was now n gave.places
+          gave.count refl;
+      stays_given = λ honest start n g. read_given (f.sources old) start (f.openings old) (f.openings new) was now n refl refl file
+          (along honest) window (ends honest) (still honest) g;
     }
 
 pub fit_read : {S : Type 0} (f : Files S) (old new : S) (nest : Nest) (before after : Reader) (outer : List Reader)
-    → (IsTrue (f.is_honest old) → Along (f.sources old) (f.openings old) (f.openings new) before.window.given after.window.given) → after.file ≡ before.file
+    → (IsTrue (f.is_honest old) → Along (f.sources old) (f.openings old) (f.openings new) before.window.given after.window.given) →
+    after.file ≡ before.file
     → after.window.given ≤ 16777216 → length after.window.left ≤ 4096
     → (IsTrue (f.is_honest old) → Ends (f.sources old) (f.openings old) before.window → Ends (f.sources old) (f.openings new) after.window)
     → (IsTrue (f.is_honest old) → StillGives (f.openings old) before.window → StillGives (f.openings new) after.window)
     → StaysFit f old new (record { nest = nest; lexer = before; outer = outer })
 fit_read f old new nest before after outer along file few window ends still = λ honest start n given fit.
-    read_fit (f.sources old) start (f.openings old) (f.openings new) (record { nest = nest; lexer = before; outer = outer }) (record { nest = nest; lexer = after; outer = outer }) n refl file
+    read_fit (f.sources old) start (f.openings old) (f.openings new) (record { nest = nest; lexer = before; outer = outer })
+    (record { nest = nest; lexer = after; outer = outer }) n refl file
     (along honest) few window (ends honest) (still honest) given fit
 
 given_more : (xs : List Reader) (r : Reader) → given_to (xs ++ r ∷ []) ≡ given_to xs + r.window.given
@@ -103,10 +112,14 @@ given_more [] r = omega arith
 given_more (x ∷ xs) r = let rest = given_more xs r in omega (arith, rest)
 
 -- A file was entered.
-pub went_in : {S : Type 0} (f : Files S) (old new : S) (before after : Open) → f.sources new ≡ f.sources old → f.is_honest new ≡ f.is_honest old
-    → f.faults old ≤ f.faults new → f.depth new ≡ f.depth old + 1 → f.given new ≡ f.given old → min (f.opened old + 1) last_count ≤ f.opened new
-    → after.outer ≡ before.outer ++ before.lexer ∷ [] → after.lexer.window.given ≡ 0 → length after.nest.names ≤ suc (length before.nest.names)
-    → Honestly f old before (λ start. IsNested start (f.openings new) after) → StaysGiven f old new before after → Went f old new before after
+pub went_in : {S : Type 0} (f : Files S) (old new : S) (before after : Open) → f.sources new ≡ f.sources old →
+    f.is_honest new ≡ f.is_honest old
+    → f.faults old ≤ f.faults new → f.depth new ≡ f.depth old + 1 → f.given new ≡ f.given old → min (f.opened old + 1) last_count ≤ f.opened
+    new
+    → after.outer ≡ before.outer ++ before.lexer ∷ [] → after.lexer.window.given ≡ 0 → length after.nest.names ≤ suc
+    (length before.nest.names)
+    → Honestly f old before (λ start. IsNested start (f.openings new) after) → StaysGiven f old new before after → Went f old new before
+    after
 went_in f old new before after sources honesty faults depth given opened outer front names nested stays = record {
   sources = sources;
   honesty = honesty;
@@ -119,9 +132,12 @@ went_in f old new before after sources honesty faults depth given opened outer f
 }
 
 -- None was.
-pub went_by : {S : Type 0} (f : Files S) (old new : S) (before after : Open) → f.sources new ≡ f.sources old → f.is_honest new ≡ f.is_honest old
-    → f.faults old ≤ f.faults new → f.depth new ≡ f.depth old → f.given new ≡ f.given old → min (f.opened old + 0) last_count ≤ f.opened new → after ≡ before
-    → Honestly f old before (λ start. IsNested start (f.openings new) before) → StaysGiven f old new before before → Went f old new before after
+pub went_by : {S : Type 0} (f : Files S) (old new : S) (before after : Open) → f.sources new ≡ f.sources old →
+    f.is_honest new ≡ f.is_honest old
+    → f.faults old ≤ f.faults new → f.depth new ≡ f.depth old → f.given new ≡ f.given old → min (f.opened old + 0) last_count ≤ f.opened new
+    → after ≡ before
+    → Honestly f old before (λ start. IsNested start (f.openings new) before) → StaysGiven f old new before before → Went f old new before
+    after
 went_by f old new before after sources honesty faults depth given opened same nested stays =
     subst (λ (o : Open). Went f old new before o) (sym same) (record {
       sources = sources;
@@ -135,7 +151,8 @@ went_by f old new before after sources honesty faults depth given opened same ne
     })
 
 -- One was left.
-pub went_out : {S : Type 0} (f : Files S) (old new : S) (before after : Open) → f.sources new ≡ f.sources old → f.is_honest new ≡ f.is_honest old
+pub went_out : {S : Type 0} (f : Files S) (old new : S) (before after : Open) → f.sources new ≡ f.sources old →
+    f.is_honest new ≡ f.is_honest old
     → f.faults new ≡ f.faults old → f.depth new + 1 ≡ f.depth old → f.given new ≡ f.given old → f.opened new ≡ f.opened old
     → before.outer ≡ after.outer ++ after.lexer ∷ [] → after.nest.names ≡ before.nest.names
     → (IsTrue (f.is_honest old) → Closes (f.openings old) (f.openings new)) → Went f old new before after
@@ -147,12 +164,14 @@ went_out f old new before after sources honesty faults depth given opened outer 
   given = omega (arith, given, ap given_to outer, given_more after.outer after.lexer);
   opened = omega (arith, opened, ap length names);
   nested = λ honest start n. left_nested start (f.openings old) (f.openings new) before after n (closes honest) outer;
-  stays_given = λ honest start n g. left_given (f.sources old) start (f.openings old) (f.openings new) before after n (closes honest) outer names g;
+  stays_given =
+      λ honest start n g. left_given (f.sources old) start (f.openings old) (f.openings new) before after n (closes honest) outer names g;
 }
 
 -- one name more than can be numbered was opened and closed
 pub asked_too_many : {S : Type 0} (f : Files S) (old new : S) (before after : Open) (names : List (List ℕ)) → after.nest ≡ before.nest
-    → has_one_too_many before.nest.names names ≡ true → min (f.opened old + 1) last_count ≤ f.opened new → AskedTooMany f old new before after
+    → has_one_too_many before.nest.names names ≡ true → min (f.opened old + 1) last_count ≤ f.opened new → AskedTooMany f old new before
+    after
 asked_too_many f old new before after names same many counted =
     let known : length after.nest.names ≡ length before.nest.names = ap (λ (n : Nest). length n.names) same in
     record { names = omega (arith, many_names before.nest.names names many, known); opened = omega (arith, counted, known) }

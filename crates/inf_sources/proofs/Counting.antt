@@ -22,7 +22,8 @@ entered_counts name before after enters =
     omega (arith, names, one)
 
 -- where the main source was not entered nothing was opened
-pub main_unopened : (sources : Sources) (names : List (List ℕ)) (old new : Openings) (f : EnterFault) → Leaves sources [] names old new (Err f) → new ≡ old
+pub main_unopened : (sources : Sources) (names : List (List ℕ)) (old new : Openings) (f : EnterFault) →
+    Leaves sources [] names old new (Err f) → new ≡ old
 main_unopened sources names old new fault.BadName h = h
 main_unopened sources names old new fault.TooDeep h = h
 main_unopened sources names old new fault.Absent h = h.1
@@ -41,6 +42,7 @@ pub many_names : (known names : List (List ℕ)) → has_one_too_many known name
 many_names known [] e = cc
 many_names known (name ∷ names) e =
     elim (or_cases (nat_le 65535 (number_of name known)) (has_one_too_many known names) e) [
-      | inl here ↦ let within = number_within name known in let far : 65535 ≤ number_of name known = leb-true 65535 (number_of name known) here in omega (arith, within, far)
+      | inl here ↦ let within = number_within name known in let far : 65535 ≤ number_of name known = leb-true 65535 (number_of name known)
+          here in omega (arith, within, far)
       | inr later ↦ many_names known names later
     ]

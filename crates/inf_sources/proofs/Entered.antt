@@ -9,15 +9,18 @@ use Rattle.inf_sources.specs.Cursors.{Cursor}
 use Rattle.inf_sources.specs.Inclusions.{closed, resumed}
 use Rattle.inf_sources.specs.Open.{AllWait, Waits, cursors_at, files_of, nesting}
 
-pub waits_front : (set : CharSet) (limit : ℕ) (readers : List Reader) (r : Reader) → AllWait set limit (readers ++ r ∷ []) → AllWait set limit readers
+pub waits_front : (set : CharSet) (limit : ℕ) (readers : List Reader) (r : Reader) → AllWait set limit (readers ++ r ∷ []) →
+    AllWait set limit readers
 waits_front set limit [] r h = tt
 waits_front set limit (q ∷ readers) r h = (h.0, waits_front set limit readers r h.1)
 
-pub waits_last : (set : CharSet) (limit : ℕ) (readers : List Reader) (r : Reader) → AllWait set limit (readers ++ r ∷ []) → Waits set limit r
+pub waits_last : (set : CharSet) (limit : ℕ) (readers : List Reader) (r : Reader) → AllWait set limit (readers ++ r ∷ []) →
+    Waits set limit r
 waits_last set limit [] r h = h.0
 waits_last set limit (q ∷ readers) r h = waits_last set limit readers r h.1
 
-pub waits_more : (set : CharSet) (limit : ℕ) (readers : List Reader) (r : Reader) → AllWait set limit readers → Waits set limit r → AllWait set limit (readers ++ r ∷ [])
+pub waits_more : (set : CharSet) (limit : ℕ) (readers : List Reader) (r : Reader) → AllWait set limit readers → Waits set limit r →
+    AllWait set limit (readers ++ r ∷ [])
 waits_more set limit [] r h w = (w, h)
 waits_more set limit (q ∷ readers) r h w = (h.0, waits_more set limit readers r h.1 w)
 
@@ -39,7 +42,8 @@ none_wait s all (p ∷ places) = refl
 -- What is known of the open files behind one that was left.
 abbrev pub Fits : Nest → Reader → List Reader → Type 0
 Fits nest r readers =
-    (nest.open_files ≡ files_of readers ++ r.file ∷ []) × ((r.set ≡ nest.set) × ((r.limit ≡ nest.limit) × AllWait nest.set nest.limit readers))
+    (nest.open_files ≡ files_of readers ++ r.file ∷ []) ×
+    ((r.set ≡ nest.set) × ((r.limit ≡ nest.limit) × AllWait nest.set nest.limit readers))
 
 pub left_fits : (nest after : Nest) (outer readers : List Reader) (file : ℕ) (r : Reader) → nest.open_files ≡ files_of outer ++ file ∷ []
     → AllWait nest.set nest.limit outer → outer ≡ readers ++ r ∷ [] → after ≡ left nest → Fits after r readers
@@ -52,8 +56,10 @@ left_fits nest after outer readers file r files waits e is =
     )
 
 -- behind the last file nothing changes
-pub left_none : (s : Sources) (start now : Openings) (nest : Nest) (lexer : Reader) (old new : List Reader) → length old ≡ 0 → old ≡ new ++ []
-    → nesting s start now (record { nest = nest; lexer = lexer; outer = new }) ≡ closed (nesting s start now (record { nest = nest; lexer = lexer; outer = old }))
+pub left_none : (s : Sources) (start now : Openings) (nest : Nest) (lexer : Reader) (old new : List Reader) → length old ≡ 0 →
+    old ≡ new ++ []
+    → nesting s start now (record { nest = nest; lexer = lexer; outer = new }) ≡ closed
+    (nesting s start now (record { nest = nest; lexer = lexer; outer = old }))
 left_none s start now nest lexer (r ∷ old) new none e = absurd (omega (arith, none))
 left_none s start now nest lexer [] (r ∷ new) none e = cc
 left_none s start now nest lexer [] [] none e =

@@ -26,7 +26,8 @@ same_place (suc i) (suc at) = next (same_place i at)
     next (inr other) = inr (λ e. other (omega (arith, e)))
 
 -- the next bytes were given
-next_front : (s : Sources) (old new : Opening) (bytes : List ℕ) → IsFrontOf s old → unread_of s old ≡ bytes ++ unread_of s new → new.given ≡ old.given ++ bytes
+next_front : (s : Sources) (old new : Opening) (bytes : List ℕ) → IsFrontOf s old → unread_of s old ≡ bytes ++ unread_of s new →
+    new.given ≡ old.given ++ bytes
     → new.name ≡ old.name → IsFrontOf s new
 next_front s old new bytes front next given name =
     ap (λ (x : List ℕ). unwrap_or (s x) []) name ∙ front ∙ ap (λ (x : List ℕ). old.given ++ x) next
@@ -37,7 +38,8 @@ abbrev NamesStay : List (List ℕ) → List (List ℕ) → Type 0
 NamesStay known names = (i : ℕ) (name : List ℕ) → slice_get known i ≡ Some name → slice_get names i ≡ Some name
 
 -- lexers of openings that did not change
-tracked_same : (s : Sources) (n : ℕ) (known names : List (List ℕ)) (old new : List Opening) (bound : ℕ) (places : List ℕ) (readers : List Reader) → NamesStay known names
+tracked_same : (s : Sources) (n : ℕ) (known names : List (List ℕ)) (old new : List Opening) (bound : ℕ) (places : List ℕ)
+    (readers : List Reader) → NamesStay known names
     → AreNested bound places readers → ((i : ℕ) → i < bound → slice_get new i ≡ slice_get old i) → AreTracked s n known old places readers
     → AreTracked s n names new places readers
 tracked_same s n known names old new bound places [] stay h same t = tt
@@ -55,7 +57,8 @@ tracked_same s n known names old new bound (p ∷ places) (r ∷ readers) stay h
 -- The innermost gave some bytes
 
 -- what holds of it then, and held of each, holds of each
-read_each : (P : Opening → Type 0) (s : Sources) (n : ℕ) (old new : Openings) (bytes : List ℕ) → Gave s old new bytes → P (innermost new) → Each P n old.all → Each P n new.all
+read_each : (P : Opening → Type 0) (s : Sources) (n : ℕ) (old new : Openings) (bytes : List ℕ) → Gave s old new bytes → P (innermost new) →
+    Each P n old.all → Each P n new.all
 read_each P s n old new bytes gave here each = λ i le lt. at i le lt (same_place i (innermost_place old))
   where
     place : innermost_place new ≡ innermost_place old
@@ -67,9 +70,12 @@ read_each P s n old new bytes gave here each = λ i le lt. at i le lt (same_plac
         subst (λ (o : Opening). P o) (sym (or_same old.all new.all i (gave.others i other))) (each i le (omega (arith, lt, gave.count)))
 
 -- the innermost file is tracked behind it
-read_first : (s : Sources) (start old new : Openings) (before after : Open) → IsNested start old before → after.nest.names ≡ before.nest.names
-    → after.lexer.file ≡ before.lexer.file → Along s old new before.lexer.window.given after.lexer.window.given → length after.lexer.window.left ≤ 4096
-    → (Ends s old before.lexer.window → Ends s new after.lexer.window) → (StillGives old before.lexer.window → StillGives new after.lexer.window)
+read_first : (s : Sources) (start old new : Openings) (before after : Open) → IsNested start old before →
+    after.nest.names ≡ before.nest.names
+    → after.lexer.file ≡ before.lexer.file → Along s old new before.lexer.window.given after.lexer.window.given → length
+    after.lexer.window.left ≤ 4096
+    → (Ends s old before.lexer.window → Ends s new after.lexer.window) →
+    (StillGives old before.lexer.window → StillGives new after.lexer.window)
     → AllGiven s (length start.all) old before → IsTracked s (length start.all) after.nest.names new.all (innermost_place old) after.lexer
 read_first s start old new before after nested names file along window ends still given =
     let n : ℕ = length start.all in
@@ -89,14 +95,19 @@ read_first s start old new before after nested names file along window ends stil
     } in
     record {
       behind = first.behind;
-      named = ap (λ (xs : List (List ℕ)). slice_get xs after.lexer.file) names ∙ ap (λ (k : ℕ). slice_get before.nest.names k) file ∙ first.named ∙ ap (λ (x : List ℕ). Some x) (sym gave.name)
+      named =
+          ap (λ (xs : List (List ℕ)). slice_get xs after.lexer.file) names ∙ ap (λ (k : ℕ). slice_get before.nest.names k) file
+          ∙ first.named ∙ ap (λ (x : List ℕ). Some x) (sym gave.name)
           ∙ ap (λ (k : ℕ). Some (get_or new.all k (opened [])).name) now;
       counted = subst (λ (k : ℕ). IsCounted s (get_or new.all k (opened [])) after.lexer.window) now counted;
     }
 
-pub read_given : (s : Sources) (start old new : Openings) (before after : Open) → IsNested start old before → after.outer ≡ before.outer → after.nest.names ≡ before.nest.names
-    → after.lexer.file ≡ before.lexer.file → Along s old new before.lexer.window.given after.lexer.window.given → length after.lexer.window.left ≤ 4096
-    → (Ends s old before.lexer.window → Ends s new after.lexer.window) → (StillGives old before.lexer.window → StillGives new after.lexer.window)
+pub read_given : (s : Sources) (start old new : Openings) (before after : Open) → IsNested start old before → after.outer ≡ before.outer →
+    after.nest.names ≡ before.nest.names
+    → after.lexer.file ≡ before.lexer.file → Along s old new before.lexer.window.given after.lexer.window.given → length
+    after.lexer.window.left ≤ 4096
+    → (Ends s old before.lexer.window → Ends s new after.lexer.window) →
+    (StillGives old before.lexer.window → StillGives new after.lexer.window)
     → AllGiven s (length start.all) old before → AllGiven s (length start.all) new after
 read_given s start old new before after nested outer names file along window ends still given =
     let n : ℕ = length start.all in
@@ -104,24 +115,31 @@ read_given s start old new before after nested outer names file along window end
     let at = innermost_of (length old.all) (reverse old.open_places) before.lexer (reverse before.outer) nested.nested in
     let place : innermost_place old ≡ at.place = last_of old.open_places at.place at.rest at.is in
     let first : IsTracked s n after.nest.names new.all at.place after.lexer =
-    subst (λ (k : ℕ). IsTracked s n after.nest.names new.all k after.lexer) place (read_first s start old new before after nested names file along window ends still given) in
+    subst (λ (k : ℕ). IsTracked s n after.nest.names new.all k after.lexer) place
+    (read_first s start old new before after nested names file along window ends still given) in
     let was : AreTracked s n before.nest.names old.all (at.place ∷ at.rest) (before.lexer ∷ reverse before.outer) =
     subst (λ (ps : List ℕ). AreTracked s n before.nest.names old.all ps (before.lexer ∷ reverse before.outer)) at.is given.tracked in
     let rest : AreTracked s n after.nest.names new.all at.rest (reverse before.outer) =
-    tracked_same s n before.nest.names after.nest.names old.all new.all at.place at.rest (reverse before.outer) (λ i name e. ap (λ (xs : List (List ℕ)). slice_get xs i) names ∙ e) at.inner
+    tracked_same s n before.nest.names after.nest.names old.all new.all at.place at.rest (reverse before.outer)
+    (λ i name e. ap (λ (xs : List (List ℕ)). slice_get xs i) names ∙ e) at.inner
     (λ i less. gave.others i (λ e. omega (arith, less, e, place))) was.1 in
     let front : IsFrontOf s (innermost new) =
     next_front s (innermost old) (innermost new) along.bytes
-    (given.each (innermost_place old) (omega (arith, place, was.0.behind)) (omega (arith, place, at.less))) gave.next gave.given gave.name in
+    (given.each (innermost_place old) (omega (arith, place, was.0.behind)) (omega (arith, place, at.less))) gave.next gave.given gave.name
+    in
     record {
       each = read_each (IsFrontOf s) s n old new along.bytes gave front given.each;
-      tracked = subst (λ (ps : List ℕ). AreTracked s n after.nest.names new.all ps (after.lexer ∷ reverse after.outer)) (sym (ap reverse gave.places ∙ at.is))
-          (subst (λ (rs : List Reader). AreTracked s n after.nest.names new.all (at.place ∷ at.rest) (after.lexer ∷ reverse rs)) (sym outer) (first, rest));
+      tracked = subst (λ (ps : List ℕ). AreTracked s n after.nest.names new.all ps (after.lexer ∷ reverse after.outer))
+          (sym (ap reverse gave.places ∙ at.is))
+          (subst (λ (rs : List Reader). AreTracked s n after.nest.names new.all (at.place ∷ at.rest) (after.lexer ∷ reverse rs)) (sym outer)
+          (first, rest));
     }
 
 -- as long as its lexer was given few bytes, no opening was given more
-pub read_fit : (s : Sources) (start old new : Openings) (before after : Open) → IsNested start old before → after.nest.names ≡ before.nest.names
-    → after.lexer.file ≡ before.lexer.file → Along s old new before.lexer.window.given after.lexer.window.given → after.lexer.window.given ≤ 16777216
+pub read_fit : (s : Sources) (start old new : Openings) (before after : Open) → IsNested start old before →
+    after.nest.names ≡ before.nest.names
+    → after.lexer.file ≡ before.lexer.file → Along s old new before.lexer.window.given after.lexer.window.given → after.lexer.window.given ≤
+    16777216
     → length after.lexer.window.left ≤ 4096 → (Ends s old before.lexer.window → Ends s new after.lexer.window)
     → (StillGives old before.lexer.window → StillGives new after.lexer.window)
     → AllGiven s (length start.all) old before → Each Fits (length start.all) old.all → Each Fits (length start.all) new.all
@@ -134,12 +152,15 @@ read_fit s start old new before after nested names file along few window ends st
 
 -- One opening more
 
-each_more : (P : Opening → Type 0) (n : ℕ) (all : List Opening) (name : List ℕ) → P (opened name) → Each P n all → Each P n (all ++ opened name ∷ [])
+each_more : (P : Opening → Type 0) (n : ℕ) (all : List Opening) (name : List ℕ) → P (opened name) → Each P n all →
+    Each P n (all ++ opened name ∷ [])
 each_more P n all name here each = λ i le lt. at i le lt (same_place i (length all))
   where
-    at : (i : ℕ) → n ≤ i → i < length (all ++ opened name ∷ []) → (i ≡ length all) ⊎ (i ≡ length all → ⊥) → P (get_or (all ++ opened name ∷ []) i (opened []))
+    at : (i : ℕ) → n ≤ i → i < length (all ++ opened name ∷ []) → (i ≡ length all) ⊎ (i ≡ length all → ⊥) →
+        P (get_or (all ++ opened name ∷ []) i (opened []))
     at i le lt (inl e) =
-        subst (λ (o : Opening). P o) (sym (ap (λ (k : ℕ). get_or (all ++ opened name ∷ []) k (opened [])) e ∙ get_or-append_seam all (opened name) [] (opened []))) here
+        subst (λ (o : Opening). P o) (sym (ap (λ (k : ℕ). get_or (all ++ opened name ∷ []) k (opened [])) e ∙ get_or-append_seam all
+        (opened name) [] (opened []))) here
     at i le lt (inr other) =
         let less : i < length all = front i lt other in
         subst (λ (o : Opening). P o) (sym (or_same all (all ++ opened name ∷ []) i (slice_front all (opened name) i less))) (each i le less)
@@ -161,7 +182,8 @@ none_fit all name = fit_more (length all) all name (λ i le lt. absurd (omega (a
 tracked_new : (s : Sources) (n : ℕ) (all : List Opening) (name : List ℕ) (nest : Nest) (set : CharSet) (limit : ℕ) → n ≤ length all
     → IsTracked s n (entered name nest).names (all ++ opened name ∷ []) (length all) (at_front set limit (number_of name nest.names))
 tracked_new s n all name nest set limit behind =
-    let here : get_or (all ++ opened name ∷ []) (length all) (opened []) ≡ opened name = get_or-append_seam all (opened name) [] (opened []) in
+    let here : get_or (all ++ opened name ∷ []) (length all) (opened []) ≡ opened name =
+    get_or-append_seam all (opened name) [] (opened []) in
     record {
       behind = behind;
       named = named_at name nest.names ∙ ap (λ (o : Opening). Some o.name) (sym here);
@@ -169,8 +191,10 @@ tracked_new s n all name nest set limit behind =
           (record { count = refl; window = omega arith; ends = λ e. cc; goes_on = λ e. refl });
     }
 
-pub entered_given : (s : Sources) (start old new : Openings) (before after : Open) (name : List ℕ) (set : CharSet) (limit : ℕ) → IsNested start old before
-    → new ≡ with_opened name old → after.nest ≡ entered name before.nest → after.lexer ≡ at_front set limit (number_of name before.nest.names)
+pub entered_given : (s : Sources) (start old new : Openings) (before after : Open) (name : List ℕ) (set : CharSet) (limit : ℕ) →
+    IsNested start old before
+    → new ≡ with_opened name old → after.nest ≡ entered name before.nest → after.lexer ≡ at_front set limit
+    (number_of name before.nest.names)
     → after.outer ≡ before.outer ++ before.lexer ∷ [] → AllGiven s (length start.all) old before → AllGiven s (length start.all) new after
 entered_given s start old new before after name set limit nested opens nest fronts outer given =
     let n : ℕ = length start.all in
@@ -185,34 +209,46 @@ entered_given s start old new before after name set limit nested opens nest fron
     (tracked_new s n old.all name before.nest set limit nested.more, rest) in
     subst (λ (o : Openings). AllGiven s n o after) (sym opens) (record {
       each = each_more (IsFrontOf s) n old.all name refl given.each;
-      tracked = subst (λ (x : Nest). AreTracked s n x.names all (reverse (old.open_places ++ length old.all ∷ [])) (after.lexer ∷ reverse after.outer)) (sym nest)
-          (subst (λ (ps : List ℕ). AreTracked s n names all ps (after.lexer ∷ reverse after.outer)) (sym (reverse_last old.open_places (length old.all)))
-          (subst (λ (r : Reader). AreTracked s n names all (length old.all ∷ reverse old.open_places) (r ∷ reverse after.outer)) (sym fronts)
-          (subst (λ (rs : List Reader). AreTracked s n names all (length old.all ∷ reverse old.open_places) (front ∷ rs)) (sym readers) tracked)));
+      tracked = subst (λ (x : Nest). AreTracked s n x.names all (reverse (old.open_places ++ length old.all ∷ []))
+          (after.lexer ∷ reverse after.outer)) (sym nest)
+          (subst (λ (ps : List ℕ). AreTracked s n names all ps (after.lexer ∷ reverse after.outer))
+          (sym (reverse_last old.open_places (length old.all)))
+          (subst (λ (r : Reader). AreTracked s n names all (length old.all ∷ reverse old.open_places) (r ∷ reverse after.outer))
+          (sym fronts)
+          (subst (λ (rs : List Reader). AreTracked s n names all (length old.all ∷ reverse old.open_places) (front ∷ rs)) (sym readers)
+          tracked)));
     })
 
 -- the main source
-pub main_given : (s : Sources) (old new : Openings) (files : Open) (name : List ℕ) (nest : Nest) (set : CharSet) (limit : ℕ) → new ≡ with_opened name old
-    → files.nest ≡ entered name nest → files.lexer ≡ at_front set limit (number_of name nest.names) → files.outer ≡ [] → AllGiven s (length old.all) new files
+pub main_given : (s : Sources) (old new : Openings) (files : Open) (name : List ℕ) (nest : Nest) (set : CharSet) (limit : ℕ) →
+    new ≡ with_opened name old
+    → files.nest ≡ entered name nest → files.lexer ≡ at_front set limit (number_of name nest.names) → files.outer ≡ [] → AllGiven s
+    (length old.all) new files
 main_given s old new files name nest set limit opens enters fronts outer =
     let n : ℕ = length old.all in
     let all : List Opening = old.all ++ opened name ∷ [] in
     let front : Reader = at_front set limit (number_of name nest.names) in
     subst (λ (o : Openings). AllGiven s n o files) (sym opens) (record {
       each = each_more (IsFrontOf s) n old.all name refl (λ i le lt. absurd (omega (arith, le, lt)));
-      tracked = subst (λ (x : Nest). AreTracked s n x.names all (reverse (old.open_places ++ length old.all ∷ [])) (files.lexer ∷ reverse files.outer)) (sym enters)
-          (subst (λ (ps : List ℕ). AreTracked s n (entered name nest).names all ps (files.lexer ∷ reverse files.outer)) (sym (reverse_last old.open_places (length old.all)))
-          (subst (λ (r : Reader). AreTracked s n (entered name nest).names all (length old.all ∷ reverse old.open_places) (r ∷ reverse files.outer)) (sym fronts)
-          (subst (λ (rs : List Reader). AreTracked s n (entered name nest).names all (length old.all ∷ reverse old.open_places) (front ∷ reverse rs)) (sym outer)
+      tracked = subst (λ (x : Nest). AreTracked s n x.names all (reverse (old.open_places ++ length old.all ∷ []))
+          (files.lexer ∷ reverse files.outer)) (sym enters)
+          (subst (λ (ps : List ℕ). AreTracked s n (entered name nest).names all ps (files.lexer ∷ reverse files.outer))
+          (sym (reverse_last old.open_places (length old.all)))
+          (subst (λ (r : Reader). AreTracked s n (entered name nest).names all (length old.all ∷ reverse old.open_places)
+          (r ∷ reverse files.outer)) (sym fronts)
+          (subst (λ (rs : List Reader). AreTracked s n (entered name nest).names all (length old.all ∷ reverse old.open_places)
+          (front ∷ reverse rs)) (sym outer)
           (tracked_new s n old.all name nest set limit (omega arith), tt))));
     })
 
 -- one opening more, which was closed at once
-closed_given : (s : Sources) (start old : Openings) (files : Open) (name : List ℕ) → IsNested start old files → AllGiven s (length start.all) old files
+closed_given : (s : Sources) (start old : Openings) (files : Open) (name : List ℕ) → IsNested start old files →
+    AllGiven s (length start.all) old files
     → AllGiven s (length start.all) (with_closed name old) files
 closed_given s start old files name nested given = record {
   each = each_more (IsFrontOf s) (length start.all) old.all name refl given.each;
-  tracked = tracked_same s (length start.all) files.nest.names files.nest.names old.all (old.all ++ opened name ∷ []) (length old.all) (reverse old.open_places) (files.lexer ∷ reverse files.outer)
+  tracked = tracked_same s (length start.all) files.nest.names files.nest.names old.all (old.all ++ opened name ∷ []) (length old.all)
+      (reverse old.open_places) (files.lexer ∷ reverse files.outer)
       (λ i x e. e) nested.nested (λ i less. slice_front old.all (opened name) i less) given.tracked;
 }
 
@@ -223,22 +259,28 @@ failed_given s known names start old new files n (inl same) g = subst (λ (o : O
 failed_given s known names start old new files n (inr c) g =
     subst (λ (o : Openings). AllGiven s (length start.all) o files) (sym c.is_closed) (closed_given s start old files c.name n g)
 
-pub failed_fit : (s : Sources) (known names : List (List ℕ)) (n : ℕ) (old new : Openings) → (new ≡ old) ⊎ ClosedAgain s known names old new → Each Fits n old.all → Each Fits n new.all
+pub failed_fit : (s : Sources) (known names : List (List ℕ)) (n : ℕ) (old new : Openings) →
+    (new ≡ old) ⊎ ClosedAgain s known names old new → Each Fits n old.all → Each Fits n new.all
 failed_fit s known names n old new (inl same) fit = subst (λ (o : Openings). Each Fits n o.all) (sym same) fit
-failed_fit s known names n old new (inr c) fit = subst (λ (o : Openings). Each Fits n o.all) (sym c.is_closed) (fit_more n old.all c.name fit)
+failed_fit s known names n old new (inr c) fit =
+    subst (λ (o : Openings). Each Fits n o.all) (sym c.is_closed) (fit_more n old.all c.name fit)
 
 -- The innermost file was left.
-pub left_given : (s : Sources) (start old new : Openings) (before after : Open) → IsNested start old before → Closes old new → before.outer ≡ after.outer ++ after.lexer ∷ []
+pub left_given : (s : Sources) (start old new : Openings) (before after : Open) → IsNested start old before → Closes old new →
+    before.outer ≡ after.outer ++ after.lexer ∷ []
     → after.nest.names ≡ before.nest.names → AllGiven s (length start.all) old before → AllGiven s (length start.all) new after
 left_given s start old new before after nested closes outer names given =
     let n : ℕ = length start.all in
-    let places : reverse old.open_places ≡ closes.place ∷ reverse new.open_places = ap reverse closes.innermost ∙ reverse_last new.open_places closes.place in
+    let places : reverse old.open_places ≡ closes.place ∷ reverse new.open_places =
+    ap reverse closes.innermost ∙ reverse_last new.open_places closes.place in
     let readers : reverse before.outer ≡ after.lexer ∷ reverse after.outer = ap reverse outer ∙ reverse_last after.outer after.lexer in
     let was : AreTracked s n before.nest.names old.all (closes.place ∷ reverse new.open_places) (before.lexer ∷ reverse before.outer) =
     subst (λ (ps : List ℕ). AreTracked s n before.nest.names old.all ps (before.lexer ∷ reverse before.outer)) places given.tracked in
     record {
       each = subst (λ (all : List Opening). Each (IsFrontOf s) n all) (sym closes.same) given.each;
-      tracked = subst (λ (x : List (List ℕ)). AreTracked s n x new.all (reverse new.open_places) (after.lexer ∷ reverse after.outer)) (sym names)
-          (subst (λ (all : List Opening). AreTracked s n before.nest.names all (reverse new.open_places) (after.lexer ∷ reverse after.outer)) (sym closes.same)
+      tracked =
+          subst (λ (x : List (List ℕ)). AreTracked s n x new.all (reverse new.open_places) (after.lexer ∷ reverse after.outer)) (sym names)
+          (subst (λ (all : List Opening). AreTracked s n before.nest.names all (reverse new.open_places)
+          (after.lexer ∷ reverse after.outer)) (sym closes.same)
           (subst (λ (rs : List Reader). AreTracked s n before.nest.names old.all (reverse new.open_places) rs) readers was.1));
     }

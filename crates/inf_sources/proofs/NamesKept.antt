@@ -12,7 +12,8 @@ stays_before [] more i x e = cc
 stays_before (n ∷ names) more zero x e = e
 stays_before (n ∷ names) more (suc i) x e = stays_before names more i x e
 
-pub names_stay : (name : List ℕ) (names : List (List ℕ)) (i : ℕ) (x : List ℕ) → slice_get names i ≡ Some x → slice_get (with_name name names) i ≡ Some x
+pub names_stay : (name : List ℕ) (names : List (List ℕ)) (i : ℕ) (x : List ℕ) → slice_get names i ≡ Some x →
+    slice_get (with_name name names) i ≡ Some x
 names_stay name names i x e = by (list_any (bytes_eq name) names)
   where
     by : (b : Bool) → slice_get (cond b names (names ++ name ∷ [])) i ≡ Some x
@@ -20,22 +21,27 @@ names_stay name names i x e = by (list_any (bytes_eq name) names)
     by false = stays_before names (name ∷ []) i x e
 
 -- the first name that is the same is the name, wherever it is
-found_at : (name : List ℕ) (names : List (List ℕ)) → list_any (bytes_eq name) names ≡ true → slice_get names (number_of name names) ≡ Some name
+found_at : (name : List ℕ) (names : List (List ℕ)) → list_any (bytes_eq name) names ≡ true →
+    slice_get names (number_of name names) ≡ Some name
 found_at name [] e = cc
 found_at name (n ∷ names) e = by (bytes_eq name n) refl (λ rest. found_at name names rest)
   where
-    by : (b : Bool) → bytes_eq name n ≡ b → (list_any (bytes_eq name) names ≡ true → slice_get names (number_of name names) ≡ Some name) → slice_get (n ∷ names) (cond (not b) (1 + position_or_len (bytes_eq name) names) 0) ≡ Some name
+    by : (b : Bool) → bytes_eq name n ≡ b → (list_any (bytes_eq name) names ≡ true → slice_get names (number_of name names) ≡ Some name) →
+        slice_get (n ∷ names) (cond (not b) (1 + position_or_len (bytes_eq name) names) 0) ≡ Some name
     by true is later = ap (λ (x : List ℕ). Some x) (sym ((bytes_eq-Decides name n).0 is))
     by false is later =
         let rest : list_any (bytes_eq name) names ≡ true = ap (λ b. b || list_any (bytes_eq name) names) (sym is) ∙ e in
         let next : 1 + position_or_len (bytes_eq name) names ≡ suc (position_or_len (bytes_eq name) names) = omega arith in
         ap (λ i. slice_get (n ∷ names) i) next ∙ later rest
 
-added_at : (name : List ℕ) (names : List (List ℕ)) → list_any (bytes_eq name) names ≡ false → slice_get (names ++ name ∷ []) (number_of name names) ≡ Some name
+added_at : (name : List ℕ) (names : List (List ℕ)) → list_any (bytes_eq name) names ≡ false →
+    slice_get (names ++ name ∷ []) (number_of name names) ≡ Some name
 added_at name [] e = refl
 added_at name (n ∷ names) e = by (bytes_eq name n) refl (λ rest. added_at name names rest)
   where
-    by : (b : Bool) → bytes_eq name n ≡ b → (list_any (bytes_eq name) names ≡ false → slice_get (names ++ name ∷ []) (number_of name names) ≡ Some name) → slice_get ((n ∷ names) ++ name ∷ []) (cond (not b) (1 + position_or_len (bytes_eq name) names) 0) ≡ Some name
+    by : (b : Bool) → bytes_eq name n ≡ b →
+        (list_any (bytes_eq name) names ≡ false → slice_get (names ++ name ∷ []) (number_of name names) ≡ Some name) →
+        slice_get ((n ∷ names) ++ name ∷ []) (cond (not b) (1 + position_or_len (bytes_eq name) names) 0) ≡ Some name
     by true is later = let never : true ≡ false = ap (λ b. b || list_any (bytes_eq name) names) (sym is) ∙ e in cc
     by false is later =
         let rest : list_any (bytes_eq name) names ≡ false = ap (λ b. b || list_any (bytes_eq name) names) (sym is) ∙ e in

@@ -17,7 +17,8 @@ pub nested_on : (start old new : Openings) (before after : Open) → IsNested st
     → length new.all ≡ length old.all → after.outer ≡ before.outer → IsNested start new after
 nested_on start old new before after n places count outer = record {
   more = omega (arith, n.more, count);
-  nested = subst (λ (readers : List Reader). AreNested (length new.all) (reverse new.open_places) (after.lexer ∷ reverse readers)) (sym outer)
+  nested =
+      subst (λ (readers : List Reader). AreNested (length new.all) (reverse new.open_places) (after.lexer ∷ reverse readers)) (sym outer)
       (subst (λ (ps : List ℕ). AreNested (length new.all) (reverse ps) (after.lexer ∷ reverse before.outer)) (sym places)
       (subst (λ (bound : ℕ). AreNested bound (reverse old.open_places) (after.lexer ∷ reverse before.outer)) (sym count)
       (nested_as (length old.all) (reverse old.open_places) before.lexer after.lexer (reverse before.outer) n.nested)));
@@ -39,10 +40,12 @@ names_given s old new bytes gave =
     names_same old.all new.all (innermost_place old) gave.count gave.others
     (ap (λ (i : ℕ). (get_or new.all i (opened [])).name) (ap (λ (ps : List ℕ). get_or ps (length ps - 1) 0) (sym gave.places)) ∙ gave.name)
 
-pub opened_as_before : (s : Sources) (start old new : Openings) (bytes : List ℕ) → Gave s old new bytes → opened_since start new ≡ opened_since start old
+pub opened_as_before : (s : Sources) (start old new : Openings) (bytes : List ℕ) → Gave s old new bytes →
+    opened_since start new ≡ opened_since start old
 opened_as_before s start old new bytes gave = names_behind (length start.all) old.all new.all (names_given s old new bytes gave)
 
-cursor_behind : (before after : Reader) (r : Read) (rest : List ℕ) → rest ≡ r.rest → after.lines ≡ r.lines → after.file ≡ before.file → after.set ≡ before.set
+cursor_behind : (before after : Reader) (r : Read) (rest : List ℕ) → rest ≡ r.rest → after.lines ≡ r.lines → after.file ≡ before.file →
+    after.set ≡ before.set
     → after.limit ≡ before.limit → (was : List ℕ) → cursor_of after rest ≡ behind (cursor_of before was) r
 cursor_behind before after r rest on lines file set limit was =
     ap (λ x. record { rest = x; lines = after.lines; file = after.file; set = after.set; limit = after.limit }) on
@@ -54,8 +57,10 @@ cursor_behind before after r rest on lines file set limit was =
 -- a token was read of the innermost file
 pub reads_on : (s : Sources) (start old new : Openings) (before after : Open) (token : Token) (bytes : List ℕ) → IsNested start old before
     → Gave s old new bytes → after.nest ≡ before.nest → after.outer ≡ before.outer
-    → read_out token after.lexer (to_come s new after.lexer.window) ≡ next_token before.lexer.set before.lexer.limit before.lexer.lines (to_come s old before.lexer.window)
-    → token.place.file ≡ before.lexer.file → (after.lexer.set ≡ before.lexer.set) × (after.lexer.limit ≡ before.lexer.limit) × (after.lexer.file ≡ before.lexer.file)
+    → read_out token after.lexer (to_come s new after.lexer.window) ≡ next_token before.lexer.set before.lexer.limit before.lexer.lines
+    (to_come s old before.lexer.window)
+    → token.place.file ≡ before.lexer.file → (after.lexer.set ≡ before.lexer.set) × (after.lexer.limit ≡ before.lexer.limit) ×
+    (after.lexer.file ≡ before.lexer.file)
     → Reads token after.lexer.kept.bytes (nesting s start old before) (nesting s start new after)
 reads_on s start old new before after token bytes n gave nest outer e file same =
     let c = cursor_of before.lexer (to_come s old before.lexer.window) in
@@ -63,13 +68,16 @@ reads_on s start old new before after token bytes n gave nest outer e file same 
     let at = innermost_of (length old.all) (reverse old.open_places) before.lexer (reverse before.outer) n.nested in
     let place : innermost_place old ≡ at.place = last_of old.open_places at.place at.rest at.is in
     let cursor : cursor_of after.lexer (to_come s new after.lexer.window) ≡ behind c r =
-    cursor_behind before.lexer after.lexer r (to_come s new after.lexer.window) (ap (λ (x : Read). x.rest) e) (ap (λ (x : Read). x.lines) e) same.2 same.0 same.1
+    cursor_behind before.lexer after.lexer r (to_come s new after.lexer.window) (ap (λ (x : Read). x.rest) e) (ap (λ (x : Read). x.lines) e)
+    same.2 same.0 same.1
     (to_come s old before.lexer.window) in
-    let waits : cursors_at s new.all (drop 1 (reverse new.open_places)) (reverse after.outer) ≡ cursors_at s old.all (drop 1 (reverse old.open_places)) (reverse before.outer) =
+    let waits : cursors_at s new.all (drop 1 (reverse new.open_places)) (reverse after.outer) ≡ cursors_at s old.all
+    (drop 1 (reverse old.open_places)) (reverse before.outer) =
     ap (λ (ps : List ℕ). cursors_at s new.all (drop 1 (reverse ps)) (reverse after.outer)) gave.places
     ∙ ap (λ (readers : List Reader). cursors_at s new.all (drop 1 (reverse old.open_places)) (reverse readers)) outer
     ∙ ap (λ (ps : List ℕ). cursors_at s new.all (drop 1 ps) (reverse before.outer)) at.is
-    ∙ waiting_same s old.all new.all at.place at.rest (reverse before.outer) at.inner (λ i less. gave.others i (λ is. omega (arith, less, is, place)))
+    ∙ waiting_same s old.all new.all at.place at.rest (reverse before.outer) at.inner
+    (λ i less. gave.others i (λ is. omega (arith, less, is, place)))
     ∙ sym (ap (λ (ps : List ℕ). cursors_at s old.all (drop 1 ps) (reverse before.outer)) at.is) in
     record {
       kind = ap (λ (x : Read). x.kind) e;
@@ -77,9 +85,13 @@ reads_on s start old new before after token bytes n gave nest outer e file same 
           ∙ ap (λ (l : ℕ). record { file = before.lexer.file; line = l }) (ap (λ (x : Read). x.line) e);
       bytes = ap (λ (x : Read). x.kept.bytes) e;
       goes_on =
-          ap (λ (x : Nest). made x.names (names_of (drop (length start.all) new.all)) (cursor_of after.lexer (to_come s new after.lexer.window)) (cursors_at s new.all (drop 1 (reverse new.open_places)) (reverse after.outer))) nest
-          ∙ ap (λ x. made before.nest.names x (cursor_of after.lexer (to_come s new after.lexer.window)) (cursors_at s new.all (drop 1 (reverse new.open_places)) (reverse after.outer))) (opened_as_before s start old new bytes gave)
-          ∙ ap (λ x. made before.nest.names (names_of (drop (length start.all) old.all)) x (cursors_at s new.all (drop 1 (reverse new.open_places)) (reverse after.outer))) cursor
+          ap (λ (x : Nest). made x.names (names_of (drop (length start.all) new.all))
+          (cursor_of after.lexer (to_come s new after.lexer.window))
+          (cursors_at s new.all (drop 1 (reverse new.open_places)) (reverse after.outer))) nest
+          ∙ ap (λ x. made before.nest.names x (cursor_of after.lexer (to_come s new after.lexer.window))
+          (cursors_at s new.all (drop 1 (reverse new.open_places)) (reverse after.outer))) (opened_as_before s start old new bytes gave)
+          ∙ ap (λ x. made before.nest.names (names_of (drop (length start.all) old.all)) x
+          (cursors_at s new.all (drop 1 (reverse new.open_places)) (reverse after.outer))) cursor
           ∙ ap (λ x. made before.nest.names (names_of (drop (length start.all) old.all)) (behind c r) x) waits;
     }
 
@@ -89,16 +101,20 @@ pub left_nested : (start old new : Openings) (before after : Open) → IsNested 
     → before.outer ≡ after.outer ++ after.lexer ∷ [] → IsNested start new after
 left_nested start old new before after n closes outer =
     let at = innermost_of (length old.all) (reverse old.open_places) before.lexer (reverse before.outer) n.nested in
-    let places : reverse old.open_places ≡ closes.place ∷ reverse new.open_places = ap reverse closes.innermost ∙ reverse_last new.open_places closes.place in
+    let places : reverse old.open_places ≡ closes.place ∷ reverse new.open_places =
+    ap reverse closes.innermost ∙ reverse_last new.open_places closes.place in
     let readers : reverse before.outer ≡ after.lexer ∷ reverse after.outer = ap reverse outer ∙ reverse_last after.outer after.lexer in
     let rest : at.rest ≡ reverse new.open_places = ap (λ (ps : List ℕ). drop 1 ps) (sym at.is ∙ places) in
     let inner : AreNested at.place (reverse new.open_places) (after.lexer ∷ reverse after.outer) =
-    subst (λ (ps : List ℕ). AreNested at.place ps (after.lexer ∷ reverse after.outer)) rest (subst (λ (rs : List Reader). AreNested at.place at.rest rs) readers at.inner) in
+    subst (λ (ps : List ℕ). AreNested at.place ps (after.lexer ∷ reverse after.outer)) rest
+    (subst (λ (rs : List Reader). AreNested at.place at.rest rs) readers at.inner) in
     let count : length new.all ≡ length old.all = ap length closes.same in
-    let size : length before.outer ≡ suc (length after.outer) = ap length outer ∙ omega (arith, length-append after.outer (after.lexer ∷ [])) in
+    let size : length before.outer ≡ suc (length after.outer) =
+    ap length outer ∙ omega (arith, length-append after.outer (after.lexer ∷ [])) in
     record {
       more = omega (arith, n.more, count);
-      nested = nested_more at.place (length new.all) (reverse new.open_places) (after.lexer ∷ reverse after.outer) (omega (arith, at.less, count)) inner;
+      nested = nested_more at.place (length new.all) (reverse new.open_places) (after.lexer ∷ reverse after.outer)
+          (omega (arith, at.less, count)) inner;
       others = sym (ap (λ (ps : List ℕ). drop (suc (suc (length after.outer))) ps) places)
           ∙ ap (λ (k : ℕ). drop (suc k) (reverse old.open_places)) (sym size) ∙ n.others;
     }
@@ -107,27 +123,40 @@ pub left_nesting : (s : Sources) (start old new : Openings) (before after : Open
     → before.outer ≡ after.outer ++ after.lexer ∷ [] → after.nest ≡ left before.nest
     → nesting s start new after ≡ closed (nesting s start old before)
 left_nesting s start old new before after n closes outer nest =
-    let at = innermost_of (length new.all) (reverse new.open_places) after.lexer (reverse after.outer) (left_nested start old new before after n closes outer).nested in
-    let places : reverse old.open_places ≡ closes.place ∷ reverse new.open_places = ap reverse closes.innermost ∙ reverse_last new.open_places closes.place in
+    let at = innermost_of (length new.all) (reverse new.open_places) after.lexer (reverse after.outer)
+    (left_nested start old new before after n closes outer).nested in
+    let places : reverse old.open_places ≡ closes.place ∷ reverse new.open_places =
+    ap reverse closes.innermost ∙ reverse_last new.open_places closes.place in
     let readers : reverse before.outer ≡ after.lexer ∷ reverse after.outer = ap reverse outer ∙ reverse_last after.outer after.lexer in
     let place : innermost_place new ≡ at.place = last_of new.open_places at.place at.rest at.is in
     let waits : cursors_at s old.all (drop 1 (reverse old.open_places)) (reverse before.outer)
-    ≡ cursor_of after.lexer (rest_of s (get_or old.all at.place (opened [])) after.lexer.window) ∷ cursors_at s old.all at.rest (reverse after.outer) =
+    ≡ cursor_of after.lexer (rest_of s (get_or old.all at.place (opened [])) after.lexer.window) ∷ cursors_at s old.all at.rest
+    (reverse after.outer) =
     ap (λ (ps : List ℕ). cursors_at s old.all (drop 1 ps) (reverse before.outer)) places
     ∙ ap (λ (rs : List Reader). cursors_at s old.all (reverse new.open_places) rs) readers
     ∙ ap (λ (ps : List ℕ). cursors_at s old.all ps (after.lexer ∷ reverse after.outer)) at.is in
-    ap (λ (x : Nest). made x.names (names_of (drop (length start.all) new.all)) (cursor_of after.lexer (to_come s new after.lexer.window)) (cursors_at s new.all (drop 1 (reverse new.open_places)) (reverse after.outer))) nest
-    ∙ ap (λ (i : ℕ). made before.nest.names (names_of (drop (length start.all) new.all)) (cursor_of after.lexer (rest_of s (get_or new.all i (opened [])) after.lexer.window)) (cursors_at s new.all (drop 1 (reverse new.open_places)) (reverse after.outer))) place
-    ∙ ap (λ (ps : List ℕ). made before.nest.names (names_of (drop (length start.all) new.all)) (cursor_of after.lexer (rest_of s (get_or new.all at.place (opened [])) after.lexer.window)) (cursors_at s new.all (drop 1 ps) (reverse after.outer))) at.is
-    ∙ ap (λ (all : List Opening). made before.nest.names (names_of (drop (length start.all) all)) (cursor_of after.lexer (rest_of s (get_or all at.place (opened [])) after.lexer.window)) (cursors_at s all at.rest (reverse after.outer))) closes.same
-    ∙ sym (ap (λ (waiting : List Cursor). closed (made before.nest.names (names_of (drop (length start.all) old.all)) (cursor_of before.lexer (to_come s old before.lexer.window)) waiting)) waits)
+    ap (λ (x : Nest). made x.names (names_of (drop (length start.all) new.all)) (cursor_of after.lexer (to_come s new after.lexer.window))
+    (cursors_at s new.all (drop 1 (reverse new.open_places)) (reverse after.outer))) nest
+    ∙ ap (λ (i : ℕ). made before.nest.names (names_of (drop (length start.all) new.all))
+    (cursor_of after.lexer (rest_of s (get_or new.all i (opened [])) after.lexer.window))
+    (cursors_at s new.all (drop 1 (reverse new.open_places)) (reverse after.outer))) place
+    ∙ ap (λ (ps : List ℕ). made before.nest.names (names_of (drop (length start.all) new.all))
+    (cursor_of after.lexer (rest_of s (get_or new.all at.place (opened [])) after.lexer.window))
+    (cursors_at s new.all (drop 1 ps) (reverse after.outer))) at.is
+    ∙ ap (λ (all : List Opening). made before.nest.names (names_of (drop (length start.all) all))
+    (cursor_of after.lexer (rest_of s (get_or all at.place (opened [])) after.lexer.window))
+    (cursors_at s all at.rest (reverse after.outer))) closes.same
+    ∙ sym (ap (λ (waiting : List Cursor). closed (made before.nest.names (names_of (drop (length start.all) old.all))
+    (cursor_of before.lexer (to_come s old before.lexer.window)) waiting)) waits)
 
 -- all files were left but the main one, which was closed too
-pub closed_is : (start old now new : Openings) (files : Open) → IsNested start now files → length files.outer ≡ 0 → now.all ≡ old.all → Closes now new → new ≡ closed_to start old
+pub closed_is : (start old now new : Openings) (files : Open) → IsNested start now files → length files.outer ≡ 0 → now.all ≡ old.all →
+    Closes now new → new ≡ closed_to start old
 closed_is start old now new files n alone all closes =
     let backwards : reverse new.open_places ≡ reverse start.open_places =
     sym (ap (λ (ps : List ℕ). drop 1 ps) (ap reverse closes.innermost ∙ reverse_last new.open_places closes.place))
     ∙ sym (ap (λ (k : ℕ). drop (suc k) (reverse now.open_places)) alone) ∙ n.others in
-    let places : new.open_places ≡ start.open_places = sym (reverse-reverse new.open_places) ∙ ap reverse backwards ∙ reverse-reverse start.open_places in
+    let places : new.open_places ≡ start.open_places =
+    sym (reverse-reverse new.open_places) ∙ ap reverse backwards ∙ reverse-reverse start.open_places in
     ap (λ (x : List Opening). record { all = x; open_places = new.open_places }) (closes.same ∙ all)
     ∙ ap (λ (x : List ℕ). record { all = old.all; open_places = x }) places

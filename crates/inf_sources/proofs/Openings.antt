@@ -14,18 +14,21 @@ use Rattle.inf_sources.specs.Open.{AreNested, IsNested, Open, cursor_of, cursors
 use Rattle.inf_sources.proofs.Places.{innermost_of, last_of, names_of, nested_more, reverse_last, waiting_same}
 
 last_is : (old : Openings) (name : List ℕ) → innermost_place (with_opened name old) ≡ length old.all
-last_is old name = last_of (old.open_places ++ length old.all ∷ []) (length old.all) (reverse old.open_places) (reverse_last old.open_places (length old.all))
+last_is old name = last_of (old.open_places ++ length old.all ∷ []) (length old.all) (reverse old.open_places)
+    (reverse_last old.open_places (length old.all))
 
 innermost_is : (old : Openings) (name : List ℕ) → innermost (with_opened name old) ≡ opened name
 innermost_is old name =
-    ap (λ n. get_or (old.all ++ opened name ∷ []) n (opened [])) (last_is old name) ∙ get_or-append_seam old.all (opened name) [] (opened [])
+    ap (λ n. get_or (old.all ++ opened name ∷ []) n (opened [])) (last_is old name)
+    ∙ get_or-append_seam old.all (opened name) [] (opened [])
 
 -- all of a source that was opened is still to be given
 pub all_unread : (s : Sources) (old : Openings) (name : List ℕ) → unread s (with_opened name old) ≡ unwrap_or (s name) []
 all_unread s old name = ap (λ (o : Opening). drop (length o.given) (unwrap_or (s o.name) [])) (innermost_is old name)
 
 front_is : (s : Sources) (old : Openings) (name : List ℕ) (set : CharSet) (limit number : ℕ)
-    → cursor_of (at_front set limit number) (to_come s (with_opened name old) (at_front set limit number).window) ≡ front set limit number (unwrap_or (s name) [])
+    → cursor_of (at_front set limit number) (to_come s (with_opened name old) (at_front set limit number).window) ≡ front set limit number
+    (unwrap_or (s name) [])
 front_is s old name set limit number = ap (λ rest. front set limit number rest) (all_unread s old name)
 
 pub slice_front : (xs : List Opening) (x : Opening) (i : ℕ) → i < length xs → slice_get (xs ++ x ∷ []) i ≡ slice_get xs i
@@ -33,7 +36,8 @@ slice_front [] x i less = absurd (omega (arith, less))
 slice_front (y ∷ xs) x zero less = refl
 slice_front (y ∷ xs) x (suc i) less = slice_front xs x i (omega (arith, less))
 
-drop_more : (k : ℕ) (xs : List Opening) (x : Opening) → k ≤ length xs → names_of (drop k (xs ++ x ∷ [])) ≡ names_of (drop k xs) ++ x.name ∷ []
+drop_more : (k : ℕ) (xs : List Opening) (x : Opening) → k ≤ length xs →
+    names_of (drop k (xs ++ x ∷ [])) ≡ names_of (drop k xs) ++ x.name ∷ []
 drop_more zero [] x le = refl
 drop_more zero (y ∷ xs) x le = ap (λ names. y.name ∷ names) (drop_more zero xs x (omega arith))
 drop_more (suc k) [] x le = absurd (omega (arith, le))
@@ -41,13 +45,31 @@ drop_more (suc k) (y ∷ xs) x le = drop_more k xs x (omega (arith, le))
 
 -- the main source alone
 pub main_nesting : (s : Sources) (old : Openings) (name : List ℕ) (set : CharSet) (limit : ℕ)
-    → nesting s old (with_opened name old) (record { nest = entered name (record { set = set; limit = limit; names = []; open_files = [] }); lexer = at_front set limit 0; outer = [] })
+    → nesting s old (with_opened name old) (record {
+      nest = entered name (record { set = set; limit = limit; names = []; open_files = [] });
+      lexer = at_front set limit 0;
+      outer = [];
+    })
     ≡ main_opened set limit s name
 main_nesting s old name set limit =
-    ap (λ names. record { names = name ∷ []; openings = names; cursor = cursor_of (at_front set limit 0) (to_come s (with_opened name old) (at_front set limit 0).window); waiting = cursors_at s (old.all ++ opened name ∷ []) (drop 1 (reverse (old.open_places ++ length old.all ∷ []))) [] })
+    ap (λ names. record {
+      names = name ∷ [];
+      openings = names;
+      cursor = cursor_of (at_front set limit 0)
+          (to_come s (with_opened name old) (at_front set limit 0).window);
+      waiting = cursors_at s (old.all ++ opened name ∷ [])
+          (drop 1 (reverse (old.open_places ++ length old.all ∷ []))) [];
+    })
     (drop_more (length old.all) old.all (opened name) (omega arith) ∙ ap (λ os. names_of os ++ name ∷ []) (drop_all old.all))
-    ∙ ap (λ c. record { names = name ∷ []; openings = name ∷ []; cursor = c; waiting = cursors_at s (old.all ++ opened name ∷ []) (drop 1 (reverse (old.open_places ++ length old.all ∷ []))) [] }) (front_is s old name set limit 0)
-    ∙ ap (λ w. record { names = name ∷ []; openings = name ∷ []; cursor = front set limit 0 (unwrap_or (s name) []); waiting = w }) (none_at (drop 1 (reverse (old.open_places ++ length old.all ∷ []))))
+    ∙ ap (λ c. record {
+      names = name ∷ [];
+      openings = name ∷ [];
+      cursor = c;
+      waiting = cursors_at s (old.all ++ opened name ∷ [])
+          (drop 1 (reverse (old.open_places ++ length old.all ∷ []))) [];
+    }) (front_is s old name set limit 0)
+    ∙ ap (λ w. record { names = name ∷ []; openings = name ∷ []; cursor = front set limit 0 (unwrap_or (s name) []); waiting = w })
+    (none_at (drop 1 (reverse (old.open_places ++ length old.all ∷ []))))
   where
     drop_all : (xs : List Opening) → drop (length xs) xs ≡ []
     drop_all [] = refl
@@ -57,12 +79,15 @@ main_nesting s old name set limit =
     none_at [] = refl
     none_at (p ∷ places) = refl
 
-pub main_nested : (old : Openings) (name : List ℕ) (nest : Nest) (lexer : Reader) → IsNested old (with_opened name old) (record { nest = nest; lexer = lexer; outer = [] })
+pub main_nested : (old : Openings) (name : List ℕ) (nest : Nest) (lexer : Reader) →
+    IsNested old (with_opened name old) (record { nest = nest; lexer = lexer; outer = [] })
 main_nested old name nest lexer =
-    let places : reverse (old.open_places ++ length old.all ∷ []) ≡ length old.all ∷ reverse old.open_places = reverse_last old.open_places (length old.all) in
+    let places : reverse (old.open_places ++ length old.all ∷ []) ≡ length old.all ∷ reverse old.open_places =
+    reverse_last old.open_places (length old.all) in
     record {
       more = omega (arith, length-append old.all (opened name ∷ []));
-      nested = subst (λ ps. AreNested (length (old.all ++ opened name ∷ [])) ps (lexer ∷ [])) (sym places) (omega (arith, length-append old.all (opened name ∷ [])), tt);
+      nested = subst (λ ps. AreNested (length (old.all ++ opened name ∷ [])) ps (lexer ∷ [])) (sym places)
+          (omega (arith, length-append old.all (opened name ∷ [])), tt);
       others = ap (λ ps. drop 1 ps) places;
     }
 
@@ -71,46 +96,70 @@ main_nested old name nest lexer =
 pub entered_nested : (start old : Openings) (before : Open) (name : List ℕ) (nest : Nest) (lexer : Reader) → IsNested start old before
     → IsNested start (with_opened name old) (record { nest = nest; lexer = lexer; outer = before.outer ++ before.lexer ∷ [] })
 entered_nested start old before name nest lexer n =
-    let places : reverse (old.open_places ++ length old.all ∷ []) ≡ length old.all ∷ reverse old.open_places = reverse_last old.open_places (length old.all) in
-    let readers : reverse (before.outer ++ before.lexer ∷ []) ≡ before.lexer ∷ reverse before.outer = reverse_last before.outer before.lexer in
-    let size : length (before.outer ++ before.lexer ∷ []) ≡ suc (length before.outer) = omega (arith, length-append before.outer (before.lexer ∷ [])) in
+    let places : reverse (old.open_places ++ length old.all ∷ []) ≡ length old.all ∷ reverse old.open_places =
+    reverse_last old.open_places (length old.all) in
+    let readers : reverse (before.outer ++ before.lexer ∷ []) ≡ before.lexer ∷ reverse before.outer =
+    reverse_last before.outer before.lexer in
+    let size : length (before.outer ++ before.lexer ∷ []) ≡ suc (length before.outer) =
+    omega (arith, length-append before.outer (before.lexer ∷ [])) in
     record {
       more = omega (arith, n.more, length-append old.all (opened name ∷ []));
-      nested = subst (λ ps. AreNested (length (old.all ++ opened name ∷ [])) ps (lexer ∷ reverse (before.outer ++ before.lexer ∷ []))) (sym places)
-          (subst (λ rs. AreNested (length (old.all ++ opened name ∷ [])) (length old.all ∷ reverse old.open_places) (lexer ∷ rs)) (sym readers)
+      nested = subst (λ ps. AreNested (length (old.all ++ opened name ∷ [])) ps (lexer ∷ reverse (before.outer ++ before.lexer ∷ [])))
+          (sym places)
+          (subst (λ rs. AreNested (length (old.all ++ opened name ∷ [])) (length old.all ∷ reverse old.open_places) (lexer ∷ rs))
+          (sym readers)
           (omega (arith, length-append old.all (opened name ∷ [])), n.nested));
-      others = ap (λ k. drop (suc k) (reverse (old.open_places ++ length old.all ∷ []))) size ∙ ap (λ ps. drop (suc (suc (length before.outer))) ps) places ∙ n.others;
+      others =
+          ap (λ k. drop (suc k) (reverse (old.open_places ++ length old.all ∷ []))) size
+          ∙ ap (λ ps. drop (suc (suc (length before.outer))) ps) places ∙ n.others;
     }
 
-pub entered_nesting : (s : Sources) (start old : Openings) (before : Open) (name : List ℕ) (set : CharSet) (limit : ℕ) → IsNested start old before
-    → nesting s start (with_opened name old) (record { nest = entered name before.nest; lexer = at_front set limit (number_of name before.nest.names); outer = before.outer ++ before.lexer ∷ [] })
+pub entered_nesting : (s : Sources) (start old : Openings) (before : Open) (name : List ℕ) (set : CharSet) (limit : ℕ) →
+    IsNested start old before
+    → nesting s start (with_opened name old) (record {
+      nest = entered name before.nest;
+      lexer = at_front set limit
+          (number_of name before.nest.names);
+      outer = before.outer ++ before.lexer ∷ [];
+    })
     ≡ one_more set limit s name (nesting s start old before)
 entered_nesting s start old before name set limit n =
     let number : ℕ = number_of name before.nest.names in
     let new = with_opened name old in
     let at = innermost_of (length old.all) (reverse old.open_places) before.lexer (reverse before.outer) n.nested in
     let places : reverse new.open_places ≡ length old.all ∷ reverse old.open_places = reverse_last old.open_places (length old.all) in
-    let readers : reverse (before.outer ++ before.lexer ∷ []) ≡ before.lexer ∷ reverse before.outer = reverse_last before.outer before.lexer in
+    let readers : reverse (before.outer ++ before.lexer ∷ []) ≡ before.lexer ∷ reverse before.outer =
+    reverse_last before.outer before.lexer in
     let place : innermost_place old ≡ at.place = last_of old.open_places at.place at.rest at.is in
-    let waits : cursors_at s new.all (drop 1 (reverse new.open_places)) (reverse (before.outer ++ before.lexer ∷ [])) ≡ (nesting s start old before).cursor ∷ (nesting s start old before).waiting =
+    let waits : cursors_at s new.all (drop 1 (reverse new.open_places)) (reverse (before.outer ++ before.lexer ∷ [])) ≡
+    (nesting s start old before).cursor ∷ (nesting s start old before).waiting =
     ap (λ (ps : List ℕ). cursors_at s new.all (drop 1 ps) (reverse (before.outer ++ before.lexer ∷ []))) places
     ∙ ap (λ rs. cursors_at s new.all (reverse old.open_places) rs) readers
-    ∙ waiting_same s old.all new.all (length old.all) (reverse old.open_places) (before.lexer ∷ reverse before.outer) n.nested (λ i less. slice_front old.all (opened name) i less)
+    ∙ waiting_same s old.all new.all (length old.all) (reverse old.open_places) (before.lexer ∷ reverse before.outer) n.nested
+    (λ i less. slice_front old.all (opened name) i less)
     ∙ ap (λ (ps : List ℕ). cursors_at s old.all ps (before.lexer ∷ reverse before.outer)) at.is
-    ∙ sym (ap (λ (i : ℕ). cursor_of before.lexer (rest_of s (get_or old.all i (opened [])) before.lexer.window) ∷ cursors_at s old.all at.rest (reverse before.outer)) place)
-    ∙ sym (ap (λ (ps : List ℕ). cursor_of before.lexer (to_come s old before.lexer.window) ∷ cursors_at s old.all (drop 1 ps) (reverse before.outer)) at.is) in
-    let made : List (List ℕ) → Cursor → List Cursor → Nesting = λ openings cursor waiting. record { names = (entered name before.nest).names; openings = openings; cursor = cursor; waiting = waiting } in
-    ap (λ x. made x (cursor_of (at_front set limit number) (to_come s new (at_front set limit number).window)) (cursors_at s new.all (drop 1 (reverse new.open_places)) (reverse (before.outer ++ before.lexer ∷ []))))
+    ∙ sym (ap (λ (i : ℕ). cursor_of before.lexer (rest_of s (get_or old.all i (opened [])) before.lexer.window) ∷ cursors_at s old.all
+    at.rest (reverse before.outer)) place)
+    ∙ sym (ap (λ (ps : List ℕ). cursor_of before.lexer (to_come s old before.lexer.window) ∷ cursors_at s old.all (drop 1 ps)
+    (reverse before.outer)) at.is) in
+    let made : List (List ℕ) → Cursor → List Cursor → Nesting = λ openings cursor waiting.
+    record { names = (entered name before.nest).names; openings = openings; cursor = cursor; waiting = waiting } in
+    ap (λ x. made x (cursor_of (at_front set limit number) (to_come s new (at_front set limit number).window))
+    (cursors_at s new.all (drop 1 (reverse new.open_places)) (reverse (before.outer ++ before.lexer ∷ []))))
     (drop_more (length start.all) old.all (opened name) n.more)
-    ∙ ap (λ x. made (names_of (drop (length start.all) old.all) ++ name ∷ []) x (cursors_at s new.all (drop 1 (reverse new.open_places)) (reverse (before.outer ++ before.lexer ∷ [])))) (front_is s old name set limit number)
+    ∙ ap (λ x. made (names_of (drop (length start.all) old.all) ++ name ∷ []) x
+    (cursors_at s new.all (drop 1 (reverse new.open_places)) (reverse (before.outer ++ before.lexer ∷ []))))
+    (front_is s old name set limit number)
     ∙ ap (λ x. made (names_of (drop (length start.all) old.all) ++ name ∷ []) (front set limit number (unwrap_or (s name) [])) x) waits
 
 -- one that was closed at once
 
-closed_nested : (start old : Openings) (before : Open) (name : List ℕ) → IsNested start old before → IsNested start (with_closed name old) before
+closed_nested : (start old : Openings) (before : Open) (name : List ℕ) → IsNested start old before →
+    IsNested start (with_closed name old) before
 closed_nested start old before name n = record {
   more = omega (arith, n.more, length-append old.all (opened name ∷ []));
-  nested = nested_more (length old.all) (length (old.all ++ opened name ∷ [])) (reverse old.open_places) (before.lexer ∷ reverse before.outer)
+  nested =
+      nested_more (length old.all) (length (old.all ++ opened name ∷ [])) (reverse old.open_places) (before.lexer ∷ reverse before.outer)
       (omega (arith, length-append old.all (opened name ∷ []))) n.nested;
   others = n.others;
 }
@@ -135,20 +184,30 @@ only_name name x (suc place) e = cc
 abbrev fresh : CharSet → ℕ → Nest
 fresh set limit = record { set = set; limit = limit; names = []; open_files = [] }
 
-pub main_of : (s : Sources) (old new : Openings) (name n : List ℕ) (stack nest : Nest) (lexer : Reader) (outer : List Reader) (set : CharSet) (limit : ℕ)
-    → stack ≡ fresh set limit → n ≡ name → new ≡ with_opened n old → nest ≡ entered n stack → lexer ≡ at_front stack.set stack.limit (number_of n stack.names) → outer ≡ []
+pub main_of : (s : Sources) (old new : Openings) (name n : List ℕ) (stack nest : Nest) (lexer : Reader) (outer : List Reader)
+    (set : CharSet) (limit : ℕ)
+    → stack ≡ fresh set limit → n ≡ name → new ≡ with_opened n old → nest ≡ entered n stack → lexer ≡ at_front stack.set stack.limit
+    (number_of n stack.names) → outer ≡ []
     → nesting s old new (record { nest = nest; lexer = lexer; outer = outer }) ≡ main_opened set limit s name
 main_of s old new name n stack nest lexer outer set limit is_fresh named opens enters fronts empty =
     ap (λ (o : List Reader). nesting s old new (record { nest = nest; lexer = lexer; outer = o })) empty
     ∙ ap (λ (r : Reader). nesting s old new (record { nest = nest; lexer = r; outer = [] })) fronts
-    ∙ ap (λ (x : Nest). nesting s old new (record { nest = x; lexer = at_front stack.set stack.limit (number_of n stack.names); outer = [] })) enters
-    ∙ ap (λ (x : Nest). nesting s old new (record { nest = entered n x; lexer = at_front x.set x.limit (number_of n x.names); outer = [] })) is_fresh
+    ∙ ap (λ (x : Nest). nesting s old new (record {
+      nest = x;
+      lexer = at_front stack.set stack.limit (number_of n stack.names);
+      outer = [];
+    })) enters
+    ∙ ap (λ (x : Nest). nesting s old new (record { nest = entered n x; lexer = at_front x.set x.limit (number_of n x.names); outer = [] }))
+    is_fresh
     ∙ ap (λ (o : Openings). nesting s old o (record { nest = entered n (fresh set limit); lexer = at_front set limit 0; outer = [] })) opens
-    ∙ ap (λ (m : List ℕ). nesting s old (with_opened m old) (record { nest = entered m (fresh set limit); lexer = at_front set limit 0; outer = [] })) named
+    ∙ ap (λ (m : List ℕ). nesting s old (with_opened m old)
+    (record { nest = entered m (fresh set limit); lexer = at_front set limit 0; outer = [] })) named
     ∙ main_nesting s old name set limit
 
-pub main_nested_of : (old new : Openings) (n : List ℕ) (nest : Nest) (lexer : Reader) (outer : List Reader) → new ≡ with_opened n old → outer ≡ []
+pub main_nested_of : (old new : Openings) (n : List ℕ) (nest : Nest) (lexer : Reader) (outer : List Reader) → new ≡ with_opened n old →
+    outer ≡ []
     → IsNested old new (record { nest = nest; lexer = lexer; outer = outer })
 main_nested_of old new n nest lexer outer opens empty =
     subst (λ (o : Openings). IsNested old o (record { nest = nest; lexer = lexer; outer = outer })) (sym opens)
-    (subst (λ (o : List Reader). IsNested old (with_opened n old) (record { nest = nest; lexer = lexer; outer = o })) (sym empty) (main_nested old n nest lexer))
+    (subst (λ (o : List Reader). IsNested old (with_opened n old) (record { nest = nest; lexer = lexer; outer = o })) (sym empty)
+    (main_nested old n nest lexer))

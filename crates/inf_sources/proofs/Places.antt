@@ -32,16 +32,19 @@ pub record Innermost (bound : ℕ) (places : List ℕ) (readers : List Reader) :
   pub less : place < bound
   pub inner : AreNested place rest readers
 
-pub innermost_of : (bound : ℕ) (places : List ℕ) (r : Reader) (readers : List Reader) → AreNested bound places (r ∷ readers) → Innermost bound places readers
+pub innermost_of : (bound : ℕ) (places : List ℕ) (r : Reader) (readers : List Reader) → AreNested bound places (r ∷ readers) →
+    Innermost bound places readers
 innermost_of bound [] r readers h = absurd h
 innermost_of bound (p ∷ places) r readers h = record { place = p; rest = places; is = refl; less = h.0; inner = h.1 }
 
 -- which lexer is the innermost does not matter
-pub nested_as : (bound : ℕ) (places : List ℕ) (r q : Reader) (readers : List Reader) → AreNested bound places (r ∷ readers) → AreNested bound places (q ∷ readers)
+pub nested_as : (bound : ℕ) (places : List ℕ) (r q : Reader) (readers : List Reader) → AreNested bound places (r ∷ readers) →
+    AreNested bound places (q ∷ readers)
 nested_as bound [] r q readers h = absurd h
 nested_as bound (p ∷ places) r q readers h = h
 
-pub nested_more : (bound more : ℕ) (places : List ℕ) (readers : List Reader) → bound < suc more → AreNested bound places readers → AreNested more places readers
+pub nested_more : (bound more : ℕ) (places : List ℕ) (readers : List Reader) → bound < suc more → AreNested bound places readers →
+    AreNested more places readers
 nested_more bound more [] [] le h = h
 nested_more bound more (p ∷ places) [] le h = h
 nested_more bound more [] (r ∷ readers) le h = absurd h
@@ -59,7 +62,8 @@ pub or_same : (old new : List Opening) (i : ℕ) → slice_get new i ≡ slice_g
 or_same old new i e = or_of new i ∙ ap (λ o. unwrap_or o (opened [])) e ∙ sym (or_of old i)
 
 -- files that wait have the same to come where their openings did not change
-pub waiting_same : (s : Sources) (old new : List Opening) (bound : ℕ) (places : List ℕ) (readers : List Reader) → AreNested bound places readers
+pub waiting_same : (s : Sources) (old new : List Opening) (bound : ℕ) (places : List ℕ) (readers : List Reader) →
+    AreNested bound places readers
     → ((i : ℕ) → i < bound → slice_get new i ≡ slice_get old i) → cursors_at s new places readers ≡ cursors_at s old places readers
 waiting_same s old new bound [] [] h same = refl
 waiting_same s old new bound (p ∷ places) [] h same = refl
@@ -69,7 +73,8 @@ waiting_same s old new bound (p ∷ places) (r ∷ readers) h same =
     ∙ ap (λ cursors. cursor_of r (rest_of s (get_or old p (opened [])) r.window) ∷ cursors)
     (waiting_same s old new p places readers h.1 (λ i less. same i (omega (arith, less, h.0))))
 
-pub waiting_length : (s : Sources) (all : List Opening) (bound : ℕ) (places : List ℕ) (readers : List Reader) → AreNested bound places readers
+pub waiting_length : (s : Sources) (all : List Opening) (bound : ℕ) (places : List ℕ) (readers : List Reader) →
+    AreNested bound places readers
     → length (cursors_at s all places readers) ≡ length readers
 waiting_length s all bound [] [] h = refl
 waiting_length s all bound (p ∷ places) [] h = refl
@@ -85,7 +90,8 @@ waiting_files s all bound [] (r ∷ readers) h = absurd h
 waiting_files s all bound (p ∷ places) (r ∷ readers) h = ap (λ (files : List ℕ). r.file ∷ files) (waiting_files s all p places readers h.1)
 
 pub files_are : (s : Sources) (start now : Openings) (files : Open) → IsNested start now files
-    → map (λ (c : Cursor). c.file) ((nesting s start now files).cursor ∷ (nesting s start now files).waiting) ≡ files_of (files.lexer ∷ reverse files.outer)
+    → map (λ (c : Cursor). c.file) ((nesting s start now files).cursor ∷ (nesting s start now files).waiting) ≡ files_of
+    (files.lexer ∷ reverse files.outer)
 files_are s start now files n =
     let at = innermost_of (length now.all) (reverse now.open_places) files.lexer (reverse files.outer) n.nested in
     ap (λ (ps : List ℕ). files.lexer.file ∷ map (λ (c : Cursor). c.file) (cursors_at s now.all (drop 1 ps) (reverse files.outer))) at.is
@@ -118,4 +124,5 @@ names_same (o ∷ old) (n ∷ new) zero count others here =
     ∙ ap (λ names. o.name ∷ names) (all_same old new (λ i. others (suc i) (λ e. absurd (omega (arith, e)))))
 names_same (o ∷ old) (n ∷ new) (suc at) count others here =
     ap (λ (p : Opening). p.name ∷ names_of new) (some_same n o (others 0 (λ e. absurd (omega (arith, e)))))
-    ∙ ap (λ names. o.name ∷ names) (names_same old new at (omega (arith, count)) (λ i other. others (suc i) (λ e. other (omega (arith, e)))) here)
+    ∙ ap (λ names. o.name ∷ names) (names_same old new at (omega (arith, count)) (λ i other. others (suc i) (λ e. other (omega (arith, e))))
+    here)

@@ -32,26 +32,34 @@ quoted_only set limit ending.End k is = cc
 quoted_only set limit ending.Unfit k is = cc
 quoted_only set limit (ending.Mark m) k is = cc
 quoted_only set limit (ending.Run false) k is =
-    unquoted limit (ending.Run false) (kind_of set (ending.Run false) k) (cond_both k.is_cut (kind.Bad bad.LongName) kind.Name (λ x. is_quoted_kind x ≡ false) (λ _. refl) (λ _. refl)) is
+    unquoted limit (ending.Run false) (kind_of set (ending.Run false) k)
+    (cond_both k.is_cut (kind.Bad bad.LongName) kind.Name (λ x. is_quoted_kind x ≡ false) (λ _. refl) (λ _. refl)) is
 quoted_only set limit (ending.Run true) k is =
-    unquoted limit (ending.Run true) (kind_of set (ending.Run true) k) (cond_both k.is_cut (kind.Bad bad.Number) (number_kind (number_of k.bytes)) (λ x. is_quoted_kind x ≡ false) (λ _. refl) (λ _. number_unquoted (number_of k.bytes))) is
+    unquoted limit (ending.Run true) (kind_of set (ending.Run true) k)
+    (cond_both k.is_cut (kind.Bad bad.Number) (number_kind (number_of k.bytes)) (λ x. is_quoted_kind x ≡ false) (λ _. refl)
+    (λ _. number_unquoted (number_of k.bytes))) is
 quoted_only set limit ending.Unclosed k is = refl
 quoted_only set limit ending.Text k is = refl
 quoted_only set limit ending.Quote k is = refl
 
-next_few : (set : CharSet) (limit : ℕ) (lines : Lines) (bytes : List ℕ) → KeepsFew limit (next_token set limit lines bytes).kind (next_token set limit lines bytes).kept
+next_few : (set : CharSet) (limit : ℕ) (lines : Lines) (bytes : List ℕ) →
+    KeepsFew limit (next_token set limit lines bytes).kind (next_token set limit lines bytes).kept
 next_few set limit lines [] is = cc
 next_few set limit lines (b ∷ bytes) is =
     let s = next_spelled set limit lines (b ∷ bytes) (omega arith) in
     let p : Piece = s.piece in
-    let most : most_of limit s.is.ending ≡ limit = quoted_only set limit s.is.ending p.read.kept (ap is_quoted_kind (sym s.is.is_told ∙ ap (λ (r : Read). r.kind) s.is.is_read) ∙ is) in
-    let kept : length (next_token set limit lines (b ∷ bytes)).kept.bytes ≡ length p.read.kept.bytes = ap (λ (r : Read). length r.kept.bytes) (sym s.is.is_read) in
+    let most : most_of limit s.is.ending ≡ limit =
+    quoted_only set limit s.is.ending p.read.kept (ap is_quoted_kind (sym s.is.is_told ∙ ap (λ (r : Read). r.kind) s.is.is_read) ∙ is) in
+    let kept : length (next_token set limit lines (b ∷ bytes)).kept.bytes ≡ length p.read.kept.bytes =
+    ap (λ (r : Read). length r.kept.bytes) (sym s.is.is_read) in
     let cut = ap (λ (k : Kept). length k.bytes) s.is.keeps in
     omega (arith, most, kept, cut, length-take (most_of limit s.is.ending) s.is.bytes)
 
 -- what a lexer has read, with any reader
-pub heard_few : (h : Bool) (s : Sources) (old new : Openings) (before after : View) (set : CharSet) (limit most : ℕ) (lines : Lines) (token : Token) (lexer : Reader)
-    → limit ≡ most → Heard Read h s old new before after (read_out token lexer) (next_token set limit lines) → KeepsFew most token.kind lexer.kept
+pub heard_few : (h : Bool) (s : Sources) (old new : Openings) (before after : View) (set : CharSet) (limit most : ℕ) (lines : Lines)
+    (token : Token) (lexer : Reader)
+    → limit ≡ most → Heard Read h s old new before after (read_out token lexer) (next_token set limit lines) → KeepsFew most token.kind
+    lexer.kept
 heard_few h s old new before after set limit most lines token lexer same heard is =
     let bytes : List ℕ = before.left ++ (heard.bytes ++ []) in
     let read : read_out token lexer (after.left ++ []) ≡ next_token set limit lines bytes = heard.same [] (λ _. refl) in

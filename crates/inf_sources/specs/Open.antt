@@ -102,7 +102,8 @@ pub record IsTracked (sources : Sources) (n : ℕ) (names : List (List ℕ)) (al
 abbrev pub AreTracked : Sources → ℕ → List (List ℕ) → List Opening → List ℕ → List Reader → Type 0
 AreTracked sources n names all places [] = Unit {0}
 AreTracked sources n names all [] (r ∷ readers) = ⊥
-AreTracked sources n names all (p ∷ places) (r ∷ readers) = IsTracked sources n names all p r × AreTracked sources n names all places readers
+AreTracked sources n names all (p ∷ places) (r ∷ readers) =
+    IsTracked sources n names all p r × AreTracked sources n names all places readers
 
 -- All that was opened behind n openings was given so.
 pub record AllGiven (sources : Sources) (n : ℕ) (now : Openings) (files : Open) : Type 0 where

@@ -129,7 +129,8 @@ impl OpenFiles {
         ensures token { Honestly F.Files files.old self.old (λ start. IfOk result (λ token. Reads token self.new.lexer.kept.bytes
             (nesting (F.sources files.old) start (F.openings files.old) self.old)
             (nesting (F.sources files.old) start (F.openings files.new) self.new))) }
-        ensures opened { Honestly F.Files files.old self.old (λ start. opened_since start (F.openings files.new) ≡ opened_since start (F.openings files.old)) }
+        ensures opened { Honestly F.Files files.old self.old
+            (λ start. opened_since start (F.openings files.new) ≡ opened_since start (F.openings files.old)) }
         ensures unfinished { IsTrue (F.is_honest files.old) → (start : Openings) → IsErrOf result LexFault.Read →
             Unfinished (nesting (F.sources files.old) start (F.openings files.old) self.old).cursor
             (self.new.lexer.window.given - 16777216) (unread (F.sources files.old) (F.openings files.new)) }
@@ -166,13 +167,17 @@ impl OpenFiles {
         requires goes { self.old.lexer.has_failed ≡ false }
 
         // With an honest reader it is the first file that is there.
-        ensures answer { Honestly F.Files files.old self.old (λ start. IfOk result (λ included. included ≡ answer_of (inclusion (F.sources files.old) (map (λ d. d.now) directories.now) text.now
+        ensures answer { Honestly F.Files files.old self.old
+            (λ start. IfOk result (λ included. included ≡ answer_of (inclusion (F.sources files.old) (map (λ d. d.now) directories.now)
+            text.now
             (nesting (F.sources files.old) start (F.openings files.old) self.old)))) }
-        ensures nesting { Honestly F.Files files.old self.old (λ start. OnOk result (let was = nesting (F.sources files.old) start (F.openings files.old) self.old in
+        ensures nesting { Honestly F.Files files.old self.old
+            (λ start. OnOk result (let was = nesting (F.sources files.old) start (F.openings files.old) self.old in
             nesting (F.sources files.old) start (F.openings files.new) self.new
             ≡ nested_by self.old.nest.set self.old.nest.limit (F.sources files.old)
             (inclusion (F.sources files.old) (map (λ d. d.now) directories.now) text.now was) was)) }
-        ensures in_vain { Honestly F.Files files.old self.old (λ start. IfErr result (λ fault. let was = nesting (F.sources files.old) start (F.openings files.old) self.old in
+        ensures in_vain { Honestly F.Files files.old self.old
+            (λ start. IfErr result (λ fault. let was = nesting (F.sources files.old) start (F.openings files.old) self.old in
             OpenedInVain fault (inclusion (F.sources files.old) (map (λ d. d.now) directories.now) text.now was) was
             (opened_since start (F.openings files.new)))) }
         ensures fits { StaysFit F.Files files.old files.new self.old }

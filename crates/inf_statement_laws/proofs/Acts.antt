@@ -93,7 +93,8 @@ quiet_prepared : (p : Part) (w : Compilation) → is_quiet_part p ≡ true → S
 quiet_prepared part.Case w q = cc
 quiet_prepared _ w q = (refl, refl)
 
-quiet_part : (files : FileNames) (place : Place) (p : Part) (w : Compilation) → is_quiet_part p ≡ true → SameOpen w (part_ended files place p w)
+quiet_part : (files : FileNames) (place : Place) (p : Part) (w : Compilation) → is_quiet_part p ≡ true →
+    SameOpen w (part_ended files place p w)
 quiet_part files place p w q =
     let ready = case_prepared p (part_prepared w) in
     of_both (SameOpen w) w.is_passed_over (passed (has_last p) w) (part_finished files (place_of p place ready) p ready)
@@ -309,7 +310,8 @@ case_ready w c around e =
     let same = actions_named_same (are_own begun.constructs) begun in
     (same.0 ∙ ap (λ l. (cases_begun l w.output).0) e, same.1)
 
-case_carried : (files : FileNames) (first : Place) (f : Option Finding) (w : Compilation) → SameOpen w (part_carried files first part.Case f w)
+case_carried : (files : FileNames) (first : Place) (f : Option Finding) (w : Compilation) →
+    SameOpen w (part_carried files first part.Case f w)
 unfolding part_effect
 case_carried files first (Some f) w = (refl, refl)
 case_carried files first None w = (refl, refl)
@@ -425,7 +427,8 @@ step_none : (files : FileNames) (place : Place) (w : Compilation) → (act files
 step_none files place w =
     let ready = part_prepared w in
     let first = place_of part.Step place ready in
-    of_both (λ (v : Compilation). v.closed ≡ w.closed) w.is_passed_over (passed (has_last part.Step) w) (part_finished files first part.Step ready)
+    of_both (λ (v : Compilation). v.closed ≡ w.closed) w.is_passed_over (passed (has_last part.Step) w)
+    (part_finished files first part.Step ready)
     (λ _. refl) (λ _. step_carried_none files first (found_in part.Step ready) (named ready))
 
 loop_carried_none : (files : FileNames) (first : Place) (f : Option Finding) (v : Compilation)
@@ -438,7 +441,8 @@ loop_none : (files : FileNames) (place : Place) (w : Compilation) → (act files
 loop_none files place w =
     let ready = part_prepared w in
     let first = place_of part.Loop place ready in
-    of_both (λ (v : Compilation). v.closed ≡ w.closed) w.is_passed_over (passed (has_last part.Loop) w) (part_finished files first part.Loop ready)
+    of_both (λ (v : Compilation). v.closed ≡ w.closed) w.is_passed_over (passed (has_last part.Loop) w)
+    (part_finished files first part.Loop ready)
     (λ _. refl) (λ _. loop_carried_none files first (found_in part.Loop ready) (named ready))
 
 -- a header closes none ahead, and leaves none open where none was

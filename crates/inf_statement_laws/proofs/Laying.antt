@@ -44,7 +44,8 @@ at_quiet : (files : FileNames) (q : Quiet) (c : Construct) (around : List Constr
 at_quiet files q c around w at =
     let same = quiet_run files q.all w q.are in record { is = same.0 ∙ at.is; none_ahead = same.1 ∙ at.none_ahead }
 
-at_holding : (at : Moment) (c : Construct × Out) (around : List Construct) (w : Compilation) → w.closed ≡ 0 → At c.0 around (holding at c around w)
+at_holding : (at : Moment) (c : Construct × Out) (around : List Construct) (w : Compilation) → w.closed ≡ 0 →
+    At c.0 around (holding at c around w)
 at_holding at c around w e = record { is = refl; none_ahead = e }
 
 nested_is : (files : FileNames) (place : Place) (b : Bool) (w : Compilation)
@@ -143,7 +144,8 @@ record Whole {b : Bool} (files : FileNames) (n : Nested b) (w : Compilation) : T
   runs : run files (happenings n) w ≡ laid files n w
   none_ahead : (laid files n w).closed ≡ 0
 
-if_is : {b : Bool} (files : FileNames) (opens : Moment) (test : Quiet) (body : Nested false) (closes : Moment) (w : Compilation) → w.closed ≡ 0
+if_is : {b : Bool} (files : FileNames) (opens : Moment) (test : Quiet) (body : Nested false) (closes : Moment) (w : Compilation) →
+    w.closed ≡ 0
     → Inner files body → Whole files (If {b = b} opens test body closes) w
 if_is files opens test body closes w e inner =
     let end = quiet_body_closed files test body inner (opened kind.If w.output).0 w.constructs closes (word_read files opens kind.If w)
@@ -155,7 +157,8 @@ if_is files opens test body closes w e inner =
       none_ahead = end.none_ahead;
     }
 
-while_is : {b : Bool} (files : FileNames) (opens : Moment) (test : Quiet) (body : Nested false) (closes : Moment) (w : Compilation) → w.closed ≡ 0
+while_is : {b : Bool} (files : FileNames) (opens : Moment) (test : Quiet) (body : Nested false) (closes : Moment) (w : Compilation) →
+    w.closed ≡ 0
     → Inner files body → Whole files (While {b = b} opens test body closes) w
 while_is files opens test body closes w e inner =
     let end = quiet_body_closed files test body inner (opened kind.While w.output).0 w.constructs closes
@@ -393,7 +396,11 @@ leaves_open : (files : FileNames) (s : Nested false) (hs : List Happening) → h
 leaves_open files s hs same w e =
     let i = laid_as files s w e in
     let runs = sym (ap (λ l. run files l w) same) ∙ i.runs in
-    record { same = ap (λ (v : Compilation). v.constructs) runs ∙ i.holds; none_ahead = ap (λ (v : Compilation). v.closed) runs ∙ i.none_ahead }
+    record {
+      same = ap (λ (v : Compilation). v.constructs) runs ∙ i.holds;
+      none_ahead = ap (λ (v : Compilation). v.closed) runs ∙
+          i.none_ahead;
+    }
 
 rest_nested : (rest : Symbol Action) (hs : List Happening) → IsOneOf rest rests → IsRead rest hs → Compound false rest hs
 rest_nested rest hs first is = if_is_nested hs is

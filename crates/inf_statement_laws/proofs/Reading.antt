@@ -153,7 +153,8 @@ ahead_ends files place m (suc count) w e =
     ∙ ap (λ v. passed m (acted files place (ends count) v)) (sym (closing_open w e)))
 
 -- and so do their happenings
-behind_ends_run : (files : FileNames) (t : SourceToken) (b m : Between) (count : ℕ) (rest : List Action) (others : List Happening) (w : Compilation)
+behind_ends_run : (files : FileNames) (t : SourceToken) (b m : Between) (count : ℕ) (rest : List Action) (others : List Happening)
+    (w : Compilation)
     → run files (behind_some (suc count) m (token_happenings t b (ends (suc count) ++ rest) ++ others)) w
     ≡ run files (token_happenings t b rest ++ others) (passed m (acted files t.place (ends (suc count)) w))
 behind_ends_run files t b m zero rest others w = refl
@@ -449,7 +450,8 @@ headed_same files r w e =
     let s = quiet_run files r.semicolon.all (happens files (Acts r.heads action.EndLocals) v) r.semicolon.are in
     (s.1 ∙ (n.0 ∙ (h.1 ∙ e)), λ o. s.0 ∙ n.1 (h.0 ∙ o))
 
-routine_lays : (files : FileNames) (r : Routine) (w : Compilation) → w.closed ≡ 0 → run files (routine_happenings r) w ≡ routine_laid files r w
+routine_lays : (files : FileNames) (r : Routine) (w : Compilation) → w.closed ≡ 0 →
+    run files (routine_happenings r) w ≡ routine_laid files r w
 routine_lays files r w e =
     let rest : List Happening = Acts r.ends action.EndRoutine ∷ r.last.all in
     let v = happens files (Acts r.heads action.EndLocals) (run files r.header.all w) in

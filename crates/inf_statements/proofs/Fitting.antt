@@ -26,7 +26,8 @@ pub record HasEnds (row : OpcodeRow) (e : Ends) : Type 0 where
 
 ends_parts : (row : OpcodeRow) (e : Ends) → has_ends row e ≡ true → HasEnds row e
 ends_parts row e is =
-    let first = and_parts (same row.stores (is_some e.store) && same row.branches (is_some e.branch)) (same row.has_text (is_some e.text)) is in
+    let first =
+    and_parts (same row.stores (is_some e.store) && same row.branches (is_some e.branch)) (same row.has_text (is_some e.text)) is in
     let both = and_parts (same row.stores (is_some e.store)) (same row.branches (is_some e.branch)) first.0 in
     record { stores = same_as row.stores (is_some e.store) both.0; branches = same_as row.branches (is_some e.branch) both.1 }
 
@@ -37,13 +38,23 @@ pub record FitsRow (row : OpcodeRow) (operands : ℕ) (has_variable : Bool) (e :
   pub variable : cond row.names_variable has_variable true ≡ true
   pub ends : HasEnds row e
 
-pub row_parts : (row : OpcodeRow) (operands : ℕ) (has_variable : Bool) (e : Ends) → fits_row row operands has_variable e ≡ true → FitsRow row operands has_variable e
+pub row_parts : (row : OpcodeRow) (operands : ℕ) (has_variable : Bool) (e : Ends) → fits_row row operands has_variable e ≡ true →
+    FitsRow row operands has_variable e
 row_parts row operands has_variable e is =
-    let a = and_parts (nat_le row.least operands && nat_le operands row.most && nat_le operands 8 && cond row.names_variable has_variable true) (has_ends row e) is in
-    let b = and_parts (nat_le row.least operands && nat_le operands row.most && nat_le operands 8) (cond row.names_variable has_variable true) a.0 in
+    let a = and_parts (nat_le row.least operands && nat_le operands row.most && nat_le operands 8 && cond row.names_variable has_variable
+    true) (has_ends row e) is in
+    let b = and_parts (nat_le row.least operands && nat_le operands row.most && nat_le operands 8)
+    (cond row.names_variable has_variable true) a.0 in
     let d = and_parts (nat_le row.least operands && nat_le operands row.most) (nat_le operands 8) b.0 in
     let c = and_parts (nat_le row.least operands) (nat_le operands row.most) d.0 in
-    record { enough = leb-true row.least operands c.0; few = leb-true operands row.most c.1; eight = leb-true operands 8 d.1; variable = b.1; ends = ends_parts row e a.1 }
+    record {
+      enough = leb-true row.least operands c.0;
+      few = leb-true operands row.most c.1;
+      eight = leb-true operands 8 d.1;
+      variable =
+          b.1;
+      ends = ends_parts row e a.1;
+    }
 
 -- one whose first operand does
 has_first : (b v : Bool) → b ≡ true → cond b v true ≡ true → v ≡ true
@@ -66,25 +77,43 @@ prints_text op is =
     let b = and_parts (row.has_text && not row.jumps && not row.stores) (not row.branches) a.0 in
     let c = and_parts (row.has_text && not row.jumps) (not row.stores) b.0 in
     let d = and_parts row.has_text (not row.jumps) c.0 in
-    record { none = eqb-true row.least 0 a.1; stores = not_true row.stores c.1; branches = not_true row.branches b.1; jump = not_true row.jumps d.1; text = d.0 }
+    record {
+      none = eqb-true row.least 0 a.1;
+      stores = not_true row.stores c.1;
+      branches = not_true row.branches b.1;
+      jump = not_true
+          row.jumps d.1;
+      text = d.0;
+    }
 
 -- The same of roots and of what they are.
 length-trees : (nodes : List Tree) (roots : List Root) → length (trees_from nodes roots) ≡ length roots
 length-trees nodes [] = refl
 length-trees nodes (r ∷ roots) = ap suc (length-trees nodes roots)
 
-pub few_roots : (op : Opcode) (nodes : List Tree) (roots : List Root) (v : Bool) (e : Ends) → fits_row (row_of op) (length (trees_from nodes roots)) v e ≡ true → length roots ≤ 8
+pub few_roots : (op : Opcode) (nodes : List Tree) (roots : List Root) (v : Bool) (e : Ends) →
+    fits_row (row_of op) (length (trees_from nodes roots)) v e ≡ true → length roots ≤ 8
 few_roots op nodes roots v e fits =
     let row = row_parts (row_of op) (length (trees_from nodes roots)) v e fits in omega (arith, row.eight, length-trees nodes roots)
 
-pub takes_operands : (op : Opcode) (nodes : List Tree) (roots : List Root) (v : Bool) (e : Ends) (count : ℕ) (store : Option ℕ) (branch : Option Branch)
+pub takes_operands : (op : Opcode) (nodes : List Tree) (roots : List Root) (v : Bool) (e : Ends) (count : ℕ) (store : Option ℕ)
+    (branch : Option Branch)
     → count ≡ length roots → is_some store ≡ is_some e.store → is_some branch ≡ is_some e.branch
-    → (row_of op).jumps ≡ false → (row_of op).has_text ≡ false → (row_of op).names_variable ≡ false → fits_row (row_of op) (length (trees_from nodes roots)) v e ≡ true
+    → (row_of op).jumps ≡ false → (row_of op).has_text ≡ false → (row_of op).names_variable ≡ false → fits_row (row_of op)
+    (length (trees_from nodes roots)) v e ≡ true
     → Takes op count (is_some store) (is_some branch)
 takes_operands op nodes roots v e count store branch counts stores branches jumps text names fits =
     let row = row_parts (row_of op) (length (trees_from nodes roots)) v e fits in
     let len = length-trees nodes roots in
-    record { enough = omega (arith, row.enough, len, counts); few = omega (arith, row.few, len, counts); variable = names; jump = jumps; stores = stores ∙ row.ends.stores; branches = branches ∙ row.ends.branches; text = text }
+    record {
+      enough = omega (arith, row.enough, len, counts);
+      few = omega (arith, row.few, len, counts);
+      variable = names;
+      jump = jumps;
+      stores = stores ∙ row.ends.stores;
+      branches = branches ∙ row.ends.branches;
+      text = text;
+    }
 
 pub takes_named : (op : Opcode) (nodes : List Tree) (roots : List Root) (e : Ends) (store : Option ℕ) (branch : Option Branch)
     → is_some store ≡ is_some e.store → is_some branch ≡ is_some e.branch
@@ -96,9 +125,18 @@ takes_named op nodes roots e store branch stores branches jumps text names fits 
     let row = row_parts (row_of op) (length trees) (is_some (first_variable trees)) e fits in
     let one = some_tree trees (has_first (row_of op).names_variable (is_some (first_variable trees)) names row.variable) in
     let len = length-trees nodes roots in
-    record { enough = omega (arith, row.enough, one, len); few = omega (arith, row.few, one, len); jump = jumps; stores = stores ∙ row.ends.stores; branches = branches ∙ row.ends.branches; text = text }
+    record {
+      enough = omega (arith, row.enough, one, len);
+      few = omega (arith, row.few, one, len);
+      jump = jumps;
+      stores = stores ∙
+          row.ends.stores;
+      branches = branches ∙ row.ends.branches;
+      text = text;
+    }
 
-pub takes_others : (op : Opcode) (count : ℕ) (others : List Root) (first : Root) (store branch : Bool) → count ≡ length others → TakesVariable op (length (first ∷ others) - 1) store branch → TakesVariable op count store branch
+pub takes_others : (op : Opcode) (count : ℕ) (others : List Root) (first : Root) (store branch : Bool) → count ≡ length others →
+    TakesVariable op (length (first ∷ others) - 1) store branch → TakesVariable op count store branch
 takes_others op count others first store branch counts takes =
     let len : length (first ∷ others) - 1 ≡ count = omega (arith, counts) in
     subst (λ n. TakesVariable op n store branch) len takes
@@ -111,7 +149,8 @@ by_row false jump row is fails = is
 pub fits_as_row : (op : Opcode) (trees : List Tree) (e : Ends) → fits op trees e ≡ true → (row_of op).jumps ≡ false
     → fits_row (row_of op) (length trees) (is_some (first_variable trees)) e ≡ true
 unfolding fits
-fits_as_row op trees e is fails = by_row (row_of op).jumps (fits_jump e) (fits_row (row_of op) (length trees) (is_some (first_variable trees)) e) is fails
+fits_as_row op trees e is fails =
+    by_row (row_of op).jumps (fits_jump e) (fits_row (row_of op) (length trees) (is_some (first_variable trees)) e) is fails
 
 pub takes_count : (op : Opcode) (n count : ℕ) (store branch : Bool) → count ≡ n → Takes op n store branch → Takes op count store branch
 takes_count op n count store branch counts takes = subst (λ m. Takes op m store branch) (sym counts) takes

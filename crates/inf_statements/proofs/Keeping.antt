@@ -76,7 +76,8 @@ printed_keeps op (Some text) = laid_keeps (Instruction (record (bare op) { text 
 
 number_keeps : (number : ℕ) → Keeps (returned_number number)
 number_keeps number =
-    of_both_keeps (number == 1) (plain opcode.Rtrue) (cond (number == 0) (plain opcode.Rfalse) (instruction opcode.Ret (Known number ∷ []) None None))
+    of_both_keeps (number == 1) (plain opcode.Rtrue)
+    (cond (number == 0) (plain opcode.Rfalse) (instruction opcode.Ret (Known number ∷ []) None None))
     (plain_keeps opcode.Rtrue)
     (of_both_keeps (number == 0) (plain opcode.Rfalse) (instruction opcode.Ret (Known number ∷ []) None None)
     (plain_keeps opcode.Rfalse) (instruction_keeps opcode.Ret (Known number ∷ []) None None))
@@ -114,17 +115,20 @@ switched_keeps (e ∷ trees) = value_keeps e 251
 moved_keeps : (trees : List Tree) → Keeps (moved trees)
 moved_keeps [] = nothing_keeps
 moved_keeps (a ∷ []) = nothing_keeps
-moved_keeps (a ∷ b ∷ trees) = worked_keeps opcode.InsertObj (part (meaning a) ∷ part (meaning b) ∷ []) None None (part_keeps a, (part_keeps b, tt))
+moved_keeps (a ∷ b ∷ trees) =
+    worked_keeps opcode.InsertObj (part (meaning a) ∷ part (meaning b) ∷ []) None None (part_keeps a, (part_keeps b, tt))
 
 string_set_keeps : (low : Target) (trees : List Tree) → Keeps (string_set low trees)
 string_set_keeps low [] = nothing_keeps
 string_set_keeps low (e ∷ trees) =
-    worked_keeps opcode.Storew (is (Later abbreviations) ∷ part (meaning e) ∷ is (Later low) ∷ []) None None (is_keeps (Later abbreviations), (part_keeps e, (is_keeps (Later low), tt)))
+    worked_keeps opcode.Storew (is (Later abbreviations) ∷ part (meaning e) ∷ is (Later low) ∷ []) None None
+    (is_keeps (Later abbreviations), (part_keeps e, (is_keeps (Later low), tt)))
 
 string_of_keeps : (text : List ℕ) (trees : List Tree) → Keeps (string_of text trees)
 string_of_keeps text trees o =
     let set = string_set (low_string_at o) trees in
-    same_then o (with_low_text text o) (set (with_low_text text o)) (with_low_text_keeps text o) (string_set_keeps (low_string_at o) trees (with_low_text text o))
+    same_then o (with_low_text text o) (set (with_low_text text o)) (with_low_text_keeps text o)
+    (string_set_keeps (low_string_at o) trees (with_low_text text o))
 
 string_changed_keeps : (text : Option (List TextItem)) (trees : List Tree) → Keeps (string_changed text trees)
 string_changed_keeps None trees = nothing_keeps
@@ -132,9 +136,11 @@ string_changed_keeps (Some text) trees = string_of_keeps (packed text []) trees
 
 action_on_keeps : (a : Tree) (trees : List Tree) → Keeps (action_on (part (meaning a)) trees)
 action_on_keeps a [] = call_routine_keeps veneer.Process (part (meaning a) ∷ []) None (part_keeps a, tt)
-action_on_keeps a (b ∷ []) = call_routine_keeps veneer.Process (part (meaning a) ∷ part (meaning b) ∷ []) None (part_keeps a, (part_keeps b, tt))
+action_on_keeps a (b ∷ []) =
+    call_routine_keeps veneer.Process (part (meaning a) ∷ part (meaning b) ∷ []) None (part_keeps a, (part_keeps b, tt))
 action_on_keeps a (b ∷ c ∷ trees) =
-    call_routine_keeps veneer.Process (part (meaning a) ∷ part (meaning b) ∷ part (meaning c) ∷ []) None (part_keeps a, (part_keeps b, (part_keeps c, tt)))
+    call_routine_keeps veneer.Process (part (meaning a) ∷ part (meaning b) ∷ part (meaning c) ∷ []) None
+    (part_keeps a, (part_keeps b, (part_keeps c, tt)))
 
 action_laid_keeps : (trees : List Tree) → Keeps (action_laid trees)
 action_laid_keeps [] = nothing_keeps
@@ -154,7 +160,8 @@ attributes_keep object (i ∷ items) trees k =
     then_keeps (attribute_code (attribute_opcode i) object trees) (attributes_given object items (rest trees))
     (attribute_keeps (attribute_opcode i) object trees k) (attributes_keep object items (rest trees) k)
 
-given_by_keeps : (several : Bool) (operand : Option Simple) (e : Tree) (items : List Item) (trees : List Tree) → Keeps (given_by several operand (meaning e) items trees)
+given_by_keeps : (several : Bool) (operand : Option Simple) (e : Tree) (items : List Item) (trees : List Tree) →
+    Keeps (given_by several operand (meaning e) items trees)
 given_by_keeps true None e items trees =
     then_keeps ((meaning e).value TEMP) (attributes_given (is (Variable TEMP)) items trees)
     (value_keeps e TEMP) (attributes_keep (is (Variable TEMP)) items trees (is_keeps (Variable TEMP)))
@@ -201,7 +208,8 @@ rule_keeps rule.IndefiniteArticle trees = veneer_called_keeps veneer.IndefiniteA
 rule_keeps rule.EnglishNumber trees = veneer_called_keeps veneer.EnglishNumber trees
 rule_keeps rule.Routine trees = called_with_keeps trees
 
-item_keeps : (set : CharSet) (tokens : List SourceToken) (returns : Bool) (others : List Item) (i : Item) (trees : List Tree) → Keeps (item_code set tokens returns others i trees)
+item_keeps : (set : CharSet) (tokens : List SourceToken) (returns : Bool) (others : List Item) (i : Item) (trees : List Tree) →
+    Keeps (item_code set tokens returns others i trees)
 item_keeps set tokens returns others (item.Text at) trees = printed_keeps (text_opcode returns others) (text_at set tokens at)
 item_keeps set tokens returns others item.Value trees = one_keeps opcode.PrintNum trees
 item_keeps set tokens returns others (item.Ruled r) trees = rule_keeps r trees
@@ -212,10 +220,12 @@ item_keeps set tokens returns others (item.Store at) trees = nothing_keeps
 item_keeps set tokens returns others (item.Branch at sense) trees = nothing_keeps
 item_keeps set tokens returns others (item.Jump at) trees = nothing_keeps
 
-items_keep : (set : CharSet) (tokens : List SourceToken) (returns ends : Bool) (items : List Item) (trees : List Tree) → Keeps (items_printed set tokens returns ends items trees)
+items_keep : (set : CharSet) (tokens : List SourceToken) (returns ends : Bool) (items : List Item) (trees : List Tree) →
+    Keeps (items_printed set tokens returns ends items trees)
 items_keep set tokens returns ends [] trees = items_ended_keeps ends
 items_keep set tokens returns ends (i ∷ items) trees =
-    then_keeps (item_code set tokens returns items i trees) (items_printed set tokens returns (ends_behind i returns) items (trees_behind i trees))
+    then_keeps (item_code set tokens returns items i trees)
+    (items_printed set tokens returns (ends_behind i returns) items (trees_behind i trees))
     (item_keeps set tokens returns items i trees) (items_keep set tokens returns (ends_behind i returns) items (trees_behind i trees))
 
 -- Cases
@@ -228,22 +238,27 @@ group_keeps (a ∷ others) sense label = instruction_keeps _ _ _ _
 within_keeps : (a b : Simple) (here : Label) → Keeps (within a b here)
 within_keeps a b here =
     with_label_keeps
-    (λ beyond. instruction opcode.Jl (Variable 251 ∷ a ∷ []) None (to true beyond) ▸ instruction opcode.Jg (Variable 251 ∷ b ∷ []) None (to false here) ▸ marked beyond)
-    (λ beyond. then3_keeps (instruction opcode.Jl (Variable 251 ∷ a ∷ []) None (to true beyond)) (instruction opcode.Jg (Variable 251 ∷ b ∷ []) None (to false here)) (marked beyond)
+    (λ beyond. instruction opcode.Jl (Variable 251 ∷ a ∷ []) None (to true beyond) ▸ instruction opcode.Jg (Variable 251 ∷ b ∷ []) None
+    (to false here) ▸ marked beyond)
+    (λ beyond. then3_keeps (instruction opcode.Jl (Variable 251 ∷ a ∷ []) None (to true beyond))
+    (instruction opcode.Jg (Variable 251 ∷ b ∷ []) None (to false here)) (marked beyond)
     (instruction_keeps _ _ _ _) (instruction_keeps _ _ _ _) (marked_keeps beyond))
 
 range_keeps : (is_last : Bool) (a b : Simple) (here next : Label) → Keeps (range_tested is_last a b here next)
 unfolding range_tested
 range_keeps true a b here next =
-    then_keeps (instruction opcode.Jl (Variable 251 ∷ a ∷ []) None (to true next)) (instruction opcode.Jg (Variable 251 ∷ b ∷ []) None (to true next))
+    then_keeps (instruction opcode.Jl (Variable 251 ∷ a ∷ []) None (to true next))
+    (instruction opcode.Jg (Variable 251 ∷ b ∷ []) None (to true next))
     (instruction_keeps _ _ _ _) (instruction_keeps _ _ _ _)
 range_keeps false a b here next = within_keeps a b here
 
-laid_before_keeps : (ends : Option (Tree × Tree)) (is_last : Bool) (group : List Simple) (here next : Label) → Keeps (laid_before ends is_last group here next)
+laid_before_keeps : (ends : Option (Tree × Tree)) (is_last : Bool) (group : List Simple) (here next : Label) →
+    Keeps (laid_before ends is_last group here next)
 laid_before_keeps (Some ends) is_last group here next =
     then_keeps (group_tested group true here) (range_tested is_last (operand_in ends.0) (operand_in ends.1) here next)
     (group_keeps group true here) (range_keeps is_last (operand_in ends.0) (operand_in ends.1) here next)
-laid_before_keeps None is_last group here next = of_both_keeps (is_open group) nothing (group_tested group true here) nothing_keeps (group_keeps group true here)
+laid_before_keeps None is_last group here next =
+    of_both_keeps (is_open group) nothing (group_tested group true here) nothing_keeps (group_keeps group true here)
 
 value_laid_keeps : (v : Tree) (is_last : Bool) (group : List Simple) (here next : Label) → Keeps (value_laid v is_last group here next)
 unfolding value_laid
@@ -300,7 +315,8 @@ between_keeps : (c : Construct) → LayingKeeps (between c)
 unfolding between
 between_keeps c o = joint_keeps c c.kind o
 
-all_keep : (change : Construct → Laying Construct) → ((c : Construct) → LayingKeeps (change c)) → (constructs : List Construct) → LayingKeeps (changed change constructs)
+all_keep : (change : Construct → Laying Construct) → ((c : Construct) → LayingKeeps (change c)) → (constructs : List Construct) →
+    LayingKeeps (changed change constructs)
 all_keep change each [] o = (refl, refl)
 all_keep change each (c ∷ constructs) o = each c o
 
@@ -353,7 +369,8 @@ ending_keeps c kind.For =
     then4_keeps (marked c.next) (laid_all (items_of c.step)) (jumped c.top) (marked c.end)
     (marked_keeps c.next) (laid_all_keeps (items_of c.step)) (jumped_keeps c.top) (marked_keeps c.end)
 ending_keeps c (kind.Objects how v) =
-    then3_keeps (marked c.next) (looped_on how v c.top) (marked c.end) (marked_keeps c.next) (looped_on_keeps how v c.top) (marked_keeps c.end)
+    then3_keeps (marked c.next) (looped_on how v c.top) (marked c.end) (marked_keeps c.next) (looped_on_keeps how v c.top)
+    (marked_keeps c.end)
 ending_keeps c (kind.Switch old had) = then_keeps (case_closed old c.end) (marked c.end) (case_closed_keeps old c.end) (marked_keeps c.end)
 ending_keeps c (kind.Cases old had) = then_keeps (case_closed old c.end) (marked c.end) (case_closed_keeps old c.end) (marked_keeps c.end)
 
@@ -370,7 +387,8 @@ all_ended_keep zero constructs o = (refl, refl)
 all_ended_keep (suc n) constructs o =
     let e = ended constructs o in same_then o e.1 (all_ended n e.0 e.1).1 (ended_keeps constructs o) (all_ended_keep n e.0 e.1)
 
-case_entered_keeps : (are_own is_default : Bool) (old : Case) (had : Bool) (c : Construct) → LayingKeeps (case_entered are_own is_default old had c)
+case_entered_keeps : (are_own is_default : Bool) (old : Case) (had : Bool) (c : Construct) →
+    LayingKeeps (case_entered are_own is_default old had c)
 case_entered_keeps are_own true old had c o = case_closed_keeps old c.end o
 case_entered_keeps are_own false old had c o = case_closed_keeps old c.end (record o { next = behind o.next })
 
@@ -408,7 +426,8 @@ branched_to_keeps name sense labels o =
     let far : (Option Branch × List NamedLabel) × Out = ((branch_to sense (destination.To l.0.0), l.0.1), l.1) in
     let fails : (Option Branch × List NamedLabel) × Out = ((branch_to sense destination.ReturnFalse, labels), o) in
     let holds : (Option Branch × List NamedLabel) × Out = ((branch_to sense destination.ReturnTrue, labels), o) in
-    either_keeps (str_eq_ignore_ascii_case name (codes "rtrue")) holds (cond (str_eq_ignore_ascii_case name (codes "rfalse")) fails far) o (refl, refl)
+    either_keeps (str_eq_ignore_ascii_case name (codes "rtrue")) holds (cond (str_eq_ignore_ascii_case name (codes "rfalse")) fails far) o
+    (refl, refl)
     (either_keeps (str_eq_ignore_ascii_case name (codes "rfalse")) fails far o (refl, refl) (refl, refl))
 
 branched_keeps : (tokens : List SourceToken) (b : Option (ℕ × Bool)) (labels : List NamedLabel) → LayingKeeps (branched tokens b labels)
@@ -420,16 +439,20 @@ jumped_on_keeps : (tokens : List SourceToken) (at : Option ℕ) (labels : List N
 jumped_on_keeps tokens None labels o = (refl, refl)
 jumped_on_keeps tokens (Some at) labels o = let l = labelled (bytes_at tokens at) labels o in jumped_keeps l.0.0 l.1
 
-named_first_keeps : (op : Opcode) (trees : List Tree) (store : Option ℕ) (branch : Option Branch) → Keeps (named_first op trees store branch)
+named_first_keeps : (op : Opcode) (trees : List Tree) (store : Option ℕ) (branch : Option Branch) →
+    Keeps (named_first op trees store branch)
 named_first_keeps op [] store branch o = (refl, refl)
-named_first_keeps op (e ∷ trees) store branch o = naming_keeps op (unwrap_or (variable_of (meaning e).operand) 0) (operands_in trees) store branch o
+named_first_keeps op (e ∷ trees) store branch o =
+    naming_keeps op (unwrap_or (variable_of (meaning e).operand) 0) (operands_in trees) store branch o
 
-instructed_keeps : (names : Bool) (op : Opcode) (trees : List Tree) (store : Option ℕ) (branch : Option Branch) → Keeps (instructed names op trees store branch)
+instructed_keeps : (names : Bool) (op : Opcode) (trees : List Tree) (store : Option ℕ) (branch : Option Branch) →
+    Keeps (instructed names op trees store branch)
 unfolding instructed
 instructed_keeps true op trees store branch = named_first_keeps op trees store branch
 instructed_keeps false op trees store branch = instruction_keeps op (operands_in trees) store branch
 
-line_instructed_keeps : (locals : List Local) (tokens : List SourceToken) (op : Opcode) (e : Ends) (trees : List Tree) (labels : List NamedLabel) → LayingKeeps (line_instructed locals tokens op e trees labels)
+line_instructed_keeps : (locals : List Local) (tokens : List SourceToken) (op : Opcode) (e : Ends) (trees : List Tree)
+    (labels : List NamedLabel) → LayingKeeps (line_instructed locals tokens op e trees labels)
 line_instructed_keeps locals tokens op e trees labels o =
     let b = branched tokens e.branch labels o in
     let code = instructed (row_of op).names_variable op trees (store_of locals b.1.names tokens e.store) b.0.0 in
@@ -444,18 +467,22 @@ some_printed_keeps : (set : CharSet) (tokens : List SourceToken) (op : Opcode) (
 some_printed_keeps set tokens op None = nothing_keeps
 some_printed_keeps set tokens op (Some at) = text_printed_keeps set tokens (printing_of op) at
 
-line_laid_by_keeps : (jumps has_text : Bool) (set : CharSet) (locals : List Local) (tokens : List SourceToken) (op : Opcode) (e : Ends) (trees : List Tree) (labels : List NamedLabel)
+line_laid_by_keeps : (jumps has_text : Bool) (set : CharSet) (locals : List Local) (tokens : List SourceToken) (op : Opcode) (e : Ends)
+    (trees : List Tree) (labels : List NamedLabel)
     → LayingKeeps (line_laid_by jumps has_text set locals tokens op e trees labels)
 line_laid_by_keeps true has_text set locals tokens op e trees labels = jumped_on_keeps tokens e.jump labels
 line_laid_by_keeps false true set locals tokens op e trees labels = some_printed_keeps set tokens op e.text
 line_laid_by_keeps false false set locals tokens op e trees labels = line_instructed_keeps locals tokens op e trees labels
 
-line_laid_as_keeps : (fits : Bool) (set : CharSet) (locals : List Local) (tokens : List SourceToken) (op : Opcode) (e : Ends) (trees : List Tree) (labels : List NamedLabel)
+line_laid_as_keeps : (fits : Bool) (set : CharSet) (locals : List Local) (tokens : List SourceToken) (op : Opcode) (e : Ends)
+    (trees : List Tree) (labels : List NamedLabel)
     → LayingKeeps (line_laid_as fits set locals tokens op e trees labels)
-line_laid_as_keeps true set locals tokens op e trees labels o = line_laid_by_keeps (row_of op).jumps (row_of op).has_text set locals tokens op e trees labels o
+line_laid_as_keeps true set locals tokens op e trees labels o =
+    line_laid_by_keeps (row_of op).jumps (row_of op).has_text set locals tokens op e trees labels o
 line_laid_as_keeps false set locals tokens op e trees labels o = (refl, refl)
 
-line_keeps : (set : CharSet) (locals : List Local) (tokens : List SourceToken) (op : Option Opcode) (e : Ends) (trees : List Tree) (labels : List NamedLabel)
+line_keeps : (set : CharSet) (locals : List Local) (tokens : List SourceToken) (op : Option Opcode) (e : Ends) (trees : List Tree)
+    (labels : List NamedLabel)
     → LayingKeeps (line_laid set locals tokens op e trees labels)
 unfolding line_laid
 line_keeps set locals tokens None e trees labels o = (refl, refl)
@@ -480,7 +507,8 @@ code_keeps s trees statement.Place = nothing_keeps
 code_keeps s trees statement.Give = changed_keeps s.items trees
 code_keeps s trees statement.Move = moved_keeps trees
 code_keeps s trees statement.Action = action_laid_keeps trees
-code_keeps s trees statement.ActionReturn = then_keeps (action_laid trees) (plain opcode.Rtrue) (action_laid_keeps trees) (plain_keeps opcode.Rtrue)
+code_keeps s trees statement.ActionReturn =
+    then_keeps (action_laid trees) (plain opcode.Rtrue) (action_laid_keeps trees) (plain_keeps opcode.Rtrue)
 code_keeps s trees statement.Remove = one_keeps opcode.RemoveObj trees
 code_keeps s trees statement.Spaces = spaced_keeps trees
 code_keeps s trees statement.String = string_changed_keeps (last_text s) trees
@@ -493,7 +521,8 @@ jump_laid_keeps name labels o = let l = labelled name labels o in jumped_keeps l
 place_laid_keeps : (name : List ℕ) (labels : List NamedLabel) → LayingKeeps (place_laid name labels)
 place_laid_keeps name labels o = let l = placed name labels o in marked_keeps l.0.0 l.1
 
-pub statement_keeps : (s : Site) (st : Statement) (trees : List Tree) (labels : List NamedLabel) → LayingKeeps (statement_laid s st trees labels)
+pub statement_keeps : (s : Site) (st : Statement) (trees : List Tree) (labels : List NamedLabel) →
+    LayingKeeps (statement_laid s st trees labels)
 unfolding statement_laid
 statement_keeps s statement.Empty trees labels = code_keeps s trees statement.Empty
 statement_keeps s statement.Expression trees labels = code_keeps s trees statement.Expression
@@ -516,7 +545,8 @@ statement_keeps s statement.Remove trees labels = code_keeps s trees statement.R
 statement_keeps s statement.Spaces trees labels = code_keeps s trees statement.Spaces
 statement_keeps s statement.String trees labels = code_keeps s trees statement.String
 statement_keeps s statement.Style trees labels = code_keeps s trees statement.Style
-statement_keeps s statement.Assembly trees labels = line_keeps s.set s.locals s.tokens (opcode_of (name_behind s)) (ends_of s.items) trees labels
+statement_keeps s statement.Assembly trees labels =
+    line_keeps s.set s.locals s.tokens (opcode_of (name_behind s)) (ends_of s.items) trees labels
 
 -- Names
 
@@ -543,10 +573,12 @@ action_leaf_same : (n : Option Name) (o : Out) → SameLimits o (settled_action 
 action_leaf_same None o = (refl, refl)
 action_leaf_same (Some n) o = action_same n.bytes n.place o
 
-leaf_same : (set : CharSet) (locals : List Local) (tokens : List SourceToken) (l : Leaf) (o : Out) → SameLimits o (settled_leaf set locals tokens l o).0
+leaf_same : (set : CharSet) (locals : List Local) (tokens : List SourceToken) (l : Leaf) (o : Out) →
+    SameLimits o (settled_leaf set locals tokens l o).0
 leaf_same set locals tokens (leaf.Name at) o = name_same locals (name_at tokens at) o
 leaf_same set locals tokens (leaf.Alone at) o =
-    alone_same (is_stack (bytes_at tokens at) (number_of (bytes_at tokens at) locals)) (o, operand.Variable 0) (settled_name locals (name_at tokens at) o) o
+    alone_same (is_stack (bytes_at tokens at) (number_of (bytes_at tokens at) locals)) (o, operand.Variable 0)
+    (settled_name locals (name_at tokens at) o) o
     (refl, refl) (name_same locals (name_at tokens at) o)
 leaf_same set locals tokens (leaf.Number number) o = (refl, refl)
 leaf_same set locals tokens (leaf.Char zscii) o = (refl, refl)
@@ -555,11 +587,13 @@ leaf_same set locals tokens (leaf.Text at) o = text_same (text_at set tokens at)
 leaf_same set locals tokens (leaf.Action at) o = action_leaf_same (name_at tokens at) o
 leaf_same set locals tokens (leaf.System at) o = (refl, refl)
 
-pub leaves_same : (set : CharSet) (locals : List Local) (tokens : List SourceToken) (leaves : List Leaf) (s : Settled) → SameLimits s.out (settled set locals tokens leaves s).out
+pub leaves_same : (set : CharSet) (locals : List Local) (tokens : List SourceToken) (leaves : List Leaf) (s : Settled) →
+    SameLimits s.out (settled set locals tokens leaves s).out
 leaves_same set locals tokens [] s = (refl, refl)
 leaves_same set locals tokens (l ∷ leaves) s =
     let next = with_settled (settled_leaf set locals tokens l s.out) s.operands in
-    same_then s.out next.out (settled set locals tokens leaves next).out (leaf_same set locals tokens l s.out) (leaves_same set locals tokens leaves next)
+    same_then s.out next.out (settled set locals tokens leaves next).out (leaf_same set locals tokens l s.out)
+    (leaves_same set locals tokens leaves next)
 
 -- leaves of a constant
 one_added_keeps : (set : CharSet) (tokens : List SourceToken) (l : Leaf) → Keeps (one_added set tokens l)

@@ -22,15 +22,19 @@ pub known_of-lookup : (key : List ℕ) (es : List (Key × Entry)) → known_of k
 known_of-lookup key [] = refl
 known_of-lookup key (e ∷ es) = go (bytes_eq key e.0.items) (known_of-lookup key es)
   where
-    go : (t : Bool) → known_of key (map as_named es) ≡ option_map known (lookup (has key) es) → cond t (Some (known e.1)) (known_of key (map as_named es)) ≡ option_map known (cond t (Some e.1) (lookup (has key) es))
+    go : (t : Bool) → known_of key (map as_named es) ≡ option_map known (lookup (has key) es) →
+        cond t (Some (known e.1)) (known_of key (map as_named es)) ≡ option_map known (cond t (Some e.1) (lookup (has key) es))
     go true later = refl
     go false later = later
 
-pub put-insert : (key : Key) (entry : Entry) (es : List (Key × Entry)) → map as_named (insert_entry (λ a b. bytes_eq a.items b.items) es key entry) ≡ put key.items (known entry) (map as_named es)
+pub put-insert : (key : Key) (entry : Entry) (es : List (Key × Entry)) →
+    map as_named (insert_entry (λ a b. bytes_eq a.items b.items) es key entry) ≡ put key.items (known entry) (map as_named es)
 put-insert key entry [] = refl
 put-insert key entry (e ∷ es) = go (bytes_eq key.items e.0.items) (put-insert key entry es)
   where
-    go : (t : Bool) → map as_named (insert_entry (λ a b. bytes_eq a.items b.items) es key entry) ≡ put key.items (known entry) (map as_named es) → map as_named (cond t ((e.0, entry) ∷ es) (e ∷ insert_entry (λ a b. bytes_eq a.items b.items) es key entry)) ≡ cond t (as_named (e.0, entry) ∷ map as_named es) (as_named e ∷ put key.items (known entry) (map as_named es))
+    go : (t : Bool) → map as_named (insert_entry (λ a b. bytes_eq a.items b.items) es key entry) ≡ put key.items (known entry)
+        (map as_named es) → map as_named (cond t ((e.0, entry) ∷ es) (e ∷ insert_entry (λ a b. bytes_eq a.items b.items) es key entry)) ≡
+        cond t (as_named (e.0, entry) ∷ map as_named es) (as_named e ∷ put key.items (known entry) (map as_named es))
     go true later = refl
     go false later = ap (λ labels. as_named e ∷ labels) later
 
@@ -48,7 +52,8 @@ abbrev pub or_else : Option (List ℕ) → Option (List ℕ) → Option (List �
 or_else None others = others
 or_else (Some name) others = Some name
 
-missing_first : (l : NamedLabel) (others : Option (List ℕ)) (t : Bool) → cond t others (Some l.known.spelling) ≡ or_else (cond t None (Some l.known.spelling)) others
+missing_first : (l : NamedLabel) (others : Option (List ℕ)) (t : Bool) →
+    cond t others (Some l.known.spelling) ≡ or_else (cond t None (Some l.known.spelling)) others
 missing_first l others true = refl
 missing_first l others false = refl
 

@@ -82,10 +82,12 @@ first_variable (e ∷ trees) = variable_of (meaning e).operand
 abbrev pub has_ends : OpcodeRow → Ends → Bool
 has_ends row e = same row.stores (is_some e.store) && same row.branches (is_some e.branch) && same row.has_text (is_some e.text)
 
--- so many operands, of which no instruction has more than eight and the first is a variable where the opcode wants one, and what stands behind them
+-- so many operands, of which no instruction has more than eight and the first is a variable where the opcode wants one, and what stands
+-- behind them
 abbrev pub fits_row : OpcodeRow → ℕ → Bool → Ends → Bool
 fits_row row operands has_variable e =
-    nat_le row.least operands && nat_le operands row.most && nat_le operands 8 && (if row.names_variable then has_variable else true) && has_ends row e
+    nat_le row.least operands && nat_le operands row.most && nat_le operands 8 && (if row.names_variable then has_variable else true) &&
+    has_ends row e
 
 -- a jump has one name, and nothing behind it
 abbrev pub fits_jump : Ends → Bool
@@ -126,7 +128,8 @@ store_finding locals names tokens (Some at) = store_finding_by (store_variable l
 abbrev pub line_finding : List Local → Table Place → List SourceToken → ℕ → Ends → List Tree → Option Finding
 line_finding locals names tokens begun e trees =
     let stores = store_finding locals names tokens e.store in
-    if fits_some (opcode_of (bytes_at tokens (next_place begun))) trees e then stores else least_of_both stores (Some (wrong_opcode (order (next_place begun))))
+    if fits_some (opcode_of (bytes_at tokens (next_place begun))) trees e then stores else least_of_both stores
+    (Some (wrong_opcode (order (next_place begun))))
 
 -- Its code
 
@@ -179,16 +182,20 @@ abbrev pub some_printed : CharSet → List SourceToken → Opcode → Option ℕ
 some_printed set tokens op None = nothing
 some_printed set tokens op (Some at) = text_printed set tokens (printing_of op) at
 
-abbrev pub line_laid_by : Bool → Bool → CharSet → List Local → List SourceToken → Opcode → Ends → List Tree → List NamedLabel → Laying (List NamedLabel)
+abbrev pub line_laid_by : Bool → Bool → CharSet → List Local → List SourceToken → Opcode → Ends → List Tree → List NamedLabel →
+    Laying (List NamedLabel)
 line_laid_by true has_text set locals tokens op e trees labels = jumped_on tokens e.jump labels
 line_laid_by false true set locals tokens op e trees labels = giving labels (some_printed set tokens op e.text)
 line_laid_by false false set locals tokens op e trees labels = line_instructed locals tokens op e trees labels
 
-abbrev pub line_laid_as : Bool → CharSet → List Local → List SourceToken → Opcode → Ends → List Tree → List NamedLabel → Laying (List NamedLabel)
-line_laid_as true set locals tokens op e trees labels = line_laid_by (row_of op).jumps (row_of op).has_text set locals tokens op e trees labels
+abbrev pub line_laid_as : Bool → CharSet → List Local → List SourceToken → Opcode → Ends → List Tree → List NamedLabel →
+    Laying (List NamedLabel)
+line_laid_as true set locals tokens op e trees labels =
+    line_laid_by (row_of op).jumps (row_of op).has_text set locals tokens op e trees labels
 line_laid_as false set locals tokens op e trees labels = giving labels nothing
 
 -- of a line without an error
-unfoldable pub line_laid : CharSet → List Local → List SourceToken → Option Opcode → Ends → List Tree → List NamedLabel → Laying (List NamedLabel)
+unfoldable pub line_laid : CharSet → List Local → List SourceToken → Option Opcode → Ends → List Tree → List NamedLabel →
+    Laying (List NamedLabel)
 line_laid set locals tokens None e trees labels o = (labels, o)
 line_laid set locals tokens (Some op) e trees labels o = line_laid_as (fits op trees e) set locals tokens op e trees labels o

@@ -1,4 +1,5 @@
--- The statements that hold others: what each lays where it begins, between its parts, and where it ends. Designer's Manual, fourth edition, sections
+-- The statements that hold others: what each lays where it begins, between its parts, and where it ends. Designer's Manual, fourth edition,
+-- sections
 -- 1.7 to 1.9.
 use Rattle.std.specs.Prelude.{ℕ, zero, suc, ◌-◌, Bool, true, false, if◌then◌else◌, List, [], ◌∷◌, length, Option, Some, None, unwrap_or}
 use Rattle.inf_opcode.specs.declared.instructions.Label.{Label}

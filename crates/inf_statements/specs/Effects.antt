@@ -26,7 +26,8 @@ use Rattle.inf_statements.specs.declared.constructs.Construct.{Construct}
 use Rattle.inf_statements.specs.declared.statements.Statement.{Statement}
 use Rattle.inf_statements.specs.declared.statements.Statement.TheVariants as statement
 
--- What a statement goes by beside its trees: the character set of the source; its tokens, where among them it begins, and what it has beside its
+-- What a statement goes by beside its trees: the character set of the source; its tokens, where among them it begins, and what it has
+-- beside its
 -- expressions; the locals of its routine; and the statements that hold it, the innermost first.
 pub record Site : Type 0 where
   pub set : CharSet
@@ -119,5 +120,6 @@ place_laid name labels o = let l = placed name labels o in (l.0.1, marked l.0.0 
 unfoldable pub statement_laid : Site → Statement → List Tree → List NamedLabel → Laying (List NamedLabel)
 statement_laid s statement.Jump trees labels = jump_laid (name_behind s) labels
 statement_laid s statement.Place trees labels = place_laid (name_behind s) labels
-statement_laid s statement.Assembly trees labels = line_laid s.set s.locals s.tokens (opcode_of (name_behind s)) (ends_of s.items) trees labels
+statement_laid s statement.Assembly trees labels =
+    line_laid s.set s.locals s.tokens (opcode_of (name_behind s)) (ends_of s.items) trees labels
 statement_laid s other trees labels = giving labels (statement_code s trees other)

@@ -96,7 +96,8 @@ looked_alone locals names name = if is_stack name (number_of name locals) then o
 abbrev pub word_operand : DictionaryWord → Operand
 word_operand word = operand.Later (target.Word word.text)
 
--- What a leaf that is no action stands for, where its name is only looked up: a text is some string. System constants are in no expression yet.
+-- What a leaf that is no action stands for, where its name is only looked up: a text is some string. System constants are in no expression
+-- yet.
 abbrev pub looked : List Local → Table Place → List SourceToken → Leaf → Operand
 looked locals names tokens (leaf.Name at) = looked_name locals names (bytes_at tokens at)
 looked locals names tokens (leaf.Alone at) = looked_alone locals names (bytes_at tokens at)
@@ -161,7 +162,8 @@ settled_name locals (Some n) o = settled_by (number_of n.bytes locals) n.bytes n
 
 abbrev pub settled_alone : List Local → List SourceToken → ℕ → Out → Out × Operand
 settled_alone locals tokens at o =
-    if is_stack (bytes_at tokens at) (number_of (bytes_at tokens at) locals) then (o, operand.Variable 0) else settled_name locals (name_at tokens at) o
+    if is_stack (bytes_at tokens at) (number_of (bytes_at tokens at) locals) then (o, operand.Variable 0) else settled_name locals
+    (name_at tokens at) o
 
 -- a text, whose characters are these, is a string of the story, which is added
 abbrev pub settled_text : Option (List TextItem) → Out → Out × Operand
@@ -205,7 +207,8 @@ with_settled s operands = record { out = s.0; operands = operands ++ s.1 ∷ [] 
 -- the leaves from left to right
 abbrev pub settled : CharSet → List Local → List SourceToken → List Leaf → Settled → Settled
 settled set locals tokens [] s = s
-settled set locals tokens (l ∷ leaves) s = settled set locals tokens leaves (with_settled (settled_leaf set locals tokens l s.out) s.operands)
+settled set locals tokens (l ∷ leaves) s =
+    settled set locals tokens leaves (with_settled (settled_leaf set locals tokens l s.out) s.operands)
 
 -- a unit names its locals
 abbrev pub leaf_named : List SourceToken → Leaf → List Local → List Local

@@ -18,7 +18,8 @@ use Rattle.inf_unit.specs.declared.items.PrintRule.{PrintRule}
 use Rattle.inf_unit.specs.declared.items.PrintRule.TheVariants as rule
 use Rattle.inf_statements.specs.Statements.{one_worked, plain, printed, rest}
 
--- What is printed, in order. The last text of `print_ret` is an instruction of its own, and behind anything else a new line comes, and 1 is returned.
+-- What is printed, in order. The last text of `print_ret` is an instruction of its own, and behind anything else a new line comes, and 1 is
+-- returned.
 abbrev pub text_opcode : Bool → List Item → Opcode
 text_opcode true [] = opcode.PrintRet
 text_opcode _ _ = opcode.Print
@@ -60,7 +61,8 @@ abbrev pub rest_behind : PrintRule → List Tree → List Tree
 rest_behind rule.Routine trees = rest (rest trees)
 rest_behind _ trees = rest trees
 
--- One item, with how many of those behind it there are: its code, the trees behind it, and whether something other than a text was printed last.
+-- One item, with how many of those behind it there are: its code, the trees behind it, and whether something other than a text was printed
+-- last.
 abbrev pub item_code : CharSet → List SourceToken → Bool → List Item → Item → List Tree → Code
 item_code set tokens returns others (item.Text at) trees = printed (text_opcode returns others) (text_at set tokens at)
 item_code set tokens returns others item.Value trees = one_worked opcode.PrintNum trees

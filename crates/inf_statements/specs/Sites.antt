@@ -4,4 +4,12 @@ use Rattle.inf_statements.specs.Effects.{Site}
 use Rattle.inf_statements.specs.declared.effects.Site.{Site as CodeSite}
 
 abbrev pub site : CodeSite → Site
-site s = record { set = s.set; tokens = s.tokens.now; begun = s.begun; items = s.items.now; locals = listed s.locals.now; constructs = s.constructs.now }
+site s = record {
+  set = s.set;
+  tokens = s.tokens.now;
+  begun = s.begun;
+  items = s.items.now;
+  locals = listed s.locals.now;
+  constructs =
+      s.constructs.now;
+}

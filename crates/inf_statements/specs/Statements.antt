@@ -97,7 +97,8 @@ printed op (Some text) = laid (Instruction (record (bare op) { text = packed tex
 
 -- A number that is known as 1 or 0 has an instruction of its own to return it. What needs code is returned from the stack.
 abbrev pub returned_number : ℕ → Code
-returned_number number = if number == 1 then plain opcode.Rtrue else if number == 0 then plain opcode.Rfalse else instruction opcode.Ret (Known number ∷ []) None None
+returned_number number = if number == 1 then plain opcode.Rtrue else if number == 0 then plain opcode.Rfalse else instruction opcode.Ret
+    (Known number ∷ []) None None
 
 abbrev pub returned_by : Option Simple → Meaning → Code
 returned_by (Some (Known number)) m = returned_number number
@@ -135,7 +136,8 @@ abbrev pub spaced : List Tree → Code
 spaced [] = nothing
 spaced (e ∷ trees) = call_routine veneer.Spaces (part (meaning e) ∷ []) None
 
--- A string variable becomes a low string: its word among the abbreviations is written, which begin with the string variables (Z-Machine Standard 1.1,
+-- A string variable becomes a low string: its word among the abbreviations is written, which begin with the string variables (Z-Machine
+-- Standard 1.1,
 -- section 3.3).
 abbrev pub abbreviations : Target
 abbreviations = target.Place area.Abbreviations 0
@@ -179,7 +181,8 @@ abbrev pub switched : List Tree → Code
 switched [] = nothing
 switched (e ∷ trees) = (meaning e).value SWITCHED
 
--- Attributes that an object is given or that are taken from it, one by one. With several of them an object that needs code is worked out first.
+-- Attributes that an object is given or that are taken from it, one by one. With several of them an object that needs code is worked out
+-- first.
 abbrev pub attribute_code : Opcode → Part → List Tree → Code
 attribute_code op object [] = nothing
 attribute_code op object (a ∷ attributes) = worked op (object ∷ part (meaning a) ∷ []) None None

@@ -298,7 +298,8 @@ fn branch_of(
     labels: &mut Labels,
     out: &mut Output,
 ) -> Result<Option<Branch>, AllocError>
-    ensures value { IfOk result (λ branch. ((branch, labels.new), out.new) ≡ branched line.entry.tokens.now line.entry.ends.branch labels.old out.old) }
+    ensures value { IfOk result (λ branch. ((branch, labels.new), out.new) ≡ branched line.entry.tokens.now line.entry.ends.branch
+        labels.old out.old) }
     ensures there { IfOk result (λ branch. is_some branch ≡ is_some line.entry.ends.branch) }
 {
     let Some((at, sense)) = line.ends.branch else {
@@ -368,7 +369,8 @@ fn lay_instructed(
     requires fits { let trees = trees_from nodes.now roots.now in
         fits_row (row_of opcode) (length trees) (is_some (first_variable trees)) line.ends ≡ true }
     ensures { OnOk result ((labels.new, out.new)
-        ≡ line_instructed (listed line.entry.locals.now) line.entry.tokens.now opcode line.entry.ends (trees_from nodes.now roots.now) labels.old out.old) }
+        ≡ line_instructed (listed line.entry.locals.now) line.entry.tokens.now opcode line.entry.ends (trees_from nodes.now roots.now)
+        labels.old out.old) }
 {
     let branch = branch_of(line, labels, out)?;
     let store = line.store(&out.names);
@@ -432,7 +434,8 @@ fn lay_fit(
 ) -> Result<(), AllocError>
     requires { fits opcode (trees_from nodes.now roots.now) line.ends ≡ true }
     ensures { OnOk result ((labels.new, out.new)
-        ≡ line_laid_by (row_of opcode).jumps (row_of opcode).has_text line.entry.set (listed line.entry.locals.now) line.entry.tokens.now opcode line.entry.ends (trees_from nodes.now roots.now) labels.old out.old) }
+        ≡ line_laid_by (row_of opcode).jumps (row_of opcode).has_text line.entry.set (listed line.entry.locals.now) line.entry.tokens.now
+        opcode line.entry.ends (trees_from nodes.now roots.now) labels.old out.old) }
 {
     let row = opcode.row();
     if row.jumps {
@@ -455,7 +458,8 @@ pub(crate) fn lay_line(
     out: &mut Output,
 ) -> Result<(), AllocError>
     ensures { OnOk result ((labels.new, out.new)
-        ≡ line_laid line.entry.set (listed line.entry.locals.now) line.entry.tokens.now opcode line.entry.ends (trees_from nodes.now roots.now) labels.old out.old) }
+        ≡ line_laid line.entry.set (listed line.entry.locals.now) line.entry.tokens.now opcode line.entry.ends
+        (trees_from nodes.now roots.now) labels.old out.old) }
 {
     let Some(opcode) = opcode else {
         return Ok(());

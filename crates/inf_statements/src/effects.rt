@@ -88,7 +88,14 @@ impl Site<'_> {
 
     /// It as an assembly line.
     fn line(&self) -> Line<'_>
-        ensures { let s = self.now in result ≡ record { alloc = s.alloc; set = s.set; tokens = s.tokens; locals = s.locals; ends = ends_of s.items.now } }
+        ensures { let s = self.now in result ≡ record {
+          alloc = s.alloc;
+          set = s.set;
+          tokens = s.tokens;
+          locals = s.locals;
+          ends = ends_of
+              s.items.now;
+        } }
     {
         Line {
             alloc: self.alloc,

@@ -19,7 +19,8 @@ pub struct Entry {
     is_given: bool,
 }
 
-/// The labels of a routine that have names, in the order in which these first stand in it, whether as the name of a place or of where a jump or a
+/// The labels of a routine that have names, in the order in which these first stand in it, whether as the name of a place or of where a
+/// jump or a
 /// branch goes (Designer's Manual, fourth edition, section 1.12).
 #[derive(Drop)]
 pub struct Labels {
@@ -136,7 +137,8 @@ impl Labels {
         is_given: bool,
     ) -> Result<(), AllocError>
         requires { length name.now ≤ 32 }
-        ensures { OnOk result (self.new ≡ put (folded name.now) (record { spelling = spelling.items; label = label; is_given = is_given }) self.old) }
+        ensures { OnOk result (self.new ≡ put (folded name.now) (record { spelling = spelling.items; label = label; is_given = is_given })
+            self.old) }
     {
         self.entries.insert(
             folded(name),

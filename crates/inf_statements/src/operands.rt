@@ -374,7 +374,8 @@ pub fn settled(
     out: &mut Output,
 ) -> Result<Vec<Operand>, AllocError>
     ensures { let before : Settled = record { out = out.old; operands = [] } in
-        IfOk result (λ operands. record { out = out.new; operands = operands.items } ≡ settled set (listed locals.now) tokens.now leaves.now before) }
+        IfOk result (λ operands. record { out = out.new; operands = operands.items } ≡ settled set (listed locals.now) tokens.now leaves.now
+        before) }
 {
     let mut operands = Vec::with_capacity(alloc, leaves.len())?;
     for leaf in leaves {

@@ -177,7 +177,8 @@ fn print_item(
     out: &mut Output,
 ) -> Result<(), AllocError>
     ensures { OnOk result (out.new
-        ≡ item_code printing.entry.set printing.entry.tokens.now printing.entry.returns others.now item (trees_from nodes.now roots.now) out.old) }
+        ≡ item_code printing.entry.set printing.entry.tokens.now printing.entry.returns others.now item (trees_from nodes.now roots.now)
+        out.old) }
 {
     match item {
         Item::Text(at) => {
@@ -206,7 +207,8 @@ pub(crate) fn print_items(
     out: &mut Output,
 ) -> Result<(), AllocError>
     ensures { OnOk result (out.new
-        ≡ items_printed printing.entry.set printing.entry.tokens.now printing.entry.returns false items.now (map tree_in (trees_in forest.now)) out.old) }
+        ≡ items_printed printing.entry.set printing.entry.tokens.now printing.entry.returns false items.now
+        (map tree_in (trees_in forest.now)) out.old) }
 {
     let nodes = &forest.nodes;
     let mut roots = forest.roots.as_slice();

@@ -37,7 +37,8 @@ written fixups =
 -- with those of the areas that are known bytes
 abbrev whole : (AreaName → List Fixup) → List Fixup → List Fixup → List Fixup → List Fixup
 whole fixups low words strings =
-    low ++ all (fixups area.Abbreviations ∷ fixups area.PropertyDefaults ∷ fixups area.Objects ∷ fixups area.PropertyTables ∷ fixups area.ClassNumbers
+    low ++ all (fixups area.Abbreviations ∷ fixups area.PropertyDefaults ∷ fixups area.Objects ∷ fixups area.PropertyTables ∷ fixups
+    area.ClassNumbers
     ∷ fixups area.IndividualTables ∷ fixups area.Globals ∷ fixups area.Arrays ∷ fixups area.Grammar ∷ fixups area.Actions
     ∷ fixups area.ParsingRoutines ∷ words ∷ fixups area.Code ∷ strings ∷ [])
 

@@ -18,8 +18,10 @@ use Rattle.inf_story.specs.Stories.{story, too_long}
 use Rattle.inf_story.specs.Tables.{areas, looked_up}
 use Rattle.inf_tables.specs.declared.tables.Tables.{Tables}
 
-pub is_story : (fields : HeaderFields) (main : ℕ) (names : List Value) (finished : List Cell) (strings : List ℕ) (tables : Tables) (contents : Areas (List ℕ)) (fixups : List Fixup) (targets : Lookup)
-    → contents ≡ cells_contents (areas main finished strings tables) → fixups ≡ cells_fixups (areas main finished strings tables) → targets ≡ looked_up names tables
+pub is_story : (fields : HeaderFields) (main : ℕ) (names : List Value) (finished : List Cell) (strings : List ℕ) (tables : Tables)
+    (contents : Areas (List ℕ)) (fixups : List Fixup) (targets : Lookup)
+    → contents ≡ cells_contents (areas main finished strings tables) → fixups ≡ cells_fixups (areas main finished strings tables) → targets
+    ≡ looked_up names tables
     → linked contents fixups targets fields ≡ story fields main names finished strings tables
 unfolding story
 is_story fields main names finished strings tables contents fixups targets are_contents are_fixups are_targets =
@@ -29,14 +31,17 @@ is_story fields main names finished strings tables contents fixups targets are_c
     ∙ ap (λ lists. linked (cells_contents cells) (cells_fixups cells) lists fields) are_targets
     ∙ cells_in_order cells (looked_up names tables) fields
 
-pub is_too_long : (fields : HeaderFields) (main : ℕ) (finished : List Cell) (strings : List ℕ) (tables : Tables) (contents : Areas (List ℕ)) → contents ≡ cells_contents (areas main finished strings tables)
+pub is_too_long : (fields : HeaderFields) (main : ℕ) (finished : List Cell) (strings : List ℕ) (tables : Tables) (contents : Areas (List ℕ))
+    → contents ≡ cells_contents (areas main finished strings tables)
     → too_long_by (lengths contents) fields.scale ≡ too_long fields main finished strings tables
 unfolding too_long
 is_too_long fields main finished strings tables contents are_contents =
-    ap (λ bytes. too_long_by (lengths bytes) fields.scale) are_contents ∙ ap (λ sizes. too_long_by sizes fields.scale) (sizes-cells (areas main finished strings tables))
+    ap (λ bytes. too_long_by (lengths bytes) fields.scale) are_contents
+    ∙ ap (λ sizes. too_long_by sizes fields.scale) (sizes-cells (areas main finished strings tables))
 
 -- want of memory, or why there is no story
-pub told : {T : Type 0} (r : Result T LinkFault) (long : Option LinkFault) → MatchResult r (λ _. long ≡ None) (λ fault. fault ≡ refusal long)
+pub told : {T : Type 0} (r : Result T LinkFault) (long : Option LinkFault) →
+    MatchResult r (λ _. long ≡ None) (λ fault. fault ≡ refusal long)
     → MatchResult r (λ _. long ≡ None) (λ fault. (fault ≡ Memory) ⊎ (long ≡ Some fault))
 told (Ok x) long e = e
 told (Err fault) None e = inl e

@@ -10,7 +10,8 @@ abbrev pub behind : List Value → Option (List Value) → Option (List Value)
 behind done None = None
 behind done (Some values) = Some (done ++ values)
 
-pub behind_one : (done : List Value) (value : Value) (values : Option (List Value)) → behind done (with_value (Some value) values) ≡ behind (done ++ value ∷ []) values
+pub behind_one : (done : List Value) (value : Value) (values : Option (List Value)) →
+    behind done (with_value (Some value) values) ≡ behind (done ++ value ∷ []) values
 behind_one done value None = refl
 behind_one done value (Some values) = ap Some (sym (append_assoc done (value ∷ []) values))
 

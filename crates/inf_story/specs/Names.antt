@@ -9,7 +9,8 @@ use Rattle.inf_names.specs.declared.meanings.Meaning.{Meaning}
 use Rattle.inf_names.specs.declared.meanings.Meaning.TheVariants as meaning
 use Rattle.inf_scanner.specs.declared.tokens.Place.{Place}
 
--- What a name is by what it stands for: a number, a place in an area, or a dictionary word, which is known by its text and not by a place. A function of the
+-- What a name is by what it stands for: a number, a place in an area, or a dictionary word, which is known by its text and not by a place.
+-- A function of the
 -- language is no number.
 abbrev pub value_of : Meaning → Option Value
 value_of (meaning.Number number) = Some (value.Known number)

@@ -1,4 +1,5 @@
--- The story of a source that told nothing of tables: the first four objects, which stand for the classes that the language has, and an empty dictionary.
+-- The story of a source that told nothing of tables: the first four objects, which stand for the classes that the language has, and an
+-- empty dictionary.
 use Rattle.std.specs.Prelude.{◌≡◌, ℕ, ◌+◌, ◌/◌, List, [], ◌∷◌, ◌++◌, length, map, replicate, codes}
 use Rattle.std.specs.List.{flat_map}
 use Rattle.inf_area.specs.declared.targets.AreaName.TheVariants as area

@@ -9,7 +9,8 @@ use Rattle.inf_link.specs.MemoryMaps.{too_long as too_long_by}
 use Rattle.inf_story.specs.Tables.{areas, looked_up}
 use Rattle.inf_tables.specs.declared.tables.Tables.{Tables}
 
--- The story of the finished routines of a source, its strings and its tables: the routine at a place of the code is called first, and names are these.
+-- The story of the finished routines of a source, its strings and its tables: the routine at a place of the code is called first, and names
+-- are these.
 unfoldable pub story : HeaderFields → ℕ → List Value → List Cell → List ℕ → Tables → List ℕ
 story fields main names finished strings tables = cells_story (areas main finished strings tables) (looked_up names tables) fields
 

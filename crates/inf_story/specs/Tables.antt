@@ -33,7 +33,8 @@ low_strings behind = known (three_spaces ++ behind)
 unfoldable pub abbreviations : List Cell
 abbreviations = values_cells (replicate 96 (value.Known 32))
 
--- All areas: those of the tables of a source, the finished routines, of which the first routine calls the one at a place, and the bytes of the strings.
+-- All areas: those of the tables of a source, the finished routines, of which the first routine calls the one at a place, and the bytes of
+-- the strings.
 abbrev pub areas : ℕ → List Cell → List ℕ → Tables → Areas (List Cell)
 areas main finished strings tables = record {
   low_strings = low_strings tables.low_strings.bytes;

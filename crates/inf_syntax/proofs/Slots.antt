@@ -32,7 +32,8 @@ slot_same s w e =
     let size : length s ≡ length w = sym (length-map s to_ascii_lowercase) ∙ ap length e ∙ length-map w to_ascii_lowercase in
     let one = letter_same s w e 0 in
     let three = letter_same s w e 2 in
-    let last : letter (get_or s (length s - 1) 0) ≡ letter (get_or w (length w - 1) 0) = letter_same s w e (length s - 1) ∙ ap (λ n. letter (get_or w (n - 1) 0)) size in
+    let last : letter (get_or s (length s - 1) 0) ≡ letter (get_or w (length w - 1) 0) =
+    letter_same s w e (length s - 1) ∙ ap (λ n. letter (get_or w (n - 1) 0)) size in
     cc (size, one, three, last)
 
 differs : (s w : List ℕ) → nat_eq (slot w) (slot s) ≡ false → str_eq_ignore_ascii_case s w ≡ false
@@ -46,14 +47,18 @@ differs s w n = false_from_ne_true (str_eq_ignore_ascii_case s w) (λ e. both_wa
 -- Looking for a name
 
 -- the word with its slot is it
-found : (s : List ℕ) (ws : List (List ℕ)) (d : List ℕ) → place_of (slot s) (map slot ws) < length ws → str_eq_ignore_ascii_case s (get_or ws (place_of (slot s) (map slot ws)) d) ≡ true → place_in s ws ≡ place_of (slot s) (map slot ws)
+found : (s : List ℕ) (ws : List (List ℕ)) (d : List ℕ) → place_of (slot s) (map slot ws) < length ws →
+    str_eq_ignore_ascii_case s (get_or ws (place_of (slot s) (map slot ws)) d) ≡ true → place_in s ws ≡ place_of (slot s) (map slot ws)
 found s [] d l e = absurd (omega arith)
 found s (w ∷ ws) d l e = by_slot (nat_eq (slot w) (slot s)) refl l e (λ m t. found s ws d m t)
   where
     place : ℕ
     place = place_of (slot s) (map slot ws)
 
-    by_slot : (b : Bool) → nat_eq (slot w) (slot s) ≡ b → (if b then 0 else suc (place_of (slot s) (map slot ws))) < suc (length ws) → str_eq_ignore_ascii_case s (get_or (w ∷ ws) (if b then 0 else suc (place_of (slot s) (map slot ws))) d) ≡ true → (place_of (slot s) (map slot ws) < length ws → str_eq_ignore_ascii_case s (get_or ws (place_of (slot s) (map slot ws)) d) ≡ true → place_in s ws ≡ place_of (slot s) (map slot ws)) → place_in s (w ∷ ws) ≡ (if b then 0 else suc (place_of (slot s) (map slot ws)))
+    by_slot : (b : Bool) → nat_eq (slot w) (slot s) ≡ b → (if b then 0 else suc (place_of (slot s) (map slot ws))) < suc (length ws) →
+        str_eq_ignore_ascii_case s (get_or (w ∷ ws) (if b then 0 else suc (place_of (slot s) (map slot ws))) d) ≡ true →
+        (place_of (slot s) (map slot ws) < length ws → str_eq_ignore_ascii_case s (get_or ws (place_of (slot s) (map slot ws)) d) ≡ true →
+        place_in s ws ≡ place_of (slot s) (map slot ws)) → place_in s (w ∷ ws) ≡ (if b then 0 else suc (place_of (slot s) (map slot ws)))
     by_slot true q l e rest = cond-true {A = ℕ} (str_eq_ignore_ascii_case s w) 0 (1 + place_in s ws) e
     by_slot false q l e rest =
         let here = cond-false {A = ℕ} (str_eq_ignore_ascii_case s w) 0 (1 + place_in s ws) (differs s w q) in
@@ -78,11 +83,14 @@ none : (s : List ℕ) (ws : List (List ℕ)) → lacks (slot s) (map slot ws) �
 none s [] o = refl
 none s (w ∷ ws) o =
     let two = and_parts (if nat_eq (slot w) (slot s) then false else true) (lacks (slot s) (map slot ws)) o in
-    let here = cond-false {A = ℕ} (str_eq_ignore_ascii_case s w) 0 (1 + place_in s ws) (differs s w (other_is (nat_eq (slot w) (slot s)) two.0)) in
+    let here =
+    cond-false {A = ℕ} (str_eq_ignore_ascii_case s w) 0 (1 + place_in s ws) (differs s w (other_is (nat_eq (slot w) (slot s)) two.0)) in
     omega (arith, here, none s ws two.1)
 
 -- the word with its slot is not it, or there is no such word
-absent : (s : List ℕ) (ws : List (List ℕ)) (d : List ℕ) → are_distinct (map slot ws) ≡ true → (str_eq_ignore_ascii_case s (get_or ws (place_of (slot s) (map slot ws)) d) ≡ false) ⊎ (length ws ≤ place_of (slot s) (map slot ws)) → place_in s ws ≡ length ws
+absent : (s : List ℕ) (ws : List (List ℕ)) (d : List ℕ) → are_distinct (map slot ws) ≡ true →
+    (str_eq_ignore_ascii_case s (get_or ws (place_of (slot s) (map slot ws)) d) ≡ false) ⊎ (length ws ≤ place_of (slot s) (map slot ws)) →
+    place_in s ws ≡ length ws
 absent s [] d a o = refl
 absent s (w ∷ ws) d a o = by_slot (nat_eq (slot w) (slot s)) refl o (λ m. absent s ws d both.1 m)
   where
@@ -92,7 +100,11 @@ absent s (w ∷ ws) d a o = by_slot (nat_eq (slot w) (slot s)) refl o (λ m. abs
     behind : str_eq_ignore_ascii_case s w ≡ false → place_in s ws ≡ length ws → place_in s (w ∷ ws) ≡ suc (length ws)
     behind e r = omega (arith, cond-false {A = ℕ} (str_eq_ignore_ascii_case s w) 0 (1 + place_in s ws) e, r)
 
-    by_slot : (b : Bool) → nat_eq (slot w) (slot s) ≡ b → (str_eq_ignore_ascii_case s (get_or (w ∷ ws) (if b then 0 else suc (place_of (slot s) (map slot ws))) d) ≡ false) ⊎ (suc (length ws) ≤ (if b then 0 else suc (place_of (slot s) (map slot ws)))) → ((str_eq_ignore_ascii_case s (get_or ws (place_of (slot s) (map slot ws)) d) ≡ false) ⊎ (length ws ≤ place_of (slot s) (map slot ws)) → place_in s ws ≡ length ws) → place_in s (w ∷ ws) ≡ suc (length ws)
+    by_slot : (b : Bool) → nat_eq (slot w) (slot s) ≡ b →
+        (str_eq_ignore_ascii_case s (get_or (w ∷ ws) (if b then 0 else suc (place_of (slot s) (map slot ws))) d) ≡ false) ⊎
+        (suc (length ws) ≤ (if b then 0 else suc (place_of (slot s) (map slot ws)))) →
+        ((str_eq_ignore_ascii_case s (get_or ws (place_of (slot s) (map slot ws)) d) ≡ false) ⊎
+        (length ws ≤ place_of (slot s) (map slot ws)) → place_in s ws ≡ length ws) → place_in s (w ∷ ws) ≡ suc (length ws)
     by_slot true q (inl e) rest = behind e (none s ws (subst (λ n. lacks n (map slot ws) ≡ true) (eqb-true (slot w) (slot s) q) both.0))
     by_slot true q (inr l) rest = absurd (omega (arith, l))
     by_slot false q (inl e) rest = behind (differs s w q) (rest (inl e))
@@ -119,7 +131,8 @@ same_or (x ∷ xs) zero d e l = refl
 same_or (x ∷ xs) (suc at) d e l = same_or xs at d e (omega arith)
 
 -- a word that is referred to
-pub word_at : {X : Type 0} (f : X → List ℕ) (xs : List X) (place : ℕ) (w : X) → map f xs ≡ words → place < length xs → w ≡ get_or xs place w → f w ≡ get_or words place []
+pub word_at : {X : Type 0} (f : X → List ℕ) (xs : List X) (place : ℕ) (w : X) → map f xs ≡ words → place < length xs →
+    w ≡ get_or xs place w → f w ≡ get_or words place []
 word_at f xs place w e l at =
     ap f at
     ∙ sym (get_or-map f xs place w)

@@ -10,7 +10,8 @@ letter byte = byte % 32
 -- The slot of a name, by its size and its first, third and last letter: the same in any case, and another one for each word.
 abbrev pub slot : List ℕ → ℕ
 slot name =
-    (letter (get_or name 0 0) + 5 * letter (get_or name 2 0) + 61 * letter (get_or name (length name - 1) 0) + 16 * (length name % 16)) % 256
+    (letter (get_or name 0 0) + 5 * letter (get_or name 2 0) + 61 * letter (get_or name (length name - 1) 0) + 16 * (length name % 16)) %
+    256
 
 -- how many numbers stand before the first that is this one
 abbrev pub place_of : ℕ → List ℕ → ℕ

@@ -32,8 +32,10 @@ no_tables settings = record {
 unfoldable pub more : ℕ → ℕ → ℕ
 more count other = min (count + other) 18446744073709551615
 
--- How many numbers in the tables are known when the story is laid out: in the world as if the open body ended here, first values of variables, entries of
--- arrays, addresses of verbs' lines and of prepositions, and one for each action and each routine that parses. The addresses of the tables of the first
+-- How many numbers in the tables are known when the story is laid out: in the world as if the open body ended here, first values of
+-- variables, entries of
+-- arrays, addresses of verbs' lines and of prepositions, and one for each action and each routine that parses. The addresses of the tables
+-- of the first
 -- four objects are not counted here: code keeps as many back from its limit.
 abbrev pub references : Tables → ℕ
 references t =

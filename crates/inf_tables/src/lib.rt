@@ -1,6 +1,7 @@
 //! The tables of a story, as far as its source told them: words, arrays and variables, the world, the grammar, and the low strings.
 //!
-//! Each table is a layer of its own, with calls that refuse what does not fit. `Tables` has one of each, with the limits that the settings give.
+//! Each table is a layer of its own, with calls that refuse what does not fit. `Tables` has one of each, with the limits that the settings
+//! give.
 #![tactic(auto)]
 
 mod low_strings;

@@ -46,7 +46,8 @@ fn more(count: usize, other: usize) -> usize
 }
 
 impl Tables {
-    /// Tables of a source that told nothing yet: the world has its first four objects. Of each there may be as much as the settings say. They
+    /// Tables of a source that told nothing yet: the world has its first four objects. Of each there may be as much as the settings say.
+    /// They
     /// take no memory.
     pub fn new(alloc: Global, settings: &Settings) -> Tables
         ensures { result ≡ no_tables settings.now }

@@ -10,11 +10,14 @@
 //!   `rank TEXTS`, `len`;
 //! - `arrays BYTES`: `open KIND`, `entry VALUE`, `zeros N`, `text DIGITS`, `size`, `later`;
 //! - `globals`: `add VALUE`, `len`, `later`;
-//! - `verbs VERBS BYTES`: `add`, `extend N PLACE`, `line N PLACE ACTION TOKENS`, `len`, `size`, `later`, `places`. A token is a noun's name,
+//! - `verbs VERBS BYTES`: `add`, `extend N PLACE`, `line N PLACE ACTION TOKENS`, `len`, `size`, `later`, `places`. A token is a noun's
+//! name,
 //!   words with `/` between them, `f`, `a`, `s` or `r` with a number (a filter, an attribute, a scope, a routine), or `reverse`;
 //! - `actions ACTIONS`: `add N`, `fake`, `of N`, `len`; `parsing`: `add N`, `len`;
-//! - `world OBJECTS BYTES`: `attribute`, `property KIND VALUE`, `individual`, `class NAME`, `object PARENT NAME` (`pN` a number, `aN` so many
-//!   arrows), `lost`, `give N VALUE` (or without a value), `value VALUE`, `lose`, `has N`, `hasnt N`, `of N`, `end`, `given N`, `count`, `size`,
+//! - `world OBJECTS BYTES`: `attribute`, `property KIND VALUE`, `individual`, `class NAME`, `object PARENT NAME` (`pN` a number, `aN` so
+//! many
+//!   arrows), `lost`, `give N VALUE` (or without a value), `value VALUE`, `lose`, `has N`, `hasnt N`, `of N`, `end`, `given N`, `count`,
+//! `size`,
 //!   `later`, `laters AREA`, `places`, `individuals`. A name is the digits of its bytes; the area that is written stands behind BEFORE.
 //!
 //! `stdout` is what `tests/tables.py` computes, which makes both.

@@ -13,7 +13,8 @@ front n found rest all is len =
     sym (take-append_seam found rest) ∙ ap (λ m. take m (found ++ rest)) len ∙ ap (take n) is
 
 -- it is all
-pub whole : (n : ℕ) (found new rest all : List Simple) (x : Simple) → found ++ rest ≡ all → rest ≡ x ∷ [] → new ≡ found ++ x ∷ [] → length new ≤ n → new ≡ take n all
+pub whole : (n : ℕ) (found new rest all : List Simple) (x : Simple) → found ++ rest ≡ all → rest ≡ x ∷ [] → new ≡ found ++ x ∷ [] →
+    length new ≤ n → new ≡ take n all
 whole n found new rest all x is last new_is len =
     let same : new ≡ all = new_is ∙ ap (λ r. found ++ r) (sym last) ∙ is in
     sym (take_all n new len) ∙ ap (take n) same
@@ -27,11 +28,13 @@ taken_twice (suc n) (x ∷ all) = ap (λ xs. x ∷ xs) (taken_twice n all)
 front_twice : (given all : List Simple) → given ≡ take 7 all → take 7 given ≡ take 7 all
 front_twice given all is = ap (take 7) is ∙ taken_twice 7 all
 
-pub calling_given : (f : Simple) (given all : List Simple) (store : Option ℕ) (o : Out) → given ≡ take 7 all → calling f given store o ≡ calling f all store o
+pub calling_given : (f : Simple) (given all : List Simple) (store : Option ℕ) (o : Out) → given ≡ take 7 all →
+    calling f given store o ≡ calling f all store o
 unfolding calling
 calling_given f given all store o is =
     ap (λ gs. instruction (call_opcode store (length gs)) (f ∷ gs) store None o) (front_twice given all is)
 
-pub calling_routine_given : (v : Veneer) (given all : List Simple) (store : Option ℕ) (o : Out) → given ≡ take 7 all → calling_routine v given store o ≡ calling_routine v all store o
+pub calling_routine_given : (v : Veneer) (given all : List Simple) (store : Option ℕ) (o : Out) → given ≡ take 7 all →
+    calling_routine v given store o ≡ calling_routine v all store o
 unfolding calling_routine
 calling_routine_given v given all store o is = calling_given (routine v o) given all store (used v o) is

@@ -35,7 +35,18 @@ limits = record { labels = 1000; code = 262144; refs = 50000 }
 -- a routine of so many locals is open
 abbrev begun : ℕ → Out
 begun locals =
-    record { code = with_opened locals false (no_routines limits Four); strings = no_strings 262144 Four; tables = no_tables defaults; names = no_names 10000 false; seen = no_names 4294967295 false; first = record { file = 0; line = 1 }; next = 0; past = None; kept = None }
+    record {
+      code = with_opened locals false (no_routines limits Four);
+      strings = no_strings 262144 Four;
+      tables = no_tables defaults;
+      names = no_names 10000 false;
+      seen = no_names 4294967295 false;
+      first = record { file = 0; line = 1 };
+      next = 0;
+      past = None;
+      kept =
+          None;
+    }
 
 -- its bytes, where names stand for these numbers
 abbrev cell_bytes : List ℕ → Cell → List ℕ
@@ -81,19 +92,22 @@ unfolding laid instruction assign_alone
 left_leaning = refl
 
 -- x = F(y + 1, y * 2); where F is 247: the last argument is worked out first
-pub stack_arguments : bytes_with (247 ∷ []) 2 (meaning (Two binary.Assign x (Two binary.Call f (then (plus y (number 1)) (Two (binary.Operation operation.Multiply) y (number 2)))))).alone
+pub stack_arguments : bytes_with (247 ∷ []) 2 (meaning (Two binary.Assign x (Two binary.Call f
+    (then (plus y (number 1)) (Two (binary.Operation operation.Multiply) y (number 2)))))).alone
     ≡ 0x02 ∷ 0x56 ∷ 0x02 ∷ 0x02 ∷ 0x00 ∷ 0x54 ∷ 0x02 ∷ 0x01 ∷ 0x00 ∷ 0xE0 ∷ 0x2B ∷ 0x00 ∷ 0xF7 ∷ 0x00 ∷ 0x00 ∷ 0x01 ∷ 0xB0 ∷ 0 ∷ 0 ∷ 0 ∷ []
 unfolding laid instruction assign_alone call_of calling
 stack_arguments = refl
 
 -- x = (y->1 = 2); where SB__Va is 245
-pub array_assignment : bytes_with (245 ∷ []) 2 (meaning (Two binary.Assign x (Two binary.Assign (Two (binary.Operation operation.Byte) y (number 1)) (number 2)))).alone
+pub array_assignment : bytes_with (245 ∷ []) 2 (meaning (Two binary.Assign x (Two binary.Assign
+    (Two (binary.Operation operation.Byte) y (number 1)) (number 2)))).alone
     ≡ 0x02 ∷ 0xE0 ∷ 0x25 ∷ 0x00 ∷ 0xF5 ∷ 0x02 ∷ 0x01 ∷ 0x02 ∷ 0x01 ∷ 0xB0 ∷ 0 ∷ 0 ∷ []
 unfolding laid instruction assign_alone assign_value calling calling_routine routine used system_names
 array_assignment = refl
 
 -- if (x == 1 or 2 or 3 or 4) new_line;
-pub alternatives : bytes 1 (with_label (λ over. (meaning (Two (binary.Test test.Equal) x (then (number 1) (then (number 2) (then (number 3) (number 4)))))).branch false over ▸ new_line ▸ marked over))
+pub alternatives : bytes 1 (with_label (λ over. (meaning (Two (binary.Test test.Equal) x
+    (then (number 1) (then (number 2) (then (number 3) (number 4)))))).branch false over ▸ new_line ▸ marked over))
     ≡ 0x01 ∷ 0xC1 ∷ 0x95 ∷ 0x01 ∷ 0x01 ∷ 0x02 ∷ 0x03 ∷ 0xC6 ∷ 0x41 ∷ 0x01 ∷ 0x04 ∷ 0x43 ∷ 0xBB ∷ 0xB0 ∷ 0 ∷ 0 ∷ []
 unfolding laid instruction marked behind test_branch tests triple_tests
 alternatives = refl
@@ -110,25 +124,31 @@ pub argument_counts : bytes_with (0x1234 ∷ []) 0 (
     ▸ call_with (then (number 1) (then (number 2) (then (number 3) (then (number 4) (then (number 5) (then (number 6) (number 7)))))))
     )
     ≡ 0x00 ∷ 0x8F ∷ 0x12 ∷ 0x34 ∷ 0xDA ∷ 0x1F ∷ 0x12 ∷ 0x34 ∷ 0x01 ∷ 0xF9 ∷ 0x15 ∷ 0x12 ∷ 0x34 ∷ 0x01 ∷ 0x02 ∷ 0x03
-    ∷ 0xFA ∷ 0x15 ∷ 0x7F ∷ 0x12 ∷ 0x34 ∷ 0x01 ∷ 0x02 ∷ 0x03 ∷ 0x04 ∷ 0xFA ∷ 0x15 ∷ 0x55 ∷ 0x12 ∷ 0x34 ∷ 0x01 ∷ 0x02 ∷ 0x03 ∷ 0x04 ∷ 0x05 ∷ 0x06 ∷ 0x07 ∷ 0xB0 ∷ 0 ∷ 0 ∷ []
+    ∷ 0xFA ∷ 0x15 ∷ 0x7F ∷ 0x12 ∷ 0x34 ∷ 0x01 ∷ 0x02 ∷ 0x03 ∷ 0x04 ∷ 0xFA ∷ 0x15 ∷ 0x55 ∷ 0x12 ∷ 0x34 ∷ 0x01 ∷ 0x02 ∷ 0x03 ∷ 0x04 ∷ 0x05 ∷
+    0x06 ∷ 0x07 ∷ 0xB0 ∷ 0 ∷ 0 ∷ []
 unfolding laid instruction call_of calling
 argument_counts = refl
 
 -- while (x) --x;
-pub while_loop : bytes 1 (with_label (λ top. with_label (λ end. marked top ▸ (meaning x).branch false end ▸ (meaning (One (unary.Before step.Down) x)).alone ▸ jumped top ▸ marked end)))
+pub while_loop : bytes 1 (with_label (λ top. with_label (λ end. marked top ▸ (meaning x).branch false end ▸
+    (meaning (One (unary.Before step.Down) x)).alone ▸ jumped top ▸ marked end)))
     ≡ 0x01 ∷ 0xA0 ∷ 0x01 ∷ 0xC7 ∷ 0x96 ∷ 0x01 ∷ 0x8C ∷ 0xFF ∷ 0xFA ∷ 0xB0 ∷ 0 ∷ 0 ∷ []
 unfolding laid instruction naming marked jumped behind step_alone
 while_loop = refl
 
 -- if (x + 1 == 1 or 2 or 3 or 4) new_line; keeps the sum in a variable of its own
-pub kept_value : bytes 1 (with_label (λ over. (meaning (Two (binary.Test test.Equal) (plus x (number 1)) (then (number 1) (then (number 2) (then (number 3) (number 4)))))).branch false over ▸ new_line ▸ marked over))
-    ≡ 0x01 ∷ 0x54 ∷ 0x01 ∷ 0x01 ∷ 0xFF ∷ 0xC1 ∷ 0x95 ∷ 0xFF ∷ 0x01 ∷ 0x02 ∷ 0x03 ∷ 0xC6 ∷ 0x41 ∷ 0xFF ∷ 0x04 ∷ 0x43 ∷ 0xBB ∷ 0xB0 ∷ 0 ∷ 0 ∷ []
+pub kept_value : bytes 1 (with_label (λ over. (meaning (Two (binary.Test test.Equal) (plus x (number 1))
+    (then (number 1) (then (number 2) (then (number 3) (number 4)))))).branch false over ▸ new_line ▸ marked over))
+    ≡ 0x01 ∷ 0x54 ∷ 0x01 ∷ 0x01 ∷ 0xFF ∷ 0xC1 ∷ 0x95 ∷ 0xFF ∷ 0x01 ∷ 0x02 ∷ 0x03 ∷ 0xC6 ∷ 0x41 ∷ 0xFF ∷ 0x04 ∷ 0x43 ∷ 0xBB ∷ 0xB0 ∷ 0 ∷ 0 ∷
+    []
 unfolding laid instruction marked behind test_branch tests triple_tests
 kept_value = refl
 
 -- x = x > y && ~~y; is 1 or 0
-pub condition_as_value : bytes 2 (meaning (Two binary.Assign x (Two binary.And (Two (binary.Test test.Greater) x y) (One unary.Not y)))).alone
-    ≡ 0x02 ∷ 0x63 ∷ 0x01 ∷ 0x02 ∷ 0x4B ∷ 0xA0 ∷ 0x02 ∷ 0x48 ∷ 0x0D ∷ 0x01 ∷ 0x01 ∷ 0x8C ∷ 0x00 ∷ 0x05 ∷ 0x0D ∷ 0x01 ∷ 0x00 ∷ 0xB0 ∷ 0 ∷ 0 ∷ []
+pub condition_as_value : bytes 2 (meaning (Two binary.Assign x (Two binary.And (Two (binary.Test test.Greater) x y)
+    (One unary.Not y)))).alone
+    ≡ 0x02 ∷ 0x63 ∷ 0x01 ∷ 0x02 ∷ 0x4B ∷ 0xA0 ∷ 0x02 ∷ 0x48 ∷ 0x0D ∷ 0x01 ∷ 0x01 ∷ 0x8C ∷ 0x00 ∷ 0x05 ∷ 0x0D ∷ 0x01 ∷ 0x00 ∷ 0xB0 ∷ 0 ∷ 0 ∷
+    []
 unfolding laid instruction naming marked jumped behind assign_alone and_branch test_branch tests single_tests
 condition_as_value = refl
 
@@ -137,19 +157,23 @@ abbrev step_of : Tree
 step_of = One (unary.Behind step.Up) (Two (binary.Property property.Value) x (number 8))
 
 pub property_steps : bytes_with (256 ∷ []) 2 ((meaning step_of).alone ▸ (meaning (Two binary.Assign y step_of)).alone)
-    ≡ 0x02 ∷ 0xFA ∷ 0x25 ∷ 0x7F ∷ 0x01 ∷ 0x00 ∷ 0x01 ∷ 0x08 ∷ 0x01 ∷ 0x00 ∷ 0xEC ∷ 0x25 ∷ 0x7F ∷ 0x01 ∷ 0x00 ∷ 0x01 ∷ 0x08 ∷ 0x01 ∷ 0x00 ∷ 0x02 ∷ 0xB0 ∷ 0 ∷ 0 ∷ 0 ∷ []
+    ≡ 0x02 ∷ 0xFA ∷ 0x25 ∷ 0x7F ∷ 0x01 ∷ 0x00 ∷ 0x01 ∷ 0x08 ∷ 0x01 ∷ 0x00 ∷ 0xEC ∷ 0x25 ∷ 0x7F ∷ 0x01 ∷ 0x00 ∷ 0x01 ∷ 0x08 ∷ 0x01 ∷ 0x00 ∷
+    0x02 ∷ 0xB0 ∷ 0 ∷ 0 ∷ 0 ∷ []
 unfolding laid instruction assign_alone step_alone step_value calling calling_routine routine used system_names
 property_steps = refl
 
 -- x.8(3, child(y)); where CA__Pr is 256
-pub message : bytes_with (256 ∷ []) 2 (meaning (Two binary.Call (Two (binary.Property property.Value) x (number 8)) (then (number 3) (One (unary.Relative relative.Child) y)))).alone
+pub message : bytes_with (256 ∷ []) 2 (meaning (Two binary.Call (Two (binary.Property property.Value) x (number 8))
+    (then (number 3) (One (unary.Relative relative.Child) y)))).alone
     ≡ 0x02 ∷ 0xA2 ∷ 0x02 ∷ 0x00 ∷ 0xC2 ∷ 0xFA ∷ 0x25 ∷ 0xBF ∷ 0x01 ∷ 0x00 ∷ 0x01 ∷ 0x08 ∷ 0x03 ∷ 0x00 ∷ 0xB0 ∷ 0 ∷ []
 unfolding laid instruction marked behind related call_of calling calling_routine routine used system_names
 message = refl
 
 -- if (x ofclass 7 or 8) new_line; where OC__Cl is 256
-pub class_test : bytes_with (256 ∷ []) 1 (with_label (λ over. (meaning (Two (binary.Test test.OfClass) x (then (number 7) (number 8)))).branch false over ▸ new_line ▸ marked over))
-    ≡ 0x01 ∷ 0xE0 ∷ 0x27 ∷ 0x01 ∷ 0x00 ∷ 0x01 ∷ 0x07 ∷ 0x00 ∷ 0xA0 ∷ 0x00 ∷ 0x4C ∷ 0xE0 ∷ 0x27 ∷ 0x01 ∷ 0x00 ∷ 0x01 ∷ 0x08 ∷ 0x00 ∷ 0xA0 ∷ 0x00 ∷ 0xC3 ∷ 0xBB ∷ 0xB0 ∷ 0 ∷ []
+pub class_test : bytes_with (256 ∷ []) 1 (with_label (λ over. (meaning (Two (binary.Test test.OfClass) x
+    (then (number 7) (number 8)))).branch false over ▸ new_line ▸ marked over))
+    ≡ 0x01 ∷ 0xE0 ∷ 0x27 ∷ 0x01 ∷ 0x00 ∷ 0x01 ∷ 0x07 ∷ 0x00 ∷ 0xA0 ∷ 0x00 ∷ 0x4C ∷ 0xE0 ∷ 0x27 ∷ 0x01 ∷ 0x00 ∷ 0x01 ∷ 0x08 ∷ 0x00 ∷ 0xA0 ∷
+    0x00 ∷ 0xC3 ∷ 0xBB ∷ 0xB0 ∷ 0 ∷ []
 unfolding laid instruction marked behind test_branch tests single_tests calling calling_routine routine used system_names
 class_test = refl
 

@@ -21,19 +21,22 @@ evaluated_last trees all others last o is =
     ∙ last_first (parts_of trees others) (part_of trees last) o
 
 -- the operands of the first are the first operands
-pub operands_front : (trees : List Tree) (n : ℕ) (arguments : List Argument) → operands (parts_of trees (take n arguments)) ≡ take n (operands (parts_of trees arguments))
+pub operands_front : (trees : List Tree) (n : ℕ) (arguments : List Argument) →
+    operands (parts_of trees (take n arguments)) ≡ take n (operands (parts_of trees arguments))
 operands_front trees zero arguments = refl
 operands_front trees (suc n) [] = refl
 operands_front trees (suc n) (a ∷ arguments) = ap (λ os. operand_of (part_of trees a) ∷ os) (operands_front trees n arguments)
 
 -- where nothing is left, all was found
-pub all_found : (trees : List Tree) (found : List Simple) (arguments : List Argument) (i : ℕ) → found ++ operands (parts_of trees (drop i arguments)) ≡ operands (parts_of trees arguments) → length arguments ≤ i
+pub all_found : (trees : List Tree) (found : List Simple) (arguments : List Argument) (i : ℕ) →
+    found ++ operands (parts_of trees (drop i arguments)) ≡ operands (parts_of trees arguments) → length arguments ≤ i
     → found ≡ operands (parts_of trees arguments)
 all_found trees found arguments i is past =
     sym (append-nil found) ∙ ap (λ gs. found ++ operands (parts_of trees gs)) (sym (drop_all i arguments past)) ∙ is
 
 -- nothing is cut off where the opcode takes as many
-pub operands_all : (trees : List Tree) (most : ℕ) (arguments : List Argument) (given : List Simple) → given ≡ take most (operands (parts_of trees arguments)) → length arguments ≤ most
+pub operands_all : (trees : List Tree) (most : ℕ) (arguments : List Argument) (given : List Simple) →
+    given ≡ take most (operands (parts_of trees arguments)) → length arguments ≤ most
     → given ≡ operands (parts_of trees arguments)
 operands_all trees most arguments given is few =
     is ∙ sym (operands_front trees most arguments) ∙ ap (λ gs. operands (parts_of trees gs)) (take_all most arguments few)

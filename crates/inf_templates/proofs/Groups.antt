@@ -29,12 +29,14 @@ pub more_left : (x : Simple) (b c d e : Part) (others : List Part) (sense : Bool
 unfolding triple_tests
 more_left x b c d e others sense label there o = refl
 
-pub last_left : (t : Test) (x : Simple) (b : Part) (sense : Bool) (label there : Label) (o : Out) → single_tests t x (b ∷ []) sense label there o ≡ tested t (is x ∷ b ∷ []) sense label o
+pub last_left : (t : Test) (x : Simple) (b : Part) (sense : Bool) (label there : Label) (o : Out) →
+    single_tests t x (b ∷ []) sense label there o ≡ tested t (is x ∷ b ∷ []) sense label o
 unfolding single_tests
 last_left t x b sense label there o = refl
 
 pub others_left : (t : Test) (x : Simple) (b c : Part) (others : List Part) (sense : Bool) (label there : Label) (o : Out) →
-    single_tests t x (b ∷ c ∷ others) sense label there o ≡ single_tests t x (c ∷ others) sense label there (tested t (is x ∷ b ∷ []) true there o)
+    single_tests t x (b ∷ c ∷ others) sense label there o ≡ single_tests t x (c ∷ others) sense label there
+    (tested t (is x ∷ b ∷ []) true there o)
 unfolding single_tests
 others_left t x b c others sense label there o = refl
 

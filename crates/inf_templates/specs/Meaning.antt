@@ -35,7 +35,8 @@ pub data Target : Type 0 where
   InVariable : ℕ → Target
   InMemory : Memory → List Part → Target
 
--- What an expression means: its own operand, if it is simple; where it can be assigned; as a list its first member and the others; and its code with
+-- What an expression means: its own operand, if it is simple; where it can be assigned; as a list its first member and the others; and its
+-- code with
 -- the value in a variable, without result, and as a branch to a label where its truth is this.
 pub record Meaning : Type 0 where
   pub operand : Option Simple

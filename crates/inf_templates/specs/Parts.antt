@@ -79,9 +79,11 @@ jump_zero operand sense label = instruction opcode.Jz (operand ∷ []) None (to 
 -- A call is told by the number of its arguments, of which there are at most seven, and by whether its result is wanted.
 abbrev pub call_opcode : Option ℕ → ℕ → Opcode
 call_opcode (Some d) arguments =
-    if arguments == 0 then opcode.Call1s else if arguments == 1 then opcode.Call2s else if nat_le arguments 3 then opcode.CallVs else opcode.CallVs2
+    if arguments == 0 then opcode.Call1s else if arguments == 1 then opcode.Call2s else if nat_le arguments 3 then opcode.CallVs else
+    opcode.CallVs2
 call_opcode None arguments =
-    if arguments == 0 then opcode.Call1n else if arguments == 1 then opcode.Call2n else if nat_le arguments 3 then opcode.CallVn else opcode.CallVn2
+    if arguments == 0 then opcode.Call1n else if arguments == 1 then opcode.Call2n else if nat_le arguments 3 then opcode.CallVn else
+    opcode.CallVn2
 
 unfoldable pub calling : Simple → List Simple → Option ℕ → Code
 calling routine arguments store =

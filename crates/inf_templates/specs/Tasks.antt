@@ -36,11 +36,13 @@ few_parts trees (few.Three a b c) = part (at trees a) ∷ part (at trees b) ∷ 
 
 -- an instruction whose parts are worked out
 abbrev pub worked_code : List Tree → Worked → Code
-worked_code trees (worked.Compute o a b d) = instruction (operation_opcode o) (operands (part (at trees a) ∷ part (at trees b) ∷ [])) (Some d) None
+worked_code trees (worked.Compute o a b d) =
+    instruction (operation_opcode o) (operands (part (at trees a) ∷ part (at trees b) ∷ [])) (Some d) None
 worked_code trees (worked.Negate a d) = instruction opcode.Sub (operands (is (Known 0) ∷ part (at trees a) ∷ [])) (Some d) None
 worked_code trees (worked.Single s a d) = instruction (single_opcode s) (operands (part (at trees a) ∷ [])) (Some d) None
 worked_code trees (worked.Find r a d label) = instruction (related_opcode r) (operands (part (at trees a) ∷ [])) (Some d) (to true label)
-worked_code trees (worked.Three x b c d label) = compared test.Equal (operands (is x ∷ part (at trees b) ∷ part (at trees c) ∷ part (at trees d) ∷ [])) true label
+worked_code trees (worked.Three x b c d label) =
+    compared test.Equal (operands (is x ∷ part (at trees b) ∷ part (at trees c) ∷ part (at trees d) ∷ [])) true label
 worked_code trees (worked.Compare t x b sense label) = compared t (operands (is x ∷ part (at trees b) ∷ [])) sense label
 worked_code trees (worked.Any t a list sense label) =
     compared t (take (most_compared t) (operands (part_of trees a ∷ parts (at trees list)))) sense label

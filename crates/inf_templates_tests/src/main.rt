@@ -3,16 +3,19 @@
 //! A line says how expressions are laid, and behind ` : ` their words, each operator behind its parts:
 //!
 //! - `5` is a number, `v1` a variable, `F` a name that is known later, and `child` and the like a function of the system;
-//! - an operator is spelled as in a source, but for the minus sign of a number, `neg`, and steps, `++v` and `v++`; `call:2` is a call with two
+//! - an operator is spelled as in a source, but for the minus sign of a number, `neg`, and steps, `++v` and `v++`; `call:2` is a call with
+//! two
 //!   arguments, and `list:1` a list of two;
 //! - `alone` lays each without result, `value 3` each with its value in a variable, of which 0 is the stack, and `true` and `false` as a
 //!   branch where its truth is this, over an instruction;
-//! - `insert` lays an instruction of the first two, `call 3` and `call` a call of the first with the others and 5, and `spaces` a call of a routine
+//! - `insert` lays an instruction of the first two, `call 3` and `call` a call of the first with the others and 5, and `spaces` a call of a
+//! routine
 //!   of the veneer with all; `apart` lays the first behind the others.
 //!
 //! The most names, labels, bytes and references may stand behind the way, with `-` for what does not matter.
 //!
-//! The answer tells the first limit that was passed, or the bytes of a routine of 15 locals, where the numbers 1000, 1001 and so on stand for
+//! The answer tells the first limit that was passed, or the bytes of a routine of 15 locals, where the numbers 1000, 1001 and so on stand
+//! for
 //! the names that were used, and these names.
 //!
 //! `stdout` has what the templates of the language say of each.

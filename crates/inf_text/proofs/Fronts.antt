@@ -19,7 +19,8 @@ AreZs-set (x ∷ zs) zero z h small = (small, h.1)
 AreZs-set (x ∷ zs) (suc i) z h small = (h.0, AreZs-set zs i z h.1 small)
 
 -- one more is given, and the rest is still filled
-pub filled-more : (zs : List ℕ) (i k z : ℕ) → length zs ≡ 9 → i + suc k ≡ 9 → zs ≡ take i zs ++ replicate (suc k) 5 → set zs i z ≡ take (i + 1) (set zs i z) ++ replicate k 5
+pub filled-more : (zs : List ℕ) (i k z : ℕ) → length zs ≡ 9 → i + suc k ≡ 9 → zs ≡ take i zs ++ replicate (suc k) 5 →
+    set zs i z ≡ take (i + 1) (set zs i z) ++ replicate k 5
 filled-more zs i k z len room filled =
     let front = take i zs in
     let at : length front ≡ i = omega (arith, length-take i zs) in
@@ -36,13 +37,16 @@ given-more n old xs s ys t first second =
     second ∙ rw first (take-take_append n (old ++ xs) ys ∙ ap (take n) (append_assoc old xs ys))
 
 -- what is given, filled to nine
-pub filled-all : (zs front : List ℕ) (len : ℕ) → length zs ≡ 9 → len ≤ 9 → take len zs ≡ front → zs ≡ take len zs ++ replicate (9 - len) 5 → zs ≡ take 9 (front ++ replicate 9 5)
+pub filled-all : (zs front : List ℕ) (len : ℕ) → length zs ≡ 9 → len ≤ 9 → take len zs ≡ front → zs ≡ take len zs ++ replicate (9 - len) 5 →
+    zs ≡ take 9 (front ++ replicate 9 5)
 filled-all zs front len is_nine le is_front filled =
     let at : length front ≡ len = ap length (sym is_front) ∙ omega (arith, length-take len zs) in
     let room : length front + (9 - len) ≡ 9 = omega arith in
-    let cut : take (length front + (9 - len)) (front ++ replicate 9 5) ≡ front ++ take (9 - len) (replicate 9 5) = take-append-add front (replicate 9 5) (9 - len) in
+    let cut : take (length front + (9 - len)) (front ++ replicate 9 5) ≡ front ++ take (9 - len) (replicate 9 5) =
+    take-append-add front (replicate 9 5) (9 - len) in
     let cut' : take 9 (front ++ replicate 9 5) ≡ front ++ replicate (9 - len) 5 =
-    ap (λ (n : ℕ). take n (front ++ replicate 9 5)) (sym room) ∙ cut ∙ ap (λ (r : List ℕ). front ++ r) (take-replicate (9 - len) 9 5 (omega arith)) in
+    ap (λ (n : ℕ). take n (front ++ replicate 9 5)) (sym room) ∙ cut
+    ∙ ap (λ (r : List ℕ). front ++ r) (take-replicate (9 - len) 9 5 (omega arith)) in
     filled ∙ ap (λ (f : List ℕ). f ++ replicate (9 - len) 5) is_front ∙ sym cut'
 
 -- what was taken and what is left give the whole
@@ -50,7 +54,8 @@ pub record Gives (front : List ℕ) (items whole : List TextItem) : Type 0 where
   pub value : take 9 (front ++ (flat_map (λ x. item_zs (lowered x)) items ++ replicate 9 5)) ≡ dictionary_zs whole
   pub text : IsText items
 
-pub Gives-more : (front new zs : List ℕ) (items rest whole : List TextItem) (x : TextItem) → items ≡ x ∷ rest → zs ≡ item_zs (lowered x) → new ≡ take 9 (front ++ zs) → Gives front items whole → Gives new rest whole
+pub Gives-more : (front new zs : List ℕ) (items rest whole : List TextItem) (x : TextItem) → items ≡ x ∷ rest → zs ≡ item_zs (lowered x) →
+    new ≡ take 9 (front ++ zs) → Gives front items whole → Gives new rest whole
 Gives-more front new zs items rest whole x split is given h =
     let f : TextItem → List ℕ = λ x. item_zs (lowered x) in
     let tail = flat_map f rest ++ replicate 9 5 in

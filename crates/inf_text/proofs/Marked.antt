@@ -18,7 +18,8 @@ unmarked : (a b : ℕ) → a < 32 → b < 32 → IsTrue (ltb (0 + 4 * a + b / 8)
 unmarked a b la lb = let low : 0 + 4 * a + b / 8 < 128 = omega arith in grind (arith, nat_tests)
 
 -- one more word before some
-are_words-front : (high low : ℕ) (bytes : List ℕ) → IsTrue (ltb high 128) → IsTrue (are_words bytes) → IsTrue (are_words (high ∷ low ∷ bytes))
+are_words-front : (high low : ℕ) (bytes : List ℕ) → IsTrue (ltb high 128) → IsTrue (are_words bytes) →
+    IsTrue (are_words (high ∷ low ∷ bytes))
 are_words-front high low [] small more = cc
 are_words-front high low (next ∷ others) small more = rw small more
 
@@ -31,7 +32,8 @@ are_words-words (a ∷ b ∷ c ∷ []) h = marked a b
 are_words-words (a ∷ b ∷ c ∷ d ∷ zs) h = are_words-front _ _ (words (d ∷ zs)) (unmarked a b h.0 h.1.0) (are_words-words (d ∷ zs) h.1.1.1)
 
 -- a text, packed with the declared abbreviations
-pub are_words-packed : (declared : List (List TextItem)) (items : List TextItem) → AreAbbreviations declared → IsText items → IsTrue (are_words (packed items declared))
+pub are_words-packed : (declared : List (List TextItem)) (items : List TextItem) → AreAbbreviations declared → IsText items →
+    IsTrue (are_words (packed items declared))
 unfolding packed
 are_words-packed declared items h text = are_words-words (zs_from declared 0 items) (AreZs-packed declared items h text)
 

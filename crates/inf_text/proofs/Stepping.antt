@@ -7,7 +7,8 @@ use Rattle.inf_text.specs.Step.{Steps}
 use Rattle.inf_characters.specs.declared.texts.TextItem.{TextItem}
 
 -- items that are passed over are dropped
-pub zs_from-passed : (declared : List (List TextItem)) (k : ℕ) (items : List TextItem) → zs_from declared k items ≡ zs_from declared 0 (drop k items)
+pub zs_from-passed : (declared : List (List TextItem)) (k : ℕ) (items : List TextItem) →
+    zs_from declared k items ≡ zs_from declared 0 (drop k items)
 zs_from-passed declared zero items = refl
 zs_from-passed declared (suc k) [] = refl
 zs_from-passed declared (suc k) (x ∷ items) = zs_from-passed declared k items
@@ -19,7 +20,9 @@ IsText-drop (suc k) [] h = tt
 IsText-drop (suc k) (x ∷ items) h = IsText-drop k items h.1
 
 -- where an abbreviation was found, the step passes over it
-pub Steps-found : (declared : List (List TextItem)) (items : List TextItem) (x : TextItem) (rest : List TextItem) (n len k : ℕ) (zs : List ℕ) (tail : List TextItem) → items ≡ x ∷ rest → longest declared items ≡ Some (n, len) → k ≡ len - 1 → zs ≡ abbreviation_zs n → AreZs zs → IsText items → tail ≡ drop k rest → Steps declared items zs tail
+pub Steps-found : (declared : List (List TextItem)) (items : List TextItem) (x : TextItem) (rest : List TextItem) (n len k : ℕ)
+    (zs : List ℕ) (tail : List TextItem) → items ≡ x ∷ rest → longest declared items ≡ Some (n, len) → k ≡ len - 1 → zs ≡ abbreviation_zs n
+    → AreZs zs → IsText items → tail ≡ drop k rest → Steps declared items zs tail
 Steps-found declared items x rest n len k zs tail split found behind is small text tail_is =
     let found' : longest declared (x ∷ rest) ≡ Some (n, len) = rw split at found in
     let whole : zs_from declared 0 (x ∷ rest) ≡ abbreviation_zs n ++ zs_from declared (len - 1) rest =

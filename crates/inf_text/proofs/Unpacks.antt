@@ -32,7 +32,8 @@ three : (a b c x y z : ℕ) (xs ys : List ℕ) → a ≡ x → b ≡ y → c ≡
 three a b c x y z xs ys p q r s = cc
 
 -- a word that is not the last gives its Z-characters, and those of the words behind it
-string_zs-word : (a b c : ℕ) (bytes : List ℕ) → a < 32 → b < 32 → c < 32 → string_zs (word false a b c ++ bytes) ≡ a ∷ b ∷ c ∷ string_zs bytes
+string_zs-word : (a b c : ℕ) (bytes : List ℕ) → a < 32 → b < 32 → c < 32 →
+    string_zs (word false a b c ++ bytes) ≡ a ∷ b ∷ c ∷ string_zs bytes
 string_zs-word a b c bytes la lb lc =
     let v = 256 * (0 + 4 * a + b / 8) + (32 * (b % 8) + c) in
     let e : v ≡ 32768 * 0 + 1024 * a + 32 * b + c = omega arith in
@@ -84,7 +85,9 @@ unfolding run
 capital_letter i lt = get_or-run 65 26 i lt
 
 -- a Z-character from 6 on prints a letter of its alphabet, but for two of A2
-printed-letter : (texts : List (List TextItem)) (alphabet z : ℕ) (zs : List ℕ) → 6 ≤ z → (eqb alphabet 2 && eqb z 6) ≡ false → (eqb alphabet 2 && eqb z 7) ≡ false → printed texts (Letter alphabet) (z ∷ zs) ≡ Character (get_or (letters alphabet) (z - 6) 0) ∷ printed texts (Letter 0) zs
+printed-letter : (texts : List (List TextItem)) (alphabet z : ℕ) (zs : List ℕ) → 6 ≤ z → (eqb alphabet 2 && eqb z 6) ≡ false →
+    (eqb alphabet 2 && eqb z 7) ≡ false →
+    printed texts (Letter alphabet) (z ∷ zs) ≡ Character (get_or (letters alphabet) (z - 6) 0) ∷ printed texts (Letter 0) zs
 printed-letter texts alphabet z zs le not_six not_seven =
     let not_space : eqb z 0 ≡ false = grind (arith, nat_tests) in
     let not_entry : ltb z 4 ≡ false = grind (arith, nat_tests) in
@@ -92,11 +95,14 @@ printed-letter texts alphabet z zs le not_six not_seven =
     rw (not_space, not_entry, not_shift, not_six, not_seven) refl
 
 -- a number that is found stands at its place
-position_from-at : (c first : ℕ) (xs : List ℕ) (place : ℕ) → position_from (λ x. eqb x c) first xs ≡ Some place → (first ≤ place) × (get_or xs (place - first) 0 ≡ c)
+position_from-at : (c first : ℕ) (xs : List ℕ) (place : ℕ) → position_from (λ x. eqb x c) first xs ≡ Some place →
+    (first ≤ place) × (get_or xs (place - first) 0 ≡ c)
 position_from-at c first [] place e = cc
 position_from-at c first (x ∷ xs) place e = go (eqb x c) refl e (position_from-at c (first + 1) xs place)
   where
-    go : (t : Bool) → eqb x c ≡ t → cond t (Some first) (position_from (λ x. eqb x c) (first + 1) xs) ≡ Some place → (position_from (λ x. eqb x c) (first + 1) xs ≡ Some place → (first + 1 ≤ place) × (get_or xs (place - (first + 1)) 0 ≡ c)) → (first ≤ place) × (get_or (x ∷ xs) (place - first) 0 ≡ c)
+    go : (t : Bool) → eqb x c ≡ t → cond t (Some first) (position_from (λ x. eqb x c) (first + 1) xs) ≡ Some place →
+        (position_from (λ x. eqb x c) (first + 1) xs ≡ Some place → (first + 1 ≤ place) × (get_or xs (place - (first + 1)) 0 ≡ c)) →
+        (first ≤ place) × (get_or (x ∷ xs) (place - first) 0 ≡ c)
     go true is e later =
         let same : x ≡ c = grind (arith, nat_tests) in
         let at : first ≡ place = cc in
@@ -116,7 +122,9 @@ punctuation_letter c place h =
     rw behind (rw same at h)
 
 -- the Z-characters of what is no letter print it
-printed-other : (texts : List (List TextItem)) (c : ℕ) (found : Option ℕ) (zs : List ℕ) → position_from (λ x. eqb x c) 0 punctuation ≡ found → printed texts (Letter 0) (other_zs c found ++ zs) ≡ Character c ∷ printed texts (Letter 0) zs
+printed-other : (texts : List (List TextItem)) (c : ℕ) (found : Option ℕ) (zs : List ℕ) →
+    position_from (λ x. eqb x c) 0 punctuation ≡ found →
+    printed texts (Letter 0) (other_zs c found ++ zs) ≡ Character c ∷ printed texts (Letter 0) zs
 printed-other texts c None zs e =
     let whole : 32 * (c / 32) + c % 32 ≡ c = omega arith in
     ap (λ (n : ℕ). Character n ∷ printed texts (Letter 0) zs) whole
@@ -144,7 +152,8 @@ prints_small texts c more h =
     let at : get_or (letters 0) (c - 91 - 6) 0 ≡ c = rw behind (small_letter (c - 97) (omega arith) ∙ omega arith) in
     printed-letter texts 0 (c - 91) more (omega arith) refl refl ∙ ap (λ (n : ℕ). Character n ∷ printed texts (Letter 0) more) at
 
-prints_capital : (texts : List (List TextItem)) (c : ℕ) (more : List ℕ) → (leb 65 c && leb c 90) ≡ true → Prints texts (4 ∷ (c - 59) ∷ []) c more
+prints_capital : (texts : List (List TextItem)) (c : ℕ) (more : List ℕ) → (leb 65 c && leb c 90) ≡ true →
+    Prints texts (4 ∷ (c - 59) ∷ []) c more
 unfolding Prints
 prints_capital texts c more h =
     let both = and_both (leb 65 c) (leb c 90) h in
@@ -162,11 +171,13 @@ prints_new_line : (texts : List (List TextItem)) (c : ℕ) (more : List ℕ) →
 unfolding Prints
 prints_new_line texts c more h = let same : c ≡ 13 = grind (arith, nat_tests) in rw same refl
 
-prints_other : (texts : List (List TextItem)) (c : ℕ) (more : List ℕ) → Prints texts (other_zs c (position_from (λ x. eqb x c) 0 punctuation)) c more
+prints_other : (texts : List (List TextItem)) (c : ℕ) (more : List ℕ) →
+    Prints texts (other_zs c (position_from (λ x. eqb x c) 0 punctuation)) c more
 unfolding Prints
 prints_other texts c more = printed-other texts c (position_from (λ x. eqb x c) 0 punctuation) more refl
 
-prints_chosen : (texts : List (List TextItem)) (c : ℕ) (more xs ys : List ℕ) (t : Bool) → (t ≡ true → Prints texts xs c more) → Prints texts ys c more → Prints texts (cond t xs ys) c more
+prints_chosen : (texts : List (List TextItem)) (c : ℕ) (more xs ys : List ℕ) (t : Bool) → (t ≡ true → Prints texts xs c more) →
+    Prints texts ys c more → Prints texts (cond t xs ys) c more
 prints_chosen texts c more xs ys true p q = p refl
 prints_chosen texts c more xs ys false p q = q
 
@@ -181,7 +192,8 @@ printed-character texts c zs =
     (prints_other texts c zs))))
 
 -- the Z-characters of an item print it
-printed-item : (texts : List (List TextItem)) (x : TextItem) (zs : List ℕ) → IsItem x → printed texts (Letter 0) (item_zs x ++ zs) ≡ x ∷ printed texts (Letter 0) zs
+printed-item : (texts : List (List TextItem)) (x : TextItem) (zs : List ℕ) → IsItem x →
+    printed texts (Letter 0) (item_zs x ++ zs) ≡ x ∷ printed texts (Letter 0) zs
 unfolding Prints
 printed-item texts (Variable n) zs h =
     let low : ltb (0 + n) 32 ≡ true = grind (arith, nat_tests) in
@@ -190,7 +202,8 @@ printed-item texts (Variable n) zs h =
 printed-item texts (Character c) zs h = printed-character texts c zs
 
 -- the Z-characters of an abbreviation print its text
-printed-abbreviation : (texts : List (List TextItem)) (n : ℕ) (zs : List ℕ) → n < 64 → printed texts (Letter 0) (abbreviation_zs n ++ zs) ≡ get_or texts n [] ++ printed texts (Letter 0) zs
+printed-abbreviation : (texts : List (List TextItem)) (n : ℕ) (zs : List ℕ) → n < 64 →
+    printed texts (Letter 0) (abbreviation_zs n ++ zs) ≡ get_or texts n [] ++ printed texts (Letter 0) zs
 printed-abbreviation texts n zs lt =
     let bank = (32 + n) / 32 + 1 in
     let not_space : eqb bank 0 ≡ false = grind (arith, nat_tests) in
@@ -206,11 +219,13 @@ AreZs-append [] ys h k = k
 AreZs-append (x ∷ xs) ys h k = (h.0, AreZs-append xs ys h.1 k)
 
 -- a place that is found lies within
-position_from-within : (c first : ℕ) (xs : List ℕ) (place : ℕ) → position_from (λ x. eqb x c) first xs ≡ Some place → place < first + length xs
+position_from-within : (c first : ℕ) (xs : List ℕ) (place : ℕ) → position_from (λ x. eqb x c) first xs ≡ Some place →
+    place < first + length xs
 position_from-within c first [] place e = cc
 position_from-within c first (x ∷ xs) place e = go (eqb x c) e (position_from-within c (first + 1) xs place)
   where
-    go : (t : Bool) → cond t (Some first) (position_from (λ x. eqb x c) (first + 1) xs) ≡ Some place → (position_from (λ x. eqb x c) (first + 1) xs ≡ Some place → place < first + 1 + length xs) → place < first + length (x ∷ xs)
+    go : (t : Bool) → cond t (Some first) (position_from (λ x. eqb x c) (first + 1) xs) ≡ Some place →
+        (position_from (λ x. eqb x c) (first + 1) xs ≡ Some place → place < first + 1 + length xs) → place < first + length (x ∷ xs)
     go true e later = let at : first ≡ place = cc in omega arith
     go false e later = omega (arith, later e)
 
@@ -235,8 +250,10 @@ AreZs-character : (c : ℕ) → c < 256 → AreZs (character_zs c)
 unfolding character_zs
 AreZs-character c lt =
     AreZs-chosen (eqb c 32) _ _ (λ _. (lit< tt, tt))
-    (AreZs-chosen (leb 97 c && leb c 122) _ _ (λ h. let high : c ≤ 122 = grind (arith, nat_tests, (and_both (leb 97 c) (leb c 122) h).1) in (omega arith, tt))
-    (AreZs-chosen (leb 65 c && leb c 90) _ _ (λ h. let high : c ≤ 90 = grind (arith, nat_tests, (and_both (leb 65 c) (leb c 90) h).1) in (lit< tt, (omega arith, tt)))
+    (AreZs-chosen (leb 97 c && leb c 122) _ _ (λ h. let high : c ≤ 122 = grind (arith, nat_tests, (and_both (leb 97 c) (leb c 122) h).1) in
+    (omega arith, tt))
+    (AreZs-chosen (leb 65 c && leb c 90) _ _ (λ h. let high : c ≤ 90 = grind (arith, nat_tests, (and_both (leb 65 c) (leb c 90) h).1) in
+    (lit< tt, (omega arith, tt)))
     (AreZs-chosen (eqb c 13) _ _ (λ _. (lit< tt, (lit< tt, tt)))
     (AreZs-other c (position_from (λ x. eqb x c) 0 punctuation) lt refl))))
 
@@ -263,7 +280,8 @@ Agrees : List (List TextItem) → List (List TextItem) → Type 0
 Agrees declared texts = (n : ℕ) (a : List TextItem) → slice_get declared n ≡ Some a → (n < 64) × (get_or texts n [] ≡ a)
 
 -- the Z-characters of parts are such, and print the items that the parts cut
-AreZs-parts : (declared texts : List (List TextItem)) (parts : List Part) (items : List TextItem) → Agrees declared texts → IsText items → Cuts declared parts items → AreZs (flat_map part_zs parts)
+AreZs-parts : (declared texts : List (List TextItem)) (parts : List Part) (items : List TextItem) → Agrees declared texts → IsText items →
+    Cuts declared parts items → AreZs (flat_map part_zs parts)
 unfolding Agrees
 AreZs-parts declared texts [] items agrees text cuts = tt
 AreZs-parts declared texts (Plain x ∷ parts) items agrees text (rest, (split, none, cuts)) =
@@ -271,23 +289,29 @@ AreZs-parts declared texts (Plain x ∷ parts) items agrees text (rest, (split, 
     AreZs-append (item_zs x) (flat_map part_zs parts) (AreZs-item x text'.0) (AreZs-parts declared texts parts rest agrees text'.1 cuts)
 AreZs-parts declared texts (Short n ∷ parts) items agrees text (a, (rest, (takes, cuts))) =
     let text' : IsText (a ++ rest) = rw takes.items_are at text in
-    AreZs-append (abbreviation_zs n) (flat_map part_zs parts) (AreZs-abbreviation n (agrees n a takes.declared_as).0) (AreZs-parts declared texts parts rest agrees (IsText-right a rest text') cuts)
+    AreZs-append (abbreviation_zs n) (flat_map part_zs parts) (AreZs-abbreviation n (agrees n a takes.declared_as).0)
+    (AreZs-parts declared texts parts rest agrees (IsText-right a rest text') cuts)
 
-printed-parts : (declared texts : List (List TextItem)) (parts : List Part) (items : List TextItem) (zs : List ℕ) → Agrees declared texts → IsText items → Cuts declared parts items → printed texts (Letter 0) (flat_map part_zs parts ++ zs) ≡ items ++ printed texts (Letter 0) zs
+printed-parts : (declared texts : List (List TextItem)) (parts : List Part) (items : List TextItem) (zs : List ℕ) → Agrees declared texts →
+    IsText items → Cuts declared parts items →
+    printed texts (Letter 0) (flat_map part_zs parts ++ zs) ≡ items ++ printed texts (Letter 0) zs
 unfolding Agrees
 printed-parts declared texts [] items zs agrees text cuts = rw cuts refl
 printed-parts declared texts (Plain x ∷ parts) items zs agrees text (rest, (split, none, cuts)) =
     let text' : IsText (x ∷ rest) = rw split at text in
     rw (split, append_assoc (item_zs x) (flat_map part_zs parts) zs)
-    (printed-item texts x (flat_map part_zs parts ++ zs) text'.0 ∙ ap (λ (r : List TextItem). x ∷ r) (printed-parts declared texts parts rest zs agrees text'.1 cuts))
+    (printed-item texts x (flat_map part_zs parts ++ zs) text'.0 ∙ ap (λ (r : List TextItem). x ∷ r)
+    (printed-parts declared texts parts rest zs agrees text'.1 cuts))
 printed-parts declared texts (Short n ∷ parts) items zs agrees text (a, (rest, (takes, cuts))) =
     let text' : IsText (a ++ rest) = rw takes.items_are at text in
     let known = agrees n a takes.declared_as in
     rw (takes.items_are, append_assoc a rest (printed texts (Letter 0) zs))
-    (printed-abbreviation texts n (flat_map part_zs parts ++ zs) known.0 ∙ rw known.1 (ap (λ (r : List TextItem). a ++ r) (printed-parts declared texts parts rest zs agrees (IsText-right a rest text') cuts)))
+    (printed-abbreviation texts n (flat_map part_zs parts ++ zs) known.0 ∙ rw known.1
+    (ap (λ (r : List TextItem). a ++ r) (printed-parts declared texts parts rest zs agrees (IsText-right a rest text') cuts)))
 
 -- the words of a text print it, where a table has the declared abbreviations
-printed-words : (declared texts : List (List TextItem)) (items : List TextItem) → AreLongTexts declared → Agrees declared texts → IsText items → printed texts (Letter 0) (string_zs (words (zs_from declared 0 items))) ≡ items
+printed-words : (declared texts : List (List TextItem)) (items : List TextItem) → AreLongTexts declared → Agrees declared texts →
+    IsText items → printed texts (Letter 0) (string_zs (words (zs_from declared 0 items))) ≡ items
 printed-words declared texts items long agrees text =
     let cut = is_cut declared items long in
     let zs = flat_map part_zs cut.0 in
@@ -309,19 +333,22 @@ table_agrees declared h n a e =
     let lt : n < length declared = slice_get_within declared n a e in
     let string : List TextItem → List ℕ = λ b. packed b [] in
     let lt' : n < length (strings declared) = rw (length-map declared string) lt in
-    let at : get_or (map abbreviation_text (strings declared)) n [] ≡ abbreviation_text (get_or (strings declared) n []) = get_or-map abbreviation_text (strings declared) n [] [] lt' in
+    let at : get_or (map abbreviation_text (strings declared)) n [] ≡ abbreviation_text (get_or (strings declared) n []) =
+    get_or-map abbreviation_text (strings declared) n [] [] lt' in
     let text : get_or (strings declared) n [] ≡ packed a [] =
     get_or-map string declared n [] [] lt ∙ ap string (get_or_from_slice_get declared n a [] e) in
     (omega (arith, h.few), at ∙ ap abbreviation_text text ∙ abbreviation_text-packed a (AreLongTexts-at declared n a h.texts e).1)
 
 -- an interpreter reads the text that was packed
-pub unpacks : (declared : List (List TextItem)) (items : List TextItem) → AreAbbreviations declared → IsText items → UnpacksTo declared (packed items declared) items
+pub unpacks : (declared : List (List TextItem)) (items : List TextItem) → AreAbbreviations declared → IsText items →
+    UnpacksTo declared (packed items declared) items
 unfolding unpacked packed
 unpacks declared items h text =
     printed-words declared (map abbreviation_text (strings declared)) items h.texts (table_agrees declared h) text
 
 -- the Z-characters of a text are such
-pub AreZs-packed : (declared : List (List TextItem)) (items : List TextItem) → AreAbbreviations declared → IsText items → AreZs (zs_from declared 0 items)
+pub AreZs-packed : (declared : List (List TextItem)) (items : List TextItem) → AreAbbreviations declared → IsText items →
+    AreZs (zs_from declared 0 items)
 AreZs-packed declared items h text =
     let cut = is_cut declared items h.texts in
     rw cut.1.1 (AreZs-parts declared (map abbreviation_text (strings declared)) cut.0 items (table_agrees declared h) text cut.1.0)

@@ -18,7 +18,8 @@ declared_number declared text =
     else if nat_lt (length text) 2 then Err TooShort
     else Ok (length declared)
 
--- What a call answers is what declaring answers, and it adds the text then; a refusal changes nothing, and one for want of memory comes only where there is no other.
+-- What a call answers is what declaring answers, and it adds the text then; a refusal changes nothing, and one for want of memory comes
+-- only where there is no other.
 abbrev pub Declares : List (List TextItem) → List TextItem → List (List TextItem) → Result ℕ AbbrevFault → Type 0
 Declares old text new (Ok n) = (declared_number old text ≡ Ok n) × (new ≡ old ++ text ∷ [])
 Declares old text new (Err Full) = (declared_number old text ≡ Err Full) × (new ≡ old)

@@ -69,7 +69,8 @@ abbrev pub front_behind : Option (ℕ × ℕ) → ℕ
 front_behind None = 0
 front_behind (Some found) = found.1 - 1
 
--- The Z-characters of a text, but for the items at its front that are passed over. At each place that is reached, the longest abbreviation is taken; where none begins there, the item stands for itself.
+-- The Z-characters of a text, but for the items at its front that are passed over. At each place that is reached, the longest abbreviation
+-- is taken; where none begins there, the item stands for itself.
 abbrev pub zs_from : List (List TextItem) → ℕ → List TextItem → List ℕ
 zs_from declared passed [] = []
 zs_from declared (suc passed) (x ∷ items) = zs_from declared passed items

@@ -31,7 +31,8 @@ pub record TakesLongest (declared : List (List TextItem)) (items : List TextItem
   pub items_are : items ≡ a ++ rest
   pub longest : NoneLonger declared items (length a)
 
--- Parts cut some items, from left to right: each part begins where the one before it ends. An item stands for itself only where no abbreviation begins, and an abbreviation is the longest that begins there.
+-- Parts cut some items, from left to right: each part begins where the one before it ends. An item stands for itself only where no
+-- abbreviation begins, and an abbreviation is the longest that begins there.
 abbrev pub Cuts : List (List TextItem) → List Part → List TextItem → Type 0
 Cuts declared [] items = items ≡ []
 Cuts declared (Plain x ∷ parts) items =

@@ -59,7 +59,8 @@ abbrev pub linked_from : List (List TextItem) → List TextItem → List ℕ →
 linked_from texts before [] = []
 linked_from texts before (n ∷ order) =
     let shared = common before (text_at texts n) in
-    record { number = n; next = first_code (drop shared (text_at texts n)); shared = shared; len = length (text_at texts n) } ∷ linked_from texts (text_at texts n) order
+    record { number = n; next = first_code (drop shared (text_at texts n)); shared = shared; len = length (text_at texts n) } ∷ linked_from
+    texts (text_at texts n) order
 
 -- a link tells the length of its text, what the text has in common with another, and the code behind that
 pub record IsLink (text before : List TextItem) (l : Link) : Type 0 where

@@ -73,7 +73,8 @@ fn next_zs<'a>(
 ) -> Option<(ZChars, &'a [TextItem])>
     requires { IsText items.now }
     ensures declared { AreAbbreviations (in_use (option_copied abbreviations.entry)) }
-    ensures steps { MatchOption result (items.now ≡ []) (λ found. Steps (in_use (option_copied abbreviations.entry)) items.now (zs_list found.0) found.1.now) }
+    ensures steps { MatchOption result (items.now ≡ [])
+        (λ found. Steps (in_use (option_copied abbreviations.entry)) items.now (zs_list found.0) found.1.now) }
 {
     let found = longest(abbreviations, items);
     let (first, rest) = items.split_first()?;

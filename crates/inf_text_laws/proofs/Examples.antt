@@ -27,7 +27,8 @@ sharp_s : text_of Ascii mode.Quote (codes "abcdefg@ss") ≡ Ok (characters (97 �
 unfolding characters text_of piece_at escape_piece spelled spellings zscii_of zscii_of_unicode accented
 sharp_s = refl
 
-sharp_s_bytes : dictionary_bytes (characters (97 ∷ 98 ∷ 99 ∷ 100 ∷ 101 ∷ 102 ∷ 103 ∷ 161 ∷ [])) ≡ 0x18 ∷ 0xE8 ∷ 0x25 ∷ 0x4B ∷ 0xB0 ∷ 0xA6 ∷ []
+sharp_s_bytes : dictionary_bytes (characters (97 ∷ 98 ∷ 99 ∷ 100 ∷ 101 ∷ 102 ∷ 103 ∷ 161 ∷ [])) ≡ 0x18 ∷ 0xE8 ∷ 0x25 ∷ 0x4B ∷ 0xB0 ∷ 0xA6 ∷
+    []
 unfolding characters dictionary_bytes character_zs punctuation
 sharp_s_bytes = refl
 
@@ -48,14 +49,18 @@ lamps_short : packed (characters (codes "the lamps")) (characters (codes "the ")
 unfolding characters packed longest character_zs punctuation
 lamps_short = refl
 
--- white space: "a", space, tab, space, "b", form feed, space, "c", a run with a line end, "d^", one more, "e\", one more, "f ", "@@13", one more, "g"
-white_space : text_of Latin1 mode.Text (97 ∷ 32 ∷ 9 ∷ 32 ∷ 98 ∷ 12 ∷ 32 ∷ 99 ∷ 32 ∷ 32 ∷ 10 ∷ 32 ∷ 100 ∷ 94 ∷ 10 ∷ 32 ∷ 101 ∷ 92 ∷ 10 ∷ 32 ∷ 102 ∷ 32 ∷ 64 ∷ 64 ∷ 49 ∷ 51 ∷ 10 ∷ 32 ∷ 103 ∷ [])
+-- white space: "a", space, tab, space, "b", form feed, space, "c", a run with a line end, "d^", one more, "e\", one more, "f ", "@@13", one
+-- more, "g"
+white_space : text_of Latin1 mode.Text (97 ∷ 32 ∷ 9 ∷ 32 ∷ 98 ∷ 12 ∷ 32 ∷ 99 ∷ 32 ∷ 32 ∷ 10 ∷ 32 ∷ 100 ∷ 94 ∷ 10 ∷ 32 ∷ 101 ∷ 92 ∷ 10 ∷ 32 ∷
+    102 ∷ 32 ∷ 64 ∷ 64 ∷ 49 ∷ 51 ∷ 10 ∷ 32 ∷ 103 ∷ [])
     ≡ Ok (characters (97 ∷ 32 ∷ 32 ∷ 32 ∷ 98 ∷ 32 ∷ 32 ∷ 99 ∷ 32 ∷ 100 ∷ 13 ∷ 101 ∷ 102 ∷ 32 ∷ 13 ∷ 32 ∷ 103 ∷ []))
 unfolding characters text_of piece_at escape_piece spelled spellings zscii_of zscii_of_unicode accented
 white_space = refl
 
 -- codes by number
-codes_given : text_of Ascii mode.Text (codes "@@65@@13@@155@@223@{e4}@{E4}@{41}@01@31") ≡ Ok (Character 65 ∷ Character 13 ∷ Character 155 ∷ Character 223 ∷ Character 155 ∷ Character 155 ∷ Character 65 ∷ Variable 1 ∷ Variable 31 ∷ [])
+codes_given : text_of Ascii mode.Text (codes "@@65@@13@@155@@223@{e4}@{E4}@{41}@01@31") ≡ Ok
+    (Character 65 ∷ Character 13 ∷ Character 155 ∷ Character 223 ∷ Character 155 ∷ Character 155 ∷ Character 65 ∷ Variable 1 ∷ Variable 31 ∷
+    [])
 unfolding text_of piece_at escape_piece spelled spellings zscii_of zscii_of_unicode accented
 codes_given = refl
 

@@ -56,25 +56,33 @@ no_line_end (suc n) [] h = refl
 no_line_end (suc n) (b ∷ bytes) h = rw ((plain b h.0).no_end) (no_line_end n bytes h.1)
 
 -- a byte that is a character, and one that is none
-byte_by_byte-some : (set : CharSet) (b c : ℕ) (bytes : List ℕ) → zscii_of set b ≡ Some c → byte_by_byte set (b ∷ bytes) ≡ with_front (Character c ∷ []) (byte_by_byte set bytes)
+byte_by_byte-some : (set : CharSet) (b c : ℕ) (bytes : List ℕ) → zscii_of set b ≡ Some c →
+    byte_by_byte set (b ∷ bytes) ≡ with_front (Character c ∷ []) (byte_by_byte set bytes)
 byte_by_byte-some set b c bytes e =
-    ap (λ (o : Option ℕ). elim o as (λ _. Result (List TextItem) TextFault) [ None ↦ Err NoZscii | Some c ↦ with_front (Character c ∷ []) (byte_by_byte set bytes) ]) e
+    ap (λ (o : Option ℕ). elim o as (λ _. Result (List TextItem) TextFault)
+    [ None ↦ Err NoZscii | Some c ↦ with_front (Character c ∷ []) (byte_by_byte set bytes) ]) e
 
 byte_by_byte-none : (set : CharSet) (b : ℕ) (bytes : List ℕ) → zscii_of set b ≡ None → byte_by_byte set (b ∷ bytes) ≡ Err NoZscii
 byte_by_byte-none set b bytes e =
-    ap (λ (o : Option ℕ). elim o as (λ _. Result (List TextItem) TextFault) [ None ↦ Err NoZscii | Some c ↦ with_front (Character c ∷ []) (byte_by_byte set bytes) ]) e
+    ap (λ (o : Option ℕ). elim o as (λ _. Result (List TextItem) TextFault)
+    [ None ↦ Err NoZscii | Some c ↦ with_front (Character c ∷ []) (byte_by_byte set bytes) ]) e
 
 -- the white space at the front is as many spaces, byte by byte
-byte_by_byte-white : (set : CharSet) (bytes : List ℕ) → byte_by_byte set bytes ≡ with_front (replicate (white_len set bytes) (Character 32)) (byte_by_byte set (drop (white_len set bytes) bytes))
+byte_by_byte-white : (set : CharSet) (bytes : List ℕ) → byte_by_byte set bytes ≡ with_front (replicate (white_len set bytes) (Character 32))
+    (byte_by_byte set (drop (white_len set bytes) bytes))
 byte_by_byte-white set [] = refl
 byte_by_byte-white set (b ∷ bytes) = go (is_white set b) refl (byte_by_byte-white set bytes)
   where
-    go : (t : Bool) → is_white set b ≡ t → byte_by_byte set bytes ≡ with_front (replicate (white_len set bytes) (Character 32)) (byte_by_byte set (drop (white_len set bytes) bytes)) → byte_by_byte set (b ∷ bytes) ≡ with_front (replicate (cond t (1 + white_len set bytes) 0) (Character 32)) (byte_by_byte set (drop (cond t (1 + white_len set bytes) 0) (b ∷ bytes)))
+    go : (t : Bool) → is_white set b ≡ t → byte_by_byte set bytes ≡ with_front (replicate (white_len set bytes) (Character 32))
+        (byte_by_byte set (drop (white_len set bytes) bytes)) → byte_by_byte set (b ∷ bytes) ≡ with_front
+        (replicate (cond t (1 + white_len set bytes) 0) (Character 32))
+        (byte_by_byte set (drop (cond t (1 + white_len set bytes) 0) (b ∷ bytes)))
     go true e later =
         let n = white_len set bytes in
         let one : 1 + n ≡ suc n = omega arith in
         let space : zscii_of set b ≡ Some 32 = white_is_space set b e in
-        rw one (byte_by_byte-some set b 32 bytes space ∙ ap (with_front (Character 32 ∷ [])) later ∙ sym (with_front-append (Character 32 ∷ []) (replicate n (Character 32)) (byte_by_byte set (drop n bytes))))
+        rw one (byte_by_byte-some set b 32 bytes space ∙ ap (with_front (Character 32 ∷ [])) later ∙ sym
+        (with_front-append (Character 32 ∷ []) (replicate n (Character 32)) (byte_by_byte set (drop n bytes))))
     go false e later = sym (with_front-none (byte_by_byte set (b ∷ bytes)))
 
 -- a character that is no mark means itself
@@ -107,22 +115,30 @@ keeps_meaning mode b c h (inl same) = meaning-plain mode c (rw same h.no_caret) 
 keeps_meaning mode b c h (inr le) = meaning-plain mode c (grind (arith, nat_tests)) (grind (arith, nat_tests))
 
 -- a plain byte that is white space, and those behind it
-piece-white : (set : CharSet) (mode : Mode) (after_mark : Bool) (b : ℕ) (bytes : List ℕ) → IsPlain b → ArePlain bytes → is_white set b ≡ true → piece_at set mode after_mark b bytes ≡ Ok (record { item = Character 32; count = suc (white_len set bytes); behind = white_len set bytes; is_mark = false })
+piece-white : (set : CharSet) (mode : Mode) (after_mark : Bool) (b : ℕ) (bytes : List ℕ) → IsPlain b → ArePlain bytes → is_white set b ≡
+    true → piece_at set mode after_mark b bytes ≡ Ok
+    (record { item = Character 32; count = suc (white_len set bytes); behind = white_len set bytes; is_mark = false })
 unfolding piece_at
 piece-white set mode after_mark b bytes h more white =
-    rw (h.no_escape, h.no_stroke, white, h.no_end, no_line_end (white_len set bytes) bytes more, length-prefix_len (is_white set) bytes) refl
+    rw (h.no_escape, h.no_stroke, white, h.no_end, no_line_end (white_len set bytes) bytes more, length-prefix_len (is_white set) bytes)
+    refl
 
 -- a plain byte that is no white space
-piece-black : (set : CharSet) (mode : Mode) (after_mark : Bool) (b : ℕ) (bytes : List ℕ) (c : ℕ) → IsPlain b → is_white set b ≡ false → zscii_of set b ≡ Some c → piece_at set mode after_mark b bytes ≡ Ok (record { item = Character c; count = 1; behind = 0; is_mark = is_new_line_mark mode b })
+piece-black : (set : CharSet) (mode : Mode) (after_mark : Bool) (b : ℕ) (bytes : List ℕ) (c : ℕ) → IsPlain b → is_white set b ≡ false →
+    zscii_of set b ≡ Some c →
+    piece_at set mode after_mark b bytes ≡ Ok (record { item = Character c; count = 1; behind = 0; is_mark = is_new_line_mark mode b })
 unfolding piece_at
-piece-black set mode after_mark b bytes c h black code = rw (h.no_escape, h.no_stroke, black, code, keeps_meaning mode b c h (code_of_byte set b c black code)) refl
+piece-black set mode after_mark b bytes c h black code =
+    rw (h.no_escape, h.no_stroke, black, code, keeps_meaning mode b c h (code_of_byte set b c black code)) refl
 
-piece-none : (set : CharSet) (mode : Mode) (after_mark : Bool) (b : ℕ) (bytes : List ℕ) → IsPlain b → is_white set b ≡ false → zscii_of set b ≡ None → piece_at set mode after_mark b bytes ≡ Err NoZscii
+piece-none : (set : CharSet) (mode : Mode) (after_mark : Bool) (b : ℕ) (bytes : List ℕ) → IsPlain b → is_white set b ≡ false →
+    zscii_of set b ≡ None → piece_at set mode after_mark b bytes ≡ Err NoZscii
 unfolding piece_at
 piece-none set mode after_mark b bytes h black code = rw (h.no_escape, h.no_stroke, black, code) refl
 
 -- plain bytes are read byte by byte, behind those white space bytes that are passed over
-plainly : (set : CharSet) (mode : Mode) (bytes : List ℕ) → ArePlain bytes → (after_mark : Bool) (k : ℕ) → k ≤ white_len set bytes → text_from set mode after_mark k bytes ≡ byte_by_byte set (drop k bytes)
+plainly : (set : CharSet) (mode : Mode) (bytes : List ℕ) → ArePlain bytes → (after_mark : Bool) (k : ℕ) → k ≤ white_len set bytes →
+    text_from set mode after_mark k bytes ≡ byte_by_byte set (drop k bytes)
 plainly set mode [] h after_mark zero le = refl
 plainly set mode [] h after_mark (suc k) le = refl
 plainly set mode (b ∷ bytes) h after_mark (suc k) le = plainly set mode bytes h.1 after_mark k (fewer (is_white set b) le)
@@ -136,20 +152,24 @@ plainly set mode (b ∷ bytes) h after_mark zero le =
     Next : Type 0
     Next = (after_mark : Bool) (k : ℕ) → k ≤ white_len set bytes → text_from set mode after_mark k bytes ≡ byte_by_byte set (drop k bytes)
 
-    front : Next → IsPlain b → (t : Bool) → is_white set b ≡ t → (found : Option ℕ) → zscii_of set b ≡ found → text_from set mode after_mark 0 (b ∷ bytes) ≡ byte_by_byte set (b ∷ bytes)
+    front : Next → IsPlain b → (t : Bool) → is_white set b ≡ t → (found : Option ℕ) → zscii_of set b ≡ found →
+        text_from set mode after_mark 0 (b ∷ bytes) ≡ byte_by_byte set (b ∷ bytes)
     front next p true e found code =
         let n = white_len set bytes in
         let one : 1 + n ≡ suc n = omega arith in
         let whole = rw (e, one) at (byte_by_byte-white set (b ∷ bytes)) in
-        ap (λ (r : Result Found TextFault). and_then r (λ f. text_from set mode f.is_mark f.behind bytes)) (piece-white set mode after_mark b bytes p h.1 e)
+        ap (λ (r : Result Found TextFault). and_then r (λ f. text_from set mode f.is_mark f.behind bytes))
+        (piece-white set mode after_mark b bytes p h.1 e)
         ∙ ap (with_front (replicate (suc n) (Character 32))) (next false n (omega arith))
         ∙ sym whole
     front next p false e (Some c) code =
-        ap (λ (r : Result Found TextFault). and_then r (λ f. text_from set mode f.is_mark f.behind bytes)) (piece-black set mode after_mark b bytes c p e code)
+        ap (λ (r : Result Found TextFault). and_then r (λ f. text_from set mode f.is_mark f.behind bytes))
+        (piece-black set mode after_mark b bytes c p e code)
         ∙ ap (with_front (Character c ∷ [])) (next (is_new_line_mark mode b) 0 (omega arith))
         ∙ sym (byte_by_byte-some set b c bytes code)
     front next p false e None code =
-        ap (λ (r : Result Found TextFault). and_then r (λ f. text_from set mode f.is_mark f.behind bytes)) (piece-none set mode after_mark b bytes p e code)
+        ap (λ (r : Result Found TextFault). and_then r (λ f. text_from set mode f.is_mark f.behind bytes))
+        (piece-none set mode after_mark b bytes p e code)
         ∙ sym (byte_by_byte-none set b bytes code)
 
 pub reads_plainly : (set : CharSet) (mode : Mode) (bytes : List ℕ) → ReadsPlainly set mode bytes

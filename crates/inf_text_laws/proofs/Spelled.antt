@@ -17,7 +17,8 @@ digit d lt =
     rw (low, high, same) refl
 
 -- a digit more
-more : (count high d : ℕ) (bytes : List ℕ) → d < 10 → number_from 10 count high ((48 + d) ∷ bytes) ≡ number_from 10 (count + 1) (10 * high + d) bytes
+more : (count high d : ℕ) (bytes : List ℕ) → d < 10 →
+    number_from 10 count high ((48 + d) ∷ bytes) ≡ number_from 10 (count + 1) (10 * high + d) bytes
 more count high d bytes lt = number_from-more 10 count high (48 + d) d bytes (digit d lt)
 
 -- digits that write a code
@@ -48,23 +49,29 @@ writes_three n lt =
     ∙ ap (λ (v : ℕ). (3, v)) same
 
 -- what @@ and digits are read as
-read : (set : CharSet) (m : Mode) (digits : List ℕ) → text_of set m (64 ∷ 64 ∷ digits) ≡ and_then (code_piece (number_from 10 0 0 digits)) (λ p. text_from set m p.is_mark p.behind (64 ∷ digits))
+read : (set : CharSet) (m : Mode) (digits : List ℕ) → text_of set m (64 ∷ 64 ∷ digits) ≡ and_then (code_piece (number_from 10 0 0 digits))
+    (λ p. text_from set m p.is_mark p.behind (64 ∷ digits))
 unfolding text_of piece_at escape_piece
 read set m digits = refl
 
-codes-one : (set : CharSet) (m : Mode) (n a : ℕ) → is_code n ≡ true → Writes 1 n (a ∷ []) → text_of set m (64 ∷ 64 ∷ a ∷ []) ≡ Ok (Character n ∷ [])
+codes-one : (set : CharSet) (m : Mode) (n a : ℕ) → is_code n ≡ true → Writes 1 n (a ∷ []) →
+    text_of set m (64 ∷ 64 ∷ a ∷ []) ≡ Ok (Character n ∷ [])
 unfolding Writes
 codes-one set m n a code written = read set m (a ∷ []) ∙ rw (written, code) refl
 
-codes-two : (set : CharSet) (m : Mode) (n a b : ℕ) → is_code n ≡ true → Writes 2 n (a ∷ b ∷ []) → text_of set m (64 ∷ 64 ∷ a ∷ b ∷ []) ≡ Ok (Character n ∷ [])
+codes-two : (set : CharSet) (m : Mode) (n a b : ℕ) → is_code n ≡ true → Writes 2 n (a ∷ b ∷ []) →
+    text_of set m (64 ∷ 64 ∷ a ∷ b ∷ []) ≡ Ok (Character n ∷ [])
 unfolding Writes
 codes-two set m n a b code written = read set m (a ∷ b ∷ []) ∙ rw (written, code) refl
 
-codes-three : (set : CharSet) (m : Mode) (n a b c : ℕ) → is_code n ≡ true → Writes 3 n (a ∷ b ∷ c ∷ []) → text_of set m (64 ∷ 64 ∷ a ∷ b ∷ c ∷ []) ≡ Ok (Character n ∷ [])
+codes-three : (set : CharSet) (m : Mode) (n a b c : ℕ) → is_code n ≡ true → Writes 3 n (a ∷ b ∷ c ∷ []) →
+    text_of set m (64 ∷ 64 ∷ a ∷ b ∷ c ∷ []) ≡ Ok (Character n ∷ [])
 unfolding Writes
 codes-three set m n a b c code written = read set m (a ∷ b ∷ c ∷ []) ∙ rw (written, code) refl
 
-chosen : (set : CharSet) (m : Mode) (n : ℕ) (t : Bool) (xs ys : List ℕ) → (t ≡ true → text_of set m (64 ∷ 64 ∷ xs) ≡ Ok (Character n ∷ [])) → text_of set m (64 ∷ 64 ∷ ys) ≡ Ok (Character n ∷ []) → text_of set m (64 ∷ 64 ∷ cond t xs ys) ≡ Ok (Character n ∷ [])
+chosen : (set : CharSet) (m : Mode) (n : ℕ) (t : Bool) (xs ys : List ℕ) →
+    (t ≡ true → text_of set m (64 ∷ 64 ∷ xs) ≡ Ok (Character n ∷ [])) → text_of set m (64 ∷ 64 ∷ ys) ≡ Ok (Character n ∷ []) →
+    text_of set m (64 ∷ 64 ∷ cond t xs ys) ≡ Ok (Character n ∷ [])
 chosen set m n true xs ys f g = f refl
 chosen set m n false xs ys f g = g
 
@@ -73,7 +80,8 @@ comes_back set m n is =
     let code : is_code n ≡ true = grind (arith, nat_tests) in
     let most : n < 1000 = grind (arith, nat_tests) in
     chosen set m n (ltb n 10) _ _ (λ e. let lt : n < 10 = grind (arith, nat_tests) in codes-one set m n (48 + n) code (writes_one n lt))
-    (chosen set m n (ltb n 100) _ _ (λ e. let lt : n < 100 = grind (arith, nat_tests) in codes-two set m n (48 + n / 10) (48 + n % 10) code (writes_two n lt))
+    (chosen set m n (ltb n 100) _ _ (λ e. let lt : n < 100 = grind (arith, nat_tests) in codes-two set m n (48 + n / 10) (48 + n % 10) code
+    (writes_two n lt))
     (codes-three set m n (48 + n / 100) (48 + n / 10 % 10) (48 + n % 10) code (writes_three n most)))
 
 pub accents_read : (set : CharSet) (m : Mode) → AccentsRead set m

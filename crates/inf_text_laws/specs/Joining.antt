@@ -12,7 +12,8 @@ abbrev pub begins_white : CharSet → List ℕ → Bool
 begins_white set [] = false
 begins_white set (b ∷ bytes) = is_white set b
 
--- Whether some bytes, but for those at their front that are passed over, end where no escape and no run of white space goes on in the bytes behind them. The mark of a new line belongs to the run behind it.
+-- Whether some bytes, but for those at their front that are passed over, end where no escape and no run of white space goes on in the bytes
+-- behind them. The mark of a new line belongs to the run behind it.
 abbrev pub ends_whole : CharSet → Mode → Bool → ℕ → List ℕ → List ℕ → Bool
 ends_whole set mode after_mark zero [] behind = not (after_mark && begins_white set behind)
 ends_whole set mode after_mark (suc passed) [] behind = false

@@ -23,7 +23,8 @@ pub fn abbreviations_cut_texts()
 /// string variables) is that text, whatever abbreviations are declared.
 #[tactic(auto, using(inf_text::proofs::Unpacks::unpacks))]
 pub fn packed_texts_unpack()
-    ensures { (declared : List (List TextItem)) (items : List TextItem) → AreAbbreviations declared → IsText items → UnpacksTo declared (packed items declared) items }
+    ensures { (declared : List (List TextItem)) (items : List TextItem) → AreAbbreviations declared → IsText items →
+        UnpacksTo declared (packed items declared) items }
 {}
 
 /// Bytes without `@`, `~`, `^`, `\` and line ends are read one by one: as the characters that

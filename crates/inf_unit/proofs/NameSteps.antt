@@ -17,13 +17,16 @@ told_one files (IsDeclared number meaning place) r = refl
 told_one files (IsUsed spelling place) r = refl
 
 told_next : (files : FileNames) (names : List (Named Place)) (number : ℕ) (r : Reported) → number < length names
-    → with_all_undeclared files (drop number names) r ≡ with_all_undeclared files (drop (suc number) names) (told_of files (use_in (standing_at number names)) r)
+    → with_all_undeclared files (drop number names) r ≡ with_all_undeclared files (drop (suc number) names)
+    (told_of files (use_in (standing_at number names)) r)
 told_next files [] number r lt = absurd (omega arith)
 told_next files (n ∷ names) zero r lt = ap (with_all_undeclared files names) (told_one files n.standing r)
 told_next files (n ∷ names) (suc number) r lt = told_next files names number r (omega arith)
 
 pub told_step : (files : FileNames) (names : List (Named Place)) (number : ℕ) (r : Reported) → number < length names
-    → with_all_undeclared files (drop number names) r ≡ with_all_undeclared files (drop (number + 1) names) (told_of files (use_in (standing_at number names)) r)
+    → with_all_undeclared files (drop number names) r ≡ with_all_undeclared files (drop (number + 1) names)
+    (told_of files (use_in (standing_at number names)) r)
 told_step files names number r lt =
     let next : number + 1 ≡ suc number = omega arith in
-    told_next files names number r lt ∙ ap (λ n. with_all_undeclared files (drop n names) (told_of files (use_in (standing_at number names)) r)) (sym next)
+    told_next files names number r lt
+    ∙ ap (λ n. with_all_undeclared files (drop n names) (told_of files (use_in (standing_at number names)) r)) (sym next)

@@ -23,9 +23,11 @@ use Rattle.inf_unit.specs.declared.items.PrintRule.{PrintRule}
 use Rattle.inf_unit.specs.Items.{is_own, rule_of}
 use Rattle.inf_unit.specs.Opcodes.{opcode_of, takes_text}
 
--- Its tokens so far, before which the first of those between the unit before and its beginning stands, where there are such; where among them it begins;
+-- Its tokens so far, before which the first of those between the unit before and its beginning stands, where there are such; where among
+-- them it begins;
 -- what is gathered of its expressions; what it has beside them, in order; where among its tokens its outermost expression begins, if one is
--- open, and whether that surely is one; whether the unit has ended, but for its last token; how many brackets and braces of its piece are open; and how many
+-- open, and whether that surely is one; whether the unit has ended, but for its last token; how many brackets and braces of its piece are
+-- open; and how many
 -- tokens it has, where it is whole and waits for what follows it.
 pub record Unit : Type 0 where
   pub tokens : List SourceToken
@@ -40,7 +42,18 @@ pub record Unit : Type 0 where
 
 -- at the front of a piece
 abbrev pub no_unit : Unit
-no_unit = record { tokens = []; begun = 0; gathering = nothing_gathered; items = []; outer = None; is_sure = false; is_over = false; depth = 0; held = None }
+no_unit = record {
+  tokens = [];
+  begun = 0;
+  gathering = nothing_gathered;
+  items = [];
+  outer = None;
+  is_sure = false;
+  is_over = false;
+  depth =
+      0;
+  held = None;
+}
 
 -- The next token is the first of a unit. Of those before it the first is kept.
 abbrev pub begun : Unit → Unit
@@ -202,7 +215,8 @@ leaf_of at _ = leaf.Name at
 abbrev pub is_assembly : Unit → Bool
 is_assembly u = is_some_mark mark.At (kind_at u.tokens u.begun)
 
--- Whether the token at a place is an operand of an assembly line by itself, if it is a name: the operand begins with it, and nothing stands behind a name.
+-- Whether the token at a place is an operand of an assembly line by itself, if it is a name: the operand begins with it, and nothing stands
+-- behind a name.
 abbrev pub is_first : ℕ → Option ℕ → Bool
 is_first at None = false
 is_first at (Some outer) = outer == at

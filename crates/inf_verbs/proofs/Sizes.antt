@@ -30,7 +30,8 @@ prepositions_joined (x ∷ xs) ys = omega (arith, prepositions_joined xs ys)
 
 pub cells_joined : (xs ys : List LineOf) → lines_cells (xs ++ ys) ≡ lines_cells xs ++ lines_cells ys
 cells_joined [] ys = refl
-cells_joined (x ∷ xs) ys = ap (λ cs. line_cells x ++ cs) (cells_joined xs ys) ∙ sym (append_assoc (line_cells x) (lines_cells xs) (lines_cells ys))
+cells_joined (x ∷ xs) ys =
+    ap (λ cs. line_cells x ++ cs) (cells_joined xs ys) ∙ sym (append_assoc (line_cells x) (lines_cells xs) (lines_cells ys))
 
 -- verbs
 pub size_joined : (xs ys : List VerbOf) → verbs_size (xs ++ ys) ≡ verbs_size xs + verbs_size ys
@@ -49,12 +50,14 @@ pub laters_verb : (xs : List VerbOf) → verbs_laters (xs ++ no_lines ∷ []) �
 laters_verb xs = omega (arith, laters_joined xs (no_lines ∷ []))
 
 -- a verb that is changed
-pub size_set : (xs : List VerbOf) (n : ℕ) (v d : VerbOf) → n < length xs → verbs_size (set xs n v) + verb_size (get_or xs n d) ≡ verbs_size xs + verb_size v
+pub size_set : (xs : List VerbOf) (n : ℕ) (v d : VerbOf) → n < length xs →
+    verbs_size (set xs n v) + verb_size (get_or xs n d) ≡ verbs_size xs + verb_size v
 size_set [] n v d within = absurd (omega (arith, within))
 size_set (x ∷ xs) zero v d within = omega arith
 size_set (x ∷ xs) (suc n) v d within = omega (arith, size_set xs n v d (omega (arith, within)))
 
-pub laters_set : (xs : List VerbOf) (n : ℕ) (v d : VerbOf) → n < length xs → verbs_laters (set xs n v) + verb_laters (get_or xs n d) ≡ verbs_laters xs + verb_laters v
+pub laters_set : (xs : List VerbOf) (n : ℕ) (v d : VerbOf) → n < length xs →
+    verbs_laters (set xs n v) + verb_laters (get_or xs n d) ≡ verbs_laters xs + verb_laters v
 laters_set [] n v d within = absurd (omega (arith, within))
 laters_set (x ∷ xs) zero v d within = omega arith
 laters_set (x ∷ xs) (suc n) v d within = omega (arith, laters_set xs n v d (omega (arith, within)))
@@ -109,7 +112,8 @@ later_token (token.Routine n) = refl
 
 later_tokens : (ts : List LineToken) → later_count (tokens_cells ts) ≡ prepositions ts
 later_tokens [] = refl
-later_tokens (t ∷ ts) = omega (arith, later_joined (cell.Byte (token_type t) ∷ value_cells (token_value t)) (tokens_cells ts), later_token t, later_tokens ts)
+later_tokens (t ∷ ts) =
+    omega (arith, later_joined (cell.Byte (token_type t) ∷ value_cells (token_value t)) (tokens_cells ts), later_token t, later_tokens ts)
 
 later_line : (l : LineOf) → later_count (line_cells l) ≡ prepositions l.tokens
 later_line l = omega (arith, later_joined (tokens_cells l.tokens) (cell.Byte 15 ∷ []), later_tokens l.tokens)
@@ -120,7 +124,8 @@ later_lines (l ∷ ls) = omega (arith, later_joined (line_cells l) (lines_cells 
 
 later_addresses : (n : ℕ) → later_count (address_cells n) ≡ n
 later_addresses zero = refl
-later_addresses (suc n) = omega (arith, later_joined (address_cells n) (cell.Later (target.Part area_name.Grammar n) ∷ []), later_addresses n)
+later_addresses (suc n) =
+    omega (arith, later_joined (address_cells n) (cell.Later (target.Part area_name.Grammar n) ∷ []), later_addresses n)
 
 later_parts : (vs : List VerbOf) → length vs + later_count (parts_cells vs) ≡ verbs_laters vs
 later_parts [] = omega arith
@@ -182,7 +187,8 @@ part_at [] n at front is within = absurd (omega (arith, within))
 part_at (v ∷ vs) zero at front is within = dropped front (bytes_of (parts_cells (v ∷ vs))) at is
 part_at (v ∷ vs) (suc n) at front is within =
     ap (drop (get_or (places_from (at + part_size v) vs) n 0))
-    (ap (λ bs. front ++ bs) (bytes_joined (verb_cells v) (parts_cells vs)) ∙ sym (append_assoc front (bytes_of (verb_cells v)) (bytes_of (parts_cells vs))))
+    (ap (λ bs. front ++ bs) (bytes_joined (verb_cells v) (parts_cells vs)) ∙ sym
+    (append_assoc front (bytes_of (verb_cells v)) (bytes_of (parts_cells vs))))
     ∙ part_at vs n (at + part_size v) (front ++ bytes_of (verb_cells v))
     (omega (arith, is, length-append front (bytes_of (verb_cells v)), bytes_verb v)) (omega (arith, within))
 
@@ -216,7 +222,8 @@ size_more_last first front back line =
     )
 
 pub prepositions_more_last : (first front back : List LineOf) (line : LineOf)
-    → lines_prepositions (first ++ (front ++ (back ++ line ∷ []))) ≡ lines_prepositions (first ++ (front ++ back)) + prepositions line.tokens
+    → lines_prepositions (first ++ (front ++ (back ++ line ∷ []))) ≡ lines_prepositions (first ++ (front ++ back)) + prepositions
+    line.tokens
 prepositions_more_last first front back line =
     omega (
       arith,
@@ -232,7 +239,8 @@ lines_more_last front back line = append_assoc front back (line ∷ [])
 
 -- the cells of a verb, piece by piece
 pub verb_written : (cells count : List Cell) (first front back : List LineOf)
-    → (((cells ++ count) ++ lines_cells first) ++ lines_cells front) ++ lines_cells back ≡ cells ++ (count ++ lines_cells (first ++ (front ++ back)))
+    → (((cells ++ count) ++ lines_cells first) ++ lines_cells front) ++ lines_cells back ≡ cells ++
+    (count ++ lines_cells (first ++ (front ++ back)))
 verb_written cells count first front back =
     append_assoc ((cells ++ count) ++ lines_cells first) (lines_cells front) (lines_cells back)
     ∙ ap (λ cs. ((cells ++ count) ++ lines_cells first) ++ cs) (sym (cells_joined front back))
@@ -246,7 +254,8 @@ size_within [] n d within = absurd (omega (arith, within))
 size_within (x ∷ xs) zero d within = omega arith
 size_within (x ∷ xs) (suc n) d within = omega (arith, size_within xs n d (omega (arith, within)))
 
-pub laters_within : (xs : List VerbOf) (n : ℕ) (d : VerbOf) → n < length xs → lines_prepositions (lines_of (get_or xs n d)) ≤ verbs_laters xs
+pub laters_within : (xs : List VerbOf) (n : ℕ) (d : VerbOf) → n < length xs →
+    lines_prepositions (lines_of (get_or xs n d)) ≤ verbs_laters xs
 laters_within [] n d within = absurd (omega (arith, within))
 laters_within (x ∷ xs) zero d within = omega arith
 laters_within (x ∷ xs) (suc n) d within = omega (arith, laters_within xs n d (omega (arith, within)))
@@ -265,7 +274,8 @@ extended_laters place.Replace v = omega arith
 pub told_first : (first rest more : List LineOf)
     → lines_of (fold (λ v line. with_line place.First line v) (record { first = first; rest = rest }) more) ≡ (first ++ more) ++ rest
 told_first first rest [] = ap (λ ls. ls ++ rest) (sym (append-nil first))
-told_first first rest (line ∷ more) = told_first (first ++ line ∷ []) rest more ∙ ap (λ ls. ls ++ rest) (append_assoc first (line ∷ []) more)
+told_first first rest (line ∷ more) =
+    told_first (first ++ line ∷ []) rest more ∙ ap (λ ls. ls ++ rest) (append_assoc first (line ∷ []) more)
 
 pub told_last : (first rest more : List LineOf)
     → lines_of (fold (λ v line. with_line place.Last line v) (record { first = first; rest = rest }) more) ≡ (first ++ rest) ++ more
@@ -283,7 +293,8 @@ told_replace first rest (line ∷ more) =
     ∙ ap (λ ls. ls ++ more) (sym (append_assoc first rest (line ∷ [])))
     ∙ append_assoc (first ++ rest) (line ∷ []) more
 
-with_line_size : (how : Place) (line : LineOf) (v : VerbOf) → lines_size (lines_of (with_line how line v)) ≡ lines_size (lines_of v) + line_size line
+with_line_size : (how : Place) (line : LineOf) (v : VerbOf) →
+    lines_size (lines_of (with_line how line v)) ≡ lines_size (lines_of v) + line_size line
 with_line_size place.First line v = size_more_first v.first v.rest line
 with_line_size place.Last line v = size_more_last v.first [] v.rest line
 with_line_size place.Replace line v = size_more_last v.first [] v.rest line
@@ -301,18 +312,38 @@ pub line_stands : (xs : List VerbOf) (n : ℕ) (how : Place) (line : LineOf) (ol
     → (size + s ≡ verbs_size (set xs n new)) × (later + l ≡ verbs_laters (set xs n new)) × (length (set xs n new) ≤ 255)
     × (length (set xs n new) ≤ limit) × (size + s ≤ space)
 line_stands xs n how line old new size later limit space s l within is_old is_new is_size is_later few limited room is_s is_l = (
-  omega (arith, size_set xs n new old within, with_line_size how line old, is_size, is_s, ap (λ v. lines_size (lines_of v)) is_old, ap (λ v. lines_size (lines_of v)) is_new),
-  omega (arith, laters_set xs n new old within, with_line_laters how line old, is_later, is_l, ap (λ v. lines_prepositions (lines_of v)) is_old, ap (λ v. lines_prepositions (lines_of v)) is_new),
+  omega (
+    arith,
+    size_set xs n new old within,
+    with_line_size how line old,
+    is_size,
+    is_s,
+    ap (λ v. lines_size (lines_of v)) is_old,
+    ap
+        (λ v. lines_size (lines_of v)) is_new,
+  ),
+  omega (
+    arith,
+    laters_set xs n new old within,
+    with_line_laters how line old,
+    is_later,
+    is_l,
+    ap (λ v. lines_prepositions (lines_of v))
+        is_old,
+    ap (λ v. lines_prepositions (lines_of v)) is_new,
+  ),
   omega (arith, length-set xs n new, few),
   omega (arith, length-set xs n new, limited),
   room,
 )
 
 -- a verb that stands at a place has no more bytes than all
-pub bytes_fit : (xs : List VerbOf) (n : ℕ) (old : VerbOf) → n < length xs → old ≡ get_or xs n old → lines_size (lines_of old) ≤ verbs_size xs
+pub bytes_fit : (xs : List VerbOf) (n : ℕ) (old : VerbOf) → n < length xs → old ≡ get_or xs n old →
+    lines_size (lines_of old) ≤ verbs_size xs
 bytes_fit xs n old within is_old = omega (arith, size_within xs n old within, ap (λ v. lines_size (lines_of v)) is_old)
 
-pub laters_fit : (xs : List VerbOf) (n : ℕ) (old : VerbOf) → n < length xs → old ≡ get_or xs n old → lines_prepositions (lines_of old) ≤ verbs_laters xs
+pub laters_fit : (xs : List VerbOf) (n : ℕ) (old : VerbOf) → n < length xs → old ≡ get_or xs n old →
+    lines_prepositions (lines_of old) ≤ verbs_laters xs
 laters_fit xs n old within is_old = omega (arith, laters_within xs n old within, ap (λ v. lines_prepositions (lines_of v)) is_old)
 
 same_at : (xs : List VerbOf) (n : ℕ) (a b : VerbOf) → n < length xs → a ≡ get_or xs n a → b ≡ get_or xs n b → a ≡ b
@@ -323,12 +354,14 @@ same_at (x ∷ xs) (suc n) a b within is_a is_b = same_at xs n a b (omega (arith
 -- what holds of verbs of which one was extended: the one that was there, read twice, and the one that is there then
 pub extended_stands : (xs : List VerbOf) (n : ℕ) (how : Place) (old again changed new : VerbOf) (size later limit space : ℕ)
     → n < length xs → old ≡ get_or xs n old → again ≡ get_or xs n again → changed ≡ extended how again
-    → new ≡ get_or (set xs n changed) n new → size ≡ verbs_size xs → later ≡ verbs_laters xs → length xs ≤ 255 → length xs ≤ limit → size ≤ space
+    → new ≡ get_or (set xs n changed) n new → size ≡ verbs_size xs → later ≡ verbs_laters xs → length xs ≤ 255 → length xs ≤ limit → size ≤
+    space
     → (size - lines_size (lines_of old) + lines_size (lines_of new) ≡ verbs_size (set xs n changed))
     × (later - lines_prepositions (lines_of old) + lines_prepositions (lines_of new) ≡ verbs_laters (set xs n changed))
     × (length (set xs n changed) ≤ 255) × (length (set xs n changed) ≤ limit)
     × (size - lines_size (lines_of old) + lines_size (lines_of new) ≤ space)
-extended_stands xs n how old again changed new size later limit space within is_old is_again is_changed is_new is_size is_later few limited room =
+extended_stands xs n how old again changed new size later limit space within is_old is_again is_changed is_new is_size is_later few limited
+    room =
     let is_same : old ≡ again = same_at xs n old again within is_old is_again in
     let is_there : new ≡ changed = is_new ∙ get_or-set_same xs n changed new within in
     let old_size = ap (λ v. lines_size (lines_of v)) is_same in
@@ -337,8 +370,25 @@ extended_stands xs n how old again changed new size later limit space within is_
     let old_laters = ap (λ v. lines_prepositions (lines_of v)) is_same in
     let new_laters = ap (λ v. lines_prepositions (lines_of v)) is_there in
     let changed_laters = ap (λ v. lines_prepositions (lines_of v)) is_changed in (
-      omega (arith, size_set xs n changed again within, ap (λ v. lines_size (lines_of v)) is_again, bytes_fit xs n old within is_old, is_size, old_size, new_size),
-      omega (arith, laters_set xs n changed again within, ap (λ v. lines_prepositions (lines_of v)) is_again, laters_fit xs n old within is_old, is_later, old_laters, new_laters),
+      omega (
+        arith,
+        size_set xs n changed again within,
+        ap (λ v. lines_size (lines_of v)) is_again,
+        bytes_fit xs n old within is_old,
+        is_size,
+        old_size,
+        new_size,
+      ),
+      omega (
+        arith,
+        laters_set xs n changed again within,
+        ap (λ v. lines_prepositions (lines_of v)) is_again,
+        laters_fit xs n old within
+            is_old,
+        is_later,
+        old_laters,
+        new_laters,
+      ),
       omega (arith, length-set xs n changed, few),
       omega (arith, length-set xs n changed, limited),
       omega (arith, bytes_fit xs n old within is_old, is_size, old_size, new_size, changed_size, extended_size how again, room),

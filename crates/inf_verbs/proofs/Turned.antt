@@ -16,6 +16,7 @@ module _ {A : Type 0} where
   turned_length first front back =
       omega (arith, length-append (first ++ reverse front) back, length-append first (reverse front), length-reverse front)
 
-  pub turned_length_grouped : (first front back : List A) → length (first ++ (reverse front ++ back)) ≡ length first + length front + length back
+  pub turned_length_grouped : (first front back : List A) →
+      length (first ++ (reverse front ++ back)) ≡ length first + length front + length back
   turned_length_grouped first front back =
       omega (arith, length-append first (reverse front ++ back), length-append (reverse front) back, length-reverse front)

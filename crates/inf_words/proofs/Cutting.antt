@@ -24,7 +24,8 @@ cut-last (b ∷ part) lacks =
     rw (other_byte b (lacks 0 (omega arith))) (ap (in_front b) (cut-last part (λ k lt. lacks (suc k) (omega arith))))
 
 -- parts without commas, joined by commas, are cut into these parts
-pub cut-joined : (parts : List (Bor (List ℕ))) → 0 < length parts → ((k : ℕ) (d : Bor (List ℕ)) → k < length parts → LacksByte 44 (get_or parts k d).now)
+pub cut-joined : (parts : List (Bor (List ℕ))) → 0 < length parts →
+    ((k : ℕ) (d : Bor (List ℕ)) → k < length parts → LacksByte 44 (get_or parts k d).now)
     → cut_at_commas (join_with_byte 44 (map (λ part. part.now) parts)) ≡ map (λ part. part.now) parts
 cut-joined [] some lacks = absurd (omega (arith, some))
 cut-joined (x ∷ []) some lacks = cut-last x.now (lacks 0 x (omega arith))
@@ -32,7 +33,8 @@ cut-joined (x ∷ y ∷ parts) some lacks =
     cut-part x.now (join_with_byte 44 (map (λ part. part.now) (y ∷ parts))) (lacks 0 x (omega arith))
     ∙ ap (λ rest. x.now ∷ rest) (cut-joined (y ∷ parts) (omega arith) (λ k d lt. lacks (suc k) d (omega arith)))
 
-some_lacks : (o : Option (Bor (List ℕ))) (y : Bor (List ℕ)) → option_map (λ x. x) o ≡ Some y → IfSome o (λ x. LacksByte 44 x.now) → LacksByte 44 y.now
+some_lacks : (o : Option (Bor (List ℕ))) (y : Bor (List ℕ)) → option_map (λ x. x) o ≡ Some y → IfSome o (λ x. LacksByte 44 x.now) →
+    LacksByte 44 y.now
 some_lacks None y is lacks = cc
 some_lacks (Some x) y is lacks =
     let same : x ≡ y = cc in
@@ -43,4 +45,5 @@ pub run_cut : {S : Type 0} {steps : S → Option (Bor (List ℕ)) → S → Type
     → path ≡ join_with_byte 44 (map (λ x. x.now) p.items) → AllItems p (λ x. LacksByte 44 x.now)
     → map (λ x. x.now) p.items ≡ cut_at_commas path
 run_cut p path some joined lacks =
-    sym (ap cut_at_commas joined ∙ cut-joined p.items (omega (arith, some, p.long)) (λ k d lt. some_lacks (p.at k) (get_or p.items k d) (p.reads k d (omega (arith, p.long, lt))) (lacks k)))
+    sym (ap cut_at_commas joined ∙ cut-joined p.items (omega (arith, some, p.long))
+    (λ k d lt. some_lacks (p.at k) (get_or p.items k d) (p.reads k d (omega (arith, p.long, lt))) (lacks k)))

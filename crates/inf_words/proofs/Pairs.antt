@@ -16,7 +16,8 @@ chosen-none l (b ∷ letters) none = absurd (omega (arith, none))
 
 -- a `w` is followed by what the letters behind it give
 pub behind-one : (l : Letters) (letters : List ℕ) → 1 ≤ length letters → get_or letters 0 0 ≡ 119
-    → behind_letters (Some (record l { has_warnings = false })) (take (length letters - 1) (drop 1 letters)) ≡ behind_letters (Some l) letters
+    → behind_letters (Some (record l { has_warnings = false })) (take (length letters - 1) (drop 1 letters)) ≡ behind_letters (Some l)
+    letters
 behind-one l [] one first = absurd (omega (arith, one))
 behind-one l (b ∷ []) one first = rw (first) refl
 behind-one l (b ∷ c ∷ letters) one first =
@@ -35,7 +36,8 @@ behind-pair l chosen (b ∷ c ∷ letters) two first is =
 
 -- and a `w` with its sign
 pub behind-sign : (l : Letters) (letters : List ℕ) → 2 ≤ length letters → get_or letters 0 0 ≡ 126 → get_or letters 1 0 ≡ 119
-    → behind_letters (Some (record l { has_warnings = true })) (take (length letters - 2) (drop 2 letters)) ≡ behind_letters (Some l) letters
+    → behind_letters (Some (record l { has_warnings = true })) (take (length letters - 2) (drop 2 letters)) ≡ behind_letters (Some l)
+    letters
 behind-sign l [] two first second = absurd (omega (arith, two))
 behind-sign l (b ∷ []) two first second = absurd (omega (arith, two))
 behind-sign l (b ∷ c ∷ letters) two first second =
@@ -69,5 +71,6 @@ behind-other l (b ∷ []) some one set sign =
     ap (λ t. cond t (Some (record l { has_warnings = false })) None) test
 behind-other l (b ∷ c ∷ letters) some one set sign =
     let test : (b == 119) ≡ false = grind (arith, nat_tests) in
-    ap (λ t. cond t (behind_letters (Some (record l { has_warnings = false })) (c ∷ letters)) (behind_letters (with_pair b c l) letters)) test
+    ap (λ t. cond t (behind_letters (Some (record l { has_warnings = false })) (c ∷ letters)) (behind_letters (with_pair b c l) letters))
+    test
     ∙ ap (λ o. behind_letters o letters) (other_pair b c l (set (omega arith)) (sign (omega arith)))

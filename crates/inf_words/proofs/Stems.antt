@@ -82,7 +82,9 @@ stem-undivided bs none = stem-no_dot bs (λ i lt. NoCharPasses-char 46 bs i none
 pub has_slash-found : (bs : List ℕ) (r : Bool) → MatchBool r (HasMatch (FindsChar 47) bs) (FindsChar 47 bs None) → has_slash bs ≡ r
 has_slash-found bs r cases = decided r (contains_char 47 bs r cases (lit< tt))
   where
-    decided : (r : Bool) → (r ≡ true → (k : ℕ) × (k < length bs) × (get_or bs k 0 ≡ 47)) × ((k : ℕ) → k < length bs → get_or bs k 0 ≡ 47 → r ≡ true) → has_slash bs ≡ r
+    decided : (r : Bool) →
+        (r ≡ true → (k : ℕ) × (k < length bs) × (get_or bs k 0 ≡ 47)) × ((k : ℕ) → k < length bs → get_or bs k 0 ≡ 47 → r ≡ true) →
+        has_slash bs ≡ r
     decided true (found, all) = let f = found refl in has_slash-at bs f.0 f.1 f.2
     decided false (found, all) = has_slash-nowhere bs (λ k lt at. let e : false ≡ true = all k lt at in cc)
 

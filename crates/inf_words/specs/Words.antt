@@ -29,7 +29,8 @@ pub record TakenWords : Type 0 where
 
 -- before the first word
 abbrev pub no_words : TakenWords
-no_words = record { source = None; story = None; settings = defaults; letters = record { set = charset.Latin1; has_warnings = true }; path = None }
+no_words =
+    record { source = None; story = None; settings = defaults; letters = record { set = charset.Latin1; has_warnings = true }; path = None }
 
 -- the set that a digit behind `C` chooses
 abbrev pub set_of_digit : ℕ → Option CharSet

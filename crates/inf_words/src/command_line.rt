@@ -108,7 +108,8 @@ impl CommandLine {
     /// Reads the words from left to right; a later word on the same matter wins.
     ///
     /// `-` is followed by letters: `C0` is ASCII, and `C1` is ISO Latin-1, which holds where no word
-    /// chooses; `w` has no warnings told, and `~w` has them told. `$NAME=n` sets a setting to a decimal number. `+a,b` gives the directories of
+    /// chooses; `w` has no warnings told, and `~w` has them told. `$NAME=n` sets a setting to a decimal number. `+a,b` gives the
+    /// directories of
     /// included files. Of the other words the first names the source, the second the story.
     ///
     /// The first word that is refused decides. `Unknown` is a bare `-` or an unknown letter behind

@@ -29,23 +29,27 @@ use Rattle.inf_work.proofs.VerbLimits.{extend_header_same, verb_header_same}
 
 opened_same : (fault : Option ArrayFault) (k : ArrayKind) (name : Name) (o : Out) → SameOutLimits o (array_opened_by fault k name o)
 opened_same None k name o =
-    declared_keeps name.bytes name.place (meaning_of.Array (arrays_size (all_of o.tables.arrays))) (with_arrays (opened k o.tables.arrays) o)
+    declared_keeps name.bytes name.place (meaning_of.Array (arrays_size (all_of o.tables.arrays)))
+    (with_arrays (opened k o.tables.arrays) o)
 opened_same (Some f) k name o = (refl, refl)
 
 listed_same : (f : Option Finding) (k : ArrayKind) (name : Name) (w : Compilation) → SameLimits w (listed f k name w)
 listed_same None k name w = opened_same (open_fault k w.output.tables.arrays) k name w.output
 listed_same (Some f) k name w = (refl, refl)
 
-array_named_same : (files : FileNames) (first : Place) (names : List Name) (w : Compilation) → SameLimits w (array_named files first names w)
+array_named_same : (files : FileNames) (first : Place) (names : List Name) (w : Compilation) →
+    SameLimits w (array_named files first names w)
 array_named_same files first [] w = (refl, refl)
 array_named_same files first (name ∷ names) w =
     listed_same (plainly_known files name (name_order w.unit.tokens) w).finding (kind_in w.unit.tokens) name w
 
-class_named_same : (files : FileNames) (first : Place) (names : List Name) (w : Compilation) → SameLimits w (class_named files first names w)
+class_named_same : (files : FileNames) (first : Place) (names : List Name) (w : Compilation) →
+    SameLimits w (class_named files first names w)
 class_named_same files first [] w = (refl, refl)
 class_named_same files first (name ∷ names) w = class_header_same files first name w
 
-header_as_same : (files : FileNames) (first : Place) (what : Heading) (names : List Name) (w : Compilation) → SameLimits w (header_as what files first names w)
+header_as_same : (files : FileNames) (first : Place) (what : Heading) (names : List Name) (w : Compilation) →
+    SameLimits w (header_as what files first names w)
 header_as_same files first heading.Array names w = array_named_same files first names w
 header_as_same files first heading.Class names w = class_named_same files first names w
 header_as_same files first heading.Object names w = object_header_same files first w
@@ -86,7 +90,8 @@ entry_added_same : (text : Option ℕ) (alone : Bool) (w : Compilation) → Same
 entry_added_same (Some at) alone w = text_same (text_at w.set w.unit.tokens at) w
 entry_added_same None alone w = value_same alone w
 
-with_same : (files : FileNames) (first : Place) (alone : Bool) (f : Option Finding) (w : Compilation) → SameLimits w (entry_with files first alone f w)
+with_same : (files : FileNames) (first : Place) (alone : Bool) (f : Option Finding) (w : Compilation) →
+    SameLimits w (entry_with files first alone f w)
 with_same files first alone None w = entry_added_same (bare_text alone w) alone w
 with_same files first alone (Some f) w = (refl, refl)
 

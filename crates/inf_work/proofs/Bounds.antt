@@ -138,7 +138,8 @@ object_by_same None p short class name o =
     let b = with_world (with_object_header p short o.tables.world) o in
     let number = 5 + length o.tables.world.objects in
     out_same_then o b (object_named class name number b)
-    (world_same o (with_object_header p short o.tables.world) (hung_limits (parent_of p o.tables.world.objects) (arrows_of p) short o.tables.world))
+    (world_same o (with_object_header p short o.tables.world)
+    (hung_limits (parent_of p o.tables.world.objects) (arrows_of p) short o.tables.world))
     (object_named_same class name number b)
 object_by_same (Some f) p short class name o = noted_same f o
 
@@ -149,11 +150,13 @@ object_opened_same None h name w =
     object_by_same (object_header_fault p short w.output.tables.world) p short (class_of_word w) name w.output
 object_opened_same (Some f) h name w = object_lost_same name w.output
 
-object_ended_same : (files : FileNames) (first : Place) (name : Option Name) (d : Declared) (w : Compilation) → SameLimits w (object_ended files first name d w)
+object_ended_same : (files : FileNames) (first : Place) (name : Option Name) (d : Declared) (w : Compilation) →
+    SameLimits w (object_ended files first name d w)
 object_ended_same files first None d w = same w.output
 object_ended_same files first (Some name) d w = same w.output
 
-object_with_same : (files : FileNames) (first : Place) (h : Header) (name : Option Name) (w : Compilation) → SameLimits w (object_with files first h name w)
+object_with_same : (files : FileNames) (first : Place) (h : Header) (name : Option Name) (w : Compilation) →
+    SameLimits w (object_with files first h name w)
 object_with_same files first h name w =
     let d = object_known files h name w in
     let open_one = object_opened d.finding h name w in
@@ -209,11 +212,13 @@ individual_named_same name number v o =
     let d = individual_declared name number o in
     out_same_then o d (property_given number v d) (individual_declared_same name number o) (property_given_same number v d)
 
-individual_by_same : (f : Option AddFault) (name : Option Name) (v : Option Value) (o : Out) → SameOutLimits o (individual_given_by f name v o)
+individual_by_same : (f : Option AddFault) (name : Option Name) (v : Option Value) (o : Out) →
+    SameOutLimits o (individual_given_by f name v o)
 individual_by_same None name v o =
     let b = with_world (with_individual o.tables.world) o in
     let number = 64 + o.tables.world.individuals in
-    out_same_then o b (individual_named name number v b) (world_same o (with_individual o.tables.world) refl) (individual_named_same name number v b)
+    out_same_then o b (individual_named name number v b) (world_same o (with_individual o.tables.world) refl)
+    (individual_named_same name number v b)
 individual_by_same (Some f) name v o = same o
 
 further_by_same : (f : Option AddFault) (v : Value) (o : Out) → SameOutLimits o (further_added_by f v o)
@@ -249,11 +254,13 @@ word_used_same : (f : Option Finding) (items : List TextItem) (w : Compilation) 
 word_used_same None items w = with_word_keeps (dictionary_bytes items) word_use.Other false w.output
 word_used_same (Some f) items w = same w.output
 
-text_by_same : (is_wrong : Bool) (name : Option ℕ) (items : List TextItem) (w : Compilation) → SameLimits w (text_placed_by is_wrong name items w)
+text_by_same : (is_wrong : Bool) (name : Option ℕ) (items : List TextItem) (w : Compilation) →
+    SameLimits w (text_placed_by is_wrong name items w)
 text_by_same is_wrong name items w =
     let p = placed name (text_value is_wrong items) (wrong_if is_wrong) w in
     let f = text_finding_by is_wrong name items w in
-    out_same_then w.output p.output (word_used f items p).output (placed_same name (text_value is_wrong items) (wrong_if is_wrong) w) (word_used_same f items p)
+    out_same_then w.output p.output (word_used f items p).output (placed_same name (text_value is_wrong items) (wrong_if is_wrong) w)
+    (word_used_same f items p)
 
 settled_placed_same : (name : Option ℕ) (w : Compilation) → SameLimits w (settled_placed name w)
 settled_placed_same name w =
@@ -262,20 +269,23 @@ settled_placed_same name w =
     (leaves_same w.set w.locals w.unit.tokens w.unit.gathering.leaves (record { out = w.output; operands = [] }))
     (placed_same name (value_of w) None s)
 
-value_by_same : (f : Option Finding) (name : Option ℕ) (judged : Option Finding) (looked : Value) (w : Compilation) → SameLimits w (value_by f name judged looked w)
+value_by_same : (f : Option Finding) (name : Option ℕ) (judged : Option Finding) (looked : Value) (w : Compilation) →
+    SameLimits w (value_by f name judged looked w)
 value_by_same None name judged looked w = settled_placed_same name w
 value_by_same (Some f) name judged looked w = placed_same name looked judged w
 
 any_placed_same : (text : Option (List TextItem)) (name : Option ℕ) (w : Compilation) → SameLimits w (any_placed text name w)
 any_placed_same None name w =
-    value_by_same (least_of_both (finding_at 0 wanted.Constant w) (place_finding name (looked_value w) w)) name (finding_at 0 wanted.Constant w) (looked_value w) w
+    value_by_same (least_of_both (finding_at 0 wanted.Constant w) (place_finding name (looked_value w) w)) name
+    (finding_at 0 wanted.Constant w) (looked_value w) w
 any_placed_same (Some items) name w = text_by_same (variables_from items false) name items w
 
 pub value_read_same : (files : FileNames) (place : Place) (w : Compilation) → SameLimits w (value_read files place w)
 value_read_same files place w =
     let name = name_place w.unit.outer in any_placed_same (word_text (takes_words name w) w) name w
 
-embedded_same : (files : FileNames) (first : Place) (name : Option ℕ) (h : Headed) (w : Compilation) → SameLimits w (embedded files first name h w)
+embedded_same : (files : FileNames) (first : Place) (name : Option ℕ) (h : Headed) (w : Compilation) →
+    SameLimits w (embedded files first name h w)
 embedded_same files first name h w =
     let b = blame_embedded files first name h w in
     let t = told files first b w in

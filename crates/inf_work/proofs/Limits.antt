@@ -83,10 +83,12 @@ actions_named_same false w = (refl, refl)
 prepared_same : (p : Part) (w : Compilation) → SameLimits w (case_prepared p w)
 prepared_same part.Case w =
     let begun = constructs_laid (cases_begun w.constructs) w in
-    same_then w begun (actions_named (are_own begun.constructs) begun) (cases_begun_keeps w.constructs w.output) (actions_named_same (are_own begun.constructs) begun)
+    same_then w begun (actions_named (are_own begun.constructs) begun) (cases_begun_keeps w.constructs w.output)
+    (actions_named_same (are_own begun.constructs) begun)
 prepared_same _ w = (refl, refl)
 
-carried_part_same : (files : FileNames) (first : Place) (p : Part) (f : Option Finding) (w : Compilation) → SameLimits w (part_carried files first p f w)
+carried_part_same : (files : FileNames) (first : Place) (p : Part) (f : Option Finding) (w : Compilation) →
+    SameLimits w (part_carried files first p f w)
 carried_part_same files first p (Some f) w = (refl, refl)
 carried_part_same files first p None w =
     let s = settled_of w in
@@ -115,7 +117,8 @@ part_same files place p w =
     let ready = case_prepared p (part_prepared w) in
     of_both (SameLimits w) w.is_passed_over (passed (has_last p) w) (part_finished files (place_of p place ready) p ready)
     (λ _. (refl, refl))
-    (λ _. same_then w ready (part_finished files (place_of p place ready) p ready) (prepared_same p (part_prepared w)) (finished_same files (place_of p place ready) p ready))
+    (λ _. same_then w ready (part_finished files (place_of p place ready) p ready) (prepared_same p (part_prepared w))
+    (finished_same files (place_of p place ready) p ready))
 
 nested_same : (files : FileNames) (place : Place) (b : Bool) (w : Compilation) → SameLimits w (nested files place b w)
 nested_same files place true w = (refl, refl)
@@ -136,19 +139,22 @@ opened_same files place k w =
 
 -- Routines
 
-header_with_same : (files : FileNames) (first : Place) (name : Name) (h : Headed) (w : Compilation) → SameLimits w (header_with files first name h w)
+header_with_same : (files : FileNames) (first : Place) (name : Name) (h : Headed) (w : Compilation) →
+    SameLimits w (header_with files first name h w)
 header_with_same files first name h w =
     let d = routine_declared name w in
     let is_lost = is_some (header_fault files first (name_fault files name (declare_fault name.bytes w.output.names)) h) in
     out_same_then w.output d.output (opened (length h.locals) is_lost d.output)
-    (declared_keeps name.bytes name.place (meaning_of.Routine (place_behind w.output.code.finished)) w.output) (opened_keeps (length h.locals) is_lost d.output)
+    (declared_keeps name.bytes name.place (meaning_of.Routine (place_behind w.output.code.finished)) w.output)
+    (opened_keeps (length h.locals) is_lost d.output)
 
 header_of_same : (files : FileNames) (first : Place) (names : List Name) (w : Compilation) → SameLimits w (header_of files first names w)
 header_of_same files first [] w = (refl, refl)
 header_of_same files first (name ∷ locals) w =
     of_both (SameLimits w) (is_replaced name w) (passed true (record w { is_passed_over = true; is_embedded = false; constructs = [] }))
     (header_with files first name (with_locals locals no_locals) (record w { is_passed_over = false; is_embedded = false }))
-    (λ _. (refl, refl)) (λ _. header_with_same files first name (with_locals locals no_locals) (record w { is_passed_over = false; is_embedded = false }))
+    (λ _. (refl, refl)) (λ _. header_with_same files first name (with_locals locals no_locals)
+    (record w { is_passed_over = false; is_embedded = false }))
 
 close_same : (files : FileNames) (place : Place) (w : Compilation) → SameLimits w (close files place w)
 close_same files place w =
@@ -193,12 +199,15 @@ stubbed_same files first w =
     of_both (SameLimits w) (nat_lt 4 locals) (unit_ended files first true (Some (record { place = first; message = ConstantOutOfRange })) w)
     (unit_ended files first true None (record w { output = stub_code locals w.output }))
     (λ _. (refl, refl))
-    (λ _. out_same_then w.output (opened locals false w.output) (stub_code locals w.output) (opened_keeps locals false w.output) (closed_keeps routine_kind.Embedded (opened locals false w.output)))
+    (λ _. out_same_then w.output (opened locals false w.output) (stub_code locals w.output) (opened_keeps locals false w.output)
+    (closed_keeps routine_kind.Embedded (opened locals false w.output)))
 
-declared_stub_same : (files : FileNames) (first : Place) (name : Name) (w : Compilation) → SameLimits w (stubbed files first (routine_declared name w))
+declared_stub_same : (files : FileNames) (first : Place) (name : Name) (w : Compilation) →
+    SameLimits w (stubbed files first (routine_declared name w))
 declared_stub_same files first name w =
     let d = routine_declared name w in
-    same_then w d (stubbed files first d) (declared_keeps name.bytes name.place (meaning_of.Routine (place_behind w.output.code.finished)) w.output) (stubbed_same files first d)
+    same_then w d (stubbed files first d) (declared_keeps name.bytes name.place (meaning_of.Routine (place_behind w.output.code.finished))
+    w.output) (stubbed_same files first d)
 
 new_stub_same : (files : FileNames) (first : Place) (names : List Name) (w : Compilation) → SameLimits w (new_stub files first names w)
 new_stub_same files first [] w = (refl, refl)
@@ -216,7 +225,8 @@ default_same files first names w =
 
 -- Declarations
 
-alias_same : (files : FileNames) (first : Place) (name : Name) (at : ℕ) (kind : FixedLimit) (w : Compilation) → SameLimits w (alias_told files first name at kind w)
+alias_same : (files : FileNames) (first : Place) (name : Name) (at : ℕ) (kind : FixedLimit) (w : Compilation) →
+    SameLimits w (alias_told files first name at kind w)
 alias_same files first name at kind w =
     let m = last_meaning kind w in
     let finding = least_of_both (name_known files name at false w).finding (alias_finding w.unit.tokens m) in
@@ -236,32 +246,39 @@ attribute_added_same None name o =
 attribute_same : (files : FileNames) (first : Place) (names : List Name) (w : Compilation) → SameLimits w (attribute files first names w)
 attribute_same files first [] w = (refl, refl)
 attribute_same files first (name ∷ names) w =
-    of_both (SameLimits w) (is_alias names w.unit.gathering.leaves) (alias_told files first name (name_order w.unit.tokens) countable.Attributes w)
+    of_both (SameLimits w) (is_alias names w.unit.gathering.leaves)
+    (alias_told files first name (name_order w.unit.tokens) countable.Attributes w)
     (attribute_with files first name w)
     (λ _. alias_same files first name (name_order w.unit.tokens) countable.Attributes w)
-    (λ _. attribute_added_same (name_known files name (name_order w.unit.tokens) (nat_le 48 w.output.tables.world.attributes) w).finding name w.output)
+    (λ _. attribute_added_same (name_known files name (name_order w.unit.tokens) (nat_le 48 w.output.tables.world.attributes) w).finding
+    name w.output)
 
 settled_same : (w : Compilation) → SameOutLimits w.output (settled_of w).out
 settled_same w = leaves_same w.set w.locals w.unit.tokens w.unit.gathering.leaves (record { out = w.output; operands = [] })
 
-new_property_same : (fault : Option AddFault) (is_additive : Bool) (v : Value) (o : Out) → SameOutLimits o (new_property_by fault is_additive v o)
+new_property_same : (fault : Option AddFault) (is_additive : Bool) (v : Value) (o : Out) →
+    SameOutLimits o (new_property_by fault is_additive v o)
 new_property_same None is_additive v o = (refl, refl)
 new_property_same (Some fault) is_additive v o = (refl, refl)
 
-property_added_same : (f : Option Finding) (name : Name) (is_additive : Bool) (w : Compilation) → SameOutLimits w.output (property_added f name is_additive w)
+property_added_same : (f : Option Finding) (name : Name) (is_additive : Bool) (w : Compilation) →
+    SameOutLimits w.output (property_added f name is_additive w)
 property_added_same (Some f) name is_additive w = declared_keeps name.bytes name.place (nothing_of countable.Properties) w.output
 property_added_same None name is_additive w =
     let o = (settled_of w).out in
     let d = declared name.bytes name.place (meaning_of.Property (property_number o) is_additive) o in
     out_same_then w.output o (new_property is_additive (value_of w) d) (settled_same w)
-    (out_same_then o d (new_property is_additive (value_of w) d) (declared_keeps name.bytes name.place (meaning_of.Property (property_number o) is_additive) o)
+    (out_same_then o d (new_property is_additive (value_of w) d)
+    (declared_keeps name.bytes name.place (meaning_of.Property (property_number o) is_additive) o)
     (new_property_same (property_fault d.tables.world) is_additive (value_of w) d))
 
-property_named_same : (files : FileNames) (first : Place) (is_additive : Bool) (names : List Name) (w : Compilation) → SameLimits w (property_named files first is_additive names w)
+property_named_same : (files : FileNames) (first : Place) (is_additive : Bool) (names : List Name) (w : Compilation) →
+    SameLimits w (property_named files first is_additive names w)
 property_named_same files first is_additive [] w = (refl, refl)
 property_named_same files first is_additive (name ∷ names) w =
     let at = property_order w.unit.tokens is_additive in
-    of_both (SameLimits w) (is_alias names w.unit.gathering.leaves) (alias_told files first name at countable.Properties w) (property_with files first is_additive name w)
+    of_both (SameLimits w) (is_alias names w.unit.gathering.leaves) (alias_told files first name at countable.Properties w)
+    (property_with files first is_additive name w)
     (λ _. alias_same files first name at countable.Properties w)
     (λ _. property_added_same (valued files name at (nat_le 60 (length w.output.tables.world.declared)) w).finding name is_additive w)
 
@@ -269,7 +286,8 @@ property_same : (files : FileNames) (first : Place) (names : List Name) (w : Com
 property_same files first names w = property_named_same files first (is_additive names) (property_names names) w
 
 new_global_same : (v : Value) (o : Out) → SameOutLimits o (new_global v o)
-new_global_same v o = of_both (SameOutLimits o) (nat_le 235 (length o.tables.globals)) o (with_variable v o) (λ _. (refl, refl)) (λ _. (refl, refl))
+new_global_same v o =
+    of_both (SameOutLimits o) (nat_le 235 (length o.tables.globals)) o (with_variable v o) (λ _. (refl, refl)) (λ _. (refl, refl))
 
 global_added_same : (f : Option Finding) (name : Name) (w : Compilation) → SameOutLimits w.output (global_added f name w)
 global_added_same (Some f) name w = declared_keeps name.bytes name.place (nothing_of countable.Globals) w.output
@@ -277,7 +295,8 @@ global_added_same None name w =
     let o = (settled_of w).out in
     let d = declared name.bytes name.place (meaning_of.Variable (16 + length o.tables.globals)) o in
     out_same_then w.output o (new_global (value_of w) d) (settled_same w)
-    (out_same_then o d (new_global (value_of w) d) (declared_keeps name.bytes name.place (meaning_of.Variable (16 + length o.tables.globals)) o)
+    (out_same_then o d (new_global (value_of w) d)
+    (declared_keeps name.bytes name.place (meaning_of.Variable (16 + length o.tables.globals)) o)
     (new_global_same (value_of w) d))
 
 global_same : (files : FileNames) (first : Place) (names : List Name) (w : Compilation) → SameLimits w (global_variable files first names w)
@@ -285,7 +304,8 @@ global_same files first [] w = (refl, refl)
 global_same files first (name ∷ names) w =
     global_added_same (valued files name (name_order w.unit.tokens) (nat_le 235 (length w.output.tables.globals)) w).finding name w
 
-carried_same : (d : Directive) (files : FileNames) (first : Place) (names : List Name) (w : Compilation) → SameLimits w (carried_out d files first names w)
+carried_same : (d : Directive) (files : FileNames) (first : Place) (names : List Name) (w : Compilation) →
+    SameLimits w (carried_out d files first names w)
 carried_same directive.Include files first names w = (refl, refl)
 carried_same directive.Message files first names w = (refl, refl)
 carried_same directive.End files first names w = (refl, refl)
@@ -299,7 +319,8 @@ carried_same directive.Global files first names w = global_same files first name
 carried_same directive.FakeAction files first names w = fake_same files first names w
 carried_same directive.SystemFile files first names w = (refl, refl)
 
-names_same : (files : FileNames) (first : Place) (names : List Name) (w : Compilation) → SameLimits w (directive_of_names files first names w)
+names_same : (files : FileNames) (first : Place) (names : List Name) (w : Compilation) →
+    SameLimits w (directive_of_names files first names w)
 names_same files first [] w = (refl, refl)
 names_same files first (word ∷ names) w =
     let c = carried_out (directive_of word.bytes) files first names w in
@@ -309,7 +330,8 @@ names_same files first (word ∷ names) w =
 
 closed_same : (w : Compilation) → SameLimits w (construct_closed w)
 closed_same w =
-    of_both (SameLimits w) (nat_lt 0 w.closed) (record w { closed = w.closed - 1 }) (construct_ended w) (λ _. (refl, refl)) (λ _. ended_keeps w.constructs w.output)
+    of_both (SameLimits w) (nat_lt 0 w.closed) (record w { closed = w.closed - 1 }) (construct_ended w) (λ _. (refl, refl))
+    (λ _. ended_keeps w.constructs w.output)
 
 pub closed_ahead_same : (count : ℕ) (w : Compilation) → SameLimits w (closed_ahead count w)
 closed_ahead_same count w = all_ended_keep (count - w.closed) w.constructs w.output
@@ -428,7 +450,8 @@ acted_same files place (a ∷ actions) w =
     let next = act files place a w in
     same_then w next (acted files place actions next) (act_same files place a w) (acted_same files place actions next)
 
-pub all_acted_same : (files : FileNames) (place : Place) (actions : List Action) (w : Compilation) → SameLimits w (all_acted files place actions w)
+pub all_acted_same : (files : FileNames) (place : Place) (actions : List Action) (w : Compilation) →
+    SameLimits w (all_acted files place actions w)
 all_acted_same files place actions w = acted_same files place actions (record w { opening = None })
 
 -- Tokens
@@ -449,4 +472,5 @@ cut_same files w =
     let c = body_ended sure in
     let g = given_up c in
     let s = sized files g in
-    same_then w c (opening_checked files s) (body_ended_same sure) (same_then g s (opening_checked files s) (sized_same files g) (opening_same s.opening files s))
+    same_then w c (opening_checked files s) (body_ended_same sure)
+    (same_then g s (opening_checked files s) (sized_same files g) (opening_same s.opening files s))

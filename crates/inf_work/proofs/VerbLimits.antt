@@ -44,7 +44,8 @@ words_used_keeps : (end : ℕ) (tokens : List SourceToken) (how : WordUse) → K
 words_used_keeps zero tokens how o = (refl, refl)
 words_used_keeps (suc at) tokens how o =
     let before = words_used at tokens how o in
-    same_then o before (word_used (word_at tokens at) how before) (words_used_keeps at tokens how o) (word_used_keeps (word_at tokens at) how before)
+    same_then o before (word_used (word_at tokens at) how before) (words_used_keeps at tokens how o)
+    (word_used_keeps (word_at tokens at) how before)
 
 like_used_keeps : (like : Option ℕ) (tokens : List SourceToken) (number : ℕ) → Keeps (like_used like tokens number)
 like_used_keeps None tokens number o = (refl, refl)
@@ -85,18 +86,21 @@ verb_header_same files first w =
 
 lines_extended_keeps : (number : ℕ) (place : LinePlace) → Keeps (lines_extended number place)
 lines_extended_keeps number place o =
-    of_both (SameOutLimits o) (has_verb number o) (with_verbs (with_extended number place o.tables.verbs) o) o (λ _. (refl, refl)) (λ _. (refl, refl))
+    of_both (SameOutLimits o) (has_verb number o) (with_verbs (with_extended number place o.tables.verbs) o) o (λ _. (refl, refl))
+    (λ _. (refl, refl))
 
 verb_extended_keeps : (verb : Option ℕ) (place : LinePlace) (word : Option DictionaryWord) → Keeps (verb_extended verb place word)
 verb_extended_keeps None place word o = (refl, refl)
 verb_extended_keeps (Some number) place word o =
     let used = word_used word (word_use.Verb number) o in
-    same_then o used (lines_extended number place used) (word_used_keeps word (word_use.Verb number) o) (lines_extended_keeps number place used)
+    same_then o used (lines_extended number place used) (word_used_keeps word (word_use.Verb number) o)
+    (lines_extended_keeps number place used)
 
 pub extend_header_same : (files : FileNames) (first : Place) (w : Compilation) → SameLimits w (extend_header files first w)
 extend_header_same files first w =
     let at = name_order w.unit.tokens in
-    verb_extended_keeps (verb_named w.unit.tokens at w.output) (place_named (bytes_at w.unit.tokens (at + 1))) (word_at w.unit.tokens at) w.output
+    verb_extended_keeps (verb_named w.unit.tokens at w.output) (place_named (bytes_at w.unit.tokens (at + 1))) (word_at w.unit.tokens at)
+    w.output
 
 -- Lines
 
@@ -138,7 +142,8 @@ action_named_same : (n : Option Name) (o : Out) → SameOutLimits o (action_by n
 action_named_same None o = (refl, refl)
 action_named_same (Some n) o = action_same n.bytes n.place o
 
-one_line_same : (fault : Option LineFault) (number : ℕ) (place : LinePlace) (line : LineOf) (o : Out) → SameOutLimits o (one_line_by fault number place line o)
+one_line_same : (fault : Option LineFault) (number : ℕ) (place : LinePlace) (line : LineOf) (o : Out) →
+    SameOutLimits o (one_line_by fault number place line o)
 one_line_same None number place line o = (refl, refl)
 one_line_same (Some f) number place line o = (refl, refl)
 

@@ -85,10 +85,14 @@ no_output settings = record {
   kept = None;
 }
 
--- What was compiled so far: the character set of the sources; how many tokens an expression may have, and how many one had; how many labels a routine had, where
--- units were finished; the unit at hand; the statements that are open, the innermost first, and how many that are over were closed ahead of a conditional;
--- where the last token is, if it is the word of a compound statement where a case may stand, too; the labels with names and the locals of the open routine; the code and the names of the source; the messages; what a directive asks of the reading; the names of
--- routines that are to be replaced, whether those of the file at hand may be, and those of the files that wait, the inner files first; whether the
+-- What was compiled so far: the character set of the sources; how many tokens an expression may have, and how many one had; how many labels
+-- a routine had, where
+-- units were finished; the unit at hand; the statements that are open, the innermost first, and how many that are over were closed ahead of
+-- a conditional;
+-- where the last token is, if it is the word of a compound statement where a case may stand, too; the labels with names and the locals of
+-- the open routine; the code and the names of the source; the messages; what a directive asks of the reading; the names of
+-- routines that are to be replaced, whether those of the file at hand may be, and those of the files that wait, the inner files first;
+-- whether the
 -- routine at hand is passed over for that; the array whose entries are read, and where they go if its header had an error; whether the
 -- values that are read are those of the property `name`, and whether the open routine is a value of a property.
 pub record Compilation : Type 0 where
@@ -167,7 +171,12 @@ laid first code w = record w { output = code (record w.output { first = first })
 -- Code begins with the first unit that is finished.
 abbrev pub begun_at : FileNames → Place → Compilation → Compilation
 begun_at files first w =
-    let o = begun w.output in record w { output = o; most_labels = max w.most_labels (labels_of o.code); report = with_full files first (full o) w.report }
+    let o = begun w.output in record w {
+      output = o;
+      most_labels = max w.most_labels (labels_of o.code);
+      report = with_full files first
+          (full o) w.report;
+    }
 
 -- a message at a place ends the compilation, if there is a place; and else the tokens of the expression are counted
 abbrev pub stopped : FileNames → Option Place → Compilation → Compilation
@@ -275,10 +284,16 @@ passed has_last w = record w { unit = over has_last w.unit }
 -- is free, and its locals. Z-Machine Standard 1.1, section 5.2.
 abbrev pub opened_with : FileNames → Place → Headed → Bool → Compilation → Compilation
 opened_with files first h is_lost w =
-    unit_ended files first true None (record w { output = opened (length h.locals) is_lost w.output; locals = h.locals; constructs = []; labels = [] })
+    unit_ended files first true None (record w {
+      output = opened (length h.locals) is_lost w.output;
+      locals = h.locals;
+      constructs = [];
+      labels = [];
+    })
 
 abbrev pub routine_declared : Name → Compilation → Compilation
-routine_declared name w = record w { output = declared name.bytes name.place (meaning.Routine (place_behind w.output.code.finished)) w.output }
+routine_declared name w =
+    record w { output = declared name.bytes name.place (meaning.Routine (place_behind w.output.code.finished)) w.output }
 
 abbrev pub told : FileNames → Place → Option Diagnostic → Compilation → Compilation
 told files first blame w = record w { report = with_fault files first blame w.report }
@@ -315,10 +330,12 @@ abbrev pub with_all_unused : FileNames → Place → List Local → Reported →
 with_all_unused files place [] r = r
 with_all_unused files place (l ∷ locals) r = with_all_unused files place locals (with_unused files place l r)
 
--- What is wrong with the labels or offsets of a routine: a label that is used and not given, or a branch that goes too far. A label without a name is missing
+-- What is wrong with the labels or offsets of a routine: a label that is used and not given, or a branch that goes too far. A label without
+-- a name is missing
 -- only where a limit was passed before its place was laid, which is told by itself.
 abbrev pub with_branch_fault : FileNames → Place → Option CloseFault → Reported → Reported
-with_branch_fault files place (Some (close_fault.LabelTwice label)) r = with_error (location files place) (location files place) BranchTooFar r
+with_branch_fault files place (Some (close_fault.LabelTwice label)) r =
+    with_error (location files place) (location files place) BranchTooFar r
 with_branch_fault files place (Some close_fault.TooFar) r = with_error (location files place) (location files place) BranchTooFar r
 with_branch_fault files place _ r = r
 
@@ -433,7 +450,8 @@ constant_with files first name m found w = constant_declared files first name m 
 abbrev pub constant : FileNames → Place → List Name → Compilation → Compilation
 constant files first [] w = passed true w
 constant files first (name ∷ names) w =
-    constant_with files first name (constant_of (map tree_in (trees_at 0 wanted.Constant (operands_of w) w)) w) (finding_at 0 wanted.Constant w) w
+    constant_with files first name (constant_of (map tree_in (trees_at 0 wanted.Constant (operands_of w) w)) w)
+    (finding_at 0 wanted.Constant w) w
 
 -- The routine of a name is to be replaced where it stands in a file that is marked. That is a use of the name.
 abbrev pub used_name : Name → Table Place → Table Place
@@ -478,7 +496,8 @@ new_stub files first [] w = passed true w
 new_stub files first (name ∷ names) w = stubbed files first (routine_declared name w)
 
 abbrev pub stub : FileNames → Place → List Name → Compilation → Compilation
-stub files first names w = if is_first_declared names w.output.names then unit_ended files first true None w else new_stub files first names w
+stub files first names w =
+    if is_first_declared names w.output.names then unit_ended files first true None w else new_stub files first names w
 
 -- Files
 

@@ -1,4 +1,5 @@
--- What stands in the bodies of objects and classes, unit by unit: classes, attributes and properties. Designer's Manual, fourth edition, sections 3.1 to 3.8.
+-- What stands in the bodies of objects and classes, unit by unit: classes, attributes and properties. Designer's Manual, fourth edition,
+-- sections 3.1 to 3.8.
 use Rattle.std.specs.Prelude.{ℕ, ◌+◌, ◌-◌, ◌%◌, ◌==◌, List, length, Bool, true, false, not, Option, Some, None}
 use Rattle.inf_area.specs.declared.targets.Value.{Value}
 use Rattle.inf_expressions.specs.declared.findings.Finding.{Finding}
@@ -76,7 +77,8 @@ attribute_finding (Some number) at = None
 
 abbrev pub attribute_read_by : FileNames → Place → ℕ → Option ℕ → Compilation → Compilation
 attribute_read_by files first at number w =
-    entry_told files first (attribute_finding number at) (record w { output = attribute_set_some number (is_given w.unit.tokens at) w.output })
+    entry_told files first (attribute_finding number at)
+    (record w { output = attribute_set_some number (is_given w.unit.tokens at) w.output })
 
 abbrev pub attribute_read : FileNames → Place → Compilation → Compilation
 attribute_read files place w =
@@ -123,7 +125,8 @@ abbrev pub individual_named : Option Name → ℕ → Option Value → Code
 individual_named name number v o = property_given number v (individual_declared name number o)
 
 abbrev pub individual_given_by : Option AddFault → Option Name → Option Value → Code
-individual_given_by None name v o = individual_named name (64 + o.tables.world.individuals) v (with_world (with_individual o.tables.world) o)
+individual_given_by None name v o =
+    individual_named name (64 + o.tables.world.individuals) v (with_world (with_individual o.tables.world) o)
 individual_given_by (Some f) name v o = o
 
 abbrev pub individual_given : Option Name → Option Value → Code

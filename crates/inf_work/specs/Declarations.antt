@@ -83,7 +83,8 @@ declaration_blame tokens first kind of_name (Some f) =
 abbrev pub name_known_by : Found Place → FileNames → Name → ℕ → Bool → Compilation → Declared
 name_known_by f files name order are_many w = record {
   found = f;
-  finding = declared_finding order (name_fault files name (standing_fault f)) (is_late f (names_itself w.unit.tokens name.bytes w.unit.gathering.leaves)) are_many;
+  finding = declared_finding order (name_fault files name (standing_fault f))
+      (is_late f (names_itself w.unit.tokens name.bytes w.unit.gathering.leaves)) are_many;
 }
 
 abbrev pub name_known : FileNames → Name → ℕ → Bool → Compilation → Declared
@@ -105,7 +106,8 @@ plainly_known files name order w = plainly_known_by (found_in name.bytes w.outpu
 -- The end of a declaration, or of the header of one, that begins at a place
 abbrev pub declared_ended : FileNames → Place → Bool → Name → FixedLimit → Declared → Compilation → Compilation
 declared_ended files first has_last name kind d w =
-    unit_ended files first has_last (declaration_blame w.unit.tokens first kind (name_fault files name (standing_fault d.found)) d.finding) w
+    unit_ended files first has_last (declaration_blame w.unit.tokens first kind (name_fault files name (standing_fault d.found)) d.finding)
+    w
 
 abbrev pub declaration_ended : FileNames → Place → Name → FixedLimit → Declared → Compilation → Compilation
 declaration_ended files first name kind d w = declared_ended files first true name kind d w
@@ -258,7 +260,8 @@ property_with files first is_additive name w =
 abbrev pub property_named : FileNames → Place → Bool → List Name → Compilation → Compilation
 property_named files first is_additive [] w = passed true w
 property_named files first is_additive (name ∷ names) w =
-    if is_alias names w.unit.gathering.leaves then alias_told files first name (property_order w.unit.tokens is_additive) countable.Properties w
+    if is_alias names w.unit.gathering.leaves then alias_told files first name (property_order w.unit.tokens is_additive)
+    countable.Properties w
     else property_with files first is_additive name w
 
 -- the word `additive` before its name is no name

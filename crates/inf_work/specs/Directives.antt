@@ -13,7 +13,8 @@ use Rattle.inf_work.specs.Verbs.{fake_action}
 
 -- a constant, unless its name is declared
 abbrev pub default : FileNames → Place → List Name → Compilation → Compilation
-default files first names w = if is_first_declared names w.output.names then unit_ended files first true None w else constant files first names w
+default files first names w =
+    if is_first_declared names w.output.names then unit_ended files first true None w else constant files first names w
 
 abbrev pub carried_out : Directive → FileNames → Place → List Name → Compilation → Compilation
 carried_out directive.Include files first names w = passed true (record w { asked = Include (quoted_in w.unit.tokens) first })

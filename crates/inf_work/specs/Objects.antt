@@ -182,7 +182,8 @@ class_lost name o = declared name.bytes name.place (meaning.Class 0) (lost_begun
 
 abbrev pub class_begun_by : Option AddFault → List ℕ → Name → Code
 class_begun_by None short name o =
-    declared name.bytes name.place (meaning.Class ((5 + length o.tables.world.objects) % 65536)) (with_world (with_class_header short o.tables.world) o)
+    declared name.bytes name.place (meaning.Class ((5 + length o.tables.world.objects) % 65536))
+    (with_world (with_class_header short o.tables.world) o)
 class_begun_by (Some f) short name o = noted f o
 
 abbrev pub class_begun : List ℕ → Name → Code
@@ -279,7 +280,8 @@ abbrev pub object_begun : Parent → List ℕ → Option ℕ → Option Name →
 object_begun p short class name o = object_begun_by (object_header_fault p short o.tables.world) p short class name o
 
 abbrev pub object_new : Header → Option Name → Compilation → Compilation
-object_new h name w = record w { output = object_begun (parent_in h.parent h.arrows w) (short_name h name w) (class_of_word w) name w.output }
+object_new h name w =
+    record w { output = object_begun (parent_in h.parent h.arrows w) (short_name h name w) (class_of_word w) name w.output }
 
 abbrev pub object_opened : Option Finding → Header → Option Name → Compilation → Compilation
 object_opened None h name w = object_new h name w

@@ -48,7 +48,8 @@ place_of _ place w = own_place w.unit place
 
 -- what a statement goes by beside its trees, and what it is
 abbrev pub site_of : Compilation → Site
-site_of w = record { set = w.set; tokens = w.unit.tokens; begun = w.unit.begun; items = w.unit.items; locals = w.locals; constructs = w.constructs }
+site_of w =
+    record { set = w.set; tokens = w.unit.tokens; begun = w.unit.begun; items = w.unit.items; locals = w.locals; constructs = w.constructs }
 
 abbrev pub statement_at : Compilation → Statement
 statement_at w = statement_in w.unit.tokens w.unit.begun w.unit.items

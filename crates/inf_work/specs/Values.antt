@@ -166,7 +166,8 @@ bracket_in tokens = bracket_from 0 tokens 0
 abbrev pub next_routine : Compilation → Value
 next_routine w = value.Later (target.Place area.Code (place_behind w.output.code.finished))
 
--- What is wrong with where it goes is told before what is wrong with its locals, but not before that there are too many of these, unless it is told of
+-- What is wrong with where it goes is told before what is wrong with its locals, but not before that there are too many of these, unless it
+-- is told of
 -- the first token.
 abbrev pub is_first : Finding → Headed → Bool
 is_first f h = not (f.number == 19) && h.are_too_many

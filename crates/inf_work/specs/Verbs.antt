@@ -1,4 +1,5 @@
--- The directives `Verb`, `Extend` and `Fake_action`, and line by line what stands in the first two. Designer's Manual, fourth edition, section 30.
+-- The directives `Verb`, `Extend` and `Fake_action`, and line by line what stands in the first two. Designer's Manual, fourth edition,
+-- section 30.
 use Rattle.std.specs.Prelude.{ℕ, zero, suc, ◌+◌, ◌-◌, ◌==◌, min, nat_le, nat_lt, List, [], ◌∷◌, ◌++◌, length, codes, Bool, true, false, not, ◌||◌, if◌then◌else◌, Option, Some, None, is_some, option_map}
 use Rattle.std.specs.Str.{str_eq_ignore_ascii_case}
 use Rattle.inf_dictionary.specs.Texts.{Text}
@@ -82,7 +83,8 @@ verb_ended files first found w = unit_ended files first false (verb_fault w.unit
 abbrev pub wrong_verb : ℕ → Finding
 wrong_verb at = record { order = order at; number = 22 }
 
--- The header of `Verb`: behind its word `meta` may stand, then there are words, and at its end `=` and a word may stand, whose verb gets more words.
+-- The header of `Verb`: behind its word `meta` may stand, then there are words, and at its end `=` and a word may stand, whose verb gets
+-- more words.
 abbrev pub words_from : ℕ → Bool → ℕ
 words_from order is_meta = if is_meta then order + 1 else order
 
@@ -102,7 +104,8 @@ head_with is_meta has_sign order count = record {
 
 abbrev pub verb_head : List SourceToken → VerbHead
 verb_head tokens =
-    head_with (is_name_in (kind_at tokens (name_order tokens))) (is_mark_at tokens (length tokens - 2) mark.Assign) (name_order tokens) (length tokens)
+    head_with (is_name_in (kind_at tokens (name_order tokens))) (is_mark_at tokens (length tokens - 2) mark.Assign) (name_order tokens)
+    (length tokens)
 
 -- What is wrong with it: the verb behind `=` is none, or there are 255 verbs; or a word is one of a verb's already, or stands there twice.
 abbrev pub verb_by : Option DictionaryWord → Out → Option ℕ
@@ -156,7 +159,8 @@ verb_passed limit o = (passed_table limit o, record { words = Some 0; lines = No
 
 abbrev pub new_verb_by : Option VerbFault → Out → Out × Opened
 new_verb_by None o =
-    let number = length o.tables.verbs.list in (with_verbs (with_verb o.tables.verbs) o, record { words = Some number; lines = Some number })
+    let number =
+    length o.tables.verbs.list in (with_verbs (with_verb o.tables.verbs) o, record { words = Some number; lines = Some number })
 new_verb_by (Some refused.TooMany) o = (o, record { words = None; lines = None })
 new_verb_by (Some refused.Full) o = verb_passed setting.Verbs o
 new_verb_by (Some refused.NoSpace) o = verb_passed setting.GrammarLines o

@@ -194,7 +194,8 @@ impl Compilation {
     /// Tells the text of the unit, by the weight that its names say.
     fn message(&mut self, files: &Stack, first: Place, names: &[Name]) -> Result<(), AllocError>
         ensures { let before = work self.old in OnOk result (work self.new ≡ record before {
-          report = with_words (location files.now.names first) (weight_of (map as_name names.now)) (words_of before.set before.unit) before.report;
+          report = with_words (location files.now.names first) (weight_of (map as_name names.now)) (words_of before.set before.unit)
+              before.report;
         }) }
     {
         let words = OwnWords {
@@ -205,7 +206,8 @@ impl Compilation {
             .words(location(files, first), weight_of(names), words)
     }
 
-    /// What a constant stands for, by the tree of its expression: a known number, 0 where it has none, a string, a word, or what a name stands for
+    /// What a constant stands for, by the tree of its expression: a known number, 0 where it has none, a string, a word, or what a name
+    /// stands for
     /// that was declared before.
     fn constant_of(&self, forest: &Forest) -> Option<Meaning>
         ensures { result ≡ constant_of (map tree_in (rooted_in forest.now)) (work self.now) }

@@ -175,7 +175,8 @@ pub(crate) fn is_told(blame: &Option<Diagnostic<'_>>) -> bool
     }
 }
 
-/// Tells, at a place, what is wrong with the labels or offsets of a routine, if anything is. A label without a name is missing only where a limit
+/// Tells, at a place, what is wrong with the labels or offsets of a routine, if anything is. A label without a name is missing only where a
+/// limit
 /// was passed before its place was laid.
 fn tell_fault(
     fault: Option<CloseFault>,

@@ -262,7 +262,8 @@ impl Compilation {
         self.check_token(files, token)
     }
 
-    /// A bad token cuts the unit at hand, of which the outermost expression surely was one, and the word before it opened its statement. The routine in
+    /// A bad token cuts the unit at hand, of which the outermost expression surely was one, and the word before it opened its statement.
+    /// The routine in
     /// which it stands is given up.
     pub fn cut(&mut self, files: &Stack) -> Result<(), AllocError>
         ensures { OnOk result (work self.new ≡ cut files.now.names (work self.old)) }

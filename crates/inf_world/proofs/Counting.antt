@@ -29,11 +29,14 @@ nothing_sum f (p ∷ ps) none = omega (arith, sum_by-cons f p ps, none p, nothin
 -- what belongs to nothing needs nothing
 pub nothing_bytes : (ps : List Property) → table_bytes owner.Nothing ps ≡ 0
 nothing_bytes ps =
-    ap (λ n. (with_table (record { bytes = n; fixups = fixups_of owner.Nothing ps; individuals = individuals_of owner.Nothing ps })).bytes) (nothing_sum (λ p. (size_of owner.Nothing p).bytes) ps (λ p. refl))
-    ∙ ap (λ n. (with_table (record { bytes = 0; fixups = fixups_of owner.Nothing ps; individuals = n })).bytes) (nothing_sum (λ p. (size_of owner.Nothing p).individuals) ps (λ p. refl))
+    ap (λ n. (with_table (record { bytes = n; fixups = fixups_of owner.Nothing ps; individuals = individuals_of owner.Nothing ps })).bytes)
+    (nothing_sum (λ p. (size_of owner.Nothing p).bytes) ps (λ p. refl))
+    ∙ ap (λ n. (with_table (record { bytes = 0; fixups = fixups_of owner.Nothing ps; individuals = n })).bytes)
+    (nothing_sum (λ p. (size_of owner.Nothing p).individuals) ps (λ p. refl))
 
 -- as it is told of the world
-pub refused_as : (found : Option GiveFault) (f : GiveFault) → class_refused found f → IsRefused (option_map given_fault found) (given_fault f)
+pub refused_as : (found : Option GiveFault) (f : GiveFault) → class_refused found f →
+    IsRefused (option_map given_fault found) (given_fault f)
 refused_as found given.Given h = ap (option_map given_fault) h
 refused_as found given.TooLong h = ap (option_map given_fault) h
 refused_as found given.Full h = ap (option_map given_fault) h
@@ -42,7 +45,8 @@ refused_as found given.Memory h = tt
 few_in : (s : Size) → s.fixups ≤ s.bytes → (with_table s).fixups ≤ (with_table s).bytes
 few_in s h = go (nat_lt 0 s.individuals)
   where
-    go : (b : Bool) → (if b then record s { bytes = s.bytes + 5; fixups = s.fixups + 1 } else s).fixups ≤ (if b then record s { bytes = s.bytes + 5; fixups = s.fixups + 1 } else s).bytes
+    go : (b : Bool) → (if b then record s { bytes = s.bytes + 5; fixups = s.fixups + 1 } else s).fixups ≤
+        (if b then record s { bytes = s.bytes + 5; fixups = s.fixups + 1 } else s).bytes
     go true = omega (arith, h)
     go false = h
 
@@ -52,13 +56,15 @@ head_few owner.Class n k = omega arith
 head_few owner.Nothing n k = omega arith
 
 object_few : (o : Object) → object_fixups o ≤ object_bytes o
-object_few o = omega (arith, head_few o.owner (length o.name) (length o.classes), few_in (total o.owner o.properties) (few o.owner o.properties).0)
+object_few o =
+    omega (arith, head_few o.owner (length o.name) (length o.classes), few_in (total o.owner o.properties) (few o.owner o.properties).0)
 
 parents-more : (most more : ℕ) (objects : List Object) → most ≤ more → AreHung most objects → AreHung more objects
 parents-more most more [] h k = tt
 parents-more most more (o ∷ objects) h k = (omega (arith, h, k.0), k.1, parents-more most more objects h k.2)
 
-parents-push : (most : ℕ) (objects : List Object) (o : Object) → AreHung most objects → o.parent ≤ most → is_lost o.owner ≡ false → AreHung most (objects ++ o ∷ [])
+parents-push : (most : ℕ) (objects : List Object) (o : Object) → AreHung most objects → o.parent ≤ most → is_lost o.owner ≡ false →
+    AreHung most (objects ++ o ∷ [])
 parents-push most [] o h k l = (k, l, tt)
 parents-push most (p ∷ objects) o h k l = (h.0, h.1, parents-push most objects o h.2 k l)
 
@@ -83,10 +89,13 @@ ends w latest new bytes fixups h e later =
       bytes_are = omega (arith, h.bytes_are, sum);
       fixups_are = omega (arith, h.fixups_are, sums);
       few_fixups = omega (arith, h.few_fixups, object_few o);
-      latest_are = λ arrows. later arrows ∙ ap (or_latest (told arrows (5 + length w.objects) o)) (h.latest_are arrows) ∙ sym (latest-push arrows w.objects o);
+      latest_are =
+          λ arrows. later arrows ∙ ap (or_latest (told arrows (5 + length w.objects) o)) (h.latest_are arrows)
+          ∙ sym (latest-push arrows w.objects o);
       arrows_within = omega arith;
       parents_within = parents-push (4 + length (w.objects ++ o ∷ [])) w.objects o
-          (parents-more (4 + length w.objects) (4 + length (w.objects ++ o ∷ [])) w.objects (omega (arith, count)) h.parents_within) (omega (arith, count, h.parent_within)) e;
+          (parents-more (4 + length w.objects) (4 + length (w.objects ++ o ∷ [])) w.objects (omega (arith, count)) h.parents_within)
+          (omega (arith, count, h.parent_within)) e;
       parent_within = omega arith;
       bytes_within = omega (arith, h.bytes_within, sum);
       count_within = omega (arith, h.count_within, count, one_open w.body.properties.owner e);
@@ -96,20 +105,24 @@ ends w latest new bytes fixups h e later =
     }
 
 -- a fault that came through a `?`
-pub told_by : (r : Result (Unit {0}) AddFault) (P : Unit {0} → Type 0) (Q : AddFault → Type 0) (g : AddFault) → IsErrAnd r (λ f. f ≡ g) → Q g → MatchResult r P Q
+pub told_by : (r : Result (Unit {0}) AddFault) (P : Unit {0} → Type 0) (Q : AddFault → Type 0) (g : AddFault) → IsErrAnd r (λ f. f ≡ g) →
+    Q g → MatchResult r P Q
 told_by (Ok u) P Q g h q = absurd h
 told_by (Err f) P Q g h q = subst Q (sym h) q
 
 -- why a class is refused that is there
-pub class_fault_is : (w : WorldOf) (number : ℕ) (class : Object) → w.is_open ≡ true → (number ≡ 0 → ⊥) → class_at number w.objects ≡ Some class
+pub class_fault_is : (w : WorldOf) (number : ℕ) (class : Object) → w.is_open ≡ true → (number ≡ 0 → ⊥) →
+    class_at number w.objects ≡ Some class
     → class_of_fault number w ≡ option_map given_fault (join_fault number class (room_beside w) w.body)
 class_fault_is w number class e some is =
-    ap (λ (b : Bool). if b then (if number == 0 then None else class_by_fault (class_at number w.objects) number w) else Some (fault.Misfit misfit.NoBody)) e
+    ap (λ (b : Bool). if b then (if number == 0 then None else class_by_fault (class_at number w.objects) number w) else Some
+    (fault.Misfit misfit.NoBody)) e
     ∙ ap (λ (b : Bool). if b then None else class_by_fault (class_at number w.objects) number w) (ne_eqb number 0 some)
     ∙ ap (λ o. class_by_fault o number w) is
 
 -- a body that belongs to nothing has other properties
-pub lost_stays : (w : WorldOf) (o : Open) (latest : List ℕ) (bytes fixups : ℕ) → IsWorld w latest bytes fixups → w.body.properties.owner ≡ owner.Nothing → o.owner ≡ owner.Nothing
+pub lost_stays : (w : WorldOf) (o : Open) (latest : List ℕ) (bytes fixups : ℕ) → IsWorld w latest bytes fixups →
+    w.body.properties.owner ≡ owner.Nothing → o.owner ≡ owner.Nothing
     → IsWorld (with_properties o w) latest bytes fixups
 lost_stays w o latest bytes fixups h e f =
     let table = ap (λ x. table_bytes x (all o)) f ∙ nothing_bytes (all o) in

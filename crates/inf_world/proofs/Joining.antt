@@ -21,24 +21,28 @@ use Rattle.inf_world.specs.declared.kinds.Declared.{Declared}
 
 pub values-append : (xs ys : List Value) → values_cells (xs ++ ys) ≡ values_cells xs ++ values_cells ys
 values-append [] ys = refl
-values-append (x ∷ xs) ys = ap (λ cs. value_cells x ++ cs) (values-append xs ys) ∙ sym (append_assoc (value_cells x) (values_cells xs) (values_cells ys))
+values-append (x ∷ xs) ys =
+    ap (λ cs. value_cells x ++ cs) (values-append xs ys) ∙ sym (append_assoc (value_cells x) (values_cells xs) (values_cells ys))
 
 pub class_values-append : (xs ys : List ℕ) → class_values (xs ++ ys) ≡ class_values xs ++ class_values ys
 class_values-append [] ys = refl
 class_values-append (x ∷ xs) ys = ap (λ vs. value.Known (x % 65536) ∷ vs) (class_values-append xs ys)
 
-pub tables-append : (part : ℕ) (xs ys : List Object) → tables_from part (xs ++ ys) ≡ tables_from part xs ++ tables_from (part + length xs) ys
+pub tables-append : (part : ℕ) (xs ys : List Object) →
+    tables_from part (xs ++ ys) ≡ tables_from part xs ++ tables_from (part + length xs) ys
 tables-append part [] ys = let here : part ≡ part + 0 = omega arith in ap (λ n. tables_from n ys) here
 tables-append part (x ∷ xs) ys =
     let there : part + 1 + length xs ≡ part + length (x ∷ xs) = omega arith in
     ap (λ cs. table_cells part x ++ cs) (tables-append (part + 1) xs ys ∙ ap (λ n. tables_from (part + 1) xs ++ tables_from n ys) there)
     ∙ sym (append_assoc (table_cells part x) (tables_from (part + 1) xs) (tables_from (part + length (x ∷ xs)) ys))
 
-pub entries-append : (links : List Link) (part : ℕ) (xs ys : List Object) → entries_by links part (xs ++ ys) ≡ entries_by links part xs ++ entries_by links (part + length xs) ys
+pub entries-append : (links : List Link) (part : ℕ) (xs ys : List Object) →
+    entries_by links part (xs ++ ys) ≡ entries_by links part xs ++ entries_by links (part + length xs) ys
 entries-append links part [] ys = let here : part ≡ part + 0 = omega arith in ap (λ n. entries_by links n ys) here
 entries-append links part (x ∷ xs) ys =
     let there : part + 1 + length xs ≡ part + length (x ∷ xs) = omega arith in
-    ap (λ cs. object_by links part x ++ cs) (entries-append links (part + 1) xs ys ∙ ap (λ n. entries_by links (part + 1) xs ++ entries_by links n ys) there)
+    ap (λ cs. object_by links part x ++ cs) (entries-append links (part + 1) xs ys ∙ ap
+    (λ n. entries_by links (part + 1) xs ++ entries_by links n ys) there)
     ∙ sym (append_assoc (object_by links part x) (entries_by links (part + 1) xs) (entries_by links (part + length (x ∷ xs)) ys))
 
 -- the first four objects
@@ -50,9 +54,11 @@ pub all_tables : (objects : List Object) → tables_from 0 (all_objects objects)
 unfolding first_names
 all_tables objects = tables-append 0 first_objects objects ∙ ap (λ n. tables_from 0 first_objects ++ tables_from n objects) first_count
 
-pub all_entries : (links : List Link) (objects : List Object) → entries_by links 0 (all_objects objects) ≡ entries_by links 0 first_objects ++ entries_by links 4 objects
+pub all_entries : (links : List Link) (objects : List Object) →
+    entries_by links 0 (all_objects objects) ≡ entries_by links 0 first_objects ++ entries_by links 4 objects
 unfolding first_names
-all_entries links objects = entries-append links 0 first_objects objects ∙ ap (λ n. entries_by links 0 first_objects ++ entries_by links n objects) first_count
+all_entries links objects =
+    entries-append links 0 first_objects objects ∙ ap (λ n. entries_by links 0 first_objects ++ entries_by links n objects) first_count
 
 pub first_parents : (objects : List Object) → parents_of (all_objects objects) ≡ 0 ∷ 0 ∷ 0 ∷ 0 ∷ parents_of objects
 unfolding first_names
@@ -66,16 +72,19 @@ pub all_individual : (objects : List Object) → individual_tables (all_objects 
 unfolding first_names
 all_individual objects = refl
 
-pub all_individual_places : (objects : List Object) → individual_places_from 0 (all_objects objects) ≡ 0 ∷ 0 ∷ 0 ∷ 0 ∷ individual_places_from 0 objects
+pub all_individual_places : (objects : List Object) →
+    individual_places_from 0 (all_objects objects) ≡ 0 ∷ 0 ∷ 0 ∷ 0 ∷ individual_places_from 0 objects
 unfolding first_names
 all_individual_places objects = refl
 
-pub all_table_places : (objects : List Object) → table_places_from 0 0 (all_objects objects) ≡ 0 ∷ 6 ∷ 14 ∷ 22 ∷ table_places_from 30 4 objects
+pub all_table_places : (objects : List Object) →
+    table_places_from 0 0 (all_objects objects) ≡ 0 ∷ 6 ∷ 14 ∷ 22 ∷ table_places_from 30 4 objects
 unfolding first_names all_falling
 all_table_places objects = refl
 
 pub first_tables : tables_from 0 first_objects
-    ≡ bare_cells (17 ∷ 17 ∷ 155 ∷ 24 ∷ []) ++ bare_cells (18 ∷ 135 ∷ 61 ∷ 72 ∷ 228 ∷ 165 ∷ []) ++ bare_cells (18 ∷ 244 ∷ 107 ∷ 46 ∷ 205 ∷ 69 ∷ [])
+    ≡ bare_cells (17 ∷ 17 ∷ 155 ∷ 24 ∷ []) ++ bare_cells (18 ∷ 135 ∷ 61 ∷ 72 ∷ 228 ∷ 165 ∷ []) ++ bare_cells
+    (18 ∷ 244 ∷ 107 ∷ 46 ∷ 205 ∷ 69 ∷ [])
     ++ bare_cells (19 ∷ 25 ∷ 93 ∷ 211 ∷ 176 ∷ 165 ∷ [])
 unfolding first_names all_falling
 first_tables = refl
@@ -101,7 +110,8 @@ pub entries_are : (parents : List ℕ) (part : ℕ) (objects : List Object) → 
     → entries_by (links_of parents) part objects ≡ objects_from parents part objects
 entries_are parents part [] h = refl
 entries_are parents part (o ∷ objects) h =
-    ap (λ (l : Link). entry_cells (shown_attributes o.owner o.attributes) o.parent l.sibling l.child part ++ entries_by (links_of parents) (part + 1) objects)
+    ap (λ (l : Link). entry_cells (shown_attributes o.owner o.attributes) o.parent l.sibling l.child part ++ entries_by (links_of parents)
+    (part + 1) objects)
     (link_is parents part (omega (arith, h)))
     ∙ ap (λ cs. object_cells parents part o ++ cs) (entries_are parents (part + 1) objects (omega (arith, h)))
 
@@ -118,18 +128,32 @@ abbrev pub first_entry : List Link → ℕ → List Cell
 first_entry links n = entry_cells no_attributes 0 (link_at links n).sibling (link_at links n).child n
 
 pub four_entries : (links : List Link) (z : List Cell)
-    → (((z ++ first_entry links 0) ++ first_entry links 1) ++ first_entry links 2) ++ first_entry links 3 ≡ z ++ entries_by links 0 first_objects
+    → (((z ++ first_entry links 0) ++ first_entry links 1) ++ first_entry links 2) ++ first_entry links 3 ≡ z ++ entries_by links 0
+    first_objects
 unfolding first_names no_attributes
 four_entries links z = four z (first_entry links 0) (first_entry links 1) (first_entry links 2) (first_entry links 3)
 
 pub four_and_more : (objects : List Object) → length (parents_of (all_objects objects)) ≡ 4 + length objects
 four_and_more objects = ap length (first_parents objects) ∙ omega (arith, length-parents objects)
 
-pub hung_links : (objects : List Object) (parents : List ℕ) → AreHung (4 + length objects) objects → parents ≡ parents_of (all_objects objects) → AreWithin (length parents) parents
+pub hung_links : (objects : List Object) (parents : List ℕ) → AreHung (4 + length objects) objects →
+    parents ≡ parents_of (all_objects objects) → AreWithin (length parents) parents
 hung_links objects parents h is =
     let count : length parents ≡ 4 + length objects = ap length is ∙ four_and_more objects in
-    subst (λ ps. AreWithin (length parents) ps) (sym (is ∙ first_parents objects))
-    (omega arith, (omega arith, (omega arith, (omega arith, subst (λ n. AreWithin n (parents_of objects)) (sym count) (hung_within (4 + length objects) objects h)))))
+    subst (λ ps. AreWithin (length parents) ps) (sym (is ∙ first_parents objects)) (
+      omega arith,
+      (
+        omega arith,
+        (
+          omega arith,
+          (
+            omega arith,
+            subst (λ n. AreWithin n (parents_of objects)) (sym count)
+                (hung_within (4 + length objects) objects h),
+          ),
+        ),
+      ),
+    )
 
 pub length-links : (parents : List ℕ) → length (links_of parents) ≡ length parents
 length-links parents = each_count 1 (length parents)
@@ -138,12 +162,15 @@ length-links parents = each_count 1 (length parents)
     each_count first zero = refl
     each_count first (suc count) = omega (arith, each_count (first + 1) count)
 
-pub enough_links : (objects : List Object) (parents : List ℕ) (links : List Link) → parents ≡ parents_of (all_objects objects) → links ≡ links_of parents
+pub enough_links : (objects : List Object) (parents : List ℕ) (links : List Link) → parents ≡ parents_of (all_objects objects) →
+    links ≡ links_of parents
     → length links ≡ 4 + length objects
 enough_links objects parents links is made = ap length made ∙ length-links parents ∙ ap length is ∙ four_and_more objects
 
-pub all_written : (objects : List Object) (parents : List ℕ) (links : List Link) (cells : List Cell) → parents ≡ parents_of (all_objects objects) → links ≡ links_of parents
-    → cells ≡ entries_by links 0 first_objects ++ entries_by links 4 objects → cells ≡ objects_from (parents_of (all_objects objects)) 0 (all_objects objects)
+pub all_written : (objects : List Object) (parents : List ℕ) (links : List Link) (cells : List Cell) →
+    parents ≡ parents_of (all_objects objects) → links ≡ links_of parents
+    → cells ≡ entries_by links 0 first_objects ++ entries_by links 4 objects → cells ≡ objects_from (parents_of (all_objects objects)) 0
+    (all_objects objects)
 all_written objects parents links cells is made written =
     let all = parents_of (all_objects objects) in
     let joined = written ∙ sym (all_entries links objects) in
@@ -167,7 +194,8 @@ individual_end cells objects i h is =
     sym (and_nothing cells) ∙ ap (λ os. cells ++ individual_tables os) (sym (nothing_left i objects h)) ∙ is ∙ sym (all_individual objects)
 
 -- the defaults
-pub defaults_joined : (ds : List Declared) → (values_cells (replicate 3 (value.Known 0)) ++ values_cells (map (λ (d : Declared). d.default) ds))
+pub defaults_joined : (ds : List Declared) →
+    (values_cells (replicate 3 (value.Known 0)) ++ values_cells (map (λ (d : Declared). d.default) ds))
     ++ values_cells (replicate (60 - length ds) (value.Known 0)) ≡ values_cells (all_defaults ds)
 defaults_joined ds =
     let own = map (λ (d : Declared). d.default) ds in
@@ -185,7 +213,8 @@ entry_later attributes parent sibling child part =
     let address = cell.Later (target.Part area_name.PropertyTables part) ∷ [] in
     omega (
       arith,
-      later_joined (attribute_cells attributes ++ word_cells (parent % 65536) ++ word_cells (sibling % 65536) ++ word_cells (child % 65536)) address,
+      later_joined (attribute_cells attributes ++ word_cells (parent % 65536) ++ word_cells (sibling % 65536) ++ word_cells (child % 65536))
+          address,
       later_joined (attribute_cells attributes ++ word_cells (parent % 65536) ++ word_cells (sibling % 65536)) (word_cells (child % 65536)),
       later_joined (attribute_cells attributes ++ word_cells (parent % 65536)) (word_cells (sibling % 65536)),
       later_joined (attribute_cells attributes) (word_cells (parent % 65536)),
@@ -211,7 +240,8 @@ classes_known [] = refl
 classes_known (n ∷ ns) = classes_known ns
 
 pub classes_later : (ns : List ℕ) → later_count (values_cells (class_values ns) ++ word_cells 0) ≡ 0
-classes_later ns = later_joined (values_cells (class_values ns)) (word_cells 0) ∙ omega (arith, values_laters (class_values ns), classes_known ns)
+classes_later ns =
+    later_joined (values_cells (class_values ns)) (word_cells 0) ∙ omega (arith, values_laters (class_values ns), classes_known ns)
 
 laters-append : (xs ys : List Value) → values_later (xs ++ ys) ≡ values_later xs + values_later ys
 laters-append [] ys = omega arith
@@ -237,16 +267,29 @@ all_defaults_later ds =
     let front = replicate 3 (value.Known 0) in
     let rest = replicate (60 - length ds) (value.Known 0) in
     values_laters (all_defaults ds)
-    ∙ omega (arith, laters-append (front ++ own) rest, laters-append front own, zeros_known 3, zeros_known (60 - length ds), defaults_later ds)
+    ∙ omega (
+      arith,
+      laters-append (front ++ own) rest,
+      laters-append front own,
+      zeros_known 3,
+      zeros_known (60 - length ds),
+      defaults_later
+          ds,
+    )
 
 -- of all objects
-pub all_objects_later : (parents : List ℕ) (objects : List Object) → later_count (objects_from parents 0 (all_objects objects)) ≡ 4 + length objects
+pub all_objects_later : (parents : List ℕ) (objects : List Object) →
+    later_count (objects_from parents 0 (all_objects objects)) ≡ 4 + length objects
 all_objects_later parents objects =
-    objects_later parents 0 (all_objects objects) ∙ omega (arith, ap length (first_parents objects), length-parents (all_objects objects), length-parents objects)
+    objects_later parents 0 (all_objects objects)
+    ∙ omega (arith, ap length (first_parents objects), length-parents (all_objects objects), length-parents objects)
 
-pub all_classes_later : (objects : List Object) → later_count (values_cells (class_values (class_numbers_from 1 (all_objects objects))) ++ word_cells 0) ≡ 0
+pub all_classes_later : (objects : List Object) →
+    later_count (values_cells (class_values (class_numbers_from 1 (all_objects objects))) ++ word_cells 0) ≡ 0
 all_classes_later objects = classes_later (class_numbers_from 1 (all_objects objects))
 
-pub all_bytes : (objects : List Object) → length (bytes_of (tables_from 0 (all_objects objects))) ≡ 30 + length (bytes_of (tables_from 4 objects))
+pub all_bytes : (objects : List Object) →
+    length (bytes_of (tables_from 0 (all_objects objects))) ≡ 30 + length (bytes_of (tables_from 4 objects))
 all_bytes objects =
-    ap (λ cs. length (bytes_of cs)) (all_tables objects) ∙ omega (arith, size_joined (tables_from 0 first_objects) (tables_from 4 objects), first_bytes)
+    ap (λ cs. length (bytes_of cs)) (all_tables objects)
+    ∙ omega (arith, size_joined (tables_from 0 first_objects) (tables_from 4 objects), first_bytes)

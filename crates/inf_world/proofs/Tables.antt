@@ -20,19 +20,22 @@ use Rattle.inf_world.specs.World.{AreHung}
 -- what an object counts
 abbrev pub Counts : Object → Measure → Type 0
 Counts o m =
-    (m.table.bytes + m.individual_table.bytes + held_by o.owner o ≡ object_bytes o) × (m.table.later + m.individual_table.later + 1 ≡ object_fixups o)
+    (m.table.bytes + m.individual_table.bytes + held_by o.owner o ≡ object_bytes o) ×
+    (m.table.later + m.individual_table.later + 1 ≡ object_fixups o)
 
 pub counts : (o : Object) (m : Measure) → is_lost o.owner ≡ false → CountedBy o.owner o m → Counts o m
 counts o m e h = go o.owner e h
   where
     go : (w : Owner) → is_lost w ≡ false → CountedBy w o m
-        → (m.table.bytes + m.individual_table.bytes + held_by w o ≡ object_bytes o) × (m.table.later + m.individual_table.later + 1 ≡ object_fixups o)
+        → (m.table.bytes + m.individual_table.bytes + held_by w o ≡ object_bytes o) ×
+        (m.table.later + m.individual_table.later + 1 ≡ object_fixups o)
     go owner.Object e h = (omega (arith, h.0), h.1)
     go owner.Class e h = h
     go owner.Nothing e h = cc
 
 -- one object of those that are left
-pub left_is : (objects : List Object) (i : ℕ) (o : Object) → i < length objects → o ≡ get_or objects i o → drop i objects ≡ o ∷ drop (i + 1) objects
+pub left_is : (objects : List Object) (i : ℕ) (o : Object) → i < length objects → o ≡ get_or objects i o →
+    drop i objects ≡ o ∷ drop (i + 1) objects
 left_is objects i o h is = drop_more objects i o h ∙ ap (λ p. p ∷ drop (i + 1) objects) (sym is)
 
 -- behind so many objects, what all have so far with what is left is what all have
@@ -40,18 +43,26 @@ pub record Left (most : ℕ) (objects : List Object) (i : ℕ) (all : Measure) :
   pub hung : AreHung most (drop i objects)
   pub table_bytes : all.table.bytes + length (bytes_of (tables_from (4 + i) (drop i objects))) ≡ length (bytes_of (tables_from 4 objects))
   pub table_later : all.table.later + later_count (tables_from (4 + i) (drop i objects)) ≡ later_count (tables_from 4 objects)
-  pub individual_bytes : all.individual_table.bytes + length (bytes_of (individual_tables (drop i objects))) ≡ length (bytes_of (individual_tables objects))
-  pub individual_later : all.individual_table.later + later_count (individual_tables (drop i objects)) ≡ later_count (individual_tables objects)
+  pub individual_bytes : all.individual_table.bytes + length (bytes_of (individual_tables (drop i objects))) ≡ length
+      (bytes_of (individual_tables objects))
+  pub individual_later : all.individual_table.later + later_count (individual_tables (drop i objects)) ≡ later_count
+      (individual_tables objects)
   pub within_bytes : all.table.bytes + all.individual_table.bytes + sum_by object_bytes (drop i objects) ≤ sum_by object_bytes objects
   pub within_later : all.table.later + all.individual_table.later + sum_by object_fixups (drop i objects) ≤ sum_by object_fixups objects
-  pub bytes : all.table.bytes + all.individual_table.bytes + held_bytes objects + sum_by object_bytes (drop i objects) ≡ sum_by object_bytes objects + held_bytes (drop i objects)
-  pub later : all.table.later + all.individual_table.later + length objects + sum_by object_fixups (drop i objects) ≡ sum_by object_fixups objects + length (drop i objects)
+  pub bytes : all.table.bytes + all.individual_table.bytes + held_bytes objects + sum_by object_bytes (drop i objects) ≡ sum_by object_bytes
+      objects + held_bytes (drop i objects)
+  pub later : all.table.later + all.individual_table.later + length objects + sum_by object_fixups (drop i objects) ≡ sum_by object_fixups
+      objects + length (drop i objects)
 
 -- with one object more
 abbrev pub with_measure : Measure → Measure → Measure
 with_measure all m = record {
   table = record { bytes = all.table.bytes + m.table.bytes; later = all.table.later + m.table.later };
-  individual_table = record { bytes = all.individual_table.bytes + m.individual_table.bytes; later = all.individual_table.later + m.individual_table.later };
+  individual_table = record {
+    bytes = all.individual_table.bytes + m.individual_table.bytes;
+    later = all.individual_table.later +
+        m.individual_table.later;
+  };
 }
 
 -- an object with how much is written of it
@@ -75,10 +86,38 @@ left_next most objects i o all m h is left told =
     let held = ap held_bytes here ∙ sum_by-cons (λ (p : Object). held_by p.owner p) o rest in
     record {
       hung = (subst (AreHung most) here left.hung).2;
-      table_bytes = omega (arith, left.table_bytes, told.table_bytes, ap (λ cs. length (bytes_of cs)) tables, size_joined (table_cells (4 + i) o) (tables_from (4 + (i + 1)) rest));
-      table_later = omega (arith, left.table_later, told.table_later, ap later_count tables, later_joined (table_cells (4 + i) o) (tables_from (4 + (i + 1)) rest));
-      individual_bytes = omega (arith, left.individual_bytes, told.individual_bytes, ap (λ cs. length (bytes_of cs)) individual, size_joined (individual_table_cells o) (individual_tables rest));
-      individual_later = omega (arith, left.individual_later, told.individual_later, ap later_count individual, later_joined (individual_table_cells o) (individual_tables rest));
+      table_bytes = omega (
+        arith,
+        left.table_bytes,
+        told.table_bytes,
+        ap (λ cs. length (bytes_of cs)) tables,
+        size_joined
+            (table_cells (4 + i) o) (tables_from (4 + (i + 1)) rest),
+      );
+      table_later = omega (
+        arith,
+        left.table_later,
+        told.table_later,
+        ap later_count tables,
+        later_joined (table_cells (4 + i) o)
+            (tables_from (4 + (i + 1)) rest),
+      );
+      individual_bytes = omega (
+        arith,
+        left.individual_bytes,
+        told.individual_bytes,
+        ap (λ cs. length (bytes_of cs)) individual,
+        size_joined
+            (individual_table_cells o) (individual_tables rest),
+      );
+      individual_later = omega (
+        arith,
+        left.individual_later,
+        told.individual_later,
+        ap later_count individual,
+        later_joined
+            (individual_table_cells o) (individual_tables rest),
+      );
       within_bytes = omega (arith, left.within_bytes, bytes, told.counts.0);
       within_later = omega (arith, left.within_later, fixups, told.counts.1);
       bytes = omega (arith, left.bytes, bytes, held, told.counts.0);
@@ -90,7 +129,8 @@ pub one_within : (most : ℕ) (objects : List Object) (i : ℕ) (o : Object) (al
     → Left most objects i all → Counts o m
     → (object_bytes o ≤ sum_by object_bytes objects) × (all.table.bytes + m.table.bytes ≤ sum_by object_bytes objects)
     × (all.individual_table.bytes + m.individual_table.bytes ≤ sum_by object_bytes objects)
-    × (all.table.later + m.table.later ≤ sum_by object_fixups objects) × (all.individual_table.later + m.individual_table.later ≤ sum_by object_fixups objects)
+    × (all.table.later + m.table.later ≤ sum_by object_fixups objects) ×
+    (all.individual_table.later + m.individual_table.later ≤ sum_by object_fixups objects)
 one_within most objects i o all m h is left counts =
     let rest = drop (i + 1) objects in
     let here = left_is objects i o h is in
@@ -123,7 +163,8 @@ front_length : (front more : List ℕ) (at : ℕ) → length front ≡ at → le
 front_length front more at e = omega (arith, length-append front more, e)
 
 table_behind : (front : List ℕ) (at part n : ℕ) (objects : List Object) → length front ≡ at → n < length objects
-    → drop (get_or (table_places_from at part objects) n 0) (front ++ bytes_of (tables_from part objects)) ≡ bytes_of (tables_from (part + n) (drop n objects))
+    → drop (get_or (table_places_from at part objects) n 0) (front ++ bytes_of (tables_from part objects)) ≡ bytes_of
+    (tables_from (part + n) (drop n objects))
 table_behind front at part n [] e h = absurd (omega (arith, h))
 table_behind front at part zero (o ∷ objects) e h =
     let here : part ≡ part + 0 = omega arith in
@@ -138,10 +179,12 @@ table_behind front at part (suc n) (o ∷ objects) e h =
 
 pub table_placed : (n : ℕ) (objects : List Object) → n < length objects
     → drop (get_or (table_places_from 0 0 objects) n 0) (bytes_of (tables_from 0 objects)) ≡ bytes_of (tables_from n (drop n objects))
-table_placed n objects h = let here : 0 + n ≡ n = omega arith in table_behind [] 0 0 n objects refl h ∙ ap (λ k. bytes_of (tables_from k (drop n objects))) here
+table_placed n objects h =
+    let here : 0 + n ≡ n = omega arith in table_behind [] 0 0 n objects refl h ∙ ap (λ k. bytes_of (tables_from k (drop n objects))) here
 
 individual_behind : (front : List ℕ) (at n : ℕ) (objects : List Object) → length front ≡ at → n < length objects
-    → drop (get_or (individual_places_from at objects) n 0) (front ++ bytes_of (individual_tables objects)) ≡ bytes_of (individual_tables (drop n objects))
+    → drop (get_or (individual_places_from at objects) n 0) (front ++ bytes_of (individual_tables objects)) ≡ bytes_of
+    (individual_tables (drop n objects))
 individual_behind front at n [] e h = absurd (omega (arith, h))
 individual_behind front at zero (o ∷ objects) e h = drop_front at front (bytes_of (individual_tables (o ∷ objects))) e
 individual_behind front at (suc n) (o ∷ objects) e h =
@@ -151,5 +194,6 @@ individual_behind front at (suc n) (o ∷ objects) e h =
     (front_length front (bytes_of (individual_table_cells o)) at e) (omega (arith, h))
 
 pub individual_placed : (n : ℕ) (objects : List Object) → n < length objects
-    → drop (get_or (individual_places_from 0 objects) n 0) (bytes_of (individual_tables objects)) ≡ bytes_of (individual_tables (drop n objects))
+    → drop (get_or (individual_places_from 0 objects) n 0) (bytes_of (individual_tables objects)) ≡ bytes_of
+    (individual_tables (drop n objects))
 individual_placed n objects h = individual_behind [] 0 n objects refl h

@@ -40,7 +40,8 @@ all_objects objects = first_objects ++ objects
 
 -- Property defaults: 63 words, the first for number 1 (section 12.2)
 abbrev pub all_defaults : List Declared → List Value
-all_defaults declared = replicate 3 (value.Known 0) ++ map (λ (d : Declared). d.default) declared ++ replicate (60 - length declared) (value.Known 0)
+all_defaults declared =
+    replicate 3 (value.Known 0) ++ map (λ (d : Declared). d.default) declared ++ replicate (60 - length declared) (value.Known 0)
 
 -- Objects (section 12.3): attributes, parent, sibling, child, and the address of the property table. A class has no attributes of its own.
 abbrev pub shown_attributes : Owner → List Bool → List Bool

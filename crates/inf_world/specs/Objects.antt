@@ -45,7 +45,8 @@ has_arrows arrows o = not (is_class o.owner) && o.arrows == arrows
 -- the number of the latest with so many, where the first has a number
 abbrev pub latest_from : ℕ → ℕ → List Object → Option ℕ
 latest_from arrows number [] = None
-latest_from arrows number (o ∷ objects) = or_latest (latest_from arrows (number + 1) objects) (if has_arrows arrows o then Some number else None)
+latest_from arrows number (o ∷ objects) =
+    or_latest (latest_from arrows (number + 1) objects) (if has_arrows arrows o then Some number else None)
 
 abbrev pub latest_with : ℕ → List Object → Option ℕ
 latest_with arrows objects = latest_from arrows 5 objects

@@ -35,7 +35,8 @@ pub record WorldOf : Type 0 where
   pub body : Body
 
 abbrev pub no_world : Limits → WorldOf
-no_world limits = record { limits = limits; attributes = 0; declared = []; individuals = 0; objects = []; is_open = false; body = nothing_read }
+no_world limits =
+    record { limits = limits; attributes = 0; declared = []; individuals = 0; objects = []; is_open = false; body = nothing_read }
 
 -- Counts
 
@@ -185,13 +186,15 @@ given_fault_of (Some is_additive) number first w =
     else option_map given_fault (give_fault (given_first number is_additive first) (room_of w) w.body.properties)
 
 abbrev pub given_property_fault : ℕ → Option Value → WorldOf → Option AddFault
-given_property_fault number first w = if w.is_open then given_fault_of (kind_of number w) number first w else Some (fault.Misfit misfit.NoBody)
+given_property_fault number first w =
+    if w.is_open then given_fault_of (kind_of number w) number first w else Some (fault.Misfit misfit.NoBody)
 
 abbrev pub with_further_value : Value → WorldOf → WorldOf
 with_further_value v w = with_properties (with_value v w.body.properties) w
 
 abbrev pub further_value_fault : Value → WorldOf → Option AddFault
-further_value_fault v w = if w.is_open then option_map given_fault (value_fault v (room_of w) w.body.properties) else Some (fault.Misfit misfit.NoBody)
+further_value_fault v w =
+    if w.is_open then option_map given_fault (value_fault v (room_of w) w.body.properties) else Some (fault.Misfit misfit.NoBody)
 
 abbrev pub with_lost_property : WorldOf → WorldOf
 with_lost_property w = with_properties (record w.body.properties { takes_values = false }) w

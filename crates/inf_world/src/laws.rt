@@ -11,16 +11,19 @@ use crate::world::{SYSTEM_OBJECTS, World};
 /// At a place that is told for an object, whose number is one more, stands its property table, and at the other its individual table.
 pub fn table_at_its_place(world: &World, number: usize)
     requires { number < length (all_objects world.now.objects) }
-    ensures table { drop (slice_index_or (table_places_from 0 0 (all_objects world.now.objects)) number 0) (bytes_of (area_cells area.PropertyTables world.now))
+    ensures table { drop (slice_index_or (table_places_from 0 0 (all_objects world.now.objects)) number 0)
+        (bytes_of (area_cells area.PropertyTables world.now))
         ≡ bytes_of (tables_from number (drop number (all_objects world.now.objects))) }
-    ensures individual_table { drop (slice_index_or (individual_places_from 0 (all_objects world.now.objects)) number 0) (bytes_of (area_cells area.IndividualTables world.now))
+    ensures individual_table { drop (slice_index_or (individual_places_from 0 (all_objects world.now.objects)) number 0)
+        (bytes_of (area_cells area.IndividualTables world.now))
         ≡ bytes_of (individual_tables (drop number (all_objects world.now.objects))) }
 {}
 
 /// The tables of all objects have as many bytes as these count, but for what classes hold in none; and all areas have as many numbers
 /// that are known later as are counted.
 pub fn written_as_counted(world: &World)
-    ensures bytes { length (bytes_of (area_cells area.PropertyTables world.now)) + length (bytes_of (area_cells area.IndividualTables world.now))
+    ensures bytes { length (bytes_of (area_cells area.PropertyTables world.now)) + length
+        (bytes_of (area_cells area.IndividualTables world.now))
         + held_bytes world.now.objects ≡ ended_bytes world.now.objects }
     ensures later { later_count (area_cells area.PropertyDefaults world.now) + later_count (area_cells area.Objects world.now)
         + later_count (area_cells area.PropertyTables world.now) + later_count (area_cells area.ClassNumbers world.now)

@@ -25,7 +25,8 @@ const SOURCE: &[u8] =
 const SIDES: &[u8] =
     b"Constant K;\nIfdef L; Constant A; #Endif; Ifndef K;\nMessage \"x\";\n#Ifnot; Message \"y\"; Endif; [ Main; #Ifdef L; print \"a\"; #Ifnot; print \"b\"; #Endif; ];\n";
 
-/// Expressions of some tokens, in conditions between directives and inside a routine, too; labels of two routines, one of which a bad token ends: what
+/// Expressions of some tokens, in conditions between directives and inside a routine, too; labels of two routines, one of which a bad token
+/// ends: what
 /// stands behind its last whole statement does not count.
 const EXPRESSIONS: &[u8] =
     b"Iftrue 1 + 2 * 3 == 7;\nEndif;\n[ Main i; while (i < 9) if (i == 4) i++; #Iftrue (2 + 3 + 4 + 5 + 6) > 1; i = 1; #Endif; ];\n[ R x; if (x) if (x > 1) if (x > 2) { x = 1; 5 } ];\nConstant C = 1 + 2;\n[ S; do { } until (1); ];\n";

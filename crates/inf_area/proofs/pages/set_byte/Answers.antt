@@ -9,6 +9,7 @@ returns-clause-bytes c =
     let pages = c.args.pages.now in
     let at = c.args.at in
     let place : 1024 * (at / 1024) + at % 1024 ≡ at = omega arith in
-    page_set _ (λ page. page.value) pages (at / 1024) (at % 1024) c.args.byte c.index-pages-at.result _ c.requires.whole (omega arith) (omega (arith, c.requires.within))
+    page_set _ (λ page. page.value) pages (at / 1024) (at % 1024) c.args.byte c.index-pages-at.result _ c.requires.whole (omega arith)
+    (omega (arith, c.requires.within))
     (ap (λ bytes. set bytes (at % 1024) c.args.byte) (c.deref_mut.ensures.value))
     ∙ ap (λ i. set (page_bytes pages) i c.args.byte) place

@@ -8,5 +8,6 @@ abbrev pub invariant-loop-entry : goal.invariant-loop-entry
 invariant-loop-entry l =
     record {
       saved : l.saved ≤ l.entry-index;
-      places : (n : ℕ) → first_of (found l.places.items n) (kept_place (found l.long) l.saved (drop l.entry-index l.kept) n) ≡ kept_place (found l.long) 0 l.kept n;
+      places : (n : ℕ) → first_of (found l.places.items n) (kept_place (found l.long) l.saved (drop l.entry-index l.kept) n) ≡ kept_place
+          (found l.long) 0 l.kept n;
     }

@@ -24,9 +24,19 @@ returns-in_err-add-clause-full c =
     let here = fixup_at (entry.place - c.loop-entry.saved) entry.what in
     let rest = kept_fixups long (c.loop-entry.saved + saving long entry) (drop (i + 1) kept) in
     let one : length here ≡ 1 = ap (λ what. length (fixup_at (entry.place - c.loop-entry.saved) what)) c.in-Refers.is in
-    let all = ap length (ap (λ hs. c.loop-entry.refs.list ++ hs) (sym (fixups_step long c.loop-entry.saved i kept nothing c.loop-entry-test.true)) ∙ now.left) in
+    let all = ap length (ap (λ hs. c.loop-entry.refs.list ++ hs)
+    (sym (fixups_step long c.loop-entry.saved i kept nothing c.loop-entry-test.true)) ∙ now.left) in
     let p = err_from_is_err_and c.from_residual.result c.from_residual.ensures.1 in
-    rw (p.1, p.2) (λ e. omega (arith, c.in_err-add.ensures.full e, now.limit, all, one, length-append c.loop-entry.refs.list (here ++ rest), length-append here rest, length-append c.args.refs.now.list (kept_fixups long 0 kept)))
+    rw (p.1, p.2) (λ e. omega (
+      arith,
+      c.in_err-add.ensures.full e,
+      now.limit,
+      all,
+      one,
+      length-append c.loop-entry.refs.list (here ++ rest),
+      length-append here rest,
+      length-append c.args.refs.now.list (kept_fixups long 0 kept),
+    ))
 
 pub loop-entry-preserved : goal.loop-entry-preserved
 loop-entry-preserved c =
@@ -38,13 +48,15 @@ loop-entry-preserved c =
     let saved = c.loop-entry.saved in
     let list = c.loop-entry.refs.list in
     let rest = kept_fixups long (saved + saving long entry) (drop (i + 1) kept) in
-    let next : kept_fixups long (saved + c.saving-saved.result) (drop (i + 1) kept) ≡ rest = ap (λ k. kept_fixups long (saved + k) (drop (i + 1) kept)) c.saving-saved.ensures.value in
+    let next : kept_fixups long (saved + c.saving-saved.result) (drop (i + 1) kept) ≡ rest =
+    ap (λ k. kept_fixups long (saved + k) (drop (i + 1) kept)) c.saving-saved.ensures.value in
     let left = ap (λ hs. list ++ hs) (sym (fixups_step long saved i kept nothing c.loop-entry-test.true)) ∙ now.left in
     elim c.match-entry.branch [
       | in-Refers+in_ok-add w ↦ (
           let fixup : Fixup = record { area = Code; place = w.saturating_sub.result; target = w.in-Refers.target } in
           let here : fixup_at (entry.place - saved) entry.what ≡ fixup ∷ [] =
-          ap (fixup_at (entry.place - saved)) w.in-Refers.is ∙ ap (λ p. record { area = Code; place = p; target = w.in-Refers.target } ∷ []) (sym w.saturating_sub.ensures) in
+          ap (fixup_at (entry.place - saved)) w.in-Refers.is
+          ∙ ap (λ p. record { area = Code; place = p; target = w.in-Refers.target } ∷ []) (sym w.saturating_sub.ensures) in
           let is : c.match-entry.refs.list ≡ list ++ fixup ∷ [] = ap (λ r. r.list) (w.refs-is ∙ w.in_ok-add.ensures.ok) in
           let same = ap (λ r. r.limit) (w.refs-is ∙ w.in_ok-add.ensures.ok) in
           record {
@@ -54,11 +66,13 @@ loop-entry-preserved c =
             room = omega (arith, ap length is, length-append list (fixup ∷ []), w.in_ok-add.ensures.room, same);
             so_far = is ∙ ap (λ xs. xs ++ fixup ∷ []) now.so_far ∙ append_assoc c.args.refs.now.list now.added (fixup ∷ []);
             left =
-                ap (λ xs. xs ++ kept_fixups long (saved + c.saving-saved.result) (drop (i + 1) kept)) is ∙ ap (λ hs. (list ++ fixup ∷ []) ++ hs) next
+                ap (λ xs. xs ++ kept_fixups long (saved + c.saving-saved.result) (drop (i + 1) kept)) is
+                ∙ ap (λ hs. (list ++ fixup ∷ []) ++ hs) next
                 ∙ append_assoc list (fixup ∷ []) rest ∙ ap (λ hs. list ++ (hs ++ rest)) (sym here) ∙ left;
           })
       | in_default w ↦ (
-          let here : fixup_at (entry.place - saved) entry.what ≡ [] = fixup_other (entry.place - saved) entry.what w.in_default.not-Refers in
+          let here : fixup_at (entry.place - saved) entry.what ≡ [] =
+          fixup_other (entry.place - saved) entry.what w.in_default.not-Refers in
           let is : c.match-entry.refs.list ≡ list = ap (λ r. r.list) w.refs-is in
           let same = ap (λ r. r.limit) w.refs-is in
           record {

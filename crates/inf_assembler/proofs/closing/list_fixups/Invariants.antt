@@ -12,5 +12,6 @@ invariant-loop-entry l =
       limit : l.refs.limit ≡ l.fn.refs.limit;
       room : length l.refs.list ≤ l.refs.limit;
       so_far : l.refs.list ≡ l.fn.refs.list ++ added;
-      left : l.refs.list ++ kept_fixups (found l.long) l.saved (drop l.entry-index l.kept) ≡ l.fn.refs.list ++ kept_fixups (found l.long) 0 l.kept;
+      left : l.refs.list ++ kept_fixups (found l.long) l.saved (drop l.entry-index l.kept) ≡ l.fn.refs.list ++ kept_fixups (found l.long) 0
+          l.kept;
     }

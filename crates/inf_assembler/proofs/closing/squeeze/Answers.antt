@@ -106,11 +106,17 @@ loop-entry-preserved g c =
       behind = omega (arith, now.behind);
       order = rw c.special_size.ensures order.1;
       long = ap length c.place_bytes.ensures ∙ length-placed to from n added xs now.ordered within room ∙ now.long;
-      before = ap (take c.args.start) c.place_bytes.ensures ∙ take-placed to from n added xs now.ordered within room c.args.start now.behind ∙ now.before;
+      before =
+          ap (take c.args.start) c.place_bytes.ensures ∙ take-placed to from n added xs now.ordered within room c.args.start now.behind
+          ∙ now.before;
       left =
-          ap (λ k. squeezed (found c.args.long.now) (found c.args.places.now) (entry.place + k) (to + n + c.len.result) (drop (i + 1) kept) (g.A.Area.bytes c.place_bytes.new.area)) c.special_size.ensures
-          ∙ ap (λ k. squeezed (found c.args.long.now) (found c.args.places.now) (entry.place + special_size entry.what) (to + n + k) (drop (i + 1) kept) (g.A.Area.bytes c.place_bytes.new.area)) c.len.ensures.value
-          ∙ ap (squeezed (found c.args.long.now) (found c.args.places.now) (entry.place + special_size entry.what) (to + n + length items) (drop (i + 1) kept)) (c.place_bytes.ensures ∙ ap (λ ys. placed_bytes to from n ys xs) same)
-          ∙ sym (squeezed_step (found c.args.long.now) (found c.args.places.now) from to i kept nothing xs items c.loop-entry-test.true c.in_ok-bytes.ensures)
+          ap (λ k. squeezed (found c.args.long.now) (found c.args.places.now) (entry.place + k) (to + n + c.len.result) (drop (i + 1) kept)
+          (g.A.Area.bytes c.place_bytes.new.area)) c.special_size.ensures
+          ∙ ap (λ k. squeezed (found c.args.long.now) (found c.args.places.now) (entry.place + special_size entry.what) (to + n + k)
+          (drop (i + 1) kept) (g.A.Area.bytes c.place_bytes.new.area)) c.len.ensures.value
+          ∙ ap (squeezed (found c.args.long.now) (found c.args.places.now) (entry.place + special_size entry.what) (to + n + length items)
+          (drop (i + 1) kept)) (c.place_bytes.ensures ∙ ap (λ ys. placed_bytes to from n ys xs) same)
+          ∙ sym (squeezed_step (found c.args.long.now) (found c.args.places.now) from to i kept nothing xs items c.loop-entry-test.true
+          c.in_ok-bytes.ensures)
           ∙ now.left;
     }

@@ -14,5 +14,6 @@ invariant-loop-entry g l =
       order : AreInOrder l.from left (length old);
       long : length bytes ≡ length old;
       before : take l.start bytes ≡ take l.start old;
-      left : squeezed (found l.long) (found l.places) l.from l.to left bytes ≡ squeezed (found l.long) (found l.places) l.start l.start l.kept old;
+      left : squeezed (found l.long) (found l.places) l.from l.to left bytes ≡ squeezed (found l.long) (found l.places) l.start l.start
+          l.kept old;
     }

@@ -13,7 +13,8 @@ returns c = λ number_of contents front body rest e.
     let long = long_places place contents in
     let table = places place contents in
     let known = known_cells number_of contents.cells in
-    let done = numbered number_of long table (place + 1) (place + 1) contents.cells before body rest (omega (arith, length-append front (contents.locals ∷ []))) e in
+    let done = numbered number_of long table (place + 1) (place + 1) contents.cells before body rest
+    (omega (arith, length-append front (contents.locals ∷ []))) e in
     let longs = tables_known number_of (place + 1) contents.cells in (
       done.numbered,
       ap (λ (l : Places). closed_bytes l (place_from l (place + 1) (place + 1) known) (place + 1) (place + 1) known) longs

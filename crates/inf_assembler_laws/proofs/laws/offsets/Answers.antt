@@ -4,4 +4,5 @@ use Rattle.inf_assembler_laws.proofs.Fits.{fields_within}
 use Rattle.inf_assembler_laws.proofs.laws.offsets.Goals as goal
 
 pub returns : goal.returns
-returns c = λ place contents body e. fields_within contents.cells (place + 1) [] contents.cells (place + 1) (place + 1) body (omega arith) (omega arith) refl e
+returns c = λ place contents body e. fields_within contents.cells (place + 1) [] contents.cells (place + 1) (place + 1) body (omega arith)
+    (omega arith) refl e

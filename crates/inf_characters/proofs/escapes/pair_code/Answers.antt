@@ -14,7 +14,11 @@ loop-x-preserved c =
     let before = rw split at c.loop-x.invariant.0 in
     let room = rw split at c.loop-x.invariant.1 in
     let differs : (eqb x c.args.a && eqb y c.args.b) ≡ false =
-    elim c.else-x-a.branch [ else-x-a-via-then-x-a+else-y-b w ↦ grind (arith, nat_tests) | else-x-a-via-else-x-a w ↦ grind (arith, nat_tests) ] in
+    elim c.else-x-a.branch [
+      | else-x-a-via-then-x-a+else-y-b w ↦ grind (arith, nat_tests)
+      | else-x-a-via-else-x-a w ↦ grind
+          (arith, nat_tests)
+    ] in
     (sym (pair_from-more c.args.a c.args.b c.loop-x.code x y rest differs) ∙ before, omega arith, omega arith)
 
 pub from_code-requires : goal.from_code-requires

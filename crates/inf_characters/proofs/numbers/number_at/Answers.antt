@@ -15,5 +15,6 @@ loop-count-preserved c =
     record {
       high = base * h.high + digit;
       value_is = c.min-value.ensures ∙ rw h.value_is (capped-more base h.high digit);
-      rest = sym (next ∙ number_from-more base count h.high (get_or bytes count 0) digit (drop (count + 1) bytes) (sym c.digit_of.ensures.value ∙ c.in-Some.is)) ∙ h.rest;
+      rest = sym (next ∙ number_from-more base count h.high (get_or bytes count 0) digit (drop (count + 1) bytes)
+          (sym c.digit_of.ensures.value ∙ c.in-Some.is)) ∙ h.rest;
     }

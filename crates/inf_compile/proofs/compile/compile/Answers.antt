@@ -49,20 +49,25 @@ returns-then-names_nothing-clause-begins g c = λ honest.
     on_err_weaker c.refuse.result (λ k. refused_begins word date s o before after none k) c.refuse.ensures.err
 
 pub returns-then-names_nothing-clause-heard : goal.returns-then-names_nothing-clause-heard
-returns-then-names_nothing-clause-heard g c = λ honest. IfErr-weaker c.refuse.result _ _ (λ fault cause. none_read fault _ _ cause) c.refuse.ensures.fault
+returns-then-names_nothing-clause-heard g c =
+    λ honest. IfErr-weaker c.refuse.result _ _ (λ fault cause. none_read fault _ _ cause) c.refuse.ensures.fault
 
 pub returns-then-names_nothing-clause-clean : goal.returns-then-names_nothing-clause-clean
 returns-then-names_nothing-clause-clean g c =
-    none_clean c.refuse.result _ _ (IfOk-weaker c.refuse.result _ (λ r. r ≡ status.Errors) (λ r k. k.0) c.refuse.ensures.ok) c.refuse.ensures.fault
+    none_clean c.refuse.result _ _ (IfOk-weaker c.refuse.result _ (λ r. r ≡ status.Errors) (λ r k. k.0) c.refuse.ensures.ok)
+    c.refuse.ensures.fault
 
 pub returns-then-names_nothing-clause-fault : goal.returns-then-names_nothing-clause-fault
-returns-then-names_nothing-clause-fault g c = IfErr-weaker c.refuse.result _ _ (λ fault cause. more_caused fault _ _ _ cause) c.refuse.ensures.fault
+returns-then-names_nothing-clause-fault g c =
+    IfErr-weaker c.refuse.result _ _ (λ fault cause. more_caused fault _ _ _ cause) c.refuse.ensures.fault
 
 pub returns-then-names_nothing-clause-part : goal.returns-then-names_nothing-clause-part
-returns-then-names_nothing-clause-part g c = λ honest. IfErr-weaker c.refuse.result _ _ (λ fault cause. none_told fault _ _ cause) c.refuse.ensures.fault
+returns-then-names_nothing-clause-part g c =
+    λ honest. IfErr-weaker c.refuse.result _ _ (λ fault cause. none_told fault _ _ cause) c.refuse.ensures.fault
 
 pub returns-then-names_nothing-clause-untouched : goal.returns-then-names_nothing-clause-untouched
-returns-then-names_nothing-clause-untouched g c = IfErr-weaker c.refuse.result _ _ (λ fault cause. untouched_always fault _) c.refuse.ensures.fault
+returns-then-names_nothing-clause-untouched g c =
+    IfErr-weaker c.refuse.result _ _ (λ fault cause. untouched_always fault _) c.refuse.ensures.fault
 
 pub returns-clause-headline : goal.returns-clause-headline
 returns-clause-headline g c = λ honest.
@@ -80,7 +85,8 @@ returns-clause-headline g c = λ honest.
     let old = files.openings c.args.files.now in
     let new = files.openings c.compile_named.new.files in
     let some = sym c.names_nothing.ensures ∙ c.if-names_nothing.false in
-    all_named (λ (x : Sources). IfOk c.compile_named.result (λ r. Compiles x o date name r before after story_old story_new)) word s some (c.compile_named.ensures.headline honest)
+    all_named (λ (x : Sources). IfOk c.compile_named.result (λ r. Compiles x o date name r before after story_old story_new)) word s some
+    (c.compile_named.ensures.headline honest)
 
 pub returns-clause-once : goal.returns-clause-once
 returns-clause-once g c = λ honest.
@@ -98,7 +104,8 @@ returns-clause-once g c = λ honest.
     let old = files.openings c.args.files.now in
     let new = files.openings c.compile_named.new.files in
     let some = sym c.names_nothing.ensures ∙ c.if-names_nothing.false in
-    all_named (λ (x : Sources). OnOk c.compile_named.result (OpenedBy (x name) x o name old new)) word s some (c.compile_named.ensures.once honest)
+    all_named (λ (x : Sources). OnOk c.compile_named.result (OpenedBy (x name) x o name old new)) word s some
+    (c.compile_named.ensures.once honest)
 
 pub returns-clause-opened : goal.returns-clause-opened
 returns-clause-opened g c = λ honest.
@@ -116,7 +123,8 @@ returns-clause-opened g c = λ honest.
     let old = files.openings c.args.files.now in
     let new = files.openings c.compile_named.new.files in
     let some = sym c.names_nothing.ensures ∙ c.if-names_nothing.false in
-    all_named (λ (x : Sources). OnErr c.compile_named.result (OpenedPart x o name old new)) word s some (c.compile_named.ensures.opened honest)
+    all_named (λ (x : Sources). OnErr c.compile_named.result (OpenedPart x o name old new)) word s some
+    (c.compile_named.ensures.opened honest)
 
 pub returns-clause-begins : goal.returns-clause-begins
 returns-clause-begins g c = λ honest.
@@ -134,7 +142,8 @@ returns-clause-begins g c = λ honest.
     let old = files.openings c.args.files.now in
     let new = files.openings c.compile_named.new.files in
     let some = sym c.names_nothing.ensures ∙ c.if-names_nothing.false in
-    all_named (λ (x : Sources). OnErr c.compile_named.result (Begins x o date name before after)) word s some (c.compile_named.ensures.begins honest)
+    all_named (λ (x : Sources). OnErr c.compile_named.result (Begins x o date name before after)) word s some
+    (c.compile_named.ensures.begins honest)
 
 pub returns-clause-heard : goal.returns-clause-heard
 returns-clause-heard g c = λ honest.
@@ -152,7 +161,9 @@ returns-clause-heard g c = λ honest.
     let old = files.openings c.args.files.now in
     let new = files.openings c.compile_named.new.files in
     let some = sym c.names_nothing.ensures ∙ c.if-names_nothing.false in
-    all_named (λ (x : Sources). IfErr c.compile_named.result (λ fault. IfRead fault (λ told. Heard (Rose (files.faults c.args.files.now) (files.faults c.compile_named.new.files)) x o name old new before after told)))
+    all_named (λ (x : Sources). IfErr c.compile_named.result
+    (λ fault. IfRead fault (λ told. Heard (Rose (files.faults c.args.files.now) (files.faults c.compile_named.new.files)) x o name old
+    new before after told)))
     word s some (c.compile_named.ensures.heard honest)
 
 pub returns-clause-part : goal.returns-clause-part
@@ -171,4 +182,6 @@ returns-clause-part g c = λ honest.
     let old = files.openings c.args.files.now in
     let new = files.openings c.compile_named.new.files in
     let some = sym c.names_nothing.ensures ∙ c.if-names_nothing.false in
-    all_named (λ (x : Sources). IfErr c.compile_named.result (λ fault. IfStory fault (λ n. DeliversPart x o date name n before after story_old story_new))) word s some (c.compile_named.ensures.part honest)
+    all_named (λ (x : Sources). IfErr c.compile_named.result
+    (λ fault. IfStory fault (λ n. DeliversPart x o date name n before after story_old story_new))) word s some
+    (c.compile_named.ensures.part honest)

@@ -10,9 +10,11 @@ returns-clause-begins g c = λ honest.
     let files = g.F.Files in
     let options = c.args.options.now in
     on_err c.deliver.result
-    (begins_whole (files.sources c.args.files.now) _ (chosen_by options) c.args.date _ _ (files.openings c.args.files.now) (files.openings c.translate.new.files)
+    (begins_whole (files.sources c.args.files.now) _ (chosen_by options) c.args.date _ _ (files.openings c.args.files.now)
+    (files.openings c.translate.new.files)
     (g.M.Sink.taken c.args.messages.now) (g.M.Sink.taken c.translate.new.messages) c.in_ok-compiled.compiled
-    (chosen_is c.set.result options.letters.set c.has_warnings.result options.letters.has_warnings c.settings.result.now options.settings (map (λ d. d.now) c.as_slice.result.now) (directories_of options.path)
+    (chosen_is c.set.result options.letters.set c.has_warnings.result options.letters.has_warnings c.settings.result.now options.settings
+    (map (λ d. d.now) c.as_slice.result.now) (directories_of options.path)
     c.set.ensures c.has_warnings.ensures c.settings.ensures (ap (map (λ d. d.now)) c.as_slice.ensures.value ∙ c.in_ok-directories.ensures))
     (c.as_str.ensures.value ∙ c.in_ok-name.ensures.bytes)
     (c.in_ok-compiled.ensures.comes honest))
@@ -22,14 +24,17 @@ returns-clause-opened g c = λ honest.
     let files = g.F.Files in
     let options = c.args.options.now in
     on_err c.deliver.result
-    (opened_whole (files.sources c.args.files.now) _ (chosen_by options) c.args.date _ _ (files.openings c.args.files.now) (files.openings c.translate.new.files)
+    (opened_whole (files.sources c.args.files.now) _ (chosen_by options) c.args.date _ _ (files.openings c.args.files.now)
+    (files.openings c.translate.new.files)
     (g.M.Sink.taken c.args.messages.now) (g.M.Sink.taken c.translate.new.messages) c.in_ok-compiled.compiled
-    (chosen_is c.set.result options.letters.set c.has_warnings.result options.letters.has_warnings c.settings.result.now options.settings (map (λ d. d.now) c.as_slice.result.now) (directories_of options.path)
+    (chosen_is c.set.result options.letters.set c.has_warnings.result options.letters.has_warnings c.settings.result.now options.settings
+    (map (λ d. d.now) c.as_slice.result.now) (directories_of options.path)
     c.set.ensures c.has_warnings.ensures c.settings.ensures (ap (map (λ d. d.now)) c.as_slice.ensures.value ∙ c.in_ok-directories.ensures))
     (c.as_str.ensures.value ∙ c.in_ok-name.ensures.bytes)
     (c.in_ok-compiled.ensures.comes honest))
 
 pub returns-clause-clean : goal.returns-clause-clean
 returns-clause-clean g c =
-    clean_where_delivered _ c.deliver.result c.in_ok-compiled.compiled (g.M.Sink.taken c.args.messages.now) (g.M.Sink.taken c.translate.new.messages) (g.S.Sink.taken c.args.story.now) (g.S.Sink.taken c.deliver.new.story)
+    clean_where_delivered _ c.deliver.result c.in_ok-compiled.compiled (g.M.Sink.taken c.args.messages.now)
+    (g.M.Sink.taken c.translate.new.messages) (g.S.Sink.taken c.args.story.now) (g.S.Sink.taken c.deliver.new.story)
     c.deliver.ensures.status c.deliver.ensures.story c.in_ok-compiled.ensures.errors c.in_ok-compiled.ensures.clean

@@ -3,4 +3,10 @@ use Rattle.inf_conditional_laws.proofs.SideTurns.{turns_cut_inner_sides}
 use Rattle.inf_conditional_laws.proofs.laws.inner_sides_are_cut.Goals as goal
 
 pub returns : goal.returns
-returns c = record { cut = inner_sides_are_cut; words = words_end_sides; semicolons = semicolons_end_them; agree = inner_sides_agree; turns = turns_cut_inner_sides }
+returns c = record {
+  cut = inner_sides_are_cut;
+  words = words_end_sides;
+  semicolons = semicolons_end_them;
+  agree = inner_sides_agree;
+  turns = turns_cut_inner_sides;
+}

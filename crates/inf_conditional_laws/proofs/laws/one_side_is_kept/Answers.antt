@@ -3,4 +3,11 @@ use Rattle.inf_conditional_laws.proofs.SideTurns.{readings_start_clear, turns_ha
 use Rattle.inf_conditional_laws.proofs.laws.one_side_is_kept.Goals as goal
 
 pub returns : goal.returns
-returns c = record { kept = one_side_is_kept; handed_on = turns_hand_on; turns = turns_keep_sides; ends = turns_tell_missing_ends; start = readings_start_clear }
+returns c = record {
+  kept = one_side_is_kept;
+  handed_on = turns_hand_on;
+  turns = turns_keep_sides;
+  ends = turns_tell_missing_ends;
+  start =
+      readings_start_clear;
+}

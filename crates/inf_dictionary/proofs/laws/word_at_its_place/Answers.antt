@@ -11,8 +11,10 @@ pub returns-clause-rank : goal.returns-clause-rank
 returns-clause-rank c =
     let words = c.args.dictionary.now.list in
     let within : c.args.place < length (texts_of words) = omega (arith, length-map words (λ e. e.0), c.requires) in
-    rank_at (lists_total nat_cmp_total) _ (texts_of words) c.args.place c.is_in_order.ensures.rising within (λ d. any_default (texts_of words) c.args.place d [] within)
+    rank_at (lists_total nat_cmp_total) _ (texts_of words) c.args.place c.is_in_order.ensures.rising within
+    (λ d. any_default (texts_of words) c.args.place d [] within)
 
 pub returns-clause-text : goal.returns-clause-text
 returns-clause-text c =
-    behind_head c.args.dictionary.now.list (9 * c.args.place) ∙ text_at c.args.dictionary.now.list c.args.place c.is_in_order.ensures.whole c.requires
+    behind_head c.args.dictionary.now.list (9 * c.args.place)
+    ∙ text_at c.args.dictionary.now.list c.args.place c.is_in_order.ensures.whole c.requires

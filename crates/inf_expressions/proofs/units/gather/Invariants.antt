@@ -4,4 +4,5 @@ use Rattle.inf_expressions.proofs.units.gather.Given as goal
 
 abbrev pub invariant-loop-symbol : goal.invariant-loop-symbol
 invariant-loop-symbol l =
-    gathered l.wanted l.unit l.operands (drop l.symbol-index l.symbols) l.gathered ≡ gathered l.wanted l.unit l.operands l.symbols nothing_gathered
+    gathered l.wanted l.unit l.operands (drop l.symbol-index l.symbols) l.gathered ≡ gathered l.wanted l.unit l.operands l.symbols
+    nothing_gathered

@@ -21,4 +21,5 @@ pub returns-in-None : goal.returns-in-None
 returns-in-None c =
     let l = c.in-None.ensures.lookup in
     let past = rw c.rules.ensures at l.3 in
-    sym (ap (λ rows. row_for grammar known c.args.atom (passed_row grammar known rows) rows) (rows_past c.args.rule (omega (arith, past, rules_length))))
+    sym (ap (λ rows. row_for grammar known c.args.atom (passed_row grammar known rows) rows)
+    (rows_past c.args.rule (omega (arith, past, rules_length))))

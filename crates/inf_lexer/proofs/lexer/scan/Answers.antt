@@ -16,21 +16,52 @@ windows-preserved g c =
     let filled = c.in_ok-refill.ensures in
     let took = c.in_ok-taken.ensures in
     record {
-      heard = heard_taken Found (files.is_honest c.args.files.now) (files.sources c.args.files.now) (files.openings c.args.files.now) (files.openings c.refill.new.files) c.args.window.now c.refill.new.self c.pass.new.self (find c.args.set c.args.limit c.windows.state (sight c.windows.seen)) (find c.args.set c.args.limit c.in-On.next (sight c.take_all.new.self)) (find c.args.set c.args.limit state.Gap (begun c.args.seen.now.lines))
-          (heard_on Found (files.is_honest c.args.files.now) (files.is_honest c.windows.files) (files.sources c.args.files.now) (files.sources c.windows.files) (files.openings c.args.files.now) (files.openings c.windows.files) (files.openings c.refill.new.files) c.args.window.now c.windows.window c.refill.new.self
-          (find c.args.set c.args.limit c.windows.state (sight c.windows.seen)) (find c.args.set c.args.limit state.Gap (begun c.args.seen.now.lines)) inv.heard inv.honesty inv.sources filled.reads) c.pass.ensures.given c.pass.ensures.over
-          (λ rest may. ap (λ (l : List ℕ). find c.args.set c.args.limit c.in-On.next (sight c.take_all.new.self) (l ++ rest)) c.pass.ensures.left
-          ∙ ap (λ (l : List ℕ). find c.args.set c.args.limit c.in-On.next (sight c.take_all.new.self) (drop c.in_ok-taken.taken l ++ rest)) (sym c.left-in-windows.ensures)
-          ∙ ap (λ (t : Turn). found_after c.args.set c.args.limit t (sight c.take_all.new.self) (drop c.in_ok-taken.taken c.left-in-windows.result.now ++ rest)) (sym c.in-On.is)
+      heard = heard_taken Found (files.is_honest c.args.files.now) (files.sources c.args.files.now) (files.openings c.args.files.now)
+          (files.openings c.refill.new.files) c.args.window.now c.refill.new.self c.pass.new.self
+          (find c.args.set c.args.limit c.windows.state (sight c.windows.seen))
+          (find c.args.set c.args.limit c.in-On.next (sight c.take_all.new.self))
+          (find c.args.set c.args.limit state.Gap (begun c.args.seen.now.lines))
+          (heard_on Found (files.is_honest c.args.files.now) (files.is_honest c.windows.files) (files.sources c.args.files.now)
+          (files.sources c.windows.files) (files.openings c.args.files.now) (files.openings c.windows.files)
+          (files.openings c.refill.new.files) c.args.window.now c.windows.window c.refill.new.self
+          (find c.args.set c.args.limit c.windows.state (sight c.windows.seen))
+          (find c.args.set c.args.limit state.Gap (begun c.args.seen.now.lines)) inv.heard inv.honesty inv.sources filled.reads)
+          c.pass.ensures.given c.pass.ensures.over
+          (λ rest may. ap (λ (l : List ℕ). find c.args.set c.args.limit c.in-On.next (sight c.take_all.new.self) (l ++ rest))
+          c.pass.ensures.left
+          ∙ ap (λ (l : List ℕ). find c.args.set c.args.limit c.in-On.next (sight c.take_all.new.self) (drop c.in_ok-taken.taken l ++ rest))
+          (sym c.left-in-windows.ensures)
+          ∙ ap (λ (t : Turn). found_after c.args.set c.args.limit t (sight c.take_all.new.self)
+          (drop c.in_ok-taken.taken c.left-in-windows.result.now ++ rest)) (sym c.in-On.is)
           ∙ took.found rest
           ∙ ap (λ (l : List ℕ). find c.args.set c.args.limit c.windows.state (sight c.windows.seen) (l ++ rest)) c.left-in-windows.ensures);
-      end = λ honest ends. ends_taken (files.sources c.args.files.now) (files.openings c.refill.new.files) c.refill.new.self c.pass.new.self c.pass.ensures.over
-          (ends_on (files.is_honest c.args.files.now) (files.is_honest c.windows.files) (files.sources c.args.files.now) (files.sources c.windows.files) (files.openings c.args.files.now) (files.openings c.windows.files) (files.openings c.refill.new.files) c.args.window.now c.windows.window c.refill.new.self inv.end inv.honesty inv.sources filled.end honest ends);
+      end = λ honest ends. ends_taken (files.sources c.args.files.now) (files.openings c.refill.new.files) c.refill.new.self c.pass.new.self
+          c.pass.ensures.over
+          (ends_on (files.is_honest c.args.files.now) (files.is_honest c.windows.files) (files.sources c.args.files.now)
+          (files.sources c.windows.files) (files.openings c.args.files.now) (files.openings c.windows.files)
+          (files.openings c.refill.new.files) c.args.window.now c.windows.window c.refill.new.self inv.end inv.honesty inv.sources
+          filled.end honest ends);
       still = λ honest still. still_taken (files.openings c.refill.new.files) c.refill.new.self c.pass.new.self c.pass.ensures.over
           (filled.still (subst (λ (b : Bool). IsTrue b) (sym inv.honesty) honest) (inv.still honest still));
       opens = sym (ap is_open c.in-On.is) ∙ took.opens inv.opens;
-      room = omega (arith, ap (λ (l : List ℕ). length l) c.pass.ensures.left, length-drop c.in_ok-taken.taken c.refill.new.self.left, ap (λ (l : List ℕ). length l) c.left-in-windows.ensures, inv.room, filled.taken, c.pass.ensures.given, took.few, took.within);
-      window = omega (arith, ap (λ (l : List ℕ). length l) c.pass.ensures.left, length-drop c.in_ok-taken.taken c.refill.new.self.left, filled.window);
+      room = omega (
+        arith,
+        ap (λ (l : List ℕ). length l) c.pass.ensures.left,
+        length-drop c.in_ok-taken.taken c.refill.new.self.left,
+        ap
+            (λ (l : List ℕ). length l) c.left-in-windows.ensures,
+        inv.room,
+        filled.taken,
+        c.pass.ensures.given,
+        took.few,
+        took.within,
+      );
+      window = omega (
+        arith,
+        ap (λ (l : List ℕ). length l) c.pass.ensures.left,
+        length-drop c.in_ok-taken.taken c.refill.new.self.left,
+        filled.window,
+      );
       few = omega (arith, c.pass.ensures.given, filled.few);
       more = omega (arith, c.pass.ensures.given, inv.more, filled.more);
       given = omega (arith, c.pass.ensures.given, inv.more, filled.more, inv.given, filled.given);
@@ -67,9 +98,16 @@ returns-then-is_empty-clause-heard g c =
     let inv = c.windows.invariant in
     let filled = c.in_ok-refill.ensures in
     let empty = sym c.left.ensures ∙ none_left c.left.result.now (sym c.is_empty.ensures ∙ c.if-is_empty.true) in
-    heard_taken Found (files.is_honest c.args.files.now) (files.sources c.args.files.now) (files.openings c.args.files.now) (files.openings c.refill.new.files) c.args.window.now c.refill.new.self c.refill.new.self (find c.args.set c.args.limit c.windows.state (sight c.windows.seen)) (λ rest. record { ending = c.at_end.result; seen = sight c.mark.new.self; rest = rest }) (find c.args.set c.args.limit state.Gap (begun c.args.seen.now.lines))
-    (heard_on Found (files.is_honest c.args.files.now) (files.is_honest c.windows.files) (files.sources c.args.files.now) (files.sources c.windows.files) (files.openings c.args.files.now) (files.openings c.windows.files) (files.openings c.refill.new.files) c.args.window.now c.windows.window c.refill.new.self
-    (find c.args.set c.args.limit c.windows.state (sight c.windows.seen)) (find c.args.set c.args.limit state.Gap (begun c.args.seen.now.lines)) inv.heard inv.honesty inv.sources filled.reads) refl refl
+    heard_taken Found (files.is_honest c.args.files.now) (files.sources c.args.files.now) (files.openings c.args.files.now)
+    (files.openings c.refill.new.files) c.args.window.now c.refill.new.self c.refill.new.self
+    (find c.args.set c.args.limit c.windows.state (sight c.windows.seen))
+    (λ rest. record { ending = c.at_end.result; seen = sight c.mark.new.self; rest = rest })
+    (find c.args.set c.args.limit state.Gap (begun c.args.seen.now.lines))
+    (heard_on Found (files.is_honest c.args.files.now) (files.is_honest c.windows.files) (files.sources c.args.files.now)
+    (files.sources c.windows.files) (files.openings c.args.files.now) (files.openings c.windows.files)
+    (files.openings c.refill.new.files) c.args.window.now c.windows.window c.refill.new.self
+    (find c.args.set c.args.limit c.windows.state (sight c.windows.seen))
+    (find c.args.set c.args.limit state.Gap (begun c.args.seen.now.lines)) inv.heard inv.honesty inv.sources filled.reads) refl refl
     (λ rest may. ap (λ e. record { ending = e; seen = sight c.mark.new.self; rest = c.refill.new.self.left ++ rest }) c.at_end.ensures
     ∙ find_end c.args.set c.args.limit c.windows.state (sight c.windows.seen) (sight c.mark.new.self) c.refill.new.self.left rest
     empty (may (filled.over empty)) c.mark.ensures)
@@ -80,12 +118,23 @@ returns-in-Last-clause-heard g c =
     let inv = c.windows.invariant in
     let filled = c.in_ok-refill.ensures in
     let took = c.in_ok-taken.ensures in
-    heard_taken Found (files.is_honest c.args.files.now) (files.sources c.args.files.now) (files.openings c.args.files.now) (files.openings c.refill.new.files) c.args.window.now c.refill.new.self c.pass.new.self (find c.args.set c.args.limit c.windows.state (sight c.windows.seen)) (λ rest. record { ending = c.in-Last.ending; seen = sight c.take_all.new.self; rest = rest }) (find c.args.set c.args.limit state.Gap (begun c.args.seen.now.lines))
-    (heard_on Found (files.is_honest c.args.files.now) (files.is_honest c.windows.files) (files.sources c.args.files.now) (files.sources c.windows.files) (files.openings c.args.files.now) (files.openings c.windows.files) (files.openings c.refill.new.files) c.args.window.now c.windows.window c.refill.new.self
-    (find c.args.set c.args.limit c.windows.state (sight c.windows.seen)) (find c.args.set c.args.limit state.Gap (begun c.args.seen.now.lines)) inv.heard inv.honesty inv.sources filled.reads) c.pass.ensures.given c.pass.ensures.over
-    (λ rest may. ap (λ (l : List ℕ). record { ending = c.in-Last.ending; seen = sight c.take_all.new.self; rest = l ++ rest }) c.pass.ensures.left
-    ∙ ap (λ (l : List ℕ). record { ending = c.in-Last.ending; seen = sight c.take_all.new.self; rest = drop c.in_ok-taken.taken l ++ rest }) (sym c.left-in-windows.ensures)
-    ∙ ap (λ (t : Turn). found_after c.args.set c.args.limit t (sight c.take_all.new.self) (drop c.in_ok-taken.taken c.left-in-windows.result.now ++ rest)) (sym c.in-Last.is)
+    heard_taken Found (files.is_honest c.args.files.now) (files.sources c.args.files.now) (files.openings c.args.files.now)
+    (files.openings c.refill.new.files) c.args.window.now c.refill.new.self c.pass.new.self
+    (find c.args.set c.args.limit c.windows.state (sight c.windows.seen))
+    (λ rest. record { ending = c.in-Last.ending; seen = sight c.take_all.new.self; rest = rest })
+    (find c.args.set c.args.limit state.Gap (begun c.args.seen.now.lines))
+    (heard_on Found (files.is_honest c.args.files.now) (files.is_honest c.windows.files) (files.sources c.args.files.now)
+    (files.sources c.windows.files) (files.openings c.args.files.now) (files.openings c.windows.files)
+    (files.openings c.refill.new.files) c.args.window.now c.windows.window c.refill.new.self
+    (find c.args.set c.args.limit c.windows.state (sight c.windows.seen))
+    (find c.args.set c.args.limit state.Gap (begun c.args.seen.now.lines)) inv.heard inv.honesty inv.sources filled.reads)
+    c.pass.ensures.given c.pass.ensures.over
+    (λ rest may. ap (λ (l : List ℕ). record { ending = c.in-Last.ending; seen = sight c.take_all.new.self; rest = l ++ rest })
+    c.pass.ensures.left
+    ∙ ap (λ (l : List ℕ). record { ending = c.in-Last.ending; seen = sight c.take_all.new.self; rest = drop c.in_ok-taken.taken l ++ rest })
+    (sym c.left-in-windows.ensures)
+    ∙ ap (λ (t : Turn). found_after c.args.set c.args.limit t (sight c.take_all.new.self)
+    (drop c.in_ok-taken.taken c.left-in-windows.result.now ++ rest)) (sym c.in-Last.is)
     ∙ took.found rest
     ∙ ap (λ (l : List ℕ). find c.args.set c.args.limit c.windows.state (sight c.windows.seen) (l ++ rest)) c.left-in-windows.ensures)
 
@@ -95,12 +144,26 @@ returns-in-Behind-clause-heard g c =
     let inv = c.windows.invariant in
     let filled = c.in_ok-refill.ensures in
     let took = c.in_ok-taken.ensures in
-    heard_taken Found (files.is_honest c.args.files.now) (files.sources c.args.files.now) (files.openings c.args.files.now) (files.openings c.refill.new.files) c.args.window.now c.refill.new.self c.pass.new.self (find c.args.set c.args.limit c.windows.state (sight c.windows.seen)) (λ rest. record { ending = c.in-Behind.ending; seen = sight c.take_all.new.self; rest = rest }) (find c.args.set c.args.limit state.Gap (begun c.args.seen.now.lines))
-    (heard_on Found (files.is_honest c.args.files.now) (files.is_honest c.windows.files) (files.sources c.args.files.now) (files.sources c.windows.files) (files.openings c.args.files.now) (files.openings c.windows.files) (files.openings c.refill.new.files) c.args.window.now c.windows.window c.refill.new.self
-    (find c.args.set c.args.limit c.windows.state (sight c.windows.seen)) (find c.args.set c.args.limit state.Gap (begun c.args.seen.now.lines)) inv.heard inv.honesty inv.sources filled.reads) c.pass.ensures.given c.pass.ensures.over
-    (λ rest may. ap (λ (l : List ℕ). record { ending = c.in-Behind.ending; seen = sight c.take_all.new.self; rest = l ++ rest }) c.pass.ensures.left
-    ∙ ap (λ (l : List ℕ). record { ending = c.in-Behind.ending; seen = sight c.take_all.new.self; rest = drop c.in_ok-taken.taken l ++ rest }) (sym c.left-in-windows.ensures)
-    ∙ ap (λ (t : Turn). found_after c.args.set c.args.limit t (sight c.take_all.new.self) (drop c.in_ok-taken.taken c.left-in-windows.result.now ++ rest)) (sym c.in-Behind.is)
+    heard_taken Found (files.is_honest c.args.files.now) (files.sources c.args.files.now) (files.openings c.args.files.now)
+    (files.openings c.refill.new.files) c.args.window.now c.refill.new.self c.pass.new.self
+    (find c.args.set c.args.limit c.windows.state (sight c.windows.seen))
+    (λ rest. record { ending = c.in-Behind.ending; seen = sight c.take_all.new.self; rest = rest })
+    (find c.args.set c.args.limit state.Gap (begun c.args.seen.now.lines))
+    (heard_on Found (files.is_honest c.args.files.now) (files.is_honest c.windows.files) (files.sources c.args.files.now)
+    (files.sources c.windows.files) (files.openings c.args.files.now) (files.openings c.windows.files)
+    (files.openings c.refill.new.files) c.args.window.now c.windows.window c.refill.new.self
+    (find c.args.set c.args.limit c.windows.state (sight c.windows.seen))
+    (find c.args.set c.args.limit state.Gap (begun c.args.seen.now.lines)) inv.heard inv.honesty inv.sources filled.reads)
+    c.pass.ensures.given c.pass.ensures.over
+    (λ rest may. ap (λ (l : List ℕ). record { ending = c.in-Behind.ending; seen = sight c.take_all.new.self; rest = l ++ rest })
+    c.pass.ensures.left
+    ∙ ap (λ (l : List ℕ). record {
+      ending = c.in-Behind.ending;
+      seen = sight c.take_all.new.self;
+      rest = drop c.in_ok-taken.taken l ++ rest;
+    }) (sym c.left-in-windows.ensures)
+    ∙ ap (λ (t : Turn). found_after c.args.set c.args.limit t (sight c.take_all.new.self)
+    (drop c.in_ok-taken.taken c.left-in-windows.result.now ++ rest)) (sym c.in-Behind.is)
     ∙ took.found rest
     ∙ ap (λ (l : List ℕ). find c.args.set c.args.limit c.windows.state (sight c.windows.seen) (l ++ rest)) c.left-in-windows.ensures)
 
@@ -111,12 +174,21 @@ returns-in_err-taken-clause-memory g c = λ memory honest.
     let filled = c.in_ok-refill.ensures in
     let sources = files.sources c.args.files.now in
     let openings = files.openings c.refill.new.files in
-    let same = heard_source Found (files.is_honest c.args.files.now) sources (files.openings c.args.files.now) openings c.args.window.now c.refill.new.self (find c.args.set c.args.limit c.windows.state (sight c.windows.seen)) (find c.args.set c.args.limit state.Gap (begun c.args.seen.now.lines))
-    (heard_on Found (files.is_honest c.args.files.now) (files.is_honest c.windows.files) (files.sources c.args.files.now) (files.sources c.windows.files) (files.openings c.args.files.now) (files.openings c.windows.files) (files.openings c.refill.new.files) c.args.window.now c.windows.window c.refill.new.self
-    (find c.args.set c.args.limit c.windows.state (sight c.windows.seen)) (find c.args.set c.args.limit state.Gap (begun c.args.seen.now.lines)) inv.heard inv.honesty inv.sources filled.reads) honest
-    (ends_on (files.is_honest c.args.files.now) (files.is_honest c.windows.files) (files.sources c.args.files.now) (files.sources c.windows.files) (files.openings c.args.files.now) (files.openings c.windows.files) (files.openings c.refill.new.files) c.args.window.now c.windows.window c.refill.new.self inv.end inv.honesty inv.sources filled.end honest) in
+    let same = heard_source Found (files.is_honest c.args.files.now) sources (files.openings c.args.files.now) openings c.args.window.now
+    c.refill.new.self (find c.args.set c.args.limit c.windows.state (sight c.windows.seen))
+    (find c.args.set c.args.limit state.Gap (begun c.args.seen.now.lines))
+    (heard_on Found (files.is_honest c.args.files.now) (files.is_honest c.windows.files) (files.sources c.args.files.now)
+    (files.sources c.windows.files) (files.openings c.args.files.now) (files.openings c.windows.files)
+    (files.openings c.refill.new.files) c.args.window.now c.windows.window c.refill.new.self
+    (find c.args.set c.args.limit c.windows.state (sight c.windows.seen))
+    (find c.args.set c.args.limit state.Gap (begun c.args.seen.now.lines)) inv.heard inv.honesty inv.sources filled.reads) honest
+    (ends_on (files.is_honest c.args.files.now) (files.is_honest c.windows.files) (files.sources c.args.files.now)
+    (files.sources c.windows.files) (files.openings c.args.files.now) (files.openings c.windows.files)
+    (files.openings c.refill.new.files) c.args.window.now c.windows.window c.refill.new.self inv.end inv.honesty inv.sources filled.end
+    honest) in
     ap (λ (f : Found). is_quoted f.ending) (sym same)
-    ∙ ap (λ (l : List ℕ). is_quoted (find c.args.set c.args.limit c.windows.state (sight c.windows.seen) (l ++ behind_view sources openings c.refill.new.self)).ending) (sym c.left-in-windows.ensures)
+    ∙ ap (λ (l : List ℕ). is_quoted (find c.args.set c.args.limit c.windows.state (sight c.windows.seen)
+    (l ++ behind_view sources openings c.refill.new.self)).ending) (sym c.left-in-windows.ensures)
     ∙ c.in_err-taken.ensures.memory refl (behind_view sources openings c.refill.new.self)
 
 pub returns-in_err-refill-clause-unfinished : goal.returns-in_err-refill-clause-unfinished
@@ -124,6 +196,9 @@ returns-in_err-refill-clause-unfinished g c = λ read honest.
     let files = g.F.Files in
     let inv = c.windows.invariant in
     let filled = c.in_err-refill.ensures in
-    stays_unfinished (files.is_honest c.args.files.now) (files.is_honest c.windows.files) (files.sources c.args.files.now) (files.sources c.windows.files) (files.openings c.args.files.now)
-    (files.openings c.windows.files) (files.openings c.refill.new.files) c.args.window.now c.windows.window c.refill.new.self c.args.set c.args.limit c.args.seen.now.lines
-    c.windows.state (sight c.windows.seen) inv.heard inv.honesty inv.sources filled.reads inv.opens (filled.refused refl) inv.few (filled.unread refl) honest
+    stays_unfinished (files.is_honest c.args.files.now) (files.is_honest c.windows.files) (files.sources c.args.files.now)
+    (files.sources c.windows.files) (files.openings c.args.files.now)
+    (files.openings c.windows.files) (files.openings c.refill.new.files) c.args.window.now c.windows.window c.refill.new.self c.args.set
+    c.args.limit c.args.seen.now.lines
+    c.windows.state (sight c.windows.seen) inv.heard inv.honesty inv.sources filled.reads inv.opens (filled.refused refl) inv.few
+    (filled.unread refl) honest

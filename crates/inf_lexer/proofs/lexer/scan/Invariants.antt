@@ -13,8 +13,10 @@ invariant-windows g l =
     record {
       heard : Heard Found (files.is_honest l.fn.files) sources (files.openings l.fn.files) (files.openings l.files) l.fn.window l.window
           (find l.set l.limit l.state (sight l.seen)) (find l.set l.limit state.Gap (begun l.fn.seen.lines));
-      end : IsTrue (files.is_honest l.fn.files) → Ends sources (files.openings l.fn.files) l.fn.window → Ends sources (files.openings l.files) l.window;
-      still : IsTrue (files.is_honest l.fn.files) → StillGives (files.openings l.fn.files) l.fn.window → StillGives (files.openings l.files) l.window;
+      end : IsTrue (files.is_honest l.fn.files) → Ends sources (files.openings l.fn.files) l.fn.window →
+          Ends sources (files.openings l.files) l.window;
+      still : IsTrue (files.is_honest l.fn.files) → StillGives (files.openings l.fn.files) l.fn.window →
+          StillGives (files.openings l.files) l.window;
       opens : goes_on l.state ≡ true;
       room : l.seen.lines.line + length l.window.left ≤ l.window.given + 1;
       window : length l.window.left ≤ 4096;

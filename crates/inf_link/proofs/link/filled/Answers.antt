@@ -24,4 +24,5 @@ returns g c =
     let areas = contents g.A.Area.bytes c.args.areas in
     c.fill_all.ensures
     ∙ ap (λ fixups. filled (number_of (lookup others) c.args.scale bases) fixups areas) c.as_slice.ensures
-    ∙ filled-same (number_of (lookup others) c.args.scale bases) (number_of (lookup targets) c.args.scale bases) (number_alike (lookup targets) (lookup others) alike c.args.scale bases) c.args.refs.list areas
+    ∙ filled-same (number_of (lookup others) c.args.scale bases) (number_of (lookup targets) c.args.scale bases)
+    (number_alike (lookup targets) (lookup others) alike c.args.scale bases) c.args.refs.list areas

@@ -7,7 +7,8 @@ abbrev pub invariant-loop-below : goal.invariant-loop-below
 invariant-loop-below g l = record {
   within : l.below ≤ length l.symbols.items;
   same : l.symbols.items ≡ l.initial.symbols.items;
-  on : IsOn g.T.Table.grammar g.T.Table.known l.atom (reverse l.initial.symbols.items) (reverse (take l.below l.initial.symbols.items)) l.initial.actions.items l.actions.items;
+  on : IsOn g.T.Table.grammar g.T.Table.known l.atom (reverse l.initial.symbols.items) (reverse (take l.below l.initial.symbols.items))
+      l.initial.actions.items l.actions.items;
   before : take (length l.initial.actions.items) l.actions.items ≡ l.initial.actions.items;
 }
 

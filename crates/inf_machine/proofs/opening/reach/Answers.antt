@@ -15,8 +15,10 @@ loop-symbol-smaller g c =
     let fit : fits g.T.Table.grammar g.T.Table.known c.args.atom (Rule rule ∷ rest) ≡ true =
     ap (λ s. fits g.T.Table.grammar g.T.Table.known c.args.atom s) (sym here) ∙ c.loop-symbol.invariant.fits_on in
     let less = (way_on g.T.Table.grammar g.T.Table.known g.met.T.Table.decided c.args.atom rule rest fit).less in
-    let a : work g.T.Table.known c.args.atom c.add_all.new.self ≡ work g.T.Table.known c.args.atom (way g.T.Table.grammar g.T.Table.known c.args.atom rule ++ rest) = ap (λ s. work g.T.Table.known c.args.atom s) next in
-    let b : work g.T.Table.known c.args.atom c.loop-symbol.stack ≡ work g.T.Table.known c.args.atom (Rule rule ∷ rest) = ap (λ s. work g.T.Table.known c.args.atom s) here in
+    let a : work g.T.Table.known c.args.atom c.add_all.new.self ≡ work g.T.Table.known c.args.atom
+    (way g.T.Table.grammar g.T.Table.known c.args.atom rule ++ rest) = ap (λ s. work g.T.Table.known c.args.atom s) next in
+    let b : work g.T.Table.known c.args.atom c.loop-symbol.stack ≡ work g.T.Table.known c.args.atom (Rule rule ∷ rest) =
+    ap (λ s. work g.T.Table.known c.args.atom s) here in
     omega (arith, less, a, b)
 
 pub loop-symbol-preserved : goal.loop-symbol-preserved
@@ -29,7 +31,8 @@ loop-symbol-preserved g c =
     let fit : fits g.T.Table.grammar g.T.Table.known c.args.atom (Rule rule ∷ rest) ≡ true =
     ap (λ s. fits g.T.Table.grammar g.T.Table.known c.args.atom s) (sym here) ∙ c.loop-symbol.invariant.fits_on in
     let on = way_on g.T.Table.grammar g.T.Table.known g.met.T.Table.decided c.args.atom rule rest fit in
-    let same : taken g.T.Table.grammar g.T.Table.known c.args.atom c.add_all.new.self ≡ taken g.T.Table.grammar g.T.Table.known c.args.atom c.loop-symbol.stack =
+    let same : taken g.T.Table.grammar g.T.Table.known c.args.atom c.add_all.new.self ≡ taken g.T.Table.grammar g.T.Table.known c.args.atom
+    c.loop-symbol.stack =
     ap (λ s. taken g.T.Table.grammar g.T.Table.known c.args.atom s) next
     ∙ sym on.same
     ∙ ap (λ s. taken g.T.Table.grammar g.T.Table.known c.args.atom s) (sym here) in

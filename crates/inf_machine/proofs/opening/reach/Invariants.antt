@@ -6,8 +6,10 @@ use Rattle.inf_machine.proofs.opening.reach.Given as goal
 abbrev pub invariant-loop-symbol : goal.invariant-loop-symbol
 invariant-loop-symbol g l = record {
   fits_on : fits g.T.Table.grammar g.T.Table.known l.atom l.stack ≡ true;
-  actions : l.actions.items ++ (taken g.T.Table.grammar g.T.Table.known l.atom l.stack).actions ≡ l.initial.actions.items ++ (taken g.T.Table.grammar g.T.Table.known l.atom l.initial.stack).actions;
-  left : (taken g.T.Table.grammar g.T.Table.known l.atom l.stack).left ≡ (taken g.T.Table.grammar g.T.Table.known l.atom l.initial.stack).left;
+  actions : l.actions.items ++ (taken g.T.Table.grammar g.T.Table.known l.atom l.stack).actions ≡ l.initial.actions.items ++
+      (taken g.T.Table.grammar g.T.Table.known l.atom l.initial.stack).actions;
+  left : (taken g.T.Table.grammar g.T.Table.known l.atom l.stack).left ≡
+      (taken g.T.Table.grammar g.T.Table.known l.atom l.initial.stack).left;
 }
 
 abbrev pub decreases-loop-symbol : goal.decreases-loop-symbol

@@ -9,8 +9,10 @@ unfolding all_falling
 returns-clause-read c =
     let o = c.args.object.now in
     let part = c.args.part in
-    let short : are_short (rows_of part o) ≡ true = short_rows o.owner part o (omega (arith, c.as_slice-classes.ensures.few, ap length c.as_slice-classes.ensures.value)) c.as_slice-properties.ensures.short in
-    λ number_of rest. table_is_read number_of o.name c.args.words (falling 64 (rows_of part o)) rest c.requires.name c.requires.few (falling_rows 64 (rows_of part o) (omega arith) short)
+    let short : are_short (rows_of part o) ≡ true = short_rows o.owner part o
+    (omega (arith, c.as_slice-classes.ensures.few, ap length c.as_slice-classes.ensures.value)) c.as_slice-properties.ensures.short in
+    λ number_of rest. table_is_read number_of o.name c.args.words (falling 64 (rows_of part o)) rest c.requires.name c.requires.few
+    (falling_rows 64 (rows_of part o) (omega arith) short)
 
 pub returns-clause-falling : goal.returns-clause-falling
 unfolding all_falling

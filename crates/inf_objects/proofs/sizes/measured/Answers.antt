@@ -10,13 +10,15 @@ use Rattle.inf_objects.proofs.sizes.measured.Goals as goal
 pub returns-clause-table : goal.returns-clause-table
 returns-clause-table c =
     let o = c.args.object.now in
-    λ part. subst (λ (m : Measure). (length (bytes_of (table_cells part o)) ≡ m.table.bytes) × (later_count (table_cells part o) ≡ m.table.later)) (sym c.measure_by.ensures)
+    λ part. subst (λ (m : Measure). (length (bytes_of (table_cells part o)) ≡ m.table.bytes) ×
+    (later_count (table_cells part o) ≡ m.table.later)) (sym c.measure_by.ensures)
     (table_measured part o c.as_slice.ensures.once c.as_slice.ensures.free)
 
 pub returns-clause-individual_table : goal.returns-clause-individual_table
 returns-clause-individual_table c =
     let o = c.args.object.now in
-    subst (λ (m : Measure). (length (bytes_of (individual_table_cells o)) ≡ m.individual_table.bytes) × (later_count (individual_table_cells o) ≡ m.individual_table.later)) (sym c.measure_by.ensures)
+    subst (λ (m : Measure). (length (bytes_of (individual_table_cells o)) ≡ m.individual_table.bytes) ×
+    (later_count (individual_table_cells o) ≡ m.individual_table.later)) (sym c.measure_by.ensures)
     (individual_table_measured o)
 
 pub returns-clause-counted : goal.returns-clause-counted

@@ -24,7 +24,18 @@ plus-all-requires-clause-later c =
     let step = sum_step (λ q. (kind_part kind q).bytes) ps i p c.loop-property-test.true c.property-item.is in
     let here = ap (λ (s : Part). s.bytes) c.kind_part.ensures in
     let later = ap (λ (s : Part). s.later) c.kind_part.ensures in
-    omega (arith, step, here, later, (kind_within kind p).0, c.loop-property.invariant.few, c.loop-property.invariant.bytes, parts_within kind ps, c.requires.small)
+    omega (
+      arith,
+      step,
+      here,
+      later,
+      (kind_within kind p).0,
+      c.loop-property.invariant.few,
+      c.loop-property.invariant.bytes,
+      parts_within
+          kind ps,
+      c.requires.small,
+    )
 
 pub loop-property-preserved : goal.loop-property-preserved
 loop-property-preserved c =
@@ -39,13 +50,28 @@ loop-property-preserved c =
     record {
       bytes = omega (arith, bytes, here_bytes, c.plus-all.ensures.bytes, c.loop-property.invariant.bytes);
       later = omega (arith, later, here_later, c.plus-all.ensures.later, c.loop-property.invariant.later);
-      few = omega (arith, here_bytes, here_later, c.plus-all.ensures.bytes, c.plus-all.ensures.later, c.loop-property.invariant.few, (kind_within kind p).0);
+      few = omega (
+        arith,
+        here_bytes,
+        here_later,
+        c.plus-all.ensures.bytes,
+        c.plus-all.ensures.later,
+        c.loop-property.invariant.few,
+        (kind_within kind p).0,
+      );
       short = (short_step ps i p c.loop-property-test.true c.property-item.is c.loop-property.invariant.short).1;
     }
 
 pub returns-clause-small : goal.returns-clause-small
-returns-clause-small c = omega (arith, c.loop-property.invariant.bytes, parts_within c.args.individual c.args.properties.now, c.requires.small)
+returns-clause-small c =
+    omega (arith, c.loop-property.invariant.bytes, parts_within c.args.individual c.args.properties.now, c.requires.small)
 
 pub returns-clause-few : goal.returns-clause-few
 returns-clause-few c =
-    omega (arith, c.loop-property.invariant.few, c.loop-property.invariant.bytes, parts_within c.args.individual c.args.properties.now, c.requires.small)
+    omega (
+      arith,
+      c.loop-property.invariant.few,
+      c.loop-property.invariant.bytes,
+      parts_within c.args.individual c.args.properties.now,
+      c.requires.small,
+    )

@@ -22,7 +22,8 @@ loop-parent-preserved c =
       made = ap (made 0 before) c.hang.ensures.links ∙ made-step left before p c.loop-parent.links.items is ∙ c.loop-parent.invariant.made;
       count = c.hang.ensures.count ∙ c.loop-parent.invariant.count;
       fewer = omega (arith, c.in-Some.ensures.cases.1, c.loop-parent.invariant.fewer);
-      within = (within-front (length c.args.parents.now) before p (subst (AreWithin (length c.args.parents.now)) is c.loop-parent.invariant.within)).0;
+      within = (within-front (length c.args.parents.now) before p
+          (subst (AreWithin (length c.args.parents.now)) is c.loop-parent.invariant.within)).0;
     }
 
 pub returns : goal.returns

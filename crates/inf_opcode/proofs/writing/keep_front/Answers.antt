@@ -49,7 +49,8 @@ returns-in_default-clause-ok c =
     c.in_ok-keep_operands.ensures.ok
     ∙ ap (λ n. kept ++ kept_from n cells) first
     ∙ ap (λ k. kept ++ k) (sym (append-nil (kept_from (c.args.start + length head) cells)))
-    ∙ ap (λ k. kept ++ k) (sym (ap (λ (b : Option Branch). kept_from (c.args.start + length head) cells ++ kept_from (c.args.start + length (long_bytes (plain head ++ cells ++ store_cells instruction.store))) (branch_cells b)) c.in_default.is))
+    ∙ ap (λ k. kept ++ k) (sym (ap (λ (b : Option Branch). kept_from (c.args.start + length head) cells ++ kept_from
+    (c.args.start + length (long_bytes (plain head ++ cells ++ store_cells instruction.store))) (branch_cells b)) c.in_default.is))
     ∙ ap (λ k. kept ++ k) (sym (kept-front c.args.start head cells instruction.store instruction.branch))
 
 pub returns-in_ok-push-clause-ok : goal.returns-in_ok-push-clause-ok
@@ -65,11 +66,14 @@ returns-in_ok-push-clause-ok c =
     let kept = c.args.kept.now.items in
     let given = kept_from (c.args.start + length head) cells in
     let Entry : ℕ → Kept = λ n. record { place = n; what = Branches branch } in
-    let size : length (long_bytes (branch_cells instruction.branch)) ≡ 2 = ap (λ (b : Option Branch). length (long_bytes (branch_cells b))) c.in-Some.is in
-    let place : c.args.end - 2 ≡ c.args.start + length (long_bytes front) = omega (arith, c.requires, size, length-long front (branch_cells instruction.branch)) in
+    let size : length (long_bytes (branch_cells instruction.branch)) ≡ 2 =
+    ap (λ (b : Option Branch). length (long_bytes (branch_cells b))) c.in-Some.is in
+    let place : c.args.end - 2 ≡ c.args.start + length (long_bytes front) =
+    omega (arith, c.requires, size, length-long front (branch_cells instruction.branch)) in
     c.in_ok-push.ensures.items
     ∙ ap (λ k. k ++ Entry (c.args.end - 2) ∷ []) (c.in_ok-keep_operands.ensures.ok ∙ ap (λ n. kept ++ kept_from n cells) first)
     ∙ append_assoc kept given (Entry (c.args.end - 2) ∷ [])
     ∙ ap (λ n. kept ++ (given ++ Entry n ∷ [])) place
-    ∙ ap (λ k. kept ++ k) (sym (ap (λ (b : Option Branch). given ++ kept_from (c.args.start + length (long_bytes front)) (branch_cells b)) c.in-Some.is))
+    ∙ ap (λ k. kept ++ k) (sym (ap (λ (b : Option Branch). given ++ kept_from (c.args.start + length (long_bytes front)) (branch_cells b))
+    c.in-Some.is))
     ∙ ap (λ k. kept ++ k) (sym (kept-front c.args.start head cells instruction.store instruction.branch))

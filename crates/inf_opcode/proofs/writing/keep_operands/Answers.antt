@@ -10,7 +10,14 @@ use Rattle.inf_opcode.proofs.writing.keep_operands.Goals as goal
 
 pub overflow_add-place : goal.overflow_add-place
 overflow_add-place c =
-    omega (arith, c.requires, c.loop-operand.invariant.place, c.operand_len-place.ensures.value, long-within c.args.operands.now c.loop-operand.operand-index (Large 0) c.loop-operand-test.true)
+    omega (
+      arith,
+      c.requires,
+      c.loop-operand.invariant.place,
+      c.operand_len-place.ensures.value,
+      long-within c.args.operands.now
+          c.loop-operand.operand-index (Large 0) c.loop-operand-test.true,
+    )
 
 pub loop-operand-preserved : goal.loop-operand-preserved
 loop-operand-preserved c =
@@ -30,5 +37,7 @@ loop-operand-preserved c =
     }
 
 pub returns-in_err-keep_operand-clause-longer : goal.returns-in_err-keep_operand-clause-longer
-returns-in_err-keep_operand-clause-longer c =
-    (kept_from c.args.first (flat_map operand_cells (take c.loop-operand.operand-index c.args.operands.now)), c.in_err-keep_operand.ensures.err ∙ c.loop-operand.invariant.kept)
+returns-in_err-keep_operand-clause-longer c = (
+  kept_from c.args.first (flat_map operand_cells (take c.loop-operand.operand-index c.args.operands.now)),
+  c.in_err-keep_operand.ensures.err ∙ c.loop-operand.invariant.kept,
+)

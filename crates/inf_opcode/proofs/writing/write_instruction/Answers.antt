@@ -18,7 +18,8 @@ keep_front-requires g c =
 pub returns-in_err-append-clause-err : goal.returns-in_err-append-clause-err
 returns-in_err-append-clause-err g c =
     on_err c.from_residual.result
-    (longer_by _ _ [] _ _ [] (c.in_err-append.ensures.err ∙ sym (append-nil (g.A.Area.bytes c.args.area.now))) (sym (append-nil c.args.kept.now.items)))
+    (longer_by _ _ [] _ _ [] (c.in_err-append.ensures.err ∙ sym (append-nil (g.A.Area.bytes c.args.area.now)))
+    (sym (append-nil c.args.kept.now.items)))
 
 pub returns-in_err-keep_front-clause-err : goal.returns-in_err-keep_front-clause-err
 returns-in_err-keep_front-clause-err g c =
@@ -28,7 +29,8 @@ returns-in_err-keep_front-clause-err g c =
 pub returns-in_err-append_text-clause-err : goal.returns-in_err-append_text-clause-err
 returns-in_err-append_text-clause-err g c =
     on_err c.from_residual-in_err-append_text.result
-    (longer_by _ _ _ _ _ c.keep_front.ensures.longer.0 (c.in_err-append_text.ensures.err ∙ c.in_ok-append.ensures.ok) c.keep_front.ensures.longer.1)
+    (longer_by _ _ _ _ _ c.keep_front.ensures.longer.0 (c.in_err-append_text.ensures.err ∙ c.in_ok-append.ensures.ok)
+    c.keep_front.ensures.longer.1)
 
 pub returns-clause-ok : goal.returns-clause-ok
 returns-clause-ok g c =

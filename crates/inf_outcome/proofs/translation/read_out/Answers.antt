@@ -25,11 +25,13 @@ returns-in-Ok-clause-concludes g c = λ honest start nested.
     let mid = g.M.Sink.taken c.read.new.messages in
     let new = g.M.Sink.taken c.finish.new.messages in
     let read = c.in-Ok.ensures.read honest start nested in
-    subst (λ (f : Open). IfOk c.finish.result.1 (λ x. Concludes s o c.args.serial.now (state s start first c.args.session []) start here f old new x)) (sym c.finish.ensures.files)
+    subst (λ (f : Open). IfOk c.finish.result.1 (λ x. Concludes s o c.args.serial.now (state s start first c.args.session []) start here f
+    old new x)) (sym c.finish.ensures.files)
     (if_ok_more c.finish.result.1
     (λ x. Delivers (finished c.args.serial.now c.read.new.self.open_files.nest.names (work_of c.read.new.self.progress.work)) x mid new)
     (λ x. Concludes s o c.args.serial.now (state s start first c.args.session []) start here c.read.new.self.open_files old new x)
-    (λ x d. concludes s o c.args.serial.now (state s start first c.args.session) (state s start here c.read.new.self) start here c.read.new.self.open_files old mid new read.0 x read.1
+    (λ x d. concludes s o c.args.serial.now (state s start first c.args.session) (state s start here c.read.new.self) start here
+    c.read.new.self.open_files old mid new read.0 x read.1
     (λ told. c.in-Ok.ensures.ended) (λ told. refl) (c.in-Ok.ensures.went.nested honest start nested) (λ told. refl) (λ told. d))
     c.finish.ensures.ok)
 
@@ -47,7 +49,8 @@ returns-in-Ok-clause-stops g c = λ honest start nested.
     on_err_leads c.finish.result.1
     (TakesFront (finished c.args.serial.now c.read.new.self.open_files.nest.names (work_of c.read.new.self.progress.work)).messages mid new)
     (Stops s o c.args.serial.now (state s start first c.args.session []) old new)
-    (λ t. stops_ending s o c.args.serial.now (state s start first c.args.session) (state s start here c.read.new.self) old mid new read.0 read.1
+    (λ t. stops_ending s o c.args.serial.now (state s start first c.args.session) (state s start here c.read.new.self) old mid new read.0
+    read.1
     (λ told. c.in-Ok.ensures.ended) (λ told. refl) (λ told. t))
     c.finish.ensures.err
 
@@ -73,13 +76,15 @@ returns-in-Ok-clause-opened g c = λ honest start nested.
     let read = c.in-Ok.ensures.read honest start nested in
     on_err c.finish.result.1 (
       read.0,
-      opened_behind s (chosen c.args.session.setup) read.0 (state s start (files.openings c.args.files.now) c.args.session) (state s start here c.read.new.self)
+      opened_behind s (chosen c.args.session.setup) read.0 (state s start (files.openings c.args.files.now) c.args.session)
+          (state s start here c.read.new.self)
           (g.M.Sink.taken c.args.messages.now) (g.M.Sink.taken c.read.new.messages) (opened_since start here) read.1 (λ told. refl),
     )
 
 pub returns-in-Ok-clause-went : goal.returns-in-Ok-clause-went
 returns-in-Ok-clause-went g c =
-    went_as g.F.Files c.args.files.now c.read.new.files c.args.session.open_files c.read.new.self.open_files c.finish.result.0 c.finish.ensures.files c.read.ensures.went
+    went_as g.F.Files c.args.files.now c.read.new.files c.args.session.open_files c.read.new.self.open_files c.finish.result.0
+    c.finish.ensures.files c.read.ensures.went
 
 pub returns-in-Ok-clause-fits : goal.returns-in-Ok-clause-fits
 returns-in-Ok-clause-fits g c = if_ok_always c.finish.result.1 _ c.in-Ok.ensures.fits
@@ -90,5 +95,6 @@ returns-in-Ok-clause-clean g c =
     let old = c.args.messages.now in
     let mid = c.read.new.messages in
     let new = c.finish.new.messages in
-    if_ok_more c.finish.result.1 (λ x. x.status ≡ status.Success → EndsClean (m.taken mid) (m.taken new)) (λ x. x.status ≡ status.Success → EndsClean (m.taken old) (m.taken new))
+    if_ok_more c.finish.result.1 (λ x. x.status ≡ status.Success → EndsClean (m.taken mid) (m.taken new))
+    (λ x. x.status ≡ status.Success → EndsClean (m.taken old) (m.taken new))
     (λ x p is. ends_behind m old mid new c.read.ensures.wrote (p is)) c.finish.ensures.clean

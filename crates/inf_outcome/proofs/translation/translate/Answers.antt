@@ -37,21 +37,29 @@ returns-clause-comes g c = λ honest.
     let last = subst (λ b. IsTrue b) (sym c.read_out-open_files.ensures.went.honesty) still in
     let nested = subst (λ (x : Open). IsNested old mid x) (sym c.in-Ok-new.ensures.files) (c.in-Ok.ensures.nested honest) in
     let limit : nesting s old mid session.open_files ≡ main_opened o.set (most_quoted o) s name =
-    ap (λ (x : Open). nesting s old mid x) c.in-Ok-new.ensures.files ∙ c.in-Ok.ensures.nesting honest ∙ ap (λ n. main_opened o.set n s name) c.of-limit.ensures.value in
+    ap (λ (x : Open). nesting s old mid x) c.in-Ok-new.ensures.files ∙ c.in-Ok.ensures.nesting honest
+    ∙ ap (λ n. main_opened o.set n s name) c.of-limit.ensures.value in
     let begun : state s old mid session [] ≡ start s o name =
-    begun_is s o name old mid session limit c.in-Ok-new.ensures.standing c.in-Ok-new.ensures.going c.in-Ok-new.ensures.conditionals c.in-Ok-new.ensures.quoted in
+    begun_is s o name old mid session limit c.in-Ok-new.ensures.standing c.in-Ok-new.ensures.going c.in-Ok-new.ensures.conditionals
+    c.in-Ok-new.ensures.quoted in
     let main = subst (λ (x : Open). AllGiven s (length old.all) mid x) (sym c.in-Ok-new.ensures.files) (c.in-Ok.ensures.given_all honest) in
     let here = subst (λ (y : Sources). AllGiven y (length old.all) mid session.open_files) (sym c.enter_main.ensures.kept.sources) main in
-    let given = subst (λ (y : Sources). AllGiven y (length old.all) now f) c.enter_main.ensures.kept.sources (c.read_out-open_files.ensures.went.stays_given still old nested here) in
-    if_ok_more c.read_out-open_files.result.1 (λ x. Concludes t (chosen session.setup) serial (state t old mid session []) old now f before after x × Each Fits (length old.all) now.all)
+    let given = subst (λ (y : Sources). AllGiven y (length old.all) now f) c.enter_main.ensures.kept.sources
+    (c.read_out-open_files.ensures.went.stays_given still old nested here) in
+    if_ok_more c.read_out-open_files.result.1 (λ x. Concludes t (chosen session.setup) serial (state t old mid session []) old now f before
+    after x × Each Fits (length old.all) now.all)
     (λ x. Comes s o serial name old (files.openings c.close-2.new.files) before after x)
-    (λ x k. comes_of s o serial name old now (files.openings c.close-2.new.files) f (state s old mid session []) before after x (c.in-Ok.ensures.there honest) begun
+    (λ x k. comes_of s o serial name old now (files.openings c.close-2.new.files) f (state s old mid session []) before after x
+    (c.in-Ok.ensures.there honest) begun
     (c.close-2.ensures.closed last old k.0.nested) given k.1
     (subst (λ (p : Setup). Concludes s (chosen p) serial (state s old mid session []) old now f before after x) c.in-Ok-new.ensures.setup
-    (subst (λ (y : Sources). Concludes y (chosen session.setup) serial (state y old mid session []) old now f before after x) c.enter_main.ensures.kept.sources k.0)))
-    (if_ok_both c.read_out-open_files.result.1 (λ x. Concludes t (chosen session.setup) serial (state t old mid session []) old now f before after x) (λ x. Each Fits (length old.all) now.all)
+    (subst (λ (y : Sources). Concludes y (chosen session.setup) serial (state y old mid session []) old now f before after x)
+    c.enter_main.ensures.kept.sources k.0)))
+    (if_ok_both c.read_out-open_files.result.1 (λ x. Concludes t (chosen session.setup) serial (state t old mid session []) old now f before
+    after x) (λ x. Each Fits (length old.all) now.all)
     (c.read_out-open_files.ensures.concludes still old nested)
-    (if_ok_more c.read_out-open_files.result.1 (λ x. StaysFit files c.enter_main.new.files c.read_out-open_files.new.files session.open_files) (λ x. Each Fits (length old.all) now.all)
+    (if_ok_more c.read_out-open_files.result.1 (λ x. StaysFit files c.enter_main.new.files c.read_out-open_files.new.files
+    session.open_files) (λ x. Each Fits (length old.all) now.all)
     (λ x h. h still old nested here (c.in-Ok.ensures.fits honest)) c.read_out-open_files.ensures.fits))
 
 pub returns-clause-begins : goal.returns-clause-begins
@@ -69,13 +77,16 @@ returns-clause-begins g c = λ honest.
     let still = subst (λ b. IsTrue b) (sym c.enter_main.ensures.kept.honesty) honest in
     let nested = subst (λ (x : Open). IsNested old mid x) (sym c.in-Ok-new.ensures.files) (c.in-Ok.ensures.nested honest) in
     let limit : nesting s old mid session.open_files ≡ main_opened o.set (most_quoted o) s name =
-    ap (λ (x : Open). nesting s old mid x) c.in-Ok-new.ensures.files ∙ c.in-Ok.ensures.nesting honest ∙ ap (λ n. main_opened o.set n s name) c.of-limit.ensures.value in
+    ap (λ (x : Open). nesting s old mid x) c.in-Ok-new.ensures.files ∙ c.in-Ok.ensures.nesting honest
+    ∙ ap (λ n. main_opened o.set n s name) c.of-limit.ensures.value in
     let begun : state s old mid session [] ≡ start s o name =
-    begun_is s o name old mid session limit c.in-Ok-new.ensures.standing c.in-Ok-new.ensures.going c.in-Ok-new.ensures.conditionals c.in-Ok-new.ensures.quoted in
+    begun_is s o name old mid session limit c.in-Ok-new.ensures.standing c.in-Ok-new.ensures.going c.in-Ok-new.ensures.conditionals
+    c.in-Ok-new.ensures.quoted in
     on_err_weaker c.read_out-open_files.result.1
     (λ k. begins_of s o serial name (state s old mid session []) before after (c.in-Ok.ensures.there honest) begun
     (subst (λ (p : Setup). Stops s (chosen p) serial (state s old mid session []) before after) c.in-Ok-new.ensures.setup
-    (subst (λ (y : Sources). Stops y (chosen session.setup) serial (state y old mid session []) before after) c.enter_main.ensures.kept.sources k)))
+    (subst (λ (y : Sources). Stops y (chosen session.setup) serial (state y old mid session []) before after)
+    c.enter_main.ensures.kept.sources k)))
     (c.read_out-open_files.ensures.stops still old nested)
 
 pub returns-clause-fault : goal.returns-clause-fault
@@ -88,11 +99,15 @@ returns-clause-fault g c =
     let f = c.read_out-open_files.result.0 in
     let session = c.in-Ok-new.session in
     let rose = Rose (g.M.Sink.failures c.args.messages.now) (g.M.Sink.failures c.read_out-open_files.new.messages) in
-    let front = subst (λ (x : Open). (x.lexer ≡ at_front c.args.setup.set c.of-limit.result 0) × (x.outer ≡ [])) (sym c.in-Ok-new.ensures.files) c.in-Ok.ensures.front in
-    let opened = subst (λ (x : Open). min (files.opened first + length x.nest.names) last_count ≤ files.opened entered) (sym c.in-Ok-new.ensures.files) c.in-Ok.ensures.opened in
-    if_caused_more c.read_out-open_files.result.1 (λ name. IsUnreadable files entered read session.open_files f) (λ name. IsUnread files first last) rose rose
+    let front = subst (λ (x : Open). (x.lexer ≡ at_front c.args.setup.set c.of-limit.result 0) × (x.outer ≡ []))
+    (sym c.in-Ok-new.ensures.files) c.in-Ok.ensures.front in
+    let opened = subst (λ (x : Open). min (files.opened first + length x.nest.names) last_count ≤ files.opened entered)
+    (sym c.in-Ok-new.ensures.files) c.in-Ok.ensures.opened in
+    if_caused_more c.read_out-open_files.result.1 (λ name. IsUnreadable files entered read session.open_files f)
+    (λ name. IsUnread files first last) rose rose
     (λ name why. unread_by files first entered read last session.open_files f c.enter_main.ensures.kept c.enter_main.ensures.given opened
-    (none_given c.args.setup.set c.of-limit.result session.open_files front) c.read_out-open_files.ensures.went c.close-2.ensures.kept c.close-2.ensures.untouched why)
+    (none_given c.args.setup.set c.of-limit.result session.open_files front) c.read_out-open_files.ensures.went c.close-2.ensures.kept
+    c.close-2.ensures.untouched why)
     (λ r. r) c.read_out-open_files.ensures.fault
 
 pub returns-clause-opened : goal.returns-clause-opened
@@ -109,18 +124,22 @@ returns-clause-opened g c = λ honest.
     let last = subst (λ b. IsTrue b) (sym c.read_out-open_files.ensures.went.honesty) still in
     let nested = subst (λ (x : Open). IsNested old mid x) (sym c.in-Ok-new.ensures.files) (c.in-Ok.ensures.nested honest) in
     let limit : nesting s old mid session.open_files ≡ main_opened o.set (most_quoted o) s name =
-    ap (λ (x : Open). nesting s old mid x) c.in-Ok-new.ensures.files ∙ c.in-Ok.ensures.nesting honest ∙ ap (λ n. main_opened o.set n s name) c.of-limit.ensures.value in
+    ap (λ (x : Open). nesting s old mid x) c.in-Ok-new.ensures.files ∙ c.in-Ok.ensures.nesting honest
+    ∙ ap (λ n. main_opened o.set n s name) c.of-limit.ensures.value in
     let begun : state s old mid session [] ≡ start s o name =
-    begun_is s o name old mid session limit c.in-Ok-new.ensures.standing c.in-Ok-new.ensures.going c.in-Ok-new.ensures.conditionals c.in-Ok-new.ensures.quoted in
+    begun_is s o name old mid session limit c.in-Ok-new.ensures.standing c.in-Ok-new.ensures.going c.in-Ok-new.ensures.conditionals
+    c.in-Ok-new.ensures.quoted in
     let closed = c.close-2.ensures.closed last old (c.read_out-open_files.ensures.went.nested still old nested) in
     let f = c.read_out-open_files.result.0 in
     let main = subst (λ (x : Open). AllGiven s (length old.all) mid x) (sym c.in-Ok-new.ensures.files) (c.in-Ok.ensures.given_all honest) in
     let here = subst (λ (y : Sources). AllGiven y (length old.all) mid session.open_files) (sym c.enter_main.ensures.kept.sources) main in
-    let given = subst (λ (y : Sources). AllGiven y (length old.all) now f) c.enter_main.ensures.kept.sources (c.read_out-open_files.ensures.went.stays_given still old nested here) in
+    let given = subst (λ (y : Sources). AllGiven y (length old.all) now f) c.enter_main.ensures.kept.sources
+    (c.read_out-open_files.ensures.went.stays_given still old nested here) in
     on_err_weaker c.read_out-open_files.result.1
     (λ k. inr (opened_some s o name old now (files.openings c.close-2.new.files) f (state s old mid session) k.0 begun closed given
     (subst (λ (p : Setup). OpensAll (run s (chosen p) k.0) (state s old mid session) (opened_since old now)) c.in-Ok-new.ensures.setup
-    (subst (λ (y : Sources). OpensAll (run y (chosen session.setup) k.0) (state y old mid session) (opened_since old now)) c.enter_main.ensures.kept.sources k.1))))
+    (subst (λ (y : Sources). OpensAll (run y (chosen session.setup) k.0) (state y old mid session) (opened_since old now))
+    c.enter_main.ensures.kept.sources k.1))))
     (c.read_out-open_files.ensures.opened still old nested)
 
 pub returns-clause-heard : goal.returns-clause-heard
@@ -141,12 +160,15 @@ returns-clause-heard g c = λ honest.
     let last = subst (λ b. IsTrue b) (sym c.read_out-open_files.ensures.went.honesty) still in
     let nested = subst (λ (x : Open). IsNested old mid x) (sym c.in-Ok-new.ensures.files) (c.in-Ok.ensures.nested honest) in
     let limit : nesting s old mid session.open_files ≡ main_opened o.set (most_quoted o) s name =
-    ap (λ (x : Open). nesting s old mid x) c.in-Ok-new.ensures.files ∙ c.in-Ok.ensures.nesting honest ∙ ap (λ n. main_opened o.set n s name) c.of-limit.ensures.value in
+    ap (λ (x : Open). nesting s old mid x) c.in-Ok-new.ensures.files ∙ c.in-Ok.ensures.nesting honest
+    ∙ ap (λ n. main_opened o.set n s name) c.of-limit.ensures.value in
     let begun : state s old mid session [] ≡ start s o name =
-    begun_is s o name old mid session limit c.in-Ok-new.ensures.standing c.in-Ok-new.ensures.going c.in-Ok-new.ensures.conditionals c.in-Ok-new.ensures.quoted in
+    begun_is s o name old mid session limit c.in-Ok-new.ensures.standing c.in-Ok-new.ensures.going c.in-Ok-new.ensures.conditionals
+    c.in-Ok-new.ensures.quoted in
     let main = subst (λ (x : Open). AllGiven s (length old.all) mid x) (sym c.in-Ok-new.ensures.files) (c.in-Ok.ensures.given_all honest) in
     let here = subst (λ (y : Sources). AllGiven y (length old.all) mid session.open_files) (sym c.enter_main.ensures.kept.sources) main in
-    let given = subst (λ (y : Sources). AllGiven y (length old.all) now f) c.enter_main.ensures.kept.sources (c.read_out-open_files.ensures.went.stays_given still old nested here) in
+    let given = subst (λ (y : Sources). AllGiven y (length old.all) now f) c.enter_main.ensures.kept.sources
+    (c.read_out-open_files.ensures.went.stays_given still old nested here) in
     let went = c.read_out-open_files.ensures.went in
     let first_faults = files.faults c.args.files.now in
     let main_faults = files.faults c.enter_main.new.files in
@@ -154,11 +176,15 @@ returns-clause-heard g c = λ honest.
     let later = Rose main_faults read_faults in
     let failed = Rose first_faults (files.faults c.close-2.new.files) in
     let result = c.read_out-open_files.result.1 in
-    heard_from result failed s o name (state s old mid session) old now new f before after begun (c.close-2.ensures.all last) (went.nested still old nested) given
+    heard_from result failed s o name (state s old mid session) old now new f before after begun (c.close-2.ensures.all last)
+    (went.nested still old nested) given
     (given_up_between result later failed s o (state s old mid session) before after old now f
-    (λ rose. subst (λ (n : ℕ). Rose first_faults n) (sym c.close-2.ensures.untouched.0) (rose_earlier first_faults main_faults read_faults c.enter_main.ensures.kept.faults rose))
-    (subst (λ (p : Setup). IfErr result (λ x. IfRead x (λ told. GivenUp later s (chosen p) (state s old mid session) before after old now f told))) c.in-Ok-new.ensures.setup
-    (subst (λ (y : Sources). IfErr result (λ x. IfRead x (λ told. GivenUp later y (chosen session.setup) (state y old mid session) before after old now f told))) c.enter_main.ensures.kept.sources
+    (λ rose. subst (λ (n : ℕ). Rose first_faults n) (sym c.close-2.ensures.untouched.0)
+    (rose_earlier first_faults main_faults read_faults c.enter_main.ensures.kept.faults rose))
+    (subst (λ (p : Setup). IfErr result (λ x. IfRead x (λ told. GivenUp later s (chosen p) (state s old mid session) before after old now f
+    told))) c.in-Ok-new.ensures.setup
+    (subst (λ (y : Sources). IfErr result (λ x. IfRead x (λ told. GivenUp later y (chosen session.setup) (state y old mid session) before
+    after old now f told))) c.enter_main.ensures.kept.sources
     (c.read_out-open_files.ensures.heard still old nested))))
 
 pub returns-in-Err-clause-opened : goal.returns-in-Err-clause-opened
@@ -169,5 +195,6 @@ returns-in-Err-clause-opened g c = λ honest.
     let mid = files.openings c.enter_main.new.files in
     let still = subst (λ b. IsTrue b) (sym c.enter_main.ensures.kept.honesty) honest in
     let nested = subst (λ (x : Open). IsNested old mid x) (sym c.in-Err.ensures.back) (c.in-Ok.ensures.nested honest) in
-    inr (opened_first s (chosen c.args.setup) c.args.name.now old mid (files.openings c.close.new.files) c.in-Ok.open_files c.args.setup.set c.of-limit.result
+    inr (opened_first s (chosen c.args.setup) c.args.name.now old mid (files.openings c.close.new.files) c.in-Ok.open_files c.args.setup.set
+    c.of-limit.result
     (c.close.ensures.closed still old nested) (c.in-Ok.ensures.given_all honest) (c.in-Ok.ensures.nesting honest))

@@ -20,8 +20,10 @@ returns-clause-after c =
     let values = c.as_slice-values.ensures in
     let old_count = ap length values in
     let old_later = c.later_count-later.ensures.value ∙ ap later_count values in
-    let count : length c.as_slice-values.result.now + c.counts-more.result.0 ≡ length own = omega (arith, length-append p.values (c.args.value ∷ []), c.counts-more.ensures.count, old_count) in
-    let later : c.later_count-later.result + c.counts-more.result.1 ≡ later_count own = omega (arith, later_count_push p.values c.args.value, c.counts-more.ensures.later, old_later) in
+    let count : length c.as_slice-values.result.now + c.counts-more.result.0 ≡ length own =
+    omega (arith, length-append p.values (c.args.value ∷ []), c.counts-more.ensures.count, old_count) in
+    let later : c.later_count-later.result + c.counts-more.result.1 ≡ later_count own =
+    omega (arith, later_count_push p.values c.args.value, c.counts-more.ensures.later, old_later) in
     c.in_ok-after.ensures.some
     ∙ sized_by c.args.owner c.args.owner p.number p.is_additive _ _ c.args.above.now c.args.above.now own refl count later refl
     ∙ sym (size-joined c.args.owner p.number p.is_additive own c.args.above.now)

@@ -5,4 +5,5 @@ use Rattle.inf_report.proofs.own_words.run_len.Given as goal
 
 -- the bytes so far are alike, and those that are left tell how many more are
 abbrev pub invariant-loop-index : goal.invariant-loop-index
-invariant-loop-index l = l.index + prefix_len (is_alike l.set l.is_space) (drop l.index l.bytes) ≡ prefix_len (is_alike l.set l.is_space) l.bytes
+invariant-loop-index l =
+    l.index + prefix_len (is_alike l.set l.is_space) (drop l.index l.bytes) ≡ prefix_len (is_alike l.set l.is_space) l.bytes

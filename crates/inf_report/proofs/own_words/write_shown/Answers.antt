@@ -13,7 +13,8 @@ returns-in_err-write_bytes g c =
       is_behind = c.split_at.ensures.back;
       is_piece = c.shown_run.ensures ∙ ap (shown_run is_space) c.split_at.ensures.front;
     } in
-    shows_failed _ _ _ _ _ _ c.args.words.set is_space c.args.words.bytes.now c.loop-rest.rest.now c.split_at.result.1.now c.shown_run.result.now
+    shows_failed _ _ _ _ _ _ c.args.words.set is_space c.args.words.bytes.now c.loop-rest.rest.now c.split_at.result.1.now
+    c.shown_run.result.now
     c.from_residual.result c.from_residual.ensures.0 run c.loop-rest.invariant c.in_err-write_bytes.ensures
 
 pub loop-rest-preserved : goal.loop-rest-preserved
@@ -26,5 +27,6 @@ loop-rest-preserved g c =
       is_behind = c.split_at.ensures.back;
       is_piece = c.shown_run.ensures ∙ ap (shown_run is_space) c.split_at.ensures.front;
     } in
-    shows_next _ _ _ _ _ _ c.args.words.set is_space c.args.words.bytes.now c.loop-rest.rest.now c.split_at.result.1.now c.shown_run.result.now
+    shows_next _ _ _ _ _ _ c.args.words.set is_space c.args.words.bytes.now c.loop-rest.rest.now c.split_at.result.1.now
+    c.shown_run.result.now
     run c.loop-rest.invariant c.in_ok-write_bytes.ensures

@@ -8,9 +8,11 @@ use Rattle.inf_scanner.proofs.scanner.run_len.Goals as goal
 
 pub returns-in-Mark : goal.returns-in-Mark
 returns-in-Mark c =
-    sym (ap (λ (s : State). prefix_len (stays s) c.args.bytes.now) c.in-Mark.is ∙ no_run (stays (state.Mark c.in-Mark.field-0)) (λ b. refl) c.args.bytes.now)
+    sym (ap (λ (s : State). prefix_len (stays s) c.args.bytes.now) c.in-Mark.is ∙ no_run (stays (state.Mark c.in-Mark.field-0)) (λ b. refl)
+    c.args.bytes.now)
 
 pub returns-in-Quote-true : goal.returns-in-Quote-true
 returns-in-Quote-true c =
-    sym (ap (λ (s : State). prefix_len (stays s) c.args.bytes.now) (c.in-Quote-true.is ∙ ap (λ t. state.Quote t) c.in-Quote-true.field-0-test)
+    sym (ap (λ (s : State). prefix_len (stays s) c.args.bytes.now)
+    (c.in-Quote-true.is ∙ ap (λ t. state.Quote t) c.in-Quote-true.field-0-test)
     ∙ no_run (stays (state.Quote true)) (λ b. refl) c.args.bytes.now)

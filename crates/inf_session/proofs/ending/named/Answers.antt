@@ -7,5 +7,6 @@ use Rattle.inf_session.proofs.ending.named.Goals as goal
 pub returns-in-None : goal.returns-in-None
 returns-in-None c =
     let a = c.args in
-    subst (λ (v : Option (List Value)). IfOk c.failed.result (λ t. seen t ≡ named a.serial a.files.now.names a.main a.code a.contents.strings a.contents.tables a.report v))
+    subst (λ (v : Option (List Value)). IfOk c.failed.result
+    (λ t. seen t ≡ named a.serial a.files.now.names a.main a.code a.contents.strings a.contents.tables a.report v))
     (ap (λ o. option_map (λ v. v.items) o) (sym c.in-None.is)) c.failed.ensures

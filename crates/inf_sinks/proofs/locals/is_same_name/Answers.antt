@@ -9,5 +9,7 @@ pub returns-else-last_letter : goal.returns-else-last_letter
 returns-else-last_letter c =
     let name = c.args.name.now in
     let other = c.args.other.now in
-    false_from_ne_true (nat_eq c.last_letter.result c.last_letter-2.result) (λ e. c.if-last_letter.false (eqb-true c.last_letter.result c.last_letter-2.result e))
-    ∙ sym (false_from_ne_true (str_eq_ignore_ascii_case name other) (λ e. c.if-last_letter.false (c.last_letter.ensures ∙ same_letter name other e ∙ sym c.last_letter-2.ensures)))
+    false_from_ne_true (nat_eq c.last_letter.result c.last_letter-2.result)
+    (λ e. c.if-last_letter.false (eqb-true c.last_letter.result c.last_letter-2.result e))
+    ∙ sym (false_from_ne_true (str_eq_ignore_ascii_case name other)
+    (λ e. c.if-last_letter.false (c.last_letter.ensures ∙ same_letter name other e ∙ sym c.last_letter-2.ensures)))

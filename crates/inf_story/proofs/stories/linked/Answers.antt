@@ -14,12 +14,14 @@ pub returns-clause-bytes : goal.returns-clause-bytes
 returns-clause-bytes c =
     let finished = c.args.code.finished in
     let same = ap (λ l. linked (contents (λ area. area) l.areas) l.refs.list (lookup l.targets) l.fields) c.new.ensures
-    ∙ is_story c.args.fields c.args.main c.args.names.items finished c.args.strings c.args.tables.now _ _ _ c.in_ok-areas.ensures.bytes c.in_ok-areas.ensures.fixups c.in_ok-targets.ensures in
+    ∙ is_story c.args.fields c.args.main c.args.names.items finished c.args.strings c.args.tables.now _ _ _ c.in_ok-areas.ensures.bytes
+    c.in_ok-areas.ensures.fixups c.in_ok-targets.ensures in
     subst (λ bytes. IfOk c.link.result (λ s. s.bytes ≡ bytes)) same c.link.ensures.bytes
 
 pub returns-clause-fault : goal.returns-clause-fault
 returns-clause-fault c =
     let same = ap (λ l. too_long_by (lengths (contents (λ area. area) l.areas)) l.fields.scale) c.new.ensures
     ∙ is_too_long c.args.fields c.args.main c.args.code.finished c.args.strings c.args.tables.now _ c.in_ok-areas.ensures.bytes in
-    let Tells : Option LinkFault → Type 0 = λ long. MatchResult c.link.result (λ _. long ≡ None) (λ fault. (fault ≡ Memory) ⊎ (long ≡ Some fault)) in
+    let Tells : Option LinkFault → Type 0 =
+    λ long. MatchResult c.link.result (λ _. long ≡ None) (λ fault. (fault ≡ Memory) ⊎ (long ≡ Some fault)) in
     subst Tells same (told c.link.result _ c.link.ensures.fault)

@@ -12,7 +12,9 @@ loop-item-preserved c =
     let i = c.loop-item.item-index in
     let x = c.item-item.result in
     let zs : zs_list c.item_zs.result ≡ item_zs (lowered x) = c.item_zs.ensures.value ∙ ap item_zs c.to_ascii_lowercase.ensures.value in
-    Gives-more c.loop-item.front _ _ (drop i items) (drop (i + 1) items) items x (drop_more items i x c.loop-item-test.true ∙ ap (λ (y : TextItem). y ∷ drop (i + 1) items) (sym c.item-item.is)) zs c.push_all.ensures c.loop-item.invariant
+    Gives-more c.loop-item.front _ _ (drop i items) (drop (i + 1) items) items x
+    (drop_more items i x c.loop-item-test.true ∙ ap (λ (y : TextItem). y ∷ drop (i + 1) items) (sym c.item-item.is)) zs
+    c.push_all.ensures c.loop-item.invariant
 
 pub returns : goal.returns
 unfolding dictionary_bytes

@@ -21,10 +21,13 @@ common_from-matched-requires-clause-text c =
     let others = c.in_ok-first.others.now in
     let i = c.loop-link.link-index in
     let l : Link = get_or others i (record { number = 0; next = 0; shared = 0; len = 0 }) in
-    let next = Searches-next c.args.texts.now c.args.items.now c.loop-link.matched c.loop-link.best (drop i others) (drop (i + 1) others) l _ (drop_more others i _ c.loop-link-test.true) c.loop-link.invariant.1 in
+    let next = Searches-next c.args.texts.now c.args.items.now c.loop-link.matched c.loop-link.best (drop i others) (drop (i + 1) others) l
+    _ (drop_more others i _ c.loop-link-test.true) c.loop-link.invariant.1 in
     let a = c.as_slice-text-then-may_go_on.result.now in
-    let is = text_is c.args.texts.now l.number c.from-then-may_go_on.result c.index-texts-from-then-may_go_on.result a c.as_slice-text-then-may_go_on.ensures.value c.index-texts-from-then-may_go_on.is c.from-then-may_go_on.ensures next.within in
-    let same : l.shared ≡ c.loop-link.matched = going_on l c.loop-link.matched c.loop-link.code (sym c.may_go_on.ensures ∙ c.if-may_go_on.true) in
+    let is = text_is c.args.texts.now l.number c.from-then-may_go_on.result c.index-texts-from-then-may_go_on.result a
+    c.as_slice-text-then-may_go_on.ensures.value c.index-texts-from-then-may_go_on.is c.from-then-may_go_on.ensures next.within in
+    let same : l.shared ≡ c.loop-link.matched =
+    going_on l c.loop-link.matched c.loop-link.code (sym c.may_go_on.ensures ∙ c.if-may_go_on.true) in
     fits_next c.args.texts.now c.args.items.now c.loop-link.matched l a is same next
 
 pub loop-link-preserved : goal.loop-link-preserved
@@ -35,33 +38,44 @@ loop-link-preserved c =
     let i = c.loop-link.link-index in
     let l : Link = get_or others i (record { number = 0; next = 0; shared = 0; len = 0 }) in
     let split : drop i others ≡ _ = drop_more others i (record { number = 0; next = 0; shared = 0; len = 0 }) c.loop-link-test.true in
-    let next = Searches-next texts items c.loop-link.matched c.loop-link.best (drop i others) (drop (i + 1) others) l _ split c.loop-link.invariant.1 in
+    let next = Searches-next texts items c.loop-link.matched c.loop-link.best (drop i others) (drop (i + 1) others) l _ split
+    c.loop-link.invariant.1 in
     let matched = c.loop-link.matched in
     elim c.if-may_go_on.branch [
       | then-may_go_on w ↦
           let a = w.as_slice-text-then-may_go_on.result.now in
-          let is = text_is texts l.number w.from-then-may_go_on.result w.index-texts-from-then-may_go_on.result a w.as_slice-text-then-may_go_on.ensures.value w.index-texts-from-then-may_go_on.is w.from-then-may_go_on.ensures next.within in
+          let is = text_is texts l.number w.from-then-may_go_on.result w.index-texts-from-then-may_go_on.result a
+          w.as_slice-text-then-may_go_on.ensures.value w.index-texts-from-then-may_go_on.is w.from-then-may_go_on.ensures next.within in
           let same : l.shared ≡ matched = going_on l matched c.loop-link.code (sym c.may_go_on.ensures ∙ w.if-may_go_on.true) in
-          let now : w.common_from-matched.result ≡ common items (text_at texts l.number) = w.common_from-matched.ensures.value ∙ goes_on texts items matched l a is same next ∙ ap (common items) is in
-          let better = taken_is items (text_at texts l.number) c.loop-link.best w.from-then-may_go_on-2.result l.number w.common_from-matched.result l.len now w.from-then-may_go_on-2.ensures next.link.len in
-          let code = w.code-is ∙ w.code_behind-code-then-may_go_on.ensures ∙ ap (λ (n : ℕ). first_code (drop n items)) (sym w.matched-is) in (
+          let now : w.common_from-matched.result ≡ common items (text_at texts l.number) =
+          w.common_from-matched.ensures.value ∙ goes_on texts items matched l a is same next ∙ ap (common items) is in
+          let better = taken_is items (text_at texts l.number) c.loop-link.best w.from-then-may_go_on-2.result l.number
+          w.common_from-matched.result l.len now w.from-then-may_go_on-2.ensures next.link.len in
+          let code =
+          w.code-is ∙ w.code_behind-code-then-may_go_on.ensures ∙ ap (λ (n : ℕ). first_code (drop n items)) (sym w.matched-is) in (
             code,
-            Searches-more texts items matched c.if-may_go_on.matched c.loop-link.best c.if-may_go_on.best (drop i others) (drop (i + 1) others) l (best_of texts items None c.args.links.now) split
+            Searches-more texts items matched c.if-may_go_on.matched c.loop-link.best c.if-may_go_on.best (drop i others)
+                (drop (i + 1) others) l (best_of texts items None c.args.links.now) split
                 (w.matched-is ∙ now) (w.best-is ∙ w.taken-best-then-may_go_on.ensures ∙ better) c.loop-link.invariant.1,
           )
       | else-may_go_on+then-link-matched w ↦
           let now : l.shared ≡ common items (text_at texts l.number) = shorter texts items matched l w.if-link-matched.true next in
-          let better = taken_is items (text_at texts l.number) c.loop-link.best w.from-then-link-matched.result l.number l.shared l.len now w.from-then-link-matched.ensures next.link.len in
-          let code = w.code-is ∙ w.code_behind-code-then-link-matched.ensures ∙ ap (λ (n : ℕ). first_code (drop n items)) (sym w.matched-is) in (
+          let better = taken_is items (text_at texts l.number) c.loop-link.best w.from-then-link-matched.result l.number l.shared l.len now
+          w.from-then-link-matched.ensures next.link.len in
+          let code =
+          w.code-is ∙ w.code_behind-code-then-link-matched.ensures ∙ ap (λ (n : ℕ). first_code (drop n items)) (sym w.matched-is) in (
             code,
-            Searches-more texts items matched c.if-may_go_on.matched c.loop-link.best c.if-may_go_on.best (drop i others) (drop (i + 1) others) l (best_of texts items None c.args.links.now) split
+            Searches-more texts items matched c.if-may_go_on.matched c.loop-link.best c.if-may_go_on.best (drop i others)
+                (drop (i + 1) others) l (best_of texts items None c.args.links.now) split
                 (w.matched-is ∙ now) (w.best-is ∙ w.taken-best-then-link-matched.ensures ∙ better) c.loop-link.invariant.1,
           )
       | else-may_go_on+else-link-matched w ↦
-          let over = not_going_on texts items matched c.loop-link.code l c.loop-link.best c.loop-link.invariant.0 (sym c.may_go_on.ensures ∙ w.if-may_go_on.false) w.if-link-matched.false next in
+          let over = not_going_on texts items matched c.loop-link.code l c.loop-link.best c.loop-link.invariant.0
+          (sym c.may_go_on.ensures ∙ w.if-may_go_on.false) w.if-link-matched.false next in
           let code = w.code-is ∙ c.loop-link.invariant.0 ∙ ap (λ (n : ℕ). first_code (drop n items)) (sym w.matched-is) in (
             code,
-            Searches-more texts items matched c.if-may_go_on.matched c.loop-link.best c.if-may_go_on.best (drop i others) (drop (i + 1) others) l (best_of texts items None c.args.links.now) split
+            Searches-more texts items matched c.if-may_go_on.matched c.loop-link.best c.if-may_go_on.best (drop i others)
+                (drop (i + 1) others) l (best_of texts items None c.args.links.now) split
                 (w.matched-is ∙ over.0) (w.best-is ∙ over.1) c.loop-link.invariant.1,
           )
     ]

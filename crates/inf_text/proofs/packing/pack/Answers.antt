@@ -24,11 +24,13 @@ returns-clause-unpacks c =
     let declared = in_use (option_copied c.args.abbreviations) in
     let known : AreAbbreviations declared = c.next_zs.ensures.declared in
     let law = unpacks declared c.args.text.now known c.as_slice-items.ensures.text in
-    IfOk-weaker c.finish.result (λ v. v.items ≡ packed c.args.text.now declared) (λ v. UnpacksTo declared v.items c.args.text.now) (λ v is. rw is law) (returns-clause-bytes c)
+    IfOk-weaker c.finish.result (λ v. v.items ≡ packed c.args.text.now declared) (λ v. UnpacksTo declared v.items c.args.text.now)
+    (λ v is. rw is law) (returns-clause-bytes c)
 
 pub returns-clause-words : goal.returns-clause-words
 returns-clause-words c =
     let declared = in_use (option_copied c.args.abbreviations) in
     let known : AreAbbreviations declared = c.next_zs.ensures.declared in
     let law = are_words-packed declared c.args.text.now known c.as_slice-items.ensures.text in
-    IfOk-weaker c.finish.result (λ v. v.items ≡ packed c.args.text.now declared) (λ v. IsTrue (are_words v.items)) (λ v is. rw is law) (returns-clause-bytes c)
+    IfOk-weaker c.finish.result (λ v. v.items ≡ packed c.args.text.now declared) (λ v. IsTrue (are_words v.items)) (λ v is. rw is law)
+    (returns-clause-bytes c)

@@ -25,4 +25,5 @@ loop-number-preserved c =
           ∙ ap (λ (u : Option (List ℕ × Place)). told_of files u before) w.in-Some.ensures
       | in_default w ↦ w.messages-is ∙ ap (λ (u : Option (List ℕ × Place)). told_of files u before) w.in_default.ensures
     ] in
-    ap (with_all_undeclared files (drop (number + 1) names)) told ∙ sym (told_step files names number before within) ∙ c.loop-number.invariant
+    ap (with_all_undeclared files (drop (number + 1) names)) told ∙ sym (told_step files names number before within)
+    ∙ c.loop-number.invariant

@@ -12,7 +12,8 @@ unfolding opcode_of
 returns-in-Ok c =
     let name = c.args.name.now in
     let fit : list_all (λ b. nat_lt b 128) name ≡ true = all_ascii name c.if-not-is_ascii.ensures.cases in
-    c.by_name.ensures ∙ ap opcode_named c.in-Ok.ensures.cases.0 ∙ sym (cond-true (list_all (λ b. nat_lt b 128) name) (opcode_named name) None fit)
+    c.by_name.ensures ∙ ap opcode_named c.in-Ok.ensures.cases.0
+    ∙ sym (cond-true (list_all (λ b. nat_lt b 128) name) (opcode_named name) None fit)
 
 pub returns-in-Err : goal.returns-in-Err
 returns-in-Err c = absurd (c.in-Err.ensures.cases.0 (IsUtf8-from_ascii c.args.name.now c.if-not-is_ascii.ensures.cases))

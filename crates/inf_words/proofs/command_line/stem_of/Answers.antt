@@ -8,9 +8,11 @@ returns-in_err-front c = rw c.from_residual.ensures (sym (stem-undivided c.args.
 pub returns-then-contains : goal.returns-then-contains
 returns-then-contains c =
     let has = has_slash-found c.in_ok-front.extension.now c.contains.result c.contains.ensures.cases in
-    sym (stem-split_slash c.args.name.now c.in_ok-front.front.now c.in_ok-front.extension.now c.in_ok-front.ensures.cases (has ∙ c.if-contains.true))
+    sym (stem-split_slash c.args.name.now c.in_ok-front.front.now c.in_ok-front.extension.now c.in_ok-front.ensures.cases
+    (has ∙ c.if-contains.true))
 
 pub returns : goal.returns
 returns c =
     let has = has_slash-found c.in_ok-front.extension.now c.contains.result c.contains.ensures.cases in
-    sym (stem-split c.args.name.now c.in_ok-front.front.now c.in_ok-front.extension.now c.in_ok-front.ensures.cases (has ∙ c.if-contains.false))
+    sym (stem-split c.args.name.now c.in_ok-front.front.now c.in_ok-front.extension.now c.in_ok-front.ensures.cases
+    (has ∙ c.if-contains.false))

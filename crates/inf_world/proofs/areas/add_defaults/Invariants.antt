@@ -5,4 +5,5 @@ use Rattle.inf_world.proofs.areas.add_defaults.Given as goal
 
 abbrev pub invariant-loop-property : goal.invariant-loop-property
 invariant-loop-property l =
-    l.cells ++ values_cells (map (λ (d : Declared). d.default) (drop l.property-index l.declared)) ≡ l.initial.cells ++ values_cells (map (λ (d : Declared). d.default) l.declared)
+    l.cells ++ values_cells (map (λ (d : Declared). d.default) (drop l.property-index l.declared)) ≡ l.initial.cells ++ values_cells
+    (map (λ (d : Declared). d.default) l.declared)

@@ -6,4 +6,5 @@ use Rattle.inf_world.proofs.areas.class_number_cells.Given as goal
 
 abbrev pub invariant-loop-place : goal.invariant-loop-place
 invariant-loop-place l =
-    l.cells ++ values_cells (class_values (class_numbers_from (5 + l.place) (drop l.place l.objects))) ≡ values_cells (class_values (class_numbers_from 5 l.objects))
+    l.cells ++ values_cells (class_values (class_numbers_from (5 + l.place) (drop l.place l.objects))) ≡ values_cells
+    (class_values (class_numbers_from 5 l.objects))

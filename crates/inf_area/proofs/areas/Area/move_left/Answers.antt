@@ -6,7 +6,11 @@ use Rattle.inf_area.proofs.areas.Area.move_left.Goals as goal
 
 pub loop-at-init : goal.loop-at-init
 loop-at-init g c =
-    record { long = refl; moved = moved_none c.args.to c.args.from (c.args.from - c.args.from) (g.Self.Area.bytes c.args.self.now) (omega arith) (omega arith) (omega (arith, c.requires.ordered, c.requires.within)) }
+    record {
+      long = refl;
+      moved = moved_none c.args.to c.args.from (c.args.from - c.args.from) (g.Self.Area.bytes c.args.self.now)
+          (omega arith) (omega arith) (omega (arith, c.requires.ordered, c.requires.within));
+    }
 
 pub loop-at-preserved : goal.loop-at-preserved
 loop-at-preserved g c =

@@ -7,14 +7,16 @@ use Rattle.inf_area.proofs.Moving.{take_moved, moved_length}
 use Rattle.inf_area.proofs.pages.PagedAreaArea.cut.Goals as goal
 
 -- the end is within the pages
-kept_of : (len end at n : ℕ) (bytes now : List ℕ) → end ≡ length now → at + n ≤ length now → take len bytes ≡ moved at (at + n) (end - (at + n)) now → end - n ≤ len
+kept_of : (len end at n : ℕ) (bytes now : List ℕ) → end ≡ length now → at + n ≤ length now →
+    take len bytes ≡ moved at (at + n) (end - (at + n)) now → end - n ≤ len
 kept_of len end at n bytes now e within known =
     let left = end - (at + n) in
     omega (arith, length-take len bytes, ap length known, moved_length at (at + n) left now (omega arith) (omega arith))
 
 pub invariant_of-self : goal.invariant_of-self
 invariant_of-self c =
-    let kept = kept_of c.self.inside.len c.len-end.result c.args.at c.args.n (page_bytes c.self.inside.pages.items) c.args.self.now c.len-end.ensures.value c.requires (c.self.view_is ∙ c.move_left.ensures) in
+    let kept = kept_of c.self.inside.len c.len-end.result c.args.at c.args.n (page_bytes c.self.inside.pages.items) c.args.self.now
+    c.len-end.ensures.value c.requires (c.self.view_is ∙ c.move_left.ensures) in
     record { whole = c.self.invariant.whole; within = omega (arith, c.self.invariant.within); counted = c.self.invariant.counted }
 
 pub returns : goal.returns

@@ -7,7 +7,8 @@ use Rattle.inf_area.proofs.pages.PagedAreaArea.len.Goals as goal
 pub returns-clause-value : goal.returns-clause-value
 returns-clause-value c =
     let pages = c.self.inside.pages.items in
-    sym (length-take-le c.self.inside.len (page_bytes pages) (omega (arith, length-pages _ (λ page. page.value) pages c.self.invariant.whole, c.self.invariant.within)))
+    sym (length-take-le c.self.inside.len (page_bytes pages)
+    (omega (arith, length-pages _ (λ page. page.value) pages c.self.invariant.whole, c.self.invariant.within)))
     ∙ ap length c.self.view_is
 
 pub returns-clause-small : goal.returns-clause-small

@@ -12,7 +12,8 @@ returns c =
     let high = c.args.word / 256 in
     let low = c.args.word % 256 in
     take_written len pages c.set_byte-2.new.pages (c.set_byte-2.auto.pages ∙ c.set_byte.auto.pages ∙ c.as_mut_slice-pages.ensures.len)
-    ∙ ap (take len) (c.set_byte-2.ensures.bytes ∙ ap (λ xs. set xs (at + 1) low) (c.set_byte.ensures.bytes ∙ ap (λ ps. set (page_bytes ps) at high) c.as_mut_slice-pages.ensures.value))
+    ∙ ap (take len) (c.set_byte-2.ensures.bytes ∙ ap (λ xs. set xs (at + 1) low)
+    (c.set_byte.ensures.bytes ∙ ap (λ ps. set (page_bytes ps) at high) c.as_mut_slice-pages.ensures.value))
     ∙ take_set len (at + 1) low (set (page_bytes pages.items) at high)
     ∙ ap (λ xs. set xs (at + 1) low) (take_set len at high (page_bytes pages.items))
     ∙ ap (λ xs. set (set xs at high) (at + 1) low) c.self.view_is

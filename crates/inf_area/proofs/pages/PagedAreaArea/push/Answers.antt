@@ -12,11 +12,22 @@ returns-clause-ok c =
     let before : (now.len < length (page_bytes now.pages.items)) × (take now.len (page_bytes now.pages.items) ≡ c.args.self.now) =
     elim c.if-self-len.branch [
       | then-self-len+in_ok-add_page w ↦ rw w.self-inside-is (
-        omega (arith, length-pages _ (λ page. page.value) w.add_page.new.pages.items w.in_ok-add_page.ensures.whole, w.in_ok-add_page.ensures.count, c.self.invariant.within),
+        omega (
+          arith,
+          length-pages _ (λ page. page.value) w.add_page.new.pages.items w.in_ok-add_page.ensures.whole,
+          w.in_ok-add_page.ensures.count,
+          c.self.invariant.within,
+        ),
         w.in_ok-add_page.ensures.bytes c.self.inside.len c.self.invariant.within ∙ c.self.view_is,
       )
       | else-self-len w ↦ rw w.self-inside-is (
-        omega (arith, length-pages _ (λ page. page.value) c.self.inside.pages.items c.self.invariant.whole, w.if-self-len.false, c.len.ensures, c.self.inside.pages.ok.0),
+        omega (
+          arith,
+          length-pages _ (λ page. page.value) c.self.inside.pages.items c.self.invariant.whole,
+          w.if-self-len.false,
+          c.len.ensures,
+          c.self.inside.pages.ok.0,
+        ),
         c.self.view_is,
       )
     ] in

@@ -11,5 +11,6 @@ invariant_of-self-in-Some c =
     let room : HasRoom n (seen c.self.inside) = subst (HasRoom n) (sym c.self.view_is) c.requires in
     let room_in : RoomIn (option_map listed (Some c.in-Some.array)) n (seen c.self.inside) =
     subst (λ o. RoomIn (option_map listed o) n (seen c.self.inside)) c.in-Some.is room in
-    rw c.in_ok-extend_from_slice.ensures.items (grown_stands (map listed c.self.inside.closed.items) a c.args.values.now c.self.inside.size c.self.inside.later c.self.inside.limit _ _
+    rw c.in_ok-extend_from_slice.ensures.items (grown_stands (map listed c.self.inside.closed.items) a c.args.values.now c.self.inside.size
+    c.self.inside.later c.self.inside.limit _ _
     (search rules) (search rules) (search rules) (omega (arith, room_in, c.self.invariant.0)) (search rules) (search rules) (search rules))

@@ -17,9 +17,23 @@ returns g c =
     let all = moment_of contents in
     let make : ℕ → ℕ → ℕ → ℕ → Bool → Moment = λ l k a h f. record { len = l; kept = k; labels = a; fixups = h; is_final = f } in
     let len : c.len.result - inside.start ≡ all.len =
-    omega (arith, c.len.ensures.value, ap length stands.bytes, length-append front (contents.locals ∷ long_bytes contents.cells), stands.start, ap (λ (s : State). s.start) is) in
+    omega (
+      arith,
+      c.len.ensures.value,
+      ap length stands.bytes,
+      length-append front (contents.locals ∷ long_bytes contents.cells),
+      stands.start,
+      ap (λ (s : State). s.start) is,
+    ) in
     let kept : c.len-2.result ≡ all.kept =
-    omega (arith, c.len-2.ensures, inside.kept.ok.0, ap length (ap (λ (s : State). s.kept) is ∙ stands.kept), kept_length (length front + 1) 0 contents.cells) in
+    omega (
+      arith,
+      c.len-2.ensures,
+      inside.kept.ok.0,
+      ap length (ap (λ (s : State). s.kept) is ∙ stands.kept),
+      kept_length (length front + 1)
+          0 contents.cells,
+    ) in
     let labels = ap (λ (s : State). s.labels) is ∙ stands.labels in
     let fixups = ap (λ (s : State). s.fixups) is ∙ stands.fixups in
     ap (λ k. make k c.len-2.result inside.labels inside.fixups inside.is_final) len

@@ -8,7 +8,8 @@ pub returns-clause-open_now : goal.returns-clause-open_now
 returns-clause-open_now g c =
     let old = g.A.Area.bytes c.args.area.now in
     let new = g.A.Area.bytes c.push.new.self in
-    let state : State = record { start = c.len-start.result; kept = c.new.result.items; labels = 0; fixups = 0; is_final = false; limits = c.args.limits } in
+    let state : State =
+    record { start = c.len-start.result; kept = c.new.result.items; labels = 0; fixups = 0; is_final = false; limits = c.args.limits } in
     let stands : Stands state new old (fresh c.args.locals) = record {
       start = c.len-start.ensures.value;
       bytes = c.in_ok-push.ensures.ok;
@@ -17,5 +18,8 @@ returns-clause-open_now g c =
       fixups = refl;
       is_final = refl;
     } in
-    let P : List ℕ → Contents → Type 0 = λ front items. Stands state new front items in
-    (told stands, subst (λ front. P front (contents_of state new)) (sym (told_front stands)) (subst (λ items. P old items) (sym (told stands)) stands))
+    let P : List ℕ → Contents → Type 0 = λ front items. Stands state new front items in (
+      told stands,
+      subst (λ front. P front (contents_of state new)) (sym (told_front stands))
+          (subst (λ items. P old items) (sym (told stands)) stands),
+    )

@@ -10,9 +10,19 @@ pub returns : goal.returns
 returns c =
     let inside = c.self.inside in
     let routine = c.in-Some.field-0 in
-    let is : IsCode inside.limits inside.finished inside.refs inside.area (Some routine) = subst (IsCode inside.limits inside.finished inside.refs inside.area) c.in-Some.is c.self.invariant.0 in
+    let is : IsCode inside.limits inside.finished inside.refs inside.area (Some routine) =
+    subst (IsCode inside.limits inside.finished inside.refs inside.area) c.in-Some.is c.self.invariant.0 in
     let kept : inside.is_lost ≡ false = c.if-self.false in
     let before = source_cells inside.finished inside.refs inside.area in
-    let With : Bool → Option State → Routines = λ b r. record { limits = inside.limits; scale = inside.scale; has_begun = inside.has_begun; finished = before; opened = open_in inside.area b r } in
+    let With : Bool → Option State → Routines = λ b r.
+    record {
+      limits = inside.limits;
+      scale = inside.scale;
+      has_begun = inside.has_begun;
+      finished = before;
+      opened = open_in inside.area
+          b r;
+    } in
     c.len.ensures.value ∙ bytes_are inside.limits inside.finished inside.refs inside.area routine is
-    ∙ ap (λ r. bytes_of_code (With false r)) (sym c.in-Some.is) ∙ ap (λ b. bytes_of_code (With b inside.routine)) (sym kept) ∙ ap bytes_of_code c.self.view_is
+    ∙ ap (λ r. bytes_of_code (With false r)) (sym c.in-Some.is) ∙ ap (λ b. bytes_of_code (With b inside.routine)) (sym kept)
+    ∙ ap bytes_of_code c.self.view_is

@@ -20,11 +20,21 @@ returns-then-self-clause-fault c =
     let is : IsCode inside.limits inside.finished inside.refs inside.area (Some routine) =
     (subst (IsCode inside.limits inside.finished inside.refs inside.area) some c.self.invariant.0) in
     let before = source_cells inside.finished inside.refs inside.area in
-    let With : Bool → Option State → Routines = λ b r. record { limits = inside.limits; scale = inside.scale; has_begun = inside.has_begun; finished = before; opened = open_in inside.area b r } in
-    let Tells : Option CloseFault → Type 0 = λ wrong. MatchResult c.close_lost.result (λ _. wrong ≡ None) (λ fault. (fault ≡ close_fault.Memory) ⊎ (wrong ≡ Some fault)) in
+    let With : Bool → Option State → Routines = λ b r.
+    record {
+      limits = inside.limits;
+      scale = inside.scale;
+      has_begun = inside.has_begun;
+      finished = before;
+      opened = open_in inside.area
+          b r;
+    } in
+    let Tells : Option CloseFault → Type 0 =
+    λ wrong. MatchResult c.close_lost.result (λ _. wrong ≡ None) (λ fault. (fault ≡ close_fault.Memory) ⊎ (wrong ≡ Some fault)) in
     let start = is.behind.start ∙ sym (size_finished inside.limits inside.finished inside.refs inside.area (Some routine) is) in
     let told = subst (λ n. Tells (fault_behind n 0 (contents_of routine inside.area))) start c.close_lost.ensures.fault in
-    subst Tells (ap (λ r. fault_closed kind (With true r)) (sym some) ∙ ap (λ b. fault_closed kind (With b inside.routine)) (sym lost) ∙ ap (fault_closed kind) c.self.view_is)
+    subst Tells (ap (λ r. fault_closed kind (With true r)) (sym some) ∙ ap (λ b. fault_closed kind (With b inside.routine)) (sym lost) ∙ ap
+    (fault_closed kind) c.self.view_is)
     (told_lost c.close_lost.result _ told)
 
 pub returns-in-Err-clause-fault : goal.returns-in-Err-clause-fault
@@ -37,10 +47,20 @@ returns-in-Err-clause-fault c =
     let is : IsCode inside.limits inside.finished inside.refs inside.area (Some routine) =
     (subst (IsCode inside.limits inside.finished inside.refs inside.area) some c.self.invariant.0) in
     let before = source_cells inside.finished inside.refs inside.area in
-    let With : Bool → Option State → Routines = λ b r. record { limits = inside.limits; scale = inside.scale; has_begun = inside.has_begun; finished = before; opened = open_in inside.area b r } in
+    let With : Bool → Option State → Routines = λ b r.
+    record {
+      limits = inside.limits;
+      scale = inside.scale;
+      has_begun = inside.has_begun;
+      finished = before;
+      opened = open_in inside.area
+          b r;
+    } in
     let Tells : Option CloseFault → Type 0 = λ wrong. (c.in-Err.fault ≡ close_fault.Memory) ⊎ (wrong ≡ Some c.in-Err.fault) in
-    let first = is_first inside.limits inside.finished inside.refs inside.spare inside.area false routine kind is c.self.invariant.1.1 inside.refs refl in
-    subst Tells (ap (λ r. fault_closed kind (With false r)) (sym some) ∙ ap (λ b. fault_closed kind (With b inside.routine)) (sym kept) ∙ ap (fault_closed kind) c.self.view_is)
+    let first = is_first inside.limits inside.finished inside.refs inside.spare inside.area false routine kind is c.self.invariant.1.1
+    inside.refs refl in
+    subst Tells (ap (λ r. fault_closed kind (With false r)) (sym some) ∙ ap (λ b. fault_closed kind (With b inside.routine)) (sym kept) ∙ ap
+    (fault_closed kind) c.self.view_is)
     (told_first _ _ c.in-Err.fault (subst Tells first c.in-Err.ensures.fault))
 
 pub invariant_of-self-2 : goal.invariant_of-self-2
@@ -48,12 +68,15 @@ invariant_of-self-2 c =
     let inside = c.self.inside in
     let routine = c.in-Some.routine in
     let some : inside.routine ≡ Some routine = sym c.take.ensures.value ∙ c.in-Some.is in
-    let is : IsCode inside.limits inside.finished inside.refs inside.area (Some routine) = subst (IsCode inside.limits inside.finished inside.refs inside.area) some c.self.invariant.0 in
+    let is : IsCode inside.limits inside.finished inside.refs inside.area (Some routine) =
+    subst (IsCode inside.limits inside.finished inside.refs inside.area) some c.self.invariant.0 in
     let whole = c.fill_up.new.area in
     let listed = c.close.new.refs in
     let few = c.in_default-fill_up.ensures.room in
-    let after = code_after inside.scale c.args.kind inside.limits inside.finished inside.refs listed inside.area c.close.new.area whole routine c.in-Ok.closed is c.in-Ok.ensures.ok c.in_default-fill_up.ensures.ok few in
-    let none : IsCode inside.limits (length whole) listed whole c.take.new.self = subst (IsCode inside.limits (length whole) listed whole) (sym c.take.ensures.after) after in
+    let after = code_after inside.scale c.args.kind inside.limits inside.finished inside.refs listed inside.area c.close.new.area whole
+    routine c.in-Ok.closed is c.in-Ok.ensures.ok c.in_default-fill_up.ensures.ok few in
+    let none : IsCode inside.limits (length whole) listed whole c.take.new.self =
+    subst (IsCode inside.limits (length whole) listed whole) (sym c.take.ensures.after) after in
     (subst (λ n. IsCode inside.limits n listed whole c.take.new.self) (sym c.len-self-inside.ensures.value) none, c.self.invariant.1)
 
 pub returns-clause-ok : goal.returns-clause-ok
@@ -63,16 +86,35 @@ returns-clause-ok c =
     let kind = c.args.kind in
     let some : inside.routine ≡ Some routine = sym c.take.ensures.value ∙ c.in-Some.is in
     let kept : inside.is_lost ≡ false = c.if-self.false in
-    let is : IsCode inside.limits inside.finished inside.refs inside.area (Some routine) = subst (IsCode inside.limits inside.finished inside.refs inside.area) some c.self.invariant.0 in
+    let is : IsCode inside.limits inside.finished inside.refs inside.area (Some routine) =
+    subst (IsCode inside.limits inside.finished inside.refs inside.area) some c.self.invariant.0 in
     let whole = c.fill_up.new.area in
     let listed = c.close.new.refs in
     let before = source_cells inside.finished inside.refs inside.area in
-    let closed = finished_closed inside.scale kind inside.limits inside.finished inside.refs listed inside.area c.close.new.area whole routine c.in-Ok.closed is c.in-Ok.ensures.ok c.in_default-fill_up.ensures.ok in
-    let Of : List CodeCell → Option State → Routines = λ cells r. record { limits = inside.limits; scale = inside.scale; has_begun = inside.has_begun; finished = cells; opened = open_in whole inside.is_lost r } in
-    let With : Bool → Option State → Routines = λ b r. record { limits = inside.limits; scale = inside.scale; has_begun = inside.has_begun; finished = before ++ closed_cells inside.scale kind (place_behind before) (open_in inside.area b r); opened = None } in
+    let closed = finished_closed inside.scale kind inside.limits inside.finished inside.refs listed inside.area c.close.new.area whole
+    routine c.in-Ok.closed is c.in-Ok.ensures.ok c.in_default-fill_up.ensures.ok in
+    let Of : List CodeCell → Option State → Routines = λ cells r.
+    record {
+      limits = inside.limits;
+      scale = inside.scale;
+      has_begun = inside.has_begun;
+      finished = cells;
+      opened = open_in whole
+          inside.is_lost r;
+    } in
+    let With : Bool → Option State → Routines = λ b r.
+    record {
+      limits = inside.limits;
+      scale = inside.scale;
+      has_begun = inside.has_begun;
+      finished = before ++ closed_cells inside.scale
+          kind (place_behind before) (open_in inside.area b r);
+      opened = None;
+    } in
     ap (λ n. Of (source_cells n listed whole) c.take.new.self) c.len-self-inside.ensures.value
     ∙ ap (Of (source_cells (length whole) listed whole)) c.take.ensures.after
-    ∙ ap (λ cells. Of cells None) closed ∙ ap (With false) (sym some) ∙ ap (λ b. With b inside.routine) (sym kept) ∙ ap (with_closed kind) c.self.view_is
+    ∙ ap (λ cells. Of cells None) closed ∙ ap (With false) (sym some) ∙ ap (λ b. With b inside.routine) (sym kept)
+    ∙ ap (with_closed kind) c.self.view_is
 
 pub returns-in-Err-fill_up-clause-fault : goal.returns-in-Err-fill_up-clause-fault
 returns-in-Err-fill_up-clause-fault c =
@@ -84,13 +126,25 @@ returns-in-Err-fill_up-clause-fault c =
     let is : IsCode inside.limits inside.finished inside.refs inside.area (Some routine) =
     (subst (IsCode inside.limits inside.finished inside.refs inside.area) some c.self.invariant.0) in
     let before = source_cells inside.finished inside.refs inside.area in
-    let With : Bool → Option State → Routines = λ b r. record { limits = inside.limits; scale = inside.scale; has_begun = inside.has_begun; finished = before; opened = open_in inside.area b r } in
+    let With : Bool → Option State → Routines = λ b r.
+    record {
+      limits = inside.limits;
+      scale = inside.scale;
+      has_begun = inside.has_begun;
+      finished = before;
+      opened = open_in inside.area
+          b r;
+    } in
     let written = c.close.new.area in
-    let size_is = closed_size inside.scale kind inside.limits inside.finished inside.refs c.close.new.refs inside.area written routine c.in-Ok.closed is c.in-Ok.ensures.ok in
+    let size_is = closed_size inside.scale kind inside.limits inside.finished inside.refs c.close.new.refs inside.area written routine
+    c.in-Ok.closed is c.in-Ok.ensures.ok in
     let same = ap (nat_lt inside.limits.code) size_is in
-    let first = is_first inside.limits inside.finished inside.refs inside.spare inside.area false routine kind is c.self.invariant.1.1 inside.refs refl in
-    let Tells : Option CloseFault → Type 0 = λ wrong. (c.in-Err-fill_up.fault ≡ close_fault.Memory) ⊎ (wrong ≡ Some c.in-Err-fill_up.fault) in
-    subst Tells (ap (λ r. fault_closed kind (With false r)) (sym some) ∙ ap (λ b. fault_closed kind (With b inside.routine)) (sym kept) ∙ ap (fault_closed kind) c.self.view_is)
+    let first = is_first inside.limits inside.finished inside.refs inside.spare inside.area false routine kind is c.self.invariant.1.1
+    inside.refs refl in
+    let Tells : Option CloseFault → Type 0 =
+    λ wrong. (c.in-Err-fill_up.fault ≡ close_fault.Memory) ⊎ (wrong ≡ Some c.in-Err-fill_up.fault) in
+    subst Tells (ap (λ r. fault_closed kind (With false r)) (sym some) ∙ ap (λ b. fault_closed kind (With b inside.routine)) (sym kept) ∙ ap
+    (fault_closed kind) c.self.view_is)
     (zeros_told _ inside.limits.code _ c.in-Err-fill_up.fault _ (sym first ∙ c.in-Ok.ensures.fault) same c.in-Err-fill_up.ensures.fault)
 
 pub returns-clause-fault : goal.returns-clause-fault
@@ -103,10 +157,21 @@ returns-clause-fault c =
     let is : IsCode inside.limits inside.finished inside.refs inside.area (Some routine) =
     (subst (IsCode inside.limits inside.finished inside.refs inside.area) some c.self.invariant.0) in
     let before = source_cells inside.finished inside.refs inside.area in
-    let With : Bool → Option State → Routines = λ b r. record { limits = inside.limits; scale = inside.scale; has_begun = inside.has_begun; finished = before; opened = open_in inside.area b r } in
+    let With : Bool → Option State → Routines = λ b r.
+    record {
+      limits = inside.limits;
+      scale = inside.scale;
+      has_begun = inside.has_begun;
+      finished = before;
+      opened = open_in inside.area
+          b r;
+    } in
     let written = c.close.new.area in
-    let size_is = closed_size inside.scale kind inside.limits inside.finished inside.refs c.close.new.refs inside.area written routine c.in-Ok.closed is c.in-Ok.ensures.ok in
+    let size_is = closed_size inside.scale kind inside.limits inside.finished inside.refs c.close.new.refs inside.area written routine
+    c.in-Ok.closed is c.in-Ok.ensures.ok in
     let over = ap (nat_lt inside.limits.code) size_is ∙ c.in_default-fill_up.ensures.fault in
-    let first = is_first inside.limits inside.finished inside.refs inside.spare inside.area false routine kind is c.self.invariant.1.1 inside.refs refl in
-    subst (λ wrong. wrong ≡ None) (ap (λ r. fault_closed kind (With false r)) (sym some) ∙ ap (λ b. fault_closed kind (With b inside.routine)) (sym kept) ∙ ap (fault_closed kind) c.self.view_is)
+    let first = is_first inside.limits inside.finished inside.refs inside.spare inside.area false routine kind is c.self.invariant.1.1
+    inside.refs refl in
+    subst (λ wrong. wrong ≡ None) (ap (λ r. fault_closed kind (With false r)) (sym some) ∙ ap
+    (λ b. fault_closed kind (With b inside.routine)) (sym kept) ∙ ap (fault_closed kind) c.self.view_is)
     (zeros_none _ inside.limits.code _ (sym first ∙ c.in-Ok.ensures.fault) over)

@@ -11,5 +11,6 @@ returns c =
     let same = c.deref.ensures.value ∙ c.self.view_is in
     let rising = subst AreRising (sym c.deref.ensures.value) c.self.invariant in
     rw (← same) (rank_is c.args.text c.deref.result.now c.partition_point.result c.partition_point.ensures.bound
-    (c.partition_point.ensures.partitioned (λ other. is_below other c.args.text) (always_returns_same _ _ _ (λ a r f k. search (rules, of_calls)))
+    (c.partition_point.ensures.partitioned (λ other. is_below other c.args.text)
+    (always_returns_same _ _ _ (λ a r f k. search (rules, of_calls)))
     (parted (lists_total nat_cmp_total) c.args.text c.deref.result.now rising)))

@@ -14,8 +14,18 @@ returns-clause-ok g c =
     let files = g.F.Files in
     let sources = files.sources c.args.files.now in
     let name = string_bytes c.args.name in
-    let view : Nest = record { set = c.self.inside.set; limit = c.self.inside.limit; names = map string_bytes c.self.inside.names.keys; open_files = c.self.inside.open_files.items } in
-    let now : Nest = record { set = c.self.inside.set; limit = c.self.inside.limit; names = map string_bytes c.insert.new.self.keys; open_files = c.push.new.self.items } in
+    let view : Nest = record {
+      set = c.self.inside.set;
+      limit = c.self.inside.limit;
+      names = map string_bytes c.self.inside.names.keys;
+      open_files = c.self.inside.open_files.items;
+    } in
+    let now : Nest = record {
+      set = c.self.inside.set;
+      limit = c.self.inside.limit;
+      names = map string_bytes c.insert.new.self.keys;
+      open_files = c.push.new.self.items;
+    } in
     let number : c.number_of-number.result ≡ number_of name c.args.self.now.names =
     c.number_of-number.ensures ∙ ap (λ (n : List ℕ). number_of n c.args.self.now.names) c.as_str.ensures.value in
     let here : c.min-file.result ≡ number_of name view.names =
@@ -28,15 +38,29 @@ returns-clause-ok g c =
       place = 0;
       is_named = refl;
       is_entered = subst (λ (n : Nest). IsEntered name n now c.in_ok-lexer.lexer) c.self.view_is (
-        ap (λ (names : List (List ℕ)). record { set = c.self.inside.set; limit = c.self.inside.limit; names = names; open_files = c.push.new.self.items })
-            (ap (λ ks. map string_bytes ks) (keys ∙ ap (λ ks. insert_key string_eq ks c.args.name) c.in_ok-reserve.ensures.keys) ∙ added_to c.self.inside.names.keys c.args.name)
-            ∙ ap (λ (files : List ℕ). record { set = c.self.inside.set; limit = c.self.inside.limit; names = with_name name view.names; open_files = files })
+        ap (λ (names : List (List ℕ)). record {
+          set = c.self.inside.set;
+          limit = c.self.inside.limit;
+          names = names;
+          open_files =
+              c.push.new.self.items;
+        })
+            (ap (λ ks. map string_bytes ks) (keys ∙ ap (λ ks. insert_key string_eq ks c.args.name) c.in_ok-reserve.ensures.keys) ∙ added_to
+            c.self.inside.names.keys c.args.name)
+            ∙ ap (λ (files : List ℕ). record {
+              set = c.self.inside.set;
+              limit = c.self.inside.limit;
+              names = with_name name view.names;
+              open_files = files;
+            })
             (c.push.ensures.items ∙ ap (λ n. c.self.inside.open_files.items ++ n ∷ []) here),
         c.in_ok-lexer.ensures ∙ ap (λ n. at_front c.self.inside.set c.self.inside.limit n) here,
       );
       has_number = omega (arith, number, c.if-number-ge-MOST_NAMES.false);
-      is_first = λ h. there_alone sources name (subst (λ (n : List ℕ). IsSome (sources n)) c.as_str-2.ensures.value (c.in-Ok.ensures.opens h).0);
-      is_opened = λ h. (c.in-Ok.ensures.opens h).1 ∙ ap (λ (n : List ℕ). with_opened n (files.openings c.args.files.now)) c.as_str-2.ensures.value;
+      is_first =
+          λ h. there_alone sources name (subst (λ (n : List ℕ). IsSome (sources n)) c.as_str-2.ensures.value (c.in-Ok.ensures.opens h).0);
+      is_opened =
+          λ h. (c.in-Ok.ensures.opens h).1 ∙ ap (λ (n : List ℕ). with_opened n (files.openings c.args.files.now)) c.as_str-2.ensures.value;
     }
 
 pub returns-then-number-ge-MOST_NAMES-clause-cause :
@@ -54,7 +78,8 @@ returns-then-number-ge-MOST_NAMES-clause-cause g c = λ device.
       counted = omega (arith, c.in-Ok.ensures.opened, c.close.ensures.opened);
       is_closed = λ honest. record {
         name = name;
-        is_first = there_alone sources name (subst (λ (n : List ℕ). IsSome (sources n)) c.as_str-2.ensures.value (c.in-Ok.ensures.opens honest).0);
+        is_first =
+            there_alone sources name (subst (λ (n : List ℕ). IsSome (sources n)) c.as_str-2.ensures.value (c.in-Ok.ensures.opens honest).0);
         is_too_many = omega (arith, number, c.if-number-ge-MOST_NAMES.true);
         is_closed = closes_opened name old (files.openings c.open.new.self) (files.openings c.close.new.self)
             ((c.in-Ok.ensures.opens honest).1 ∙ ap (λ (n : List ℕ). with_opened n old) c.as_str-2.ensures.value)

@@ -5,20 +5,23 @@ use Rattle.inf_lexer.proofs.window.Window.fill.Goals as goal
 
 pub returns-in_default-clause-reads : goal.returns-in_default-clause-reads
 returns-in_default-clause-reads g c =
-    reads_first _ _ _ _ c.args.self.now _ [] c.requires.empty c.requires.going (λ honest. gave_same _ _ _ (c.in_default.ensures.reads honest)) refl
+    reads_first _ _ _ _ c.args.self.now _ [] c.requires.empty c.requires.going
+    (λ honest. gave_same _ _ _ (c.in_default.ensures.reads honest)) refl
     (ap (λ (v : View). v.given) c.self.view_is ∙ sym (add-zero _))
 
 pub returns-then-self-gt-MOST_SOURCE_BYTES-clause-reads :
     goal.returns-then-self-gt-MOST_SOURCE_BYTES-clause-reads
 returns-then-self-gt-MOST_SOURCE_BYTES-clause-reads g c =
     let given : c.self.inside.given ≡ c.args.self.now.given = ap (λ (v : View). v.given) c.self.view_is in
-    reads_first _ _ _ _ c.args.self.now _ (take c.in-Ok.count c.read.new.to) c.requires.empty c.requires.going (λ honest. gave_of _ _ _ _ (c.in-Ok.ensures.reads honest))
+    reads_first _ _ _ _ c.args.self.now _ (take c.in-Ok.count c.read.new.to) c.requires.empty c.requires.going
+    (λ honest. gave_of _ _ _ _ (c.in-Ok.ensures.reads honest))
     (whole_window c.in-Ok.count c.read.new.to _ c.in-Ok.ensures.count)
     (omega (arith, given, c.in-Ok.ensures.count, length-take c.in-Ok.count c.read.new.to))
 
 pub returns-clause-reads : goal.returns-clause-reads
 returns-clause-reads g c =
     let given : c.self.inside.given ≡ c.args.self.now.given = ap (λ (v : View). v.given) c.self.view_is in
-    reads_first _ _ _ _ c.args.self.now _ (take c.in-Ok.count c.read.new.to) c.requires.empty c.requires.going (λ honest. gave_of _ _ _ _ (c.in-Ok.ensures.reads honest))
+    reads_first _ _ _ _ c.args.self.now _ (take c.in-Ok.count c.read.new.to) c.requires.empty c.requires.going
+    (λ honest. gave_of _ _ _ _ (c.in-Ok.ensures.reads honest))
     (whole_window c.in-Ok.count c.read.new.to _ c.in-Ok.ensures.count)
     (omega (arith, given, c.in-Ok.ensures.count, length-take c.in-Ok.count c.read.new.to))

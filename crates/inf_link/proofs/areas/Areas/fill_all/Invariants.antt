@@ -8,4 +8,5 @@ use Rattle.inf_link.proofs.areas.Areas.fill_all.Given as goal
 abbrev pub invariant-loop-fixup : goal.invariant-loop-fixup
 invariant-loop-fixup g l =
     let number = number_of (lookup l.targets) l.scale l.bases in
-    filled number (drop l.fixup-index l.fixups) (contents g.A.Area.bytes l.self) ≡ filled number l.fixups (contents g.A.Area.bytes l.fn.self)
+    filled number (drop l.fixup-index l.fixups) (contents g.A.Area.bytes l.self) ≡ filled number l.fixups
+    (contents g.A.Area.bytes l.fn.self)

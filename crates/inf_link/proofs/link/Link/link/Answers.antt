@@ -14,8 +14,10 @@ returns-clause-bytes g c =
     let map = c.in_ok-map.map in
     let behind = c.in_ok-body.body.items in
     let is_map = c.in_ok-map.ensures.map.0 in
-    let are_filled = filled-map before areas link.refs.list (lookup link.targets) link.fields c.lengths.result map c.lengths.ensures is_map c.filled-areas.ensures in
-    let parts = story-parts before areas link.refs.list (lookup link.targets) link.fields c.lengths.result map behind c.lengths.ensures is_map are_filled c.in_ok-body.ensures in
+    let are_filled = filled-map before areas link.refs.list (lookup link.targets) link.fields c.lengths.result map c.lengths.ensures is_map
+    c.filled-areas.ensures in
+    let parts = story-parts before areas link.refs.list (lookup link.targets) link.fields c.lengths.result map behind c.lengths.ensures
+    is_map are_filled c.in_ok-body.ensures in
     c.in_ok-extend_from_slice.ensures.items
     ∙ ap (λ xs. xs ++ c.deref-2.result.now) c.in_ok-append_header.ensures
     ∙ ap (λ xs. (xs ++ header link.fields map.bases c.deref.result.now) ++ c.deref-2.result.now) c.in_ok-bytes.ensures.items
@@ -30,6 +32,8 @@ returns-clause-sizes g c =
     let areas = contents g.A.Area.bytes c.filled-areas.result in
     let map = c.in_ok-map.map in
     let is_map = c.in_ok-map.ensures.map.0 in
-    let are_filled = filled-map before areas link.refs.list (lookup link.targets) link.fields c.lengths.result map c.lengths.ensures is_map c.filled-areas.ensures in
-    sizes-parts before areas link.refs.list (lookup link.targets) link.fields c.lengths.result map c.extend_from_slice.new.self.items c.len.result c.len-2.result c.len-3.result
+    let are_filled = filled-map before areas link.refs.list (lookup link.targets) link.fields c.lengths.result map c.lengths.ensures is_map
+    c.filled-areas.ensures in
+    sizes-parts before areas link.refs.list (lookup link.targets) link.fields c.lengths.result map c.extend_from_slice.new.self.items
+    c.len.result c.len-2.result c.len-3.result
     c.lengths.ensures is_map are_filled c.len.ensures.value c.len-2.ensures.value (c.len-3.ensures ∙ c.extend_from_slice.new.self.ok.0)

@@ -11,7 +11,15 @@ use Rattle.inf_names.proofs.symbols.Symbols.declare.Goals as goal
 pub overflow_add-self : goal.overflow_add-self
 overflow_add-self g c =
     let inside = c.self.inside in
-    omega (arith, declarations-few (map as_named inside.entries.entries), c.self.invariant.0, c.self.invariant.1, length-map inside.entries.entries as_named, c.self.ranges.1)
+    omega (
+      arith,
+      declarations-few (map as_named inside.entries.entries),
+      c.self.invariant.0,
+      c.self.invariant.1,
+      length-map
+          inside.entries.entries as_named,
+      c.self.ranges.1,
+    )
 
 pub invariant_of-self-2 : goal.invariant_of-self-2
 invariant_of-self-2 g c =
@@ -23,16 +31,25 @@ invariant_of-self-2 g c =
     let system = system_meaning inside.is_debugging c.args.name.now in
     let full = nat_le inside.limit (length names) in
     let put_in = IsDeclared inside.declared c.args.meaning c.args.place in
-    let fit : declare_fault c.args.name.now (record { names = names; declared = inside.declared; limit = inside.limit; is_debugging = inside.is_debugging }) ≡ None =
+    let fit : declare_fault c.args.name.now (record {
+      names = names;
+      declared = inside.declared;
+      limit = inside.limit;
+      is_debugging =
+          inside.is_debugging;
+    }) ≡ None =
     ap (declare_fault c.args.name.now) c.self.view_is ∙ sym c.in_default.ensures in
     let new = c.insert.new.self.entries in
     let is : map as_named new ≡ put key put_in names =
     ap (map as_named) c.in_ok-insert.ensures.entries ∙ put-insert _ _ es ∙ ap (λ k. put k put_in names) c.folded.ensures in
     let count : length new ≡ length es + cond (is_some known) 0 1 =
-    sym (length-map new as_named) ∙ ap length is ∙ length-put key put_in names ∙ ap (λ n. n + cond (is_some known) 0 1) (length-map es as_named) in
+    sym (length-map new as_named) ∙ ap length is ∙ length-put key put_in names
+    ∙ ap (λ n. n + cond (is_some known) 0 1) (length-map es as_named) in
     let room : is_some known ≡ false → nat_le inside.limit (length es) ≡ false =
     λ absent. ap (nat_le inside.limit) (sym (length-map es as_named)) ∙ room_where_fit system known full fit absent in (
-      ap (λ n. n + 1) c.self.invariant.0 ∙ omega arith ∙ sym (ap declarations is ∙ declarations-declared key inside.declared c.args.meaning c.args.place names (open_where_fit system known full fit)),
+      ap (λ n. n + 1) c.self.invariant.0 ∙ omega arith ∙ sym
+          (ap declarations is ∙ declarations-declared key inside.declared c.args.meaning c.args.place names
+          (open_where_fit system known full fit)),
       fits_behind inside.limit (length es) (length new) (is_some known) c.self.invariant.1 count room,
     )
 
@@ -43,5 +60,11 @@ returns-clause-ok g c =
     let put_in = IsDeclared inside.declared c.args.meaning c.args.place in
     let is : map as_named c.insert.new.self.entries ≡ put (folded c.args.name.now) put_in (map as_named es) =
     ap (map as_named) c.in_ok-insert.ensures.entries ∙ put-insert _ _ es ∙ ap (λ k. put k put_in (map as_named es)) c.folded.ensures in
-    ap (λ (names : List (Named _)). record { names = names; declared = inside.declared + 1; limit = inside.limit; is_debugging = inside.is_debugging }) is
+    ap (λ (names : List (Named _)). record {
+      names = names;
+      declared = inside.declared + 1;
+      limit = inside.limit;
+      is_debugging =
+          inside.is_debugging;
+    }) is
     ∙ ap (with_declared c.args.name.now c.args.place c.args.meaning) c.self.view_is

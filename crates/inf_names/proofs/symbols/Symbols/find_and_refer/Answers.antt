@@ -17,15 +17,19 @@ invariant_of-self-2 g c =
     let known = standing_of key names in
     let put_in = IsUsed c.args.name.now c.args.place in
     let absent : is_some known ≡ false =
-    ap (λ (t : Table _). is_some (standing_of key t.names)) c.self.view_is ∙ not_numbered key c.args.self.now.names (c.in_default.ensures ∙ ap (λ k. number_among k c.args.self.now.names) c.folded-key.ensures) in
+    ap (λ (t : Table _). is_some (standing_of key t.names)) c.self.view_is
+    ∙ not_numbered key c.args.self.now.names (c.in_default.ensures ∙ ap (λ k. number_among k c.args.self.now.names) c.folded-key.ensures) in
     let new = c.insert.new.self.entries in
     let is : map as_named new ≡ put key put_in names =
     ap (map as_named) c.in_ok-insert.ensures.entries ∙ put-insert _ _ es
-    ∙ ap (λ k. put k (IsUsed c.spelled.result.items c.args.place) names) c.folded-key.ensures ∙ ap (λ s. put key (IsUsed s c.args.place) names) c.spelled.ensures in
+    ∙ ap (λ k. put k (IsUsed c.spelled.result.items c.args.place) names) c.folded-key.ensures
+    ∙ ap (λ s. put key (IsUsed s c.args.place) names) c.spelled.ensures in
     let count : length new ≡ length es + cond (is_some known) 0 1 =
-    sym (length-map new as_named) ∙ ap length is ∙ length-put key put_in names ∙ ap (λ n. n + cond (is_some known) 0 1) (length-map es as_named) in
+    sym (length-map new as_named) ∙ ap length is ∙ length-put key put_in names
+    ∙ ap (λ n. n + cond (is_some known) 0 1) (length-map es as_named) in
     let room : is_some known ≡ false → nat_le inside.limit (length es) ≡ false =
-    λ absent. ap (nat_le inside.limit) (sym (length-map es as_named)) ∙ ap is_full c.self.view_is ∙ sym c.is_full.ensures ∙ c.if-is_full.false in (
+    λ absent. ap (nat_le inside.limit) (sym (length-map es as_named)) ∙ ap is_full c.self.view_is ∙ sym c.is_full.ensures
+    ∙ c.if-is_full.false in (
       c.self.invariant.0 ∙ sym (ap declarations is ∙ declarations-used key c.args.name.now c.args.place names absent),
       fits_behind inside.limit (length es) (length new) (is_some known) c.self.invariant.1 count room,
     )
@@ -39,12 +43,20 @@ returns-clause-ok g c =
     let system = system_meaning inside.is_debugging c.args.name.now in
     let t : Table _ = record { names = names; declared = inside.declared; limit = inside.limit; is_debugging = inside.is_debugging } in
     let absent : is_some (standing_of key names) ≡ false =
-    ap (λ (t : Table _). is_some (standing_of key t.names)) c.self.view_is ∙ not_numbered key c.args.self.now.names (c.in_default.ensures ∙ ap (λ k. number_among k c.args.self.now.names) c.folded-key.ensures) in
+    ap (λ (t : Table _). is_some (standing_of key t.names)) c.self.view_is
+    ∙ not_numbered key c.args.self.now.names (c.in_default.ensures ∙ ap (λ k. number_among k c.args.self.now.names) c.folded-key.ensures) in
     let free : is_some system ≡ false = ap is_some (sym c.in_default-system_meaning.ensures) in
     let is : map as_named c.insert.new.self.entries ≡ put key (IsUsed c.args.name.now c.args.place) names =
     ap (map as_named) c.in_ok-insert.ensures.entries ∙ put-insert _ _ es
-    ∙ ap (λ k. put k (IsUsed c.spelled.result.items c.args.place) names) c.folded-key.ensures ∙ ap (λ s. put key (IsUsed s c.args.place) names) c.spelled.ensures in
-    ap (λ (names : List (Named _)). record { names = names; declared = inside.declared; limit = inside.limit; is_debugging = inside.is_debugging }) is
+    ∙ ap (λ k. put k (IsUsed c.spelled.result.items c.args.place) names) c.folded-key.ensures
+    ∙ ap (λ s. put key (IsUsed s c.args.place) names) c.spelled.ensures in
+    ap (λ (names : List (Named _)). record {
+      names = names;
+      declared = inside.declared;
+      limit = inside.limit;
+      is_debugging =
+          inside.is_debugging;
+    }) is
     ∙ sym (new_used c.args.name.now c.args.place t system (standing_of key names) free absent)
     ∙ ap (with_used c.args.name.now c.args.place) c.self.view_is
 
@@ -57,9 +69,11 @@ returns-clause-number g c =
     let system = system_meaning inside.is_debugging c.args.name.now in
     let t : Table _ = record { names = names; declared = inside.declared; limit = inside.limit; is_debugging = inside.is_debugging } in
     let absent : is_some (standing_of key names) ≡ false =
-    ap (λ (t : Table _). is_some (standing_of key t.names)) c.self.view_is ∙ not_numbered key c.args.self.now.names (c.in_default.ensures ∙ ap (λ k. number_among k c.args.self.now.names) c.folded-key.ensures) in
+    ap (λ (t : Table _). is_some (standing_of key t.names)) c.self.view_is
+    ∙ not_numbered key c.args.self.now.names (c.in_default.ensures ∙ ap (λ k. number_among k c.args.self.now.names) c.folded-key.ensures) in
     let free : is_some system ≡ false = ap is_some (sym c.in_default-system_meaning.ensures) in
-    ap Some (c.len-number.ensures.count ∙ ap (λ (t : Table _). length t.names) (sym c.self.view_is) ∙ sym (index_of-absent key names absent))
+    ap Some (c.len-number.ensures.count ∙ ap (λ (t : Table _). length t.names) (sym c.self.view_is) ∙ sym
+    (index_of-absent key names absent))
     ∙ sym (new_number c.args.name.now c.args.place t system (standing_of key names) free absent)
     ∙ ap (number_of c.args.name.now) c.self.view_is
 
@@ -67,4 +81,5 @@ pub returns-in-Some-clause-found : goal.returns-in-Some-clause-found
 returns-in-Some-clause-found g c =
     let t = c.args.self.now in
     c.found_at.ensures
-    ∙ found_at_number (system_meaning t.is_debugging c.args.name.now) (folded c.args.name.now) t.names c.in-Some.number (sym c.in-Some.is ∙ c.number.ensures ∙ ap (λ k. number_among k t.names) c.folded-key.ensures)
+    ∙ found_at_number (system_meaning t.is_debugging c.args.name.now) (folded c.args.name.now) t.names c.in-Some.number
+    (sym c.in-Some.is ∙ c.number.ensures ∙ ap (λ k. number_among k t.names) c.folded-key.ensures)

@@ -9,5 +9,6 @@ size_of-requires c =
     let own = c.self.inside.own.items in
     let above = c.self.inside.above.items in
     let absent : has c.args.number own ≡ false = ap (λ (o : Open). has c.args.number o.own) c.self.view_is ∙ c.requires in
-    let is : found c.args.number above ≡ Some c.in-Some.property.now = ap (found c.args.number) (sym c.deref-2.ensures.value) ∙ sym c.in-Some.ensures in
+    let is : found c.args.number above ≡ Some c.in-Some.property.now =
+    ap (found c.args.number) (sym c.deref-2.ensures.value) ∙ sym c.in-Some.ensures in
     short_found own above c.args.number c.in-Some.property.now (short_parts own above c.self.invariant.short).1 absent is

@@ -18,6 +18,7 @@ invariant_of-self-2 c =
     let sized : c.in-Some.size ≡ total o.owner (inherited (with_last_value v own) above) =
     c.in-Some.ensures.some ∙ sym (ap (λ (s : Open). total s.owner (inherited (with_last_value v s.own) s.above)) c.self.view_is) in
     let with_end = ap (λ (s : Size). s.bytes) c.with_table.ensures in
-    let small : c.in-Some.size.bytes < 2 ^ 32 = omega (arith, bytes_within c.in-Some.size, c.lacks.ensures.small c.if-lacks.false, with_end) in
+    let small : c.in-Some.size.bytes < 2 ^ 32 =
+    omega (arith, bytes_within c.in-Some.size, c.lacks.ensures.small c.if-lacks.false, with_end) in
     subst (λ ps. IsOpen o.owner ps above o.own_places.items o.above_places.items c.in-Some.size) (sym c.in_ok-push_value.ensures.ok)
     (opens_valued o.owner own above o.own_places.items o.above_places.items o.size c.in-Some.size v c.self.invariant short sized small)

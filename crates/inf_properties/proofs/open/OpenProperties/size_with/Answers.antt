@@ -30,7 +30,8 @@ returns-in_err-before-clause-long c =
     let own = ap (λ (o : Open). o.own) (sym c.self.view_is) ∙ sym c.as_slice.ensures.value ∙ c.in-Some.ensures.cases.0 in
     let count = ap (count_after p v) c.values_above-above.ensures in
     let long : 32 < count_after p v (values_of p.number s.above) = omega (arith, c.in_err-before.ensures.long, count) in
-    rw c.from_residual.ensures (last_short_is s.own c.in-Some.field-0-1.now s.above p v own ∙ lt-leb (count_after p v (values_of p.number s.above)) 32 long)
+    rw c.from_residual.ensures (last_short_is s.own c.in-Some.field-0-1.now s.above p v own ∙ lt-leb
+    (count_after p v (values_of p.number s.above)) 32 long)
 
 pub returns-clause-short : goal.returns-clause-short
 returns-clause-short c =
@@ -48,9 +49,13 @@ changed-requires-clause-bytes c =
     let p = c.in-Some.last.now in
     let owner = ap (λ (o : Open). o.owner) c.self.view_is in
     let own = sym c.as_slice.ensures.value ∙ c.in-Some.ensures.cases.0 in
-    let was = c.in_ok-before.ensures.before ∙ sized_as c.self.inside.owner s.owner p c.values_above-above.result.now s.above owner c.values_above-above.ensures in
-    let now = c.in_ok-before.ensures.after ∙ sized_as c.self.inside.owner s.owner (record p { values = p.values ++ c.args.value ∷ [] }) c.values_above-above.result.now s.above owner c.values_above-above.ensures in
-    (valued_fits _ s c.in-Some.field-0-1.now p c.args.value c.self.inside.size c.in_ok-before.before c.in_ok-before.after c.self.view_is own c.self.invariant.sized was now).lost_bytes
+    let was =
+    c.in_ok-before.ensures.before
+    ∙ sized_as c.self.inside.owner s.owner p c.values_above-above.result.now s.above owner c.values_above-above.ensures in
+    let now = c.in_ok-before.ensures.after ∙ sized_as c.self.inside.owner s.owner (record p { values = p.values ++ c.args.value ∷ [] })
+    c.values_above-above.result.now s.above owner c.values_above-above.ensures in
+    (valued_fits _ s c.in-Some.field-0-1.now p c.args.value c.self.inside.size c.in_ok-before.before c.in_ok-before.after c.self.view_is own
+    c.self.invariant.sized was now).lost_bytes
 
 pub changed-requires-clause-fixups : goal.changed-requires-clause-fixups
 changed-requires-clause-fixups c =
@@ -58,9 +63,13 @@ changed-requires-clause-fixups c =
     let p = c.in-Some.last.now in
     let owner = ap (λ (o : Open). o.owner) c.self.view_is in
     let own = sym c.as_slice.ensures.value ∙ c.in-Some.ensures.cases.0 in
-    let was = c.in_ok-before.ensures.before ∙ sized_as c.self.inside.owner s.owner p c.values_above-above.result.now s.above owner c.values_above-above.ensures in
-    let now = c.in_ok-before.ensures.after ∙ sized_as c.self.inside.owner s.owner (record p { values = p.values ++ c.args.value ∷ [] }) c.values_above-above.result.now s.above owner c.values_above-above.ensures in
-    (valued_fits _ s c.in-Some.field-0-1.now p c.args.value c.self.inside.size c.in_ok-before.before c.in_ok-before.after c.self.view_is own c.self.invariant.sized was now).lost_fixups
+    let was =
+    c.in_ok-before.ensures.before
+    ∙ sized_as c.self.inside.owner s.owner p c.values_above-above.result.now s.above owner c.values_above-above.ensures in
+    let now = c.in_ok-before.ensures.after ∙ sized_as c.self.inside.owner s.owner (record p { values = p.values ++ c.args.value ∷ [] })
+    c.values_above-above.result.now s.above owner c.values_above-above.ensures in
+    (valued_fits _ s c.in-Some.field-0-1.now p c.args.value c.self.inside.size c.in_ok-before.before c.in_ok-before.after c.self.view_is own
+    c.self.invariant.sized was now).lost_fixups
 
 pub changed-requires-clause-individuals : goal.changed-requires-clause-individuals
 changed-requires-clause-individuals c =
@@ -68,9 +77,13 @@ changed-requires-clause-individuals c =
     let p = c.in-Some.last.now in
     let owner = ap (λ (o : Open). o.owner) c.self.view_is in
     let own = sym c.as_slice.ensures.value ∙ c.in-Some.ensures.cases.0 in
-    let was = c.in_ok-before.ensures.before ∙ sized_as c.self.inside.owner s.owner p c.values_above-above.result.now s.above owner c.values_above-above.ensures in
-    let now = c.in_ok-before.ensures.after ∙ sized_as c.self.inside.owner s.owner (record p { values = p.values ++ c.args.value ∷ [] }) c.values_above-above.result.now s.above owner c.values_above-above.ensures in
-    (valued_fits _ s c.in-Some.field-0-1.now p c.args.value c.self.inside.size c.in_ok-before.before c.in_ok-before.after c.self.view_is own c.self.invariant.sized was now).lost_individuals
+    let was =
+    c.in_ok-before.ensures.before
+    ∙ sized_as c.self.inside.owner s.owner p c.values_above-above.result.now s.above owner c.values_above-above.ensures in
+    let now = c.in_ok-before.ensures.after ∙ sized_as c.self.inside.owner s.owner (record p { values = p.values ++ c.args.value ∷ [] })
+    c.values_above-above.result.now s.above owner c.values_above-above.ensures in
+    (valued_fits _ s c.in-Some.field-0-1.now p c.args.value c.self.inside.size c.in_ok-before.before c.in_ok-before.after c.self.view_is own
+    c.self.invariant.sized was now).lost_individuals
 
 pub returns-clause-some : goal.returns-clause-some
 returns-clause-some c =
@@ -78,6 +91,10 @@ returns-clause-some c =
     let p = c.in-Some.last.now in
     let owner = ap (λ (o : Open). o.owner) c.self.view_is in
     let own = sym c.as_slice.ensures.value ∙ c.in-Some.ensures.cases.0 in
-    let was = c.in_ok-before.ensures.before ∙ sized_as c.self.inside.owner s.owner p c.values_above-above.result.now s.above owner c.values_above-above.ensures in
-    let now = c.in_ok-before.ensures.after ∙ sized_as c.self.inside.owner s.owner (record p { values = p.values ++ c.args.value ∷ [] }) c.values_above-above.result.now s.above owner c.values_above-above.ensures in
-    c.changed.ensures ∙ changed_is _ _ _ _ (valued_fits _ s c.in-Some.field-0-1.now p c.args.value c.self.inside.size c.in_ok-before.before c.in_ok-before.after c.self.view_is own c.self.invariant.sized was now)
+    let was =
+    c.in_ok-before.ensures.before
+    ∙ sized_as c.self.inside.owner s.owner p c.values_above-above.result.now s.above owner c.values_above-above.ensures in
+    let now = c.in_ok-before.ensures.after ∙ sized_as c.self.inside.owner s.owner (record p { values = p.values ++ c.args.value ∷ [] })
+    c.values_above-above.result.now s.above owner c.values_above-above.ensures in
+    c.changed.ensures ∙ changed_is _ _ _ _ (valued_fits _ s c.in-Some.field-0-1.now p c.args.value c.self.inside.size c.in_ok-before.before
+    c.in_ok-before.after c.self.view_is own c.self.invariant.sized was now)

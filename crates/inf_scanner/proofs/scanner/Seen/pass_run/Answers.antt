@@ -21,8 +21,10 @@ returns-clause-found c = λ set rest.
           ap (λ (x : Seen). find set c.args.limit c.args.state (calmed x x.spelling) (drop len bytes ++ rest)) w.self-is
           ∙ ap (λ (k : Kept). find set c.args.limit c.args.state (calmed old k) (drop len bytes ++ rest))
           (w.in_ok-extend.ensures.ok ∙ ap (λ (n : ℕ). with_bytes n (take len bytes) old.spelling) w.most.ensures)
-          ∙ found_kept set c.args.limit c.args.state len bytes rest (sight old) (sym w.if-not-is_gap.ensures) c.run_len-len.ensures c.if-len-eq0.false
+          ∙ found_kept set c.args.limit c.args.state len bytes rest (sight old) (sym w.if-not-is_gap.ensures) c.run_len-len.ensures
+          c.if-len-eq0.false
       | else-not-is_gap w ↦
           ap (λ (x : Seen). find set c.args.limit c.args.state (calmed x x.spelling) (drop len bytes ++ rest)) w.self-is
-          ∙ found_skipped set c.args.limit c.args.state len bytes rest (sight old) (sym w.if-not-is_gap.ensures) c.run_len-len.ensures c.if-len-eq0.false
+          ∙ found_skipped set c.args.limit c.args.state len bytes rest (sight old) (sym w.if-not-is_gap.ensures) c.run_len-len.ensures
+          c.if-len-eq0.false
     ]

@@ -24,7 +24,11 @@ returns-in-Include-clause-carried_out g c = λ honest start nested.
     let was = state s start (files.openings c.args.files.now) c.args.self.now in
     let going = sym c.is_over.ensures ∙ c.if-is_over.false in
     let reads : is_mode_ended c.args.self.now.progress.reader.mode ≡ false =
-    elim c.match-matches.branch [ in-Ended w ↦ (let never = sym w.matches-is ∙ c.if-matches.false in cc) | in_default w ↦ not_ended c.args.self.now.progress.reader.mode w.in_default.not-Ended ] in
+    elim c.match-matches.branch [
+      | in-Ended w ↦ (let never = sym w.matches-is ∙ c.if-matches.false in cc)
+      | in_default w ↦ not_ended
+          c.args.self.now.progress.reader.mode w.in_default.not-Ended
+    ] in
     let asks = sym c.in-Include.ensures.asked ∙ ap (λ (t : List ℕ). Include t unit) (sym c.as_slice.ensures.value) in
     on_ok_weaker c.include.result
     (λ h told. h told ∙ ap (λ (w : Compilation). included s o unit text (record (was told) { work = w })) c.take_asked.ensures.nothing
@@ -42,10 +46,15 @@ returns-in-Include-clause-opened g c = λ honest start nested.
     let was = state s start old c.args.self.now in
     let going = sym c.is_over.ensures ∙ c.if-is_over.false in
     let reads : is_mode_ended c.args.self.now.progress.reader.mode ≡ false =
-    elim c.match-matches.branch [ in-Ended w ↦ (let never = sym w.matches-is ∙ c.if-matches.false in cc) | in_default w ↦ not_ended c.args.self.now.progress.reader.mode w.in_default.not-Ended ] in
+    elim c.match-matches.branch [
+      | in-Ended w ↦ (let never = sym w.matches-is ∙ c.if-matches.false in cc)
+      | in_default w ↦ not_ended
+          c.args.self.now.progress.reader.mode w.in_default.not-Ended
+    ] in
     let asks = sym c.in-Include.ensures.asked ∙ ap (λ (t : List ℕ). Include t unit) (sym c.as_slice.ensures.value) in
     on_err_weaker c.include.result
-    (λ h. carried_out_within s o unit text was (λ told. record (was told) { work = _ }) (opened_since start (files.openings c.include.new.files)) (λ told. going) (λ told. reads) (λ told. asks)
+    (λ h. carried_out_within s o unit text was (λ told. record (was told) { work = _ })
+    (opened_since start (files.openings c.include.new.files)) (λ told. going) (λ told. reads) (λ told. asks)
     (λ told. ap (λ (w : Compilation). record (was told) { work = w }) c.take_asked.ensures.nothing) h)
     (c.include.ensures.opened honest start nested)
 
@@ -63,9 +72,14 @@ returns-in-Include-clause-stops g c = λ honest start nested.
     let failed = Rose (files.faults c.args.files.now) (files.faults c.include.new.files) in
     let going = sym c.is_over.ensures ∙ c.if-is_over.false in
     let reads : is_mode_ended c.args.self.now.progress.reader.mode ≡ false =
-    elim c.match-matches.branch [ in-Ended w ↦ (let never = sym w.matches-is ∙ c.if-matches.false in cc) | in_default w ↦ not_ended c.args.self.now.progress.reader.mode w.in_default.not-Ended ] in
+    elim c.match-matches.branch [
+      | in-Ended w ↦ (let never = sym w.matches-is ∙ c.if-matches.false in cc)
+      | in_default w ↦ not_ended
+          c.args.self.now.progress.reader.mode w.in_default.not-Ended
+    ] in
     let asks = sym c.in-Include.ensures.asked ∙ ap (λ (t : List ℕ). Include t unit) (sym c.as_slice.ensures.value) in
-    if_read_more c.include.result (λ name. (name ≡ text) × NotTried failed s o.directories text here opened) (λ name. (told : List ℕ) → StopsAtInclusion failed s o (was told) opened name)
+    if_read_more c.include.result (λ name. (name ≡ text) × NotTried failed s o.directories text here opened)
+    (λ name. (told : List ℕ) → StopsAtInclusion failed s o (was told) opened name)
     (λ name h told. record {
       unit = unit;
       asks = asks ∙ ap (λ (t : List ℕ). Include t unit) (sym h.0);

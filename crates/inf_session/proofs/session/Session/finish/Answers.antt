@@ -9,12 +9,14 @@ pub returns-clause-ok : goal.returns-clause-ok
 returns-clause-ok g c =
     let old = g.M.Sink.taken c.args.messages.now in
     let new = g.M.Sink.taken c.conclude-compiled.new.messages in
-    subst (λ (n : FileNames). IfOk c.conclude-compiled.result (λ compiled. Delivers (finished c.args.serial.now n (work_of c.args.self.progress.work)) compiled old new))
+    subst (λ (n : FileNames). IfOk c.conclude-compiled.result
+    (λ compiled. Delivers (finished c.args.serial.now n (work_of c.args.self.progress.work)) compiled old new))
     (ap (λ s. s.names) c.names.ensures) c.conclude-compiled.ensures.ok
 
 pub returns-clause-err : goal.returns-clause-err
 returns-clause-err g c =
     let old = g.M.Sink.taken c.args.messages.now in
     let new = g.M.Sink.taken c.conclude-compiled.new.messages in
-    subst (λ (n : FileNames). OnErr c.conclude-compiled.result (TakesFront (finished c.args.serial.now n (work_of c.args.self.progress.work)).messages old new))
+    subst (λ (n : FileNames). OnErr c.conclude-compiled.result
+    (TakesFront (finished c.args.serial.now n (work_of c.args.self.progress.work)).messages old new))
     (ap (λ s. s.names) c.names.ensures) c.conclude-compiled.ensures.err

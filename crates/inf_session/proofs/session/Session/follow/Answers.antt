@@ -14,7 +14,8 @@ returns-in_err-rest-clause-opened g c = λ honest start nested.
     let files = g.F.Files in
     let s = files.sources c.args.files.now in
     on_err c.from_residual-in_err-rest.result
-    (followed_within s (chosen c.args.self.now.setup) (state s start (files.openings c.args.files.now) c.args.self.now) (opened_since start (files.openings c.carry_out.new.files))
+    (followed_within s (chosen c.args.self.now.setup) (state s start (files.openings c.args.files.now) c.args.self.now)
+    (opened_since start (files.openings c.carry_out.new.files))
     (inr (λ told. ap (λ (x : State). x.nesting.openings) (c.in_ok-carry_out.ensures.carried_out honest start nested told))))
 
 pub returns-in_err-carry_out-clause-opened : goal.returns-in_err-carry_out-clause-opened
@@ -22,14 +23,18 @@ returns-in_err-carry_out-clause-opened g c = λ honest start nested.
     let files = g.F.Files in
     let s = files.sources c.args.files.now in
     on_err c.from_residual.result
-    (followed_within s (chosen c.args.self.now.setup) (state s start (files.openings c.args.files.now) c.args.self.now) (opened_since start (files.openings c.carry_out.new.files))
+    (followed_within s (chosen c.args.self.now.setup) (state s start (files.openings c.args.files.now) c.args.self.now)
+    (opened_since start (files.openings c.carry_out.new.files))
     (c.in_err-carry_out.ensures.opened honest start nested))
 
 pub returns-clause-stays : goal.returns-clause-stays
-returns-clause-stays g c = bounds_then c.args.self.now c.carry_out.new.self c.rest.new.self c.in_ok-carry_out.ensures.stays c.in_ok-rest.ensures.stays
+returns-clause-stays g c =
+    bounds_then c.args.self.now c.carry_out.new.self c.rest.new.self c.in_ok-carry_out.ensures.stays c.in_ok-rest.ensures.stays
 
 pub returns-in_err-rest-clause-went : goal.returns-in_err-rest-clause-went
-returns-in_err-rest-clause-went g c = went_as g.F.Files c.args.files.now c.carry_out.new.files c.args.self.now.open_files c.carry_out.new.self.open_files c.rest.new.self.open_files c.rest.ensures.files c.carry_out.ensures.went
+returns-in_err-rest-clause-went g c = went_as g.F.Files c.args.files.now c.carry_out.new.files c.args.self.now.open_files
+    c.carry_out.new.self.open_files c.rest.new.self.open_files c.rest.ensures.files c.carry_out.ensures.went
 
 pub returns-clause-went : goal.returns-clause-went
-returns-clause-went g c = went_as g.F.Files c.args.files.now c.carry_out.new.files c.args.self.now.open_files c.carry_out.new.self.open_files c.rest.new.self.open_files c.rest.ensures.files c.carry_out.ensures.went
+returns-clause-went g c = went_as g.F.Files c.args.files.now c.carry_out.new.files c.args.self.now.open_files
+    c.carry_out.new.self.open_files c.rest.new.self.open_files c.rest.ensures.files c.carry_out.ensures.went

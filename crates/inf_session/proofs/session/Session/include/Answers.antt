@@ -20,7 +20,8 @@ returns-in-Err-Device-clause-fault g c =
       | inl rose ↦ inl rose
       | inr many ↦ inr (inr many.0)
     ] in
-    caused_more c.unread.result (λ told. told ≡ c.shown.result.now) (λ name. unreadable) ⊥ ⊥ (λ name told. cause) (λ never. never) c.unread.ensures
+    caused_more c.unread.result (λ told. told ≡ c.shown.result.now) (λ name. unreadable) ⊥ ⊥ (λ name told. cause) (λ never. never)
+    c.unread.ensures
 
 pub returns-in-Err-Device-clause-stops : goal.returns-in-Err-Device-clause-stops
 returns-in-Err-Device-clause-stops g c = λ honest start nested.
@@ -37,12 +38,14 @@ returns-in-Err-Device-clause-stops g c = λ honest start nested.
       | inl rose ↦ inl rose
       | inr many ↦ inr (many.1 honest start nested)
     ] in
-    read_caused c.unread.result (λ told. told ≡ c.shown.result.now) (λ name. (name ≡ text) × NotTried failed s directories text was opened) ⊥
+    read_caused c.unread.result (λ told. told ≡ c.shown.result.now) (λ name. (name ≡ text) × NotTried failed s directories text was opened)
+    ⊥
     (λ name is. (
       is ∙ c.shown.ensures (c.in-Err-Device.ensures.named device),
       record {
         cause = cause;
-        openings_are = subst (λ f. OpenedInVain f (inclusion s directories text was) was opened) c.in-Err-Device.field-0-is (c.in-Err-Device.ensures.in_vain honest start nested);
+        openings_are = subst (λ f. OpenedInVain f (inclusion s directories text was) was opened) c.in-Err-Device.field-0-is
+            (c.in-Err-Device.ensures.in_vain honest start nested);
       },
     )) c.unread.ensures
 
@@ -56,7 +59,8 @@ returns-in_err-enter_file-in-Ok-Entered-clause-opened g c = λ honest start nest
     let before = c.args.self.now in
     let nest = before.open_files.nest in
     on_err c.from_residual.result
-    (tried s o c.args.unit c.args.text.now nest.set nest.limit start old new before c.include.new.self (c.in-Ok-Entered.ensures.nesting honest start nested))
+    (tried s o c.args.unit c.args.text.now nest.set nest.limit start old new before c.include.new.self
+    (c.in-Ok-Entered.ensures.nesting honest start nested))
 
 pub returns-in_err-enter_file-in-Ok-Entered-2-clause-opened : goal.returns-in_err-enter_file-in-Ok-Entered-2-clause-opened
 returns-in_err-enter_file-in-Ok-Entered-2-clause-opened g c = λ honest start nested.
@@ -68,7 +72,8 @@ returns-in_err-enter_file-in-Ok-Entered-2-clause-opened g c = λ honest start ne
     let before = c.args.self.now in
     let nest = before.open_files.nest in
     on_err c.from_residual-in_err-enter_file-in-Ok-Entered-2.result
-    (tried s o c.args.unit c.args.text.now nest.set nest.limit start old new before c.include.new.self (c.in-Ok-Entered.ensures.nesting honest start nested))
+    (tried s o c.args.unit c.args.text.now nest.set nest.limit start old new before c.include.new.self
+    (c.in-Ok-Entered.ensures.nesting honest start nested))
 
 pub returns-in-Err-Device-clause-opened : goal.returns-in-Err-Device-clause-opened
 returns-in-Err-Device-clause-opened g c = λ honest start nested.
@@ -80,7 +85,8 @@ returns-in-Err-Device-clause-opened g c = λ honest start nested.
     let before = c.args.self.now in
     let was = nesting s start old before.open_files in
     in_vain s o c.args.unit c.args.text.now start old before (opened_since start new)
-    (subst (λ f. OpenedInVain f (inclusion s o.directories c.args.text.now was) was (opened_since start new)) c.in-Err-Device.field-0-is (c.in-Err-Device.ensures.in_vain honest start nested))
+    (subst (λ f. OpenedInVain f (inclusion s o.directories c.args.text.now was) was (opened_since start new)) c.in-Err-Device.field-0-is
+    (c.in-Err-Device.ensures.in_vain honest start nested))
 
 pub returns-in-Err-Memory-clause-opened : goal.returns-in-Err-Memory-clause-opened
 returns-in-Err-Memory-clause-opened g c = λ honest start nested.
@@ -91,4 +97,5 @@ returns-in-Err-Memory-clause-opened g c = λ honest start nested.
     let new = files.openings c.include.new.files in
     let before = c.args.self.now in
     let was = nesting s start old before.open_files in
-    inl (λ told. subst (λ f. OpenedInVain f (inclusion s o.directories c.args.text.now was) was (opened_since start new)) c.in-Err-Memory.field-0-is (c.in-Err-Memory.ensures.in_vain honest start nested))
+    inl (λ told. subst (λ f. OpenedInVain f (inclusion s o.directories c.args.text.now was) was (opened_since start new))
+    c.in-Err-Memory.field-0-is (c.in-Err-Memory.ensures.in_vain honest start nested))

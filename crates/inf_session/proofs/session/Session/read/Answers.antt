@@ -20,7 +20,11 @@ loop-self-init g c =
     let files = g.F.Files in
     let s = files.sources c.args.files.now in
     record {
-      led = λ honest start nested. (0, writes_none s (chosen c.args.self.now.setup) (state s start (files.openings c.args.files.now) c.args.self.now) (g.M.Sink.taken c.args.messages.now));
+      led = λ honest start nested. (
+        0,
+        writes_none s (chosen c.args.self.now.setup) (state s start (files.openings c.args.files.now)
+            c.args.self.now) (g.M.Sink.taken c.args.messages.now),
+      );
       went = went_none files c.args.files.now c.args.self.now.open_files;
       is_open = c.requires.is_open;
       goes = c.requires.goes;
@@ -48,21 +52,27 @@ loop-self-preserved g c =
           let then_at = files.openings c.step.new.files in
           let ran = took.part still start (inv.went.nested honest start nested) in
           let more = ran.0 in
-          let turned : Writes (run s o more) (state s start here c.loop-self.self) (state s start then_at c.step.new.self) (g.M.Sink.taken c.loop-self.messages) (g.M.Sink.taken c.step.new.messages) =
-          subst (λ (x : Choices). Writes (run s x more) (state s start here c.loop-self.self) (state s start then_at c.step.new.self) (g.M.Sink.taken c.loop-self.messages) (g.M.Sink.taken c.step.new.messages)) (ap chosen inv.setup)
-          (subst (λ (x : Sources). Writes (run x p more) (state x start here c.loop-self.self) (state x start then_at c.step.new.self) (g.M.Sink.taken c.loop-self.messages) (g.M.Sink.taken c.step.new.messages)) inv.went.sources
+          let turned : Writes (run s o more) (state s start here c.loop-self.self) (state s start then_at c.step.new.self)
+          (g.M.Sink.taken c.loop-self.messages) (g.M.Sink.taken c.step.new.messages) =
+          subst (λ (x : Choices). Writes (run s x more) (state s start here c.loop-self.self) (state s start then_at c.step.new.self)
+          (g.M.Sink.taken c.loop-self.messages) (g.M.Sink.taken c.step.new.messages)) (ap chosen inv.setup)
+          (subst (λ (x : Sources). Writes (run x p more) (state x start here c.loop-self.self) (state x start then_at c.step.new.self)
+          (g.M.Sink.taken c.loop-self.messages) (g.M.Sink.taken c.step.new.messages)) inv.went.sources
           ran.1.1) in (
             so_far.0 + more,
-            writes_on (run s o so_far.0) (run s o (so_far.0 + more)) (run s o more) (state s start first c.args.self.now) (state s start here c.loop-self.self) (state s start then_at c.step.new.self)
+            writes_on (run s o so_far.0) (run s o (so_far.0 + more)) (run s o more) (state s start first c.args.self.now)
+                (state s start here c.loop-self.self) (state s start then_at c.step.new.self)
                 (g.M.Sink.taken c.args.messages.now) (g.M.Sink.taken c.loop-self.messages) (g.M.Sink.taken c.step.new.messages)
                 (λ told. run_sum s o so_far.0 more (state s start first c.args.self.now told)) so_far.1 turned,
           );
-      went = went_then files c.args.files.now c.loop-self.files c.step.new.files c.args.self.now.open_files c.loop-self.self.open_files c.step.new.self.open_files inv.went c.step.ensures.went;
+      went = went_then files c.args.files.now c.loop-self.files c.step.new.files c.args.self.now.open_files c.loop-self.self.open_files
+          c.step.new.self.open_files inv.went c.step.ensures.went;
       is_open = c.step.ensures.is_open;
       goes = took.goes;
       set = c.step.ensures.set;
       setup = c.step.ensures.setup ∙ inv.setup;
-      fits = fit_then files c.args.files.now c.loop-self.files c.step.new.files c.args.self.now.open_files c.loop-self.self.open_files inv.went inv.fits took.fits;
+      fits = fit_then files c.args.files.now c.loop-self.files c.step.new.files c.args.self.now.open_files c.loop-self.self.open_files
+          inv.went inv.fits took.fits;
       wrote = appends_then g.M.Sink c.args.messages.now c.loop-self.messages c.step.new.messages inv.wrote c.step.ensures.wrote;
     }
 
@@ -79,13 +89,17 @@ returns-in_err-step-clause-cut g c = λ honest start nested.
     let here = files.openings c.loop-self.files in
     let ran = c.in_err-step.ensures.cut still start (inv.went.nested honest start nested) in
     let more = ran.0 in
-    let cut : CutsShort (run s o more) (state s start here c.loop-self.self) (g.M.Sink.taken c.loop-self.messages) (g.M.Sink.taken c.step.new.messages) =
-    subst (λ (x : Choices). CutsShort (run s x more) (state s start here c.loop-self.self) (g.M.Sink.taken c.loop-self.messages) (g.M.Sink.taken c.step.new.messages)) (ap chosen inv.setup)
-    (subst (λ (x : Sources). CutsShort (run x p more) (state x start here c.loop-self.self) (g.M.Sink.taken c.loop-self.messages) (g.M.Sink.taken c.step.new.messages)) inv.went.sources
+    let cut : CutsShort (run s o more) (state s start here c.loop-self.self) (g.M.Sink.taken c.loop-self.messages)
+    (g.M.Sink.taken c.step.new.messages) =
+    subst (λ (x : Choices). CutsShort (run s x more) (state s start here c.loop-self.self) (g.M.Sink.taken c.loop-self.messages)
+    (g.M.Sink.taken c.step.new.messages)) (ap chosen inv.setup)
+    (subst (λ (x : Sources). CutsShort (run x p more) (state x start here c.loop-self.self) (g.M.Sink.taken c.loop-self.messages)
+    (g.M.Sink.taken c.step.new.messages)) inv.went.sources
     ran.1) in
     on_err c.from_residual.result (
       so_far.0 + more,
-      cuts_on (run s o so_far.0) (run s o (so_far.0 + more)) (run s o more) (state s start first c.args.self.now) (state s start here c.loop-self.self)
+      cuts_on (run s o so_far.0) (run s o (so_far.0 + more)) (run s o more) (state s start first c.args.self.now)
+          (state s start here c.loop-self.self)
           (g.M.Sink.taken c.args.messages.now) (g.M.Sink.taken c.loop-self.messages) (g.M.Sink.taken c.step.new.messages)
           (λ told. run_sum s o so_far.0 more (state s start first c.args.self.now told)) so_far.1 cut,
     )
@@ -110,13 +124,16 @@ returns-in_err-step-clause-unread g c = λ honest start nested.
     let so_far = inv.led honest start nested in
     let still = subst (λ b. IsTrue b) (sym inv.went.honesty) honest in
     let Last = λ (name : List ℕ). GivenUp later t p (state t start here c.loop-self.self) between new start now after name in
-    let given : IfErr c.step.result (λ fault. IfRead fault Last) = c.step.ensures.unread still start (inv.went.nested honest start nested) in
+    let given : IfErr c.step.result (λ fault. IfRead fault Last) =
+    c.step.ensures.unread still start (inv.went.nested honest start nested) in
     let last : IfErr c.from_residual.result (λ fault. IfRead fault Last) = search rules in
     if_read_more c.from_residual.result Last (λ name. GivenUp failed s o was old new start now after name)
     (λ name w. given_up_on later failed s o so_far.0 was (state s start here c.loop-self.self) old between new start now after name
-    (λ rose. rose_earlier (files.faults c.args.files.now) (files.faults c.loop-self.files) (files.faults c.step.new.files) inv.went.faults rose) so_far.1
+    (λ rose. rose_earlier (files.faults c.args.files.now) (files.faults c.loop-self.files) (files.faults c.step.new.files) inv.went.faults
+    rose) so_far.1
     (subst (λ (x : Choices). GivenUp later s x (state s start here c.loop-self.self) between new start now after name) (ap chosen inv.setup)
-    (subst (λ (x : Sources). GivenUp later x p (state x start here c.loop-self.self) between new start now after name) inv.went.sources w))) last
+    (subst (λ (x : Sources). GivenUp later x p (state x start here c.loop-self.self) between new start now after name) inv.went.sources w)))
+    last
 
 pub returns-in_err-step-clause-fault : goal.returns-in_err-step-clause-fault
 returns-in_err-step-clause-fault g c =
@@ -135,7 +152,8 @@ returns-in_err-step-clause-fault g c =
     let caused : IfErr c.from_residual.result (λ fault. Caused fault (λ name. IsUnreadable f b d y z) later) = search rules in
     if_caused_more c.from_residual.result (λ name. IsUnreadable f b d y z) (λ name. IsUnreadable f a d x z) later rose
     (λ name why. unreadable_then f a b d x y z inv.went why)
-    (λ r. rose_earlier (m.failures c.args.messages.now) (m.failures c.loop-self.messages) (m.failures c.step.new.messages) inv.wrote.failures r) caused
+    (λ r. rose_earlier (m.failures c.args.messages.now) (m.failures c.loop-self.messages) (m.failures c.step.new.messages)
+    inv.wrote.failures r) caused
 
 pub returns-in_err-step-clause-opened : goal.returns-in_err-step-clause-opened
 returns-in_err-step-clause-opened g c = λ honest start nested.
@@ -160,4 +178,5 @@ returns-in_err-step-clause-opened g c = λ honest start nested.
     )
 
 pub returns-in_err-step-clause-wrote : goal.returns-in_err-step-clause-wrote
-returns-in_err-step-clause-wrote g c = appends_then g.M.Sink c.args.messages.now c.loop-self.messages c.step.new.messages c.loop-self.invariant.wrote c.step.ensures.wrote
+returns-in_err-step-clause-wrote g c =
+    appends_then g.M.Sink c.args.messages.now c.loop-self.messages c.step.new.messages c.loop-self.invariant.wrote c.step.ensures.wrote

@@ -34,8 +34,14 @@ loop-self-init g c =
           let now = state s start (files.openings c.turn.new.files) c.turn.new.self in
           let old = g.M.Sink.taken c.args.messages.now in
           let new = g.M.Sink.taken c.turn.new.messages in
-          let turned = took.turned honest start nested in
-          (zero, (part_first s o was now old new (λ told. going) turned, writes_then s o zero was was now old old new (λ told. going) (writes_none s o was old) turned));
+          let turned = took.turned honest start nested in (
+            zero,
+            (
+              part_first s o was now old new (λ told. going) turned,
+              writes_then s o zero was was now old old new (λ told. going)
+                  (writes_none s o was old) turned,
+            ),
+          );
       falls = took.falls;
       went = c.turn.ensures.went;
       is_open = c.turn.ensures.is_open;
@@ -66,9 +72,14 @@ loop-self-preserved g c =
           let first = files.openings c.args.files.now in
           let here = files.openings c.loop-self.files in
           let then_at = files.openings c.turn-in-loop-self.new.files in
-          let turned : Writes (turn s o) (state s start here c.loop-self.self) (state s start then_at c.turn-in-loop-self.new.self) (g.M.Sink.taken c.loop-self.messages) (g.M.Sink.taken c.turn-in-loop-self.new.messages) =
-          subst (λ (x : Choices). Writes (turn s x) (state s start here c.loop-self.self) (state s start then_at c.turn-in-loop-self.new.self) (g.M.Sink.taken c.loop-self.messages) (g.M.Sink.taken c.turn-in-loop-self.new.messages)) (ap chosen inv.setup)
-          (subst (λ (x : Sources). Writes (turn x p) (state x start here c.loop-self.self) (state x start then_at c.turn-in-loop-self.new.self) (g.M.Sink.taken c.loop-self.messages) (g.M.Sink.taken c.turn-in-loop-self.new.messages)) inv.went.sources
+          let turned : Writes (turn s o) (state s start here c.loop-self.self) (state s start then_at c.turn-in-loop-self.new.self)
+          (g.M.Sink.taken c.loop-self.messages) (g.M.Sink.taken c.turn-in-loop-self.new.messages) =
+          subst (λ (x : Choices). Writes (turn s x) (state s start here c.loop-self.self)
+          (state s start then_at c.turn-in-loop-self.new.self) (g.M.Sink.taken c.loop-self.messages)
+          (g.M.Sink.taken c.turn-in-loop-self.new.messages)) (ap chosen inv.setup)
+          (subst (λ (x : Sources). Writes (turn x p) (state x start here c.loop-self.self)
+          (state x start then_at c.turn-in-loop-self.new.self) (g.M.Sink.taken c.loop-self.messages)
+          (g.M.Sink.taken c.turn-in-loop-self.new.messages)) inv.went.sources
           (took.turned still start (inv.went.nested honest start nested))) in
           let was = state s start first c.args.self.now in
           let mid = state s start here c.loop-self.self in
@@ -76,23 +87,31 @@ loop-self-preserved g c =
             suc so_far.0,
             (
               part_then s o so_far.0 was mid (state s start then_at c.turn-in-loop-self.new.self)
-                  (g.M.Sink.taken c.args.messages.now) (g.M.Sink.taken c.loop-self.messages) (g.M.Sink.taken c.turn-in-loop-self.new.messages) (λ told. first_going) (λ told. open_still) so_far.1.0 turned,
+                  (g.M.Sink.taken c.args.messages.now) (g.M.Sink.taken c.loop-self.messages)
+                  (g.M.Sink.taken c.turn-in-loop-self.new.messages) (λ told. first_going) (λ told. open_still) so_far.1.0 turned,
               writes_then s o (suc so_far.0) was mid (state s start then_at c.turn-in-loop-self.new.self)
-                  (g.M.Sink.taken c.args.messages.now) (g.M.Sink.taken c.loop-self.messages) (g.M.Sink.taken c.turn-in-loop-self.new.messages) going so_far.1.1 turned,
+                  (g.M.Sink.taken c.args.messages.now) (g.M.Sink.taken c.loop-self.messages)
+                  (g.M.Sink.taken c.turn-in-loop-self.new.messages) going so_far.1.1 turned,
             ),
           );
-      falls = falls_then (ended c.loop-self.self) (ended c.turn-in-loop-self.new.self) (weight c.args.self.now.open_files) (weight c.loop-self.self.open_files) (weight c.turn-in-loop-self.new.self.open_files)
-          inv.falls (still_going (state s (files.openings c.args.files.now) (files.openings c.loop-self.files) c.loop-self.self []) open_still) took.falls;
-      went = went_then files c.args.files.now c.loop-self.files c.turn-in-loop-self.new.files c.args.self.now.open_files c.loop-self.self.open_files c.turn-in-loop-self.new.self.open_files inv.went c.turn-in-loop-self.ensures.went;
+      falls = falls_then (ended c.loop-self.self) (ended c.turn-in-loop-self.new.self) (weight c.args.self.now.open_files)
+          (weight c.loop-self.self.open_files) (weight c.turn-in-loop-self.new.self.open_files)
+          inv.falls (still_going (state s (files.openings c.args.files.now) (files.openings c.loop-self.files) c.loop-self.self [])
+          open_still) took.falls;
+      went = went_then files c.args.files.now c.loop-self.files c.turn-in-loop-self.new.files c.args.self.now.open_files
+          c.loop-self.self.open_files c.turn-in-loop-self.new.self.open_files inv.went c.turn-in-loop-self.ensures.went;
       is_open = c.turn-in-loop-self.ensures.is_open;
       goes = took.goes;
       set = c.turn-in-loop-self.ensures.set;
-      limits = same_then (work_of c.args.self.now.progress.work) (work_of c.loop-self.self.progress.work) (work_of c.turn-in-loop-self.new.self.progress.work) inv.limits took.limits;
+      limits = same_then (work_of c.args.self.now.progress.work) (work_of c.loop-self.self.progress.work)
+          (work_of c.turn-in-loop-self.new.self.progress.work) inv.limits took.limits;
       longest = λ few. subst (λ (p : Setup). c.turn-in-loop-self.new.self.quoted ≤ most_quoted (chosen p)) inv.setup
           (took.longest (subst (λ (p : Setup). c.loop-self.self.quoted ≤ most_quoted (chosen p)) (sym inv.setup) (inv.longest few)));
       setup = c.turn-in-loop-self.ensures.setup ∙ inv.setup;
-      fits = fit_then files c.args.files.now c.loop-self.files c.turn-in-loop-self.new.files c.args.self.now.open_files c.loop-self.self.open_files inv.went inv.fits took.fits;
-      wrote = appends_then g.M.Sink c.args.messages.now c.loop-self.messages c.turn-in-loop-self.new.messages inv.wrote c.turn-in-loop-self.ensures.wrote;
+      fits = fit_then files c.args.files.now c.loop-self.files c.turn-in-loop-self.new.files c.args.self.now.open_files
+          c.loop-self.self.open_files inv.went inv.fits took.fits;
+      wrote = appends_then g.M.Sink c.args.messages.now c.loop-self.messages c.turn-in-loop-self.new.messages inv.wrote
+          c.turn-in-loop-self.ensures.wrote;
     }
 
 pub returns-in_err-turn-2-clause-cut : goal.returns-in_err-turn-2-clause-cut
@@ -107,14 +126,18 @@ returns-in_err-turn-2-clause-cut g c = λ honest start nested.
     let still = subst (λ b. IsTrue b) (sym inv.went.honesty) honest in
     let first = files.openings c.args.files.now in
     let here = files.openings c.loop-self.files in
-    let cut : CutsShort (turn s o) (state s start here c.loop-self.self) (g.M.Sink.taken c.loop-self.messages) (g.M.Sink.taken c.turn-in-loop-self.new.messages) =
-    subst (λ (x : Choices). CutsShort (turn s x) (state s start here c.loop-self.self) (g.M.Sink.taken c.loop-self.messages) (g.M.Sink.taken c.turn-in-loop-self.new.messages)) (ap chosen inv.setup)
-    (subst (λ (x : Sources). CutsShort (turn x p) (state x start here c.loop-self.self) (g.M.Sink.taken c.loop-self.messages) (g.M.Sink.taken c.turn-in-loop-self.new.messages)) inv.went.sources
+    let cut : CutsShort (turn s o) (state s start here c.loop-self.self) (g.M.Sink.taken c.loop-self.messages)
+    (g.M.Sink.taken c.turn-in-loop-self.new.messages) =
+    subst (λ (x : Choices). CutsShort (turn s x) (state s start here c.loop-self.self) (g.M.Sink.taken c.loop-self.messages)
+    (g.M.Sink.taken c.turn-in-loop-self.new.messages)) (ap chosen inv.setup)
+    (subst (λ (x : Sources). CutsShort (turn x p) (state x start here c.loop-self.self) (g.M.Sink.taken c.loop-self.messages)
+    (g.M.Sink.taken c.turn-in-loop-self.new.messages)) inv.went.sources
     (c.in_err-turn-2.ensures.cut still start (inv.went.nested honest start nested))) in
     on_err c.from_residual-in_err-turn-2.result (
       suc (suc so_far.0),
       cuts_then s o (suc so_far.0) (state s start first c.args.self.now) (state s start here c.loop-self.self)
-          (g.M.Sink.taken c.args.messages.now) (g.M.Sink.taken c.loop-self.messages) (g.M.Sink.taken c.turn-in-loop-self.new.messages) (λ told. still_going (state s start here c.loop-self.self told) open_still) so_far.1.1 cut,
+          (g.M.Sink.taken c.args.messages.now) (g.M.Sink.taken c.loop-self.messages) (g.M.Sink.taken c.turn-in-loop-self.new.messages)
+          (λ told. still_going (state s start here c.loop-self.self told) open_still) so_far.1.1 cut,
     )
 
 pub returns-then-has_ended-clause-part : goal.returns-then-has_ended-clause-part
@@ -136,7 +159,8 @@ returns-in_err-turn-clause-cut g c = λ honest start nested.
     let going : ended c.args.self.now ≡ false = sym c.has_ended.ensures ∙ c.if-has_ended.false in
     on_err c.from_residual.result (
       suc zero,
-      cuts_then s o zero was was old old (g.M.Sink.taken c.turn.new.messages) (λ told. going) (writes_none s o was old) (c.in_err-turn.ensures.cut honest start nested),
+      cuts_then s o zero was was old old (g.M.Sink.taken c.turn.new.messages) (λ told. going) (writes_none s o was old)
+          (c.in_err-turn.ensures.cut honest start nested),
     )
 
 pub loop-self-smaller : goal.loop-self-smaller
@@ -144,8 +168,10 @@ loop-self-smaller g c =
     let files = g.F.Files in
     let open_still : parted c.loop-self.self ≡ false = sym c.has_parted.ensures ∙ c.loop-self-test.true in
     let s = files.sources c.args.files.now in
-    ends_or_falls (ended c.turn-in-loop-self.new.self) (ended c.loop-self.self) (weight c.loop-self.self.open_files) (weight c.turn-in-loop-self.new.self.open_files)
-    (still_going (state s (files.openings c.args.files.now) (files.openings c.loop-self.files) c.loop-self.self []) open_still) c.in_ok-turn-2.ensures.falls
+    ends_or_falls (ended c.turn-in-loop-self.new.self) (ended c.loop-self.self) (weight c.loop-self.self.open_files)
+    (weight c.turn-in-loop-self.new.self.open_files)
+    (still_going (state s (files.openings c.args.files.now) (files.openings c.loop-self.files) c.loop-self.self []) open_still)
+    c.in_ok-turn-2.ensures.falls
 
 pub returns-clause-part : goal.returns-clause-part
 returns-clause-part g c = λ honest start nested.
@@ -169,7 +195,8 @@ returns-in_err-turn-clause-unread g c = λ honest start nested.
     let same : IfErr c.from_residual.result (λ fault. IfRead fault (λ name. new ≡ old)) = search rules in
     let stops : IfErr c.from_residual.result (λ fault. IfRead fault StopsSo) = search rules in
     if_read_both c.from_residual.result (new ≡ old) StopsSo (λ name. GivenUp failed s o was old new start now after name)
-    (λ name e h. given_up failed s o zero was was old old new start now after name (writes_none s o was old) (λ told. refl) e (λ told. going) h) same stops
+    (λ name e h. given_up failed s o zero was was old old new start now after name (writes_none s o was old) (λ told. refl) e
+    (λ told. going) h) same stops
 
 pub returns-in_err-turn-2-clause-unread : goal.returns-in_err-turn-2-clause-unread
 returns-in_err-turn-2-clause-unread g c = λ honest start nested.
@@ -193,14 +220,19 @@ returns-in_err-turn-2-clause-unread g c = λ honest start nested.
     let so_far = inv.led honest start nested in
     let still = subst (λ b. IsTrue b) (sym inv.went.honesty) honest in
     let StopsSo = λ (name : List ℕ). (told : List ℕ) → StopsFor later t p (state t start here c.loop-self.self told) start now after name in
-    let stopped : IfErr c.turn-in-loop-self.result (λ fault. IfRead fault StopsSo) = c.turn-in-loop-self.ensures.stops still start (inv.went.nested honest start nested) in
+    let stopped : IfErr c.turn-in-loop-self.result (λ fault. IfRead fault StopsSo) =
+    c.turn-in-loop-self.ensures.stops still start (inv.went.nested honest start nested) in
     let same : IfErr c.from_residual-in_err-turn-2.result (λ fault. IfRead fault (λ name. new ≡ between)) = search rules in
     let stops : IfErr c.from_residual-in_err-turn-2.result (λ fault. IfRead fault StopsSo) = search rules in
     if_read_both c.from_residual-in_err-turn-2.result (new ≡ between) StopsSo (λ name. GivenUp failed s o was old new start now after name)
-    (λ name e h. given_up failed s o (suc so_far.0) was mid old between new start now after name so_far.1.1 (λ told. refl) e (λ told. still_going (mid told) open_still)
-    (λ told. stops_more later failed s o (mid told) start now after name (λ rose. rose_earlier (files.faults c.args.files.now) (files.faults c.loop-self.files) (files.faults c.turn-in-loop-self.new.files) inv.went.faults rose)
+    (λ name e h. given_up failed s o (suc so_far.0) was mid old between new start now after name so_far.1.1 (λ told. refl) e
+    (λ told. still_going (mid told) open_still)
+    (λ told. stops_more later failed s o (mid told) start now after name
+    (λ rose. rose_earlier (files.faults c.args.files.now) (files.faults c.loop-self.files) (files.faults c.turn-in-loop-self.new.files)
+    inv.went.faults rose)
     (subst (λ (x : Choices). StopsFor later s x (mid told) start now after name) (ap chosen inv.setup)
-    (subst (λ (x : Sources). StopsFor later x p (state x start here c.loop-self.self told) start now after name) inv.went.sources (h told))))) same stops
+    (subst (λ (x : Sources). StopsFor later x p (state x start here c.loop-self.self told) start now after name) inv.went.sources
+    (h told))))) same stops
 
 pub returns-in_err-turn-2-clause-fault : goal.returns-in_err-turn-2-clause-fault
 returns-in_err-turn-2-clause-fault g c =
@@ -215,11 +247,13 @@ returns-in_err-turn-2-clause-fault g c =
     let inv = c.loop-self.invariant in
     let later = Rose (m.failures c.loop-self.messages) (m.failures c.turn-in-loop-self.new.messages) in
     let rose = Rose (m.failures c.args.messages.now) (m.failures c.turn-in-loop-self.new.messages) in
-    let told : IfErr c.turn-in-loop-self.result (λ fault. Caused fault (λ name. IsUnreadable f b d y z) later) = c.turn-in-loop-self.ensures.fault in
+    let told : IfErr c.turn-in-loop-self.result (λ fault. Caused fault (λ name. IsUnreadable f b d y z) later) =
+    c.turn-in-loop-self.ensures.fault in
     let caused : IfErr c.from_residual-in_err-turn-2.result (λ fault. Caused fault (λ name. IsUnreadable f b d y z) later) = search rules in
     if_caused_more c.from_residual-in_err-turn-2.result (λ name. IsUnreadable f b d y z) (λ name. IsUnreadable f a d x z) later rose
     (λ name why. unreadable_then f a b d x y z inv.went why)
-    (λ r. rose_earlier (m.failures c.args.messages.now) (m.failures c.loop-self.messages) (m.failures c.turn-in-loop-self.new.messages) inv.wrote.failures r) caused
+    (λ r. rose_earlier (m.failures c.args.messages.now) (m.failures c.loop-self.messages) (m.failures c.turn-in-loop-self.new.messages)
+    inv.wrote.failures r) caused
 
 pub returns-in_err-turn-clause-opened : goal.returns-in_err-turn-clause-opened
 returns-in_err-turn-clause-opened g c = λ honest start nested.
@@ -230,7 +264,8 @@ returns-in_err-turn-clause-opened g c = λ honest start nested.
     let old = g.M.Sink.taken c.args.messages.now in
     let going : ended c.args.self.now ≡ false = sym c.has_ended.ensures ∙ c.if-has_ended.false in
     on_err c.from_residual.result
-    (opened_then s o zero was was old old (opened_since start (files.openings c.turn.new.files)) (λ told. going) (writes_none s o was old) (c.in_err-turn.ensures.opened honest start nested))
+    (opened_then s o zero was was old old (opened_since start (files.openings c.turn.new.files)) (λ told. going) (writes_none s o was old)
+    (c.in_err-turn.ensures.opened honest start nested))
 
 pub returns-in_err-turn-2-clause-opened : goal.returns-in_err-turn-2-clause-opened
 returns-in_err-turn-2-clause-opened g c = λ honest start nested.
@@ -250,7 +285,8 @@ returns-in_err-turn-2-clause-opened g c = λ honest start nested.
     (subst (λ (x : Sources). OpensWithin (turn x p) (state x start here c.loop-self.self) opened) inv.went.sources
     (c.in_err-turn-2.ensures.opened still start (inv.went.nested honest start nested))) in
     on_err c.from_residual-in_err-turn-2.result
-    (opened_then s o (suc so_far.0) (state s start (files.openings c.args.files.now) c.args.self.now) mid (g.M.Sink.taken c.args.messages.now) (g.M.Sink.taken c.loop-self.messages) opened
+    (opened_then s o (suc so_far.0) (state s start (files.openings c.args.files.now) c.args.self.now) mid
+    (g.M.Sink.taken c.args.messages.now) (g.M.Sink.taken c.loop-self.messages) opened
     (λ told. still_going (mid told) open_still) so_far.1.1 within)
 
 pub returns-clause-bounded : goal.returns-clause-bounded
@@ -271,4 +307,5 @@ returns-then-has_ended-clause-came g c =
 
 pub returns-in_err-turn-2-clause-wrote : goal.returns-in_err-turn-2-clause-wrote
 returns-in_err-turn-2-clause-wrote g c =
-    appends_then g.M.Sink c.args.messages.now c.loop-self.messages c.turn-in-loop-self.new.messages c.loop-self.invariant.wrote c.turn-in-loop-self.ensures.wrote
+    appends_then g.M.Sink c.args.messages.now c.loop-self.messages c.turn-in-loop-self.new.messages c.loop-self.invariant.wrote
+    c.turn-in-loop-self.ensures.wrote

@@ -17,7 +17,8 @@ invariant-loop-self g l =
     let sources = files.sources l.fn.files in
     record {
       led : Honestly files l.fn.files l.fn.self.open_files (λ start.
-          (turns : ℕ) × (Writes (part sources (chosen l.fn.self.setup) (suc turns)) (state sources start (files.openings l.fn.files) l.fn.self)
+          (turns : ℕ) × (Writes (part sources (chosen l.fn.self.setup) (suc turns))
+          (state sources start (files.openings l.fn.files) l.fn.self)
           (state sources start (files.openings l.files) l.self) (g.M.Sink.taken l.fn.messages) (g.M.Sink.taken l.messages)
           × Writes (run sources (chosen l.fn.self.setup) (suc turns)) (state sources start (files.openings l.fn.files) l.fn.self)
           (state sources start (files.openings l.files) l.self) (g.M.Sink.taken l.fn.messages) (g.M.Sink.taken l.messages)));

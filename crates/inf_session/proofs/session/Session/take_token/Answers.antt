@@ -32,7 +32,8 @@ returns-clause-moves g c =
     let took = c.in-Ok.ensures.took in
     elim took.one [
       | inl end ↦ inl (ap (λ (s : ReaderState). is_mode_ended s.reading.mode) c.in_ok-take_judged.ensures
-          ∙ end_ends c.names-2.result.now.names token.kind c.spelling.result.now token.place before.progress.work.output before.conditionals (reporting (standing before.progress) c.tell.new.report c.tell.new.out) c.site-site.result _ _ c.in_ok-judged.ensures end)
+          ∙ end_ends c.names-2.result.now.names token.kind c.spelling.result.now token.place before.progress.work.output before.conditionals
+          (reporting (standing before.progress) c.tell.new.report c.tell.new.out) c.site-site.result _ _ c.in_ok-judged.ensures end)
       | inr less ↦ inr (room_less c.args.self.now.open_files.lexer c.next.new.self.lexer less c.in-Ok.ensures.few)
     ]
 
@@ -49,14 +50,17 @@ returns-in-Err-Read-clause-stops g c = λ honest start nested.
     let next = c.in-Err-Read.ensures in
     let read = ap (λ f. Err f) c.in-Err-Read.field-0-is in
     let same = c.next.ensures.same in
-    read_caused c.unread.result (λ told. told ≡ c.innermost.result.now) (λ name. (told : List ℕ) → StopsInToken failed s (was told) start now after name) ⊥
+    read_caused c.unread.result (λ told. told ≡ c.innermost.result.now)
+    (λ name. (told : List ℕ) → StopsInToken failed s (was told) start now after name) ⊥
     (λ name is told. record {
       cause = next.cause read;
       not_ended = next.unfinished honest start read;
       goes_on = next.on read;
       openings = c.next.ensures.opened honest start nested;
       names = ap (λ (n : Nest). n.names) same.0;
-      numbers = ap (λ (n : ℕ). n ∷ files_of (reverse after.outer)) same.1.1 ∙ ap (λ (rs : List Reader). before.lexer.file ∷ files_of (reverse rs)) same.1.0 ∙ sym (files_are s start old before nested);
+      numbers =
+          ap (λ (n : ℕ). n ∷ files_of (reverse after.outer)) same.1.1
+          ∙ ap (λ (rs : List Reader). before.lexer.file ∷ files_of (reverse rs)) same.1.0 ∙ sym (files_are s start old before nested);
       name_is = is ∙ c.innermost.ensures.file ∙ ap (λ (n : Nest). unwrap_or (slice_get n.names after.lexer.file) []) same.0
           ∙ ap (λ (k : ℕ). unwrap_or (slice_get before.nest.names k) []) same.1.1;
     }) c.unread.ensures
@@ -64,7 +68,8 @@ returns-in-Err-Read-clause-stops g c = λ honest start nested.
 pub returns-clause-limits : goal.returns-clause-limits
 returns-clause-limits g c =
     let token = c.in-Ok.token in
-    let same = judged_taken_same c.names-2.result.now.names (spelled_as token.kind c.spelling.result.now token.place) c.in_ok-judged.judged (reporting (standing c.args.self.now.progress) c.tell.new.report c.tell.new.out) in
+    let same = judged_taken_same c.names-2.result.now.names (spelled_as token.kind c.spelling.result.now token.place) c.in_ok-judged.judged
+    (reporting (standing c.args.self.now.progress) c.tell.new.report c.tell.new.out) in
     let added = c.in_ok-tell.ensures.right in
     let kept = said_same c.take.new.self.said c.args.self.now.progress.work.output in
     let is = c.in_ok-take_judged.ensures in (
@@ -76,9 +81,11 @@ pub returns-clause-longest : goal.returns-clause-longest
 returns-clause-longest g c = λ before.
     let token = c.in-Ok.token in
     let most = c.args.self.now.open_files.nest.limit in
-    let few = λ (is : is_quoted_kind token.kind ≡ true). subst (λ (bytes : List ℕ). length bytes ≤ most) (sym c.spelling.ensures) (c.in-Ok.ensures.quoted is) in
+    let few = λ (is : is_quoted_kind token.kind ≡ true). subst (λ (bytes : List ℕ). length bytes ≤ most) (sym c.spelling.ensures)
+    (c.in-Ok.ensures.quoted is) in
     subst (λ n. n ≤ most) (sym c.quoted_behind-self.ensures)
-    (quoted_within c.site-site.result c.in_ok-judged.judged (spelled_as token.kind c.spelling.result.now token.place) c.args.self.now.quoted most few before)
+    (quoted_within c.site-site.result c.in_ok-judged.judged (spelled_as token.kind c.spelling.result.now token.place) c.args.self.now.quoted
+    most few before)
 
 pub returns-clause-stepped : goal.returns-clause-stepped
 returns-clause-stepped g c = λ honest start nested told.
@@ -98,11 +105,14 @@ returns-clause-stepped g c = λ honest start nested told.
     let said = c.take.new.self.said in
     let told = c.in_ok-tell.ensures.told ∙ ap (λ names. with_said names said before.work.report) told_names in
     let taken =
-    c.in_ok-take_judged.ensures ∙ ap (λ names. judged_taken names spelled c.in_ok-judged.judged (reporting (stand_of before) c.tell.new.report c.tell.new.out)) taken_names
+    c.in_ok-take_judged.ensures ∙ ap (λ names. judged_taken names spelled c.in_ok-judged.judged
+    (reporting (stand_of before) c.tell.new.report c.tell.new.out)) taken_names
     ∙ ap (λ (r : Reported). judged_taken names spelled c.in_ok-judged.judged (reporting (stand_of before) r c.tell.new.out)) told
-    ∙ ap (λ (o : Out). judged_taken names spelled c.in_ok-judged.judged (reporting (stand_of before) (with_said names said before.work.report) o)) c.in_ok-tell.ensures.right in
+    ∙ ap (λ (o : Out). judged_taken names spelled c.in_ok-judged.judged
+    (reporting (stand_of before) (with_said names said before.work.report) o)) c.in_ok-tell.ensures.right in
     let longest = c.quoted_behind-self.ensures ∙ ap (λ site. quoted_behind site c.in_ok-judged.judged spelled before.quoted) site in
-    step_is before now (record { now = c.take.new.self; judged = c.in_ok-judged.judged }) c.tell.new.self (standing c.take_judged.new.self) c.quoted_behind-self.result spelled
+    step_is before now (record { now = c.take.new.self; judged = c.in_ok-judged.judged }) c.tell.new.self (standing c.take_judged.new.self)
+    c.quoted_behind-self.result spelled
     reads.goes_on is behind_it c.in_ok-tell.ensures.silent taken longest
 
 pub returns-clause-fits : goal.returns-clause-fits

@@ -25,14 +25,16 @@ pub returns-in_err-take_token-clause-cut : goal.returns-in_err-take_token-clause
 returns-in_err-take_token-clause-cut g c = λ honest start nested.
     let files = g.F.Files in
     on_err c.from_residual.result
-    (cut_at_once (files.sources c.args.files.now) (chosen c.args.self.now.setup) (state (files.sources c.args.files.now) start (files.openings c.args.files.now) c.args.self.now)
+    (cut_at_once (files.sources c.args.files.now) (chosen c.args.self.now.setup)
+    (state (files.sources c.args.files.now) start (files.openings c.args.files.now) c.args.self.now)
     (g.M.Sink.taken c.args.messages.now) (g.M.Sink.taken c.args.messages.now) (λ told. refl) refl)
 
 pub returns-in_err-follow-clause-cut : goal.returns-in_err-follow-clause-cut
 returns-in_err-follow-clause-cut g c = λ honest start nested.
     let files = g.F.Files in
     on_err c.from_residual-in_err-follow.result
-    (cut_at_once (files.sources c.args.files.now) (chosen c.args.self.now.setup) (state (files.sources c.args.files.now) start (files.openings c.args.files.now) c.args.self.now)
+    (cut_at_once (files.sources c.args.files.now) (chosen c.args.self.now.setup)
+    (state (files.sources c.args.files.now) start (files.openings c.args.files.now) c.args.self.now)
     (g.M.Sink.taken c.args.messages.now) (g.M.Sink.taken c.args.messages.now) (λ told. refl) refl)
 
 pub returns-in_err-flush-clause-cut : goal.returns-in_err-flush-clause-cut
@@ -47,9 +49,12 @@ returns-in_err-flush-clause-cut g c = λ honest start nested.
     let still = subst (λ b. IsTrue b) (sym c.in_ok-take_token.ensures.went.honesty) honest in
     let after = c.in_ok-follow.ensures.followed still start (c.in_ok-take_token.ensures.went.nested honest start nested) in
     on_err c.from_residual-in_err-flush.result
-    (turn_cut s o (state s start (files.openings c.args.files.now) c.args.self.now) mid now (g.M.Sink.taken c.args.messages.now) (g.M.Sink.taken c.flush.new.to)
+    (turn_cut s o (state s start (files.openings c.args.files.now) c.args.self.now) mid now (g.M.Sink.taken c.args.messages.now)
+    (g.M.Sink.taken c.flush.new.to)
     c.follow.new.self.progress.work.report.lines part.front part.rest first
-    (λ told. as_before s (files.sources c.take_token.new.files) o (chosen c.take_token.new.self.setup) start (files.openings c.take_token.new.files) (files.openings c.follow.new.files) c.take_token.new.self c.follow.new.self c.in_ok-take_token.ensures.went.sources (ap chosen c.in_ok-take_token.ensures.setup.0) after told)
+    (λ told. as_before s (files.sources c.take_token.new.files) o (chosen c.take_token.new.self.setup) start
+    (files.openings c.take_token.new.files) (files.openings c.follow.new.files) c.take_token.new.self c.follow.new.self
+    c.in_ok-take_token.ensures.went.sources (ap chosen c.in_ok-take_token.ensures.setup.0) after told)
     (λ told. refl) part.is_cut part.takes)
 
 pub returns-clause-turned : goal.returns-clause-turned
@@ -61,17 +66,23 @@ returns-clause-turned g c = λ honest start nested.
     let o = chosen c.args.self.now.setup in
     let still = subst (λ b. IsTrue b) (sym c.in_ok-take_token.ensures.went.honesty) honest in
     let after = c.in_ok-follow.ensures.followed still start (c.in_ok-take_token.ensures.went.nested honest start nested) in
-    turn_writes s o (state s start (files.openings c.args.files.now) c.args.self.now) mid now _ (g.M.Sink.taken c.args.messages.now) (g.M.Sink.taken c.flush.new.to)
+    turn_writes s o (state s start (files.openings c.args.files.now) c.args.self.now) mid now _ (g.M.Sink.taken c.args.messages.now)
+    (g.M.Sink.taken c.flush.new.to)
     c.follow.new.self.progress.work.report.lines (c.in_ok-take_token.ensures.stepped honest start nested)
-    (λ told. as_before s (files.sources c.take_token.new.files) o (chosen c.take_token.new.self.setup) start (files.openings c.take_token.new.files) (files.openings c.follow.new.files) c.take_token.new.self c.follow.new.self c.in_ok-take_token.ensures.went.sources (ap chosen c.in_ok-take_token.ensures.setup.0) after told)
-    (λ told. refl) (λ told. ap (λ (r : Reported). record (now told) { work = record (now told).work { report = r } }) c.in_ok-flush.ensures.none)
+    (λ told. as_before s (files.sources c.take_token.new.files) o (chosen c.take_token.new.self.setup) start
+    (files.openings c.take_token.new.files) (files.openings c.follow.new.files) c.take_token.new.self c.follow.new.self
+    c.in_ok-take_token.ensures.went.sources (ap chosen c.in_ok-take_token.ensures.setup.0) after told)
+    (λ told. refl) (λ told. ap (λ (r : Reported). record (now told) { work = record (now told).work { report = r } })
+    c.in_ok-flush.ensures.none)
     c.in_ok-flush.ensures.writes.0
 
 pub returns-clause-falls : goal.returns-clause-falls
 returns-clause-falls g c =
     elim c.in_ok-follow.ensures.goes_on [
-      | inl over ↦ inl (ap (λ (r : Reported). c.follow.new.self.is_over || (r.counts.is_over || is_mode_ended c.follow.new.self.progress.reader.mode)) c.in_ok-flush.ensures.none ∙ over)
-      | inr goes ↦ inr (falls c.args.self.now.open_files c.take_token.new.self.open_files c.follow.new.self.open_files (is_mode_ended c.take_token.new.self.progress.reader.mode)
+      | inl over ↦ inl (ap (λ (r : Reported). c.follow.new.self.is_over || (r.counts.is_over || is_mode_ended
+          c.follow.new.self.progress.reader.mode)) c.in_ok-flush.ensures.none ∙ over)
+      | inr goes ↦ inr (falls c.args.self.now.open_files c.take_token.new.self.open_files c.follow.new.self.open_files
+          (is_mode_ended c.take_token.new.self.progress.reader.mode)
           c.in_ok-take_token.ensures.same.1 c.in_ok-take_token.ensures.moves goes)
     ]
 
@@ -95,7 +106,8 @@ returns-in_err-follow-clause-opened g c = λ honest start nested.
     (subst (λ (x : Sources). OpensWithin (followed x p) (state x start here mid) opened) c.in_ok-take_token.ensures.went.sources
     (c.in_err-follow.ensures.opened still start (c.in_ok-take_token.ensures.went.nested honest start nested))) in
     on_err c.from_residual-in_err-follow.result
-    (turned_within s o (state s start (files.openings c.args.files.now) c.args.self.now) (state s start here mid) opened (c.in_ok-take_token.ensures.stepped honest start nested) within)
+    (turned_within s o (state s start (files.openings c.args.files.now) c.args.self.now) (state s start here mid) opened
+    (c.in_ok-take_token.ensures.stepped honest start nested) within)
 
 pub returns-in_err-flush-clause-opened : goal.returns-in_err-flush-clause-opened
 returns-in_err-flush-clause-opened g c = λ honest start nested.
@@ -108,8 +120,11 @@ returns-in_err-flush-clause-opened g c = λ honest start nested.
     let still = subst (λ b. IsTrue b) (sym c.in_ok-take_token.ensures.went.honesty) honest in
     let after = c.in_ok-follow.ensures.followed still start (c.in_ok-take_token.ensures.went.nested honest start nested) in
     on_err c.from_residual-in_err-flush.result
-    (turned_within s o (state s start (files.openings c.args.files.now) c.args.self.now) mid (opened_since start then_at) (c.in_ok-take_token.ensures.stepped honest start nested)
-    (inr (λ told. ap (λ (x : State). x.nesting.openings) (as_before s (files.sources c.take_token.new.files) o (chosen c.take_token.new.self.setup) start here then_at c.take_token.new.self c.follow.new.self c.in_ok-take_token.ensures.went.sources (ap chosen c.in_ok-take_token.ensures.setup.0) after told))))
+    (turned_within s o (state s start (files.openings c.args.files.now) c.args.self.now) mid (opened_since start then_at)
+    (c.in_ok-take_token.ensures.stepped honest start nested)
+    (inr (λ told. ap (λ (x : State). x.nesting.openings)
+    (as_before s (files.sources c.take_token.new.files) o (chosen c.take_token.new.self.setup) start here then_at c.take_token.new.self
+    c.follow.new.self c.in_ok-take_token.ensures.went.sources (ap chosen c.in_ok-take_token.ensures.setup.0) after told))))
 
 pub returns-in_err-take_token-clause-stops : goal.returns-in_err-take_token-clause-stops
 returns-in_err-take_token-clause-stops g c = λ honest start nested.
@@ -124,7 +139,8 @@ returns-in_err-take_token-clause-stops g c = λ honest start nested.
     let InToken = λ (name : List ℕ). (told : List ℕ) → StopsInToken failed s (was told) start now after name in
     let stops : IfErr c.take_token.result (λ fault. IfRead fault InToken) = c.take_token.ensures.stops honest start nested in
     let token : IfErr c.from_residual.result (λ fault. IfRead fault InToken) = search rules in
-    if_read_more c.from_residual.result InToken (λ name. (told : List ℕ) → StopsFor failed s o (was told) start now after name) (λ name h told. inl (h told)) token
+    if_read_more c.from_residual.result InToken (λ name. (told : List ℕ) → StopsFor failed s o (was told) start now after name)
+    (λ name h told. inl (h told)) token
 
 pub returns-in_err-follow-clause-stops : goal.returns-in_err-follow-clause-stops
 returns-in_err-follow-clause-stops g c = λ honest start nested.
@@ -148,15 +164,20 @@ returns-in_err-follow-clause-stops g c = λ honest start nested.
     let stops : IfErr c.follow.result (λ fault. IfRead fault AtInclusion) =
     c.follow.ensures.stops (subst (λ b. IsTrue b) (sym went.honesty) honest) start (went.nested honest start nested) in
     let asked : IfErr c.from_residual-in_err-follow.result (λ fault. IfRead fault AtInclusion) = search rules in
-    if_read_more c.from_residual-in_err-follow.result AtInclusion (λ name. (told : List ℕ) → StopsFor failed s o (was told) start now after name)
-    (λ name h told. inr (stops_at_more later failed s o (stepped (was told)) opened name (λ rose. rose_earlier (files.faults c.args.files.now) (files.faults c.take_token.new.files) (files.faults c.follow.new.files) went.faults rose)
+    if_read_more c.from_residual-in_err-follow.result AtInclusion
+    (λ name. (told : List ℕ) → StopsFor failed s o (was told) start now after name)
+    (λ name h told. inr (stops_at_more later failed s o (stepped (was told)) opened name
+    (λ rose. rose_earlier (files.faults c.args.files.now) (files.faults c.take_token.new.files) (files.faults c.follow.new.files)
+    went.faults rose)
     (subst (λ (x : State). StopsAtInclusion later s o x opened name) (first told)
-    (subst (λ (x : Choices). StopsAtInclusion later s x (state s start here mid told) opened name) (ap chosen c.in_ok-take_token.ensures.setup.0)
+    (subst (λ (x : Choices). StopsAtInclusion later s x (state s start here mid told) opened name)
+    (ap chosen c.in_ok-take_token.ensures.setup.0)
     (subst (λ (x : Sources). StopsAtInclusion later x p (state x start here mid told) opened name) went.sources (h told)))))) asked
 
 pub returns-clause-limits : goal.returns-clause-limits
 returns-clause-limits g c =
-    same_then (work_of c.args.self.now.progress.work) (work_of c.take_token.new.self.progress.work) (work_of c.follow.new.self.progress.work) c.in_ok-take_token.ensures.limits
+    same_then (work_of c.args.self.now.progress.work) (work_of c.take_token.new.self.progress.work)
+    (work_of c.follow.new.self.progress.work) c.in_ok-take_token.ensures.limits
     c.in_ok-follow.ensures.stays.0
 
 pub returns-clause-longest : goal.returns-clause-longest
@@ -164,26 +185,31 @@ returns-clause-longest g c = λ few.
     let most = most_quoted (chosen c.args.self.now.setup) in
     let limit = c.requires.set.1 in
     subst (λ n. n ≤ most) (sym c.in_ok-follow.ensures.stays.1)
-    (subst (λ n. c.take_token.new.self.quoted ≤ n) limit (c.in_ok-take_token.ensures.longest (subst (λ n. c.args.self.now.quoted ≤ n) (sym limit) few)))
+    (subst (λ n. c.take_token.new.self.quoted ≤ n) limit
+    (c.in_ok-take_token.ensures.longest (subst (λ n. c.args.self.now.quoted ≤ n) (sym limit) few)))
 
 pub returns-in_err-follow-clause-went : goal.returns-in_err-follow-clause-went
 returns-in_err-follow-clause-went g c =
-    went_then g.F.Files c.args.files.now c.take_token.new.files c.follow.new.files c.args.self.now.open_files c.take_token.new.self.open_files c.follow.new.self.open_files
+    went_then g.F.Files c.args.files.now c.take_token.new.files c.follow.new.files c.args.self.now.open_files
+    c.take_token.new.self.open_files c.follow.new.self.open_files
     c.take_token.ensures.went c.follow.ensures.went
 
 pub returns-in_err-flush-clause-went : goal.returns-in_err-flush-clause-went
 returns-in_err-flush-clause-went g c =
-    went_then g.F.Files c.args.files.now c.take_token.new.files c.follow.new.files c.args.self.now.open_files c.take_token.new.self.open_files c.follow.new.self.open_files
+    went_then g.F.Files c.args.files.now c.take_token.new.files c.follow.new.files c.args.self.now.open_files
+    c.take_token.new.self.open_files c.follow.new.self.open_files
     c.take_token.ensures.went c.follow.ensures.went
 
 pub returns-clause-went : goal.returns-clause-went
 returns-clause-went g c =
-    went_then g.F.Files c.args.files.now c.take_token.new.files c.follow.new.files c.args.self.now.open_files c.take_token.new.self.open_files c.follow.new.self.open_files
+    went_then g.F.Files c.args.files.now c.take_token.new.files c.follow.new.files c.args.self.now.open_files
+    c.take_token.new.self.open_files c.follow.new.self.open_files
     c.take_token.ensures.went c.follow.ensures.went
 
 pub returns-clause-fits : goal.returns-clause-fits
 returns-clause-fits g c =
-    fit_then g.F.Files c.args.files.now c.take_token.new.files c.follow.new.files c.args.self.now.open_files c.take_token.new.self.open_files
+    fit_then g.F.Files c.args.files.now c.take_token.new.files c.follow.new.files c.args.self.now.open_files
+    c.take_token.new.self.open_files
     c.take_token.ensures.went c.in_ok-take_token.ensures.fits c.in_ok-follow.ensures.fits
 
 pub returns-in_err-follow-clause-fault : goal.returns-in_err-follow-clause-fault

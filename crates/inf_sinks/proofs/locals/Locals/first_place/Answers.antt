@@ -12,7 +12,8 @@ returns-in_err-place c =
     let items = c.args.self.now.list.items in
     let name = c.args.name.now in
     c.from_residual.ensures
-    ∙ sym (ap (λ (found : Option Local). option_map (λ (l : Local). l.place) found) (local_of-absent name items (no_place (position_or_len (has name) items) (length items) c.in_err-place.ensures.value)))
+    ∙ sym (ap (λ (found : Option Local). option_map (λ (l : Local). l.place) found)
+    (local_of-absent name items (no_place (position_or_len (has name) items) (length items) c.in_err-place.ensures.value)))
 
 pub returns : goal.returns
 returns c =

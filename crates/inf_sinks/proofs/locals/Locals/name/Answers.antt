@@ -15,7 +15,8 @@ returns-in-Some c =
     let none = c.index-deref_mut-place.result in
     let at = found_place place (position_or_len (has name) list.items) (length list.items) c.in-Some.ensures.value in
     let within : position_or_len (has name) list.items < length list.items = omega (arith, at, c.in-Some.ensures.within) in
-    let same : length (set shown place (as_named (get_or shown place none))) ≡ length list.items = length-set shown place (as_named (get_or shown place none)) ∙ ap length c.deref_mut.ensures.value in
+    let same : length (set shown place (as_named (get_or shown place none))) ≡ length list.items =
+    length-set shown place (as_named (get_or shown place none)) ∙ ap length c.deref_mut.ensures.value in
     ap (map local) (items-with_items list (set shown place (as_named (get_or shown place none))) same)
     ∙ rw (c.deref_mut.ensures.value, at) (sym (with_named-found name list.items none within))
 

@@ -9,7 +9,8 @@ invariant-loop g l =
     let files = g.F.Files in
     record {
       is_open : length l.self.outer < files.depth l.files;
-      nested : IsTrue (files.is_honest l.fn.files) → (start : Openings) → IsNested start (files.openings l.fn.files) l.fn.self → IsNested start (files.openings l.files) l.self;
+      nested : IsTrue (files.is_honest l.fn.files) → (start : Openings) → IsNested start (files.openings l.fn.files) l.fn.self →
+          IsNested start (files.openings l.files) l.self;
       all : IsTrue (files.is_honest l.fn.files) → (files.openings l.files).all ≡ (files.openings l.fn.files).all;
       depth : files.depth l.files + length l.fn.self.outer ≡ files.depth l.fn.files + length l.self.outer;
       faults : files.faults l.files ≡ files.faults l.fn.files;

@@ -21,9 +21,11 @@ invariant_of-self-in-Ok g c =
     let inv = c.self.invariant in
     let e = c.in-Ok.ensures.ok in
     let goes = ap (λ (o : Open). o.lexer.has_failed) c.self.view_is ∙ c.requires.goes in
-    entered_fits c.self.inside.names c.enter.new.self c.self.inside.outer.items c.push_reserved.new.self.items c.self.inside.lexer c.replace-waits.new.dest e.name
+    entered_fits c.self.inside.names c.enter.new.self c.self.inside.outer.items c.push_reserved.new.self.items c.self.inside.lexer
+    c.replace-waits.new.dest e.name
     inv.0 inv.1.1.1 (record { of_set = inv.1.0; of_limit = inv.1.1.0; goes = goes })
-    (c.push_reserved.ensures.items ∙ ap (λ r. c.reserve.new.self.items ++ r ∷ []) c.replace-waits.ensures.value ∙ ap (λ rs. rs ++ c.self.inside.lexer ∷ []) c.in_ok-reserve.ensures.items)
+    (c.push_reserved.ensures.items ∙ ap (λ r. c.reserve.new.self.items ++ r ∷ []) c.replace-waits.ensures.value ∙ ap
+    (λ rs. rs ++ c.self.inside.lexer ∷ []) c.in_ok-reserve.ensures.items)
     e.is_entered.0 (c.replace-waits.ensures.after ∙ e.is_entered.1)
 
 pub returns-in-Ok-clause-answer : goal.returns-in-Ok-clause-answer
@@ -36,9 +38,12 @@ returns-in-Ok-clause-answer g c = λ honest start nested.
     let before : Open = record { nest = c.self.inside.names; lexer = c.self.inside.lexer; outer = c.self.inside.outer.items } in
     let e = c.in-Ok.ensures.ok in
     let fit : can_name text ≡ false → ⊥ = λ h. let never = (c.in-Ok.ensures.bad_name h).0 in cc in
-    let flat : 16 ≤ length before.nest.open_files → ⊥ = λ h. let never = (c.in-Ok.ensures.too_deep (is_true (can_name text) fit) h).0 in cc in
-    subst (λ (o : Open). IsNested start old o → included.Entered ≡ answer_of (inclusion s directories text (nesting s start old o))) c.self.view_is
-    (λ n. sym (ap answer_of (first_is s directories text start old before (Some e.name) n c.self.invariant.0 fit flat (e.is_first honest)))) nested
+    let flat : 16 ≤ length before.nest.open_files → ⊥ =
+    λ h. let never = (c.in-Ok.ensures.too_deep (is_true (can_name text) fit) h).0 in cc in
+    subst (λ (o : Open). IsNested start old o → included.Entered ≡ answer_of (inclusion s directories text (nesting s start old o)))
+    c.self.view_is
+    (λ n. sym (ap answer_of (first_is s directories text start old before (Some e.name) n c.self.invariant.0 fit flat (e.is_first honest))))
+    nested
 
 pub returns-in-Ok-clause-nesting : goal.returns-in-Ok-clause-nesting
 returns-in-Ok-clause-nesting g c = λ honest start nested.
@@ -50,12 +55,17 @@ returns-in-Ok-clause-nesting g c = λ honest start nested.
     let before : Open = record { nest = c.self.inside.names; lexer = c.self.inside.lexer; outer = c.self.inside.outer.items } in
     let e = c.in-Ok.ensures.ok in
     let fit : can_name text ≡ false → ⊥ = λ h. let never = (c.in-Ok.ensures.bad_name h).0 in cc in
-    let flat : 16 ≤ length before.nest.open_files → ⊥ = λ h. let never = (c.in-Ok.ensures.too_deep (is_true (can_name text) fit) h).0 in cc in
+    let flat : 16 ≤ length before.nest.open_files → ⊥ =
+    λ h. let never = (c.in-Ok.ensures.too_deep (is_true (can_name text) fit) h).0 in cc in
     let new = files.openings c.enter.new.files in
     let after : Open = record { nest = c.enter.new.self; lexer = c.replace-waits.new.dest; outer = c.push_reserved.new.self.items } in
-    let outer = c.push_reserved.ensures.items ∙ ap (λ r. c.reserve.new.self.items ++ r ∷ []) c.replace-waits.ensures.value ∙ ap (λ rs. rs ++ c.self.inside.lexer ∷ []) c.in_ok-reserve.ensures.items in
-    subst (λ (o : Open). IsNested start old o → nesting s start new after ≡ nested_by o.nest.set o.nest.limit s (inclusion s directories text (nesting s start old o)) (nesting s start old o)) c.self.view_is
-    (λ n. entered_is s start old new before e.name c.enter.new.self c.replace-waits.new.dest c.push_reserved.new.self.items n (e.is_opened honest) e.is_entered.0
+    let outer =
+    c.push_reserved.ensures.items ∙ ap (λ r. c.reserve.new.self.items ++ r ∷ []) c.replace-waits.ensures.value
+    ∙ ap (λ rs. rs ++ c.self.inside.lexer ∷ []) c.in_ok-reserve.ensures.items in
+    subst (λ (o : Open). IsNested start old o → nesting s start new after ≡ nested_by o.nest.set o.nest.limit s
+    (inclusion s directories text (nesting s start old o)) (nesting s start old o)) c.self.view_is
+    (λ n. entered_is s start old new before e.name c.enter.new.self c.replace-waits.new.dest c.push_reserved.new.self.items n
+    (e.is_opened honest) e.is_entered.0
     (c.replace-waits.ensures.after ∙ e.is_entered.1) outer
     ∙ ap (λ i. nested_by before.nest.set before.nest.limit s i (nesting s start old before))
     (sym (first_is s directories text start old before (Some e.name) n c.self.invariant.0 fit flat (e.is_first honest)))) nested
@@ -69,13 +79,18 @@ returns-in-Ok-clause-went g c =
     let new = files.openings c.enter.new.files in
     let before : Open = record { nest = c.self.inside.names; lexer = c.self.inside.lexer; outer = c.self.inside.outer.items } in
     let after : Open = record { nest = c.enter.new.self; lexer = c.replace-waits.new.dest; outer = c.push_reserved.new.self.items } in
-    let outer = c.push_reserved.ensures.items ∙ ap (λ r. c.reserve.new.self.items ++ r ∷ []) c.replace-waits.ensures.value ∙ ap (λ rs. rs ++ c.self.inside.lexer ∷ []) c.in_ok-reserve.ensures.items in
+    let outer =
+    c.push_reserved.ensures.items ∙ ap (λ r. c.reserve.new.self.items ++ r ∷ []) c.replace-waits.ensures.value
+    ∙ ap (λ rs. rs ++ c.self.inside.lexer ∷ []) c.in_ok-reserve.ensures.items in
     let front = ap (λ (r : Reader). r.window.given) (c.replace-waits.ensures.after ∙ e.is_entered.1) in
     subst (λ (o : Open). Went files c.args.files.now c.enter.new.files o after) c.self.view_is
-    (went_in files c.args.files.now c.enter.new.files before after enter.sources enter.honesty enter.faults enter.depth enter.given enter.opened outer front
+    (went_in files c.args.files.now c.enter.new.files before after enter.sources enter.honesty enter.faults enter.depth enter.given
+    enter.opened outer front
     (entered_counts e.name before.nest after.nest e.is_entered.0)
-    (λ honest start n. entered_nested_of start old new before e.name c.enter.new.self c.replace-waits.new.dest c.push_reserved.new.self.items n (e.is_opened honest) outer)
-    (λ honest start n all. entered_given (files.sources c.args.files.now) start old new before after e.name before.nest.set before.nest.limit n (e.is_opened honest) e.is_entered.0
+    (λ honest start n. entered_nested_of start old new before e.name c.enter.new.self c.replace-waits.new.dest
+    c.push_reserved.new.self.items n (e.is_opened honest) outer)
+    (λ honest start n all. entered_given (files.sources c.args.files.now) start old new before after e.name before.nest.set
+    before.nest.limit n (e.is_opened honest) e.is_entered.0
     (c.replace-waits.ensures.after ∙ e.is_entered.1) outer all))
 
 pub returns-in-Err-Absent-clause-answer : goal.returns-in-Err-Absent-clause-answer
@@ -87,10 +102,14 @@ returns-in-Err-Absent-clause-answer g c = λ honest start nested.
     let text = c.args.text.now in
     let before : Open = record { nest = c.self.inside.names; lexer = c.self.inside.lexer; outer = c.self.inside.outer.items } in
     let fit : can_name text ≡ false → ⊥ = λ h. let never = (c.in-Err-Absent.ensures.bad_name h).0 in cc in
-    let flat : 16 ≤ length before.nest.open_files → ⊥ = λ h. let never = (c.in-Err-Absent.ensures.too_deep (is_true (can_name text) fit) h).0 in cc in
-    let left : Leaves s before.nest.names (candidates directories (innermost_name before.nest) text) old (files.openings c.enter.new.files) (Err fault.Absent) =
-    subst (λ f. Leaves s before.nest.names (candidates directories (innermost_name before.nest) text) old (files.openings c.enter.new.files) (Err f)) c.in-Err-Absent.field-0-is (c.in-Err-Absent.ensures.leaves honest) in
-    subst (λ (o : Open). IsNested start old o → included.NotThere ≡ answer_of (inclusion s directories text (nesting s start old o))) c.self.view_is
+    let flat : 16 ≤ length before.nest.open_files → ⊥ =
+    λ h. let never = (c.in-Err-Absent.ensures.too_deep (is_true (can_name text) fit) h).0 in cc in
+    let left : Leaves s before.nest.names (candidates directories (innermost_name before.nest) text) old (files.openings c.enter.new.files)
+    (Err fault.Absent) =
+    subst (λ f. Leaves s before.nest.names (candidates directories (innermost_name before.nest) text) old (files.openings c.enter.new.files)
+    (Err f)) c.in-Err-Absent.field-0-is (c.in-Err-Absent.ensures.leaves honest) in
+    subst (λ (o : Open). IsNested start old o → included.NotThere ≡ answer_of (inclusion s directories text (nesting s start old o)))
+    c.self.view_is
     (λ n. sym (ap answer_of (first_is s directories text start old before None n c.self.invariant.0 fit flat left.0))) nested
 
 pub returns-in-Err-Absent-clause-nesting : goal.returns-in-Err-Absent-clause-nesting
@@ -102,15 +121,23 @@ returns-in-Err-Absent-clause-nesting g c = λ honest start nested.
     let text = c.args.text.now in
     let before : Open = record { nest = c.self.inside.names; lexer = c.self.inside.lexer; outer = c.self.inside.outer.items } in
     let fit : can_name text ≡ false → ⊥ = λ h. let never = (c.in-Err-Absent.ensures.bad_name h).0 in cc in
-    let flat : 16 ≤ length before.nest.open_files → ⊥ = λ h. let never = (c.in-Err-Absent.ensures.too_deep (is_true (can_name text) fit) h).0 in cc in
-    let left : Leaves s before.nest.names (candidates directories (innermost_name before.nest) text) old (files.openings c.enter.new.files) (Err fault.Absent) =
-    subst (λ f. Leaves s before.nest.names (candidates directories (innermost_name before.nest) text) old (files.openings c.enter.new.files) (Err f)) c.in-Err-Absent.field-0-is (c.in-Err-Absent.ensures.leaves honest) in
-    subst (λ (o : Open). IsNested start old o → nesting s start (files.openings c.enter.new.files) (record { nest = c.enter.new.self; lexer = c.self.inside.lexer; outer = c.reserve.new.self.items })
+    let flat : 16 ≤ length before.nest.open_files → ⊥ =
+    λ h. let never = (c.in-Err-Absent.ensures.too_deep (is_true (can_name text) fit) h).0 in cc in
+    let left : Leaves s before.nest.names (candidates directories (innermost_name before.nest) text) old (files.openings c.enter.new.files)
+    (Err fault.Absent) =
+    subst (λ f. Leaves s before.nest.names (candidates directories (innermost_name before.nest) text) old (files.openings c.enter.new.files)
+    (Err f)) c.in-Err-Absent.field-0-is (c.in-Err-Absent.ensures.leaves honest) in
+    subst (λ (o : Open). IsNested start old o → nesting s start (files.openings c.enter.new.files)
+    (record { nest = c.enter.new.self; lexer = c.self.inside.lexer; outer = c.reserve.new.self.items })
     ≡ nested_by o.nest.set o.nest.limit s (inclusion s directories text (nesting s start old o)) (nesting s start old o)) c.self.view_is
-    (λ n. ap (λ x. nesting s start x (record { nest = c.enter.new.self; lexer = c.self.inside.lexer; outer = c.reserve.new.self.items })) left.1
-    ∙ ap (λ x. nesting s start old (record { nest = x; lexer = c.self.inside.lexer; outer = c.reserve.new.self.items })) c.in-Err-Absent.ensures.err
-    ∙ ap (λ x. nesting s start old (record { nest = c.self.inside.names; lexer = c.self.inside.lexer; outer = x })) c.in_ok-reserve.ensures.items
-    ∙ ap (λ i. nested_by before.nest.set before.nest.limit s i (nesting s start old before)) (sym (first_is s directories text start old before None n c.self.invariant.0 fit flat left.0))) nested
+    (λ n. ap (λ x. nesting s start x (record { nest = c.enter.new.self; lexer = c.self.inside.lexer; outer = c.reserve.new.self.items }))
+    left.1
+    ∙ ap (λ x. nesting s start old (record { nest = x; lexer = c.self.inside.lexer; outer = c.reserve.new.self.items }))
+    c.in-Err-Absent.ensures.err
+    ∙ ap (λ x. nesting s start old (record { nest = c.self.inside.names; lexer = c.self.inside.lexer; outer = x }))
+    c.in_ok-reserve.ensures.items
+    ∙ ap (λ i. nested_by before.nest.set before.nest.limit s i (nesting s start old before))
+    (sym (first_is s directories text start old before None n c.self.invariant.0 fit flat left.0))) nested
 
 pub returns-in-Err-TooDeep-clause-answer : goal.returns-in-Err-TooDeep-clause-answer
 returns-in-Err-TooDeep-clause-answer g c = λ honest start nested.
@@ -122,7 +149,8 @@ returns-in-Err-TooDeep-clause-answer g c = λ honest start nested.
     let before : Open = record { nest = c.self.inside.names; lexer = c.self.inside.lexer; outer = c.self.inside.outer.items } in
     let fit : can_name text ≡ false → ⊥ = λ h. let never = (c.in-Err-TooDeep.ensures.bad_name h).0 in cc in
     let full = c.in-Err-TooDeep.ensures.full (ap (λ f. Err f) c.in-Err-TooDeep.field-0-is) in
-    subst (λ (o : Open). IsNested start old o → included.TooDeep ≡ answer_of (inclusion s directories text (nesting s start old o))) c.self.view_is
+    subst (λ (o : Open). IsNested start old o → included.TooDeep ≡ answer_of (inclusion s directories text (nesting s start old o)))
+    c.self.view_is
     (λ n. sym (ap answer_of (deep_is s directories text start old before n c.self.invariant.0 fit full))) nested
 
 pub returns-in-Err-TooDeep-clause-nesting : goal.returns-in-Err-TooDeep-clause-nesting
@@ -135,12 +163,17 @@ returns-in-Err-TooDeep-clause-nesting g c = λ honest start nested.
     let before : Open = record { nest = c.self.inside.names; lexer = c.self.inside.lexer; outer = c.self.inside.outer.items } in
     let fit : can_name text ≡ false → ⊥ = λ h. let never = (c.in-Err-TooDeep.ensures.bad_name h).0 in cc in
     let full = c.in-Err-TooDeep.ensures.full (ap (λ f. Err f) c.in-Err-TooDeep.field-0-is) in
-    subst (λ (o : Open). IsNested start old o → nesting s start (files.openings c.enter.new.files) (record { nest = c.enter.new.self; lexer = c.self.inside.lexer; outer = c.reserve.new.self.items })
+    subst (λ (o : Open). IsNested start old o → nesting s start (files.openings c.enter.new.files)
+    (record { nest = c.enter.new.self; lexer = c.self.inside.lexer; outer = c.reserve.new.self.items })
     ≡ nested_by o.nest.set o.nest.limit s (inclusion s directories text (nesting s start old o)) (nesting s start old o)) c.self.view_is
-    (λ n. ap (λ x. nesting s start x (record { nest = c.enter.new.self; lexer = c.self.inside.lexer; outer = c.reserve.new.self.items })) (ap files.openings (c.in-Err-TooDeep.ensures.too_deep (is_true (can_name text) fit) full).1)
-    ∙ ap (λ x. nesting s start old (record { nest = x; lexer = c.self.inside.lexer; outer = c.reserve.new.self.items })) c.in-Err-TooDeep.ensures.err
-    ∙ ap (λ x. nesting s start old (record { nest = c.self.inside.names; lexer = c.self.inside.lexer; outer = x })) c.in_ok-reserve.ensures.items
-    ∙ ap (λ i. nested_by before.nest.set before.nest.limit s i (nesting s start old before)) (sym (deep_is s directories text start old before n c.self.invariant.0 fit full))) nested
+    (λ n. ap (λ x. nesting s start x (record { nest = c.enter.new.self; lexer = c.self.inside.lexer; outer = c.reserve.new.self.items }))
+    (ap files.openings (c.in-Err-TooDeep.ensures.too_deep (is_true (can_name text) fit) full).1)
+    ∙ ap (λ x. nesting s start old (record { nest = x; lexer = c.self.inside.lexer; outer = c.reserve.new.self.items }))
+    c.in-Err-TooDeep.ensures.err
+    ∙ ap (λ x. nesting s start old (record { nest = c.self.inside.names; lexer = c.self.inside.lexer; outer = x }))
+    c.in_ok-reserve.ensures.items
+    ∙ ap (λ i. nested_by before.nest.set before.nest.limit s i (nesting s start old before))
+    (sym (deep_is s directories text start old before n c.self.invariant.0 fit full))) nested
 
 pub returns-in-Ok-clause-fits : goal.returns-in-Ok-clause-fits
 returns-in-Ok-clause-fits g c = λ honest start nested given fit.
@@ -163,9 +196,11 @@ returns-in-Err-Device-clause-went g c =
     subst (λ f. Leaves s before.nest.names names old new (Err f)) c.in-Err-Device.field-0-is (enter.leaves honest) in
     let same : after ≡ before =
     ap (λ (n : Nest). record { nest = n; lexer = c.self.inside.lexer; outer = c.reserve.new.self.items }) enter.err
-    ∙ ap (λ (rs : List Reader). record { nest = c.self.inside.names; lexer = c.self.inside.lexer; outer = rs }) c.in_ok-reserve.ensures.items in
+    ∙ ap (λ (rs : List Reader). record { nest = c.self.inside.names; lexer = c.self.inside.lexer; outer = rs })
+    c.in_ok-reserve.ensures.items in
     subst (λ (o : Open). Went files c.args.files.now c.enter.new.files o after) c.self.view_is
-    (went_by files c.args.files.now c.enter.new.files before after enter.sources enter.honesty enter.faults enter.depth enter.given enter.opened same
+    (went_by files c.args.files.now c.enter.new.files before after enter.sources enter.honesty enter.faults enter.depth enter.given
+    enter.opened same
     (λ honest start n. failed_nested s before.nest.names names start old new before n (left honest))
     (λ honest start n all. failed_given s before.nest.names names start old new before n (left honest) all))
 
@@ -192,10 +227,12 @@ returns-in-Err-Device-clause-in_vain g c = λ honest start nested.
     let text = c.args.text.now in
     let names = candidates directories (innermost_name before.nest) text in
     let fit : can_name text ≡ false → ⊥ = λ h. let never = (c.in-Err-Device.ensures.bad_name h).0 in cc in
-    let flat : 16 ≤ length before.nest.open_files → ⊥ = λ h. let never = (c.in-Err-Device.ensures.too_deep (is_true (can_name text) fit) h).0 in cc in
+    let flat : 16 ≤ length before.nest.open_files → ⊥ =
+    λ h. let never = (c.in-Err-Device.ensures.too_deep (is_true (can_name text) fit) h).0 in cc in
     let left : Leaves s before.nest.names names old new (Err fault.Device) =
     subst (λ f. Leaves s before.nest.names names old new (Err f)) c.in-Err-Device.field-0-is (c.in-Err-Device.ensures.leaves honest) in
-    subst (λ (o : Open). IsNested start old o → OpenedInVain vain.Device (inclusion s directories text (nesting s start old o)) (nesting s start old o) (opened_since start new)) c.self.view_is
+    subst (λ (o : Open). IsNested start old o → OpenedInVain vain.Device (inclusion s directories text (nesting s start old o))
+    (nesting s start old o) (opened_since start new)) c.self.view_is
     (λ n. opened_in_vain s directories text start old new before n c.self.invariant.0 fit flat left) nested
 
 pub returns-in-Err-Device-clause-cause : goal.returns-in-Err-Device-clause-cause
@@ -209,17 +246,24 @@ returns-in-Err-Device-clause-cause g c = λ device.
     let directories = map (λ d. d.now) c.args.directories.now in
     let text = c.args.text.now in
     let fit : can_name text ≡ false → ⊥ = λ h. let never = (c.in-Err-Device.ensures.bad_name h).0 in cc in
-    let flat : 16 ≤ length before.nest.open_files → ⊥ = λ h. let never = (c.in-Err-Device.ensures.too_deep (is_true (can_name text) fit) h).0 in cc in
-    elim (c.in-Err-Device.ensures.cause (ap (λ f. Err f) c.in-Err-Device.field-0-is)) as (λ _. Rose (files.faults c.args.files.now) (files.faults c.enter.new.files)
-    ⊎ (AskedTooMany files c.args.files.now c.enter.new.files c.args.self.now after × Honestly files c.args.files.now c.args.self.now (λ start.
-    OpensTooMany (inclusion s directories text (nesting s start old c.args.self.now)) (nesting s start old c.args.self.now) (opened_since start new)))) [
+    let flat : 16 ≤ length before.nest.open_files → ⊥ =
+    λ h. let never = (c.in-Err-Device.ensures.too_deep (is_true (can_name text) fit) h).0 in cc in
+    elim (c.in-Err-Device.ensures.cause (ap (λ f. Err f) c.in-Err-Device.field-0-is))
+    as (λ _. Rose (files.faults c.args.files.now) (files.faults c.enter.new.files)
+    ⊎ (AskedTooMany files c.args.files.now c.enter.new.files c.args.self.now after × Honestly files c.args.files.now c.args.self.now
+    (λ start.
+    OpensTooMany (inclusion s directories text (nesting s start old c.args.self.now)) (nesting s start old c.args.self.now)
+    (opened_since start new)))) [
       | inl rose ↦ inl rose
       | inr many ↦ inr (
         subst (λ (o : Open). AskedTooMany files c.args.files.now c.enter.new.files o after) c.self.view_is
-            (asked_too_many files c.args.files.now c.enter.new.files before after (candidates directories (innermost_name before.nest) text) c.in-Err-Device.ensures.err many.is_named many.counted),
+            (asked_too_many files c.args.files.now c.enter.new.files before after (candidates directories (innermost_name before.nest) text)
+            c.in-Err-Device.ensures.err many.is_named many.counted),
         subst (λ (o : Open). Honestly files c.args.files.now o (λ start.
-            OpensTooMany (inclusion s directories text (nesting s start old o)) (nesting s start old o) (opened_since start new))) c.self.view_is
-            (λ honest start n. opens_too_many s directories text start old new before n c.self.invariant.0 fit flat (many.is_closed honest)),
+            OpensTooMany (inclusion s directories text (nesting s start old o)) (nesting s start old o) (opened_since start new)))
+            c.self.view_is
+            (λ honest start n. opens_too_many s directories text start old new before n c.self.invariant.0 fit flat
+            (many.is_closed honest)),
       )
     ]
 

@@ -14,8 +14,13 @@ returns-in_default-clause-nesting g c = λ honest start nested.
     let files = g.F.Files in
     let s = files.sources c.args.files.now in
     let now = files.openings c.args.files.now in
-    subst (λ (o : Open). nesting s start now (record { nest = c.self.inside.names; lexer = c.self.inside.lexer; outer = c.pop.new.self.items }) ≡ closed (nesting s start now o)) c.self.view_is
-    (left_none s start now c.self.inside.names c.self.inside.lexer c.self.inside.outer.items c.pop.new.self.items (omega (arith, c.in_default.ensures.cases.0)) c.in_default.ensures.items)
+    subst (λ (o : Open). nesting s start now (record {
+      nest = c.self.inside.names;
+      lexer = c.self.inside.lexer;
+      outer = c.pop.new.self.items;
+    }) ≡ closed (nesting s start now o)) c.self.view_is
+    (left_none s start now c.self.inside.names c.self.inside.lexer c.self.inside.outer.items c.pop.new.self.items
+    (omega (arith, c.in_default.ensures.cases.0)) c.in_default.ensures.items)
 
 pub invariant_of-self-2 : goal.invariant_of-self-2
 invariant_of-self-2 g c =
@@ -27,7 +32,8 @@ pub returns-clause-left : goal.returns-clause-left
 returns-clause-left g c = λ is. (
   sym (ap (λ (o : Open). o.outer) c.self.view_is) ∙ c.in-Some.ensures.items,
   (waits_last c.self.inside.names.set c.self.inside.names.limit c.pop.new.self.items c.in-Some.lexer
-      (subst (λ readers. AllWait c.self.inside.names.set c.self.inside.names.limit readers) c.in-Some.ensures.items c.self.invariant.1.1.1)).goes,
+      (subst (λ readers. AllWait c.self.inside.names.set c.self.inside.names.limit readers) c.in-Some.ensures.items
+      c.self.invariant.1.1.1)).goes,
 )
 
 pub returns-clause-nesting : goal.returns-clause-nesting
@@ -48,7 +54,8 @@ returns-clause-went g c =
     let before : Open = record { nest = c.self.inside.names; lexer = c.self.inside.lexer; outer = c.self.inside.outer.items } in
     let after : Open = record { nest = c.leave.new.self; lexer = c.in-Some.lexer; outer = c.pop.new.self.items } in
     subst (λ (o : Open). Went files c.args.files.now c.leave.new.files o after) c.self.view_is
-    (went_out files c.args.files.now c.leave.new.files before after leave.sources leave.honesty leave.faults leave.depth leave.given leave.opened c.in-Some.ensures.items
+    (went_out files c.args.files.now c.leave.new.files before after leave.sources leave.honesty leave.faults leave.depth leave.given
+    leave.opened c.in-Some.ensures.items
     (ap (λ (n : Nest). n.names) leave.left) leave.closes)
 
 pub returns-clause-fits : goal.returns-clause-fits

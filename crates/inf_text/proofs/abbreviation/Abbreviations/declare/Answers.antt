@@ -10,11 +10,13 @@ returns-in_err-copy c =
 
 pub returns-in_err-push : goal.returns-in_err-push
 returns-in_err-push c =
-    let p = err_from_is_err_and c.from_residual-in_err-push.result c.from_residual-in_err-push.ensures.1 in rw (p.1, p.2) (grind (arith, common_steps))
+    let p = err_from_is_err_and c.from_residual-in_err-push.result c.from_residual-in_err-push.ensures.1 in rw (p.1, p.2)
+    (grind (arith, common_steps))
 
 pub invariant_of-self-2 : goal.invariant_of-self-2
 invariant_of-self-2 c = record {
   declared = rw (c.in_ok-push.ensures.items, c.in_ok-copy.ensures.ok)
-      (AreAbbreviations-push c.self.inside.texts.items c.args.text.now c.self.invariant.declared (omega arith) (omega arith) c.as_slice-2.ensures.text);
+      (AreAbbreviations-push c.self.inside.texts.items c.args.text.now c.self.invariant.declared (omega arith) (omega arith)
+      c.as_slice-2.ensures.text);
   indexed = rw c.deref.ensures.value at c.add.ensures;
 }

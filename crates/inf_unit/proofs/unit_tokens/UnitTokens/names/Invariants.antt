@@ -7,4 +7,5 @@ use Rattle.inf_unit.proofs.unit_tokens.UnitTokens.names.Given as goal
 -- the names so far, and then those of the tokens that are left, are those of all
 abbrev pub invariant-loop-token : goal.invariant-loop-token
 invariant-loop-token l =
-    names_from (map as_spelled (drop l.token-index l.token-items)) (map as_name l.names.items) ≡ names_from (map as_spelled l.token-items) []
+    names_from (map as_spelled (drop l.token-index l.token-items)) (map as_name l.names.items) ≡ names_from (map as_spelled l.token-items)
+    []

@@ -7,4 +7,5 @@ use Rattle.inf_unit.proofs.unit_tokens.UnitTokens.names_behind.Given as goal
 -- the names so far, and then those that the tokens that are left give, are those that all give
 abbrev pub invariant-loop-token : goal.invariant-loop-token
 invariant-loop-token l =
-    names_behind_from l.mark (map as_spelled (drop l.token-index l.token-items)) (map as_name l.names.items) ≡ names_behind_from l.mark (map as_spelled l.token-items) []
+    names_behind_from l.mark (map as_spelled (drop l.token-index l.token-items)) (map as_name l.names.items) ≡ names_behind_from l.mark
+    (map as_spelled l.token-items) []

@@ -8,14 +8,16 @@ returns-in_err-chosen-in-67 c =
     let rest = c.loop-rest.rest.now in
     let first : get_or rest 0 0 ≡ 67 = omega arith in
     c.from_residual.ensures
-    ∙ behind-pair c.loop-rest.chosen None rest c.in-67.len_at_least first (ap (with_set c.loop-rest.chosen) (sym c.in_err-chosen-in-67.was ∙ c.set_of_digit.ensures))
+    ∙ behind-pair c.loop-rest.chosen None rest c.in-67.len_at_least first
+    (ap (with_set c.loop-rest.chosen) (sym c.in_err-chosen-in-67.was ∙ c.set_of_digit.ensures))
     ∙ c.loop-rest.invariant
 
 pub loop-rest-preserved-in-67-1 : goal.loop-rest-preserved-in-67-1
 loop-rest-preserved-in-67-1 c =
     let rest = c.loop-rest.rest.now in
     let first : get_or rest 0 0 ≡ 67 = omega arith in
-    behind-pair c.loop-rest.chosen _ rest c.in-67.len_at_least first (ap (with_set c.loop-rest.chosen) (sym c.in_ok-chosen-in-67.was ∙ c.set_of_digit.ensures))
+    behind-pair c.loop-rest.chosen _ rest c.in-67.len_at_least first
+    (ap (with_set c.loop-rest.chosen) (sym c.in_ok-chosen-in-67.was ∙ c.set_of_digit.ensures))
     ∙ c.loop-rest.invariant
 
 pub loop-rest-preserved : goal.loop-rest-preserved

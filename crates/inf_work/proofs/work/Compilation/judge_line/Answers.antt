@@ -7,5 +7,6 @@ use Rattle.inf_work.proofs.work.Compilation.judge_line.Goals as goal
 -- what is found is found of the line's own tokens
 pub returns : goal.returns
 returns c =
-    subst (λ (f : Option Finding). OnOk c.end_found.result (work c.end_found.new.self ≡ line_found c.args.files.now.names c.args.first f c.args.arrow (work c.args.self.now)))
+    subst (λ (f : Option Finding). OnOk c.end_found.result
+    (work c.end_found.new.self ≡ line_found c.args.files.now.names c.args.first f c.args.arrow (work c.args.self.now)))
     c.tokens_finding-found.ensures c.end_found.ensures

@@ -25,10 +25,13 @@ invariant_of-self-2 c =
     let kept : c.reserve.new.self.items ≡ i.objects.items = c.in_ok-reserve.ensures.items in
     let kept_latest : c.reserve-2.new.self.items ≡ i.latest.items = c.in_ok-reserve-2.ensures.items in
     let count : 4 + c.len.result + 1 ≡ 5 + length i.objects.items = omega (arith, c.len.ensures, c.reserve.new.self.ok.0, ap length kept) in
-    let lost : is_lost i.body.properties.owner ≡ false = ap (λ (v : WorldOf). is_lost v.body.properties.owner) c.self.view_is ∙ c.requires in
-    let later : (arrows : ℕ) → slice_get c.note_latest.new.latest.items arrows ≡ or_latest (told arrows (4 + c.len.result + 1) c.in_ok-object.object) (slice_get c.reserve-2.new.self.items arrows) =
+    let lost : is_lost i.body.properties.owner ≡ false =
+    ap (λ (v : WorldOf). is_lost v.body.properties.owner) c.self.view_is ∙ c.requires in
+    let later : (arrows : ℕ) → slice_get c.note_latest.new.latest.items arrows ≡ or_latest
+    (told arrows (4 + c.len.result + 1) c.in_ok-object.object) (slice_get c.reserve-2.new.self.items arrows) =
     c.note_latest.ensures.latest in
-    let latest : (arrows : ℕ) → slice_get c.note_latest.new.latest.items arrows ≡ or_latest (told arrows (5 + length i.objects.items) (ended i.body)) (slice_get i.latest.items arrows) =
+    let latest : (arrows : ℕ) → slice_get c.note_latest.new.latest.items arrows ≡ or_latest
+    (told arrows (5 + length i.objects.items) (ended i.body)) (slice_get i.latest.items arrows) =
     λ arrows. later arrows ∙ ap (λ n. or_latest (told arrows n c.in_ok-object.object) (slice_get c.reserve-2.new.self.items arrows)) count
     ∙ ap (λ o. or_latest (told arrows (5 + length i.objects.items) o) (slice_get c.reserve-2.new.self.items arrows)) object
     ∙ ap (λ ns. or_latest (told arrows (5 + length i.objects.items) (ended i.body)) (slice_get ns arrows)) kept_latest in
@@ -45,7 +48,11 @@ invariant_of-self-2 c =
       is_open = false;
       body = body;
     } in
-    subst (λ n. IsWorld (with c.push_object.new.objects.items c.end.new.self) c.note_latest.new.latest.items (i.bytes + n) (i.fixups + c.fixups-fixups.result)) (sym c.bytes-bytes.ensures.value)
-    (subst (λ n. IsWorld (with c.push_object.new.objects.items c.end.new.self) c.note_latest.new.latest.items (i.bytes + object_bytes (ended i.body)) (i.fixups + n)) (sym c.fixups-fixups.ensures.value)
-    (subst (λ os. IsWorld (with os c.end.new.self) c.note_latest.new.latest.items (i.bytes + object_bytes (ended i.body)) (i.fixups + object_fixups (ended i.body))) (sym added)
-    (subst (λ b. IsWorld (with (i.objects.items ++ ended i.body ∷ []) b) c.note_latest.new.latest.items (i.bytes + object_bytes (ended i.body)) (i.fixups + object_fixups (ended i.body))) (sym c.in_ok-object.ensures.ok) done)))
+    subst (λ n. IsWorld (with c.push_object.new.objects.items c.end.new.self) c.note_latest.new.latest.items (i.bytes + n)
+    (i.fixups + c.fixups-fixups.result)) (sym c.bytes-bytes.ensures.value)
+    (subst (λ n. IsWorld (with c.push_object.new.objects.items c.end.new.self) c.note_latest.new.latest.items
+    (i.bytes + object_bytes (ended i.body)) (i.fixups + n)) (sym c.fixups-fixups.ensures.value)
+    (subst (λ os. IsWorld (with os c.end.new.self) c.note_latest.new.latest.items (i.bytes + object_bytes (ended i.body))
+    (i.fixups + object_fixups (ended i.body))) (sym added)
+    (subst (λ b. IsWorld (with (i.objects.items ++ ended i.body ∷ []) b) c.note_latest.new.latest.items
+    (i.bytes + object_bytes (ended i.body)) (i.fixups + object_fixups (ended i.body))) (sym c.in_ok-object.ensures.ok) done)))

@@ -17,7 +17,8 @@ invariant_of-self-2 c =
       is_open = i.is_open;
       body = i.body;
     } in
-    let nothing : i.body.properties.owner ≡ owner.Nothing = ap (λ (v : WorldOf). v.body.properties.owner) c.self.view_is ∙ c.requires.owner in
+    let nothing : i.body.properties.owner ≡ owner.Nothing =
+    ap (λ (v : WorldOf). v.body.properties.owner) c.self.view_is ∙ c.requires.owner in
     let same : c.lose.new.self.owner ≡ i.body.properties.owner =
     ap (λ (o : Open). o.owner) (c.lose.ensures ∙ ap (λ (o : Open). record o { takes_values = false }) c.in_ok-give.ensures.ok) in
     lost_stays w c.lose.new.self i.latest.items i.bytes i.fixups c.self.invariant nothing (same ∙ nothing)

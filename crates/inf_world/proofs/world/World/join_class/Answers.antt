@@ -23,11 +23,15 @@ returns-in_err-name_class-clause-fault c =
     let number = c.args.number in
     let f = c.in_err-name_class.field-0.0 in
     let class = c.in-Some.class.now in
-    let is : class_at number w.objects ≡ Some class = ap (class_at number) (sym c.deref.ensures.value) ∙ sym c.class_of.ensures ∙ ap (option_map (λ o. o.now)) c.in-Some.is in
-    let found : class_of_fault number w ≡ option_map given_fault (join_fault number class (room_beside w) w.body) = class_fault_is w number class c.if-not-self.false c.if-number-eq0.false is in
+    let is : class_at number w.objects ≡ Some class =
+    ap (class_at number) (sym c.deref.ensures.value) ∙ sym c.class_of.ensures ∙ ap (option_map (λ o. o.now)) c.in-Some.is in
+    let found : class_of_fault number w ≡ option_map given_fault (join_fault number class (room_beside w) w.body) =
+    class_fault_is w number class c.if-not-self.false c.if-number-eq0.false is in
     let refused : class_refused (join_fault number class (room_beside w) w.body) f =
-    subst (λ n. class_refused (join_fault number class (record { others = n; limit = i.limits.property_bytes }) i.body) f) c.self.invariant.bytes_are c.in_err-name_class.ensures.fault in
+    subst (λ n. class_refused (join_fault number class (record { others = n; limit = i.limits.property_bytes }) i.body) f)
+    c.self.invariant.bytes_are c.in_err-name_class.ensures.fault in
     let told : IsRefused (class_of_fault number w) (given_fault f) =
     subst (λ o. IsRefused o (given_fault f)) (sym found) (refused_as (join_fault number class (room_beside w) w.body) f refused) in
-    told_by c.from_residual.result (λ x. class_of_fault number c.args.self.now ≡ None) (IsRefused (class_of_fault number c.args.self.now)) (given_fault f) c.from_residual.ensures.1
+    told_by c.from_residual.result (λ x. class_of_fault number c.args.self.now ≡ None) (IsRefused (class_of_fault number c.args.self.now))
+    (given_fault f) c.from_residual.ensures.1
     (subst (λ v. IsRefused (class_of_fault number v) (given_fault f)) c.self.view_is told)

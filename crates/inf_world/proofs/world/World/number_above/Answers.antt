@@ -6,10 +6,12 @@ use Rattle.inf_world.proofs.world.World.number_above.Goals as goal
 pub returns-in-Some-clause-value : goal.returns-in-Some-clause-value
 returns-in-Some-clause-value c =
     let arrows : c.args.arrows ≡ c.args.arrows - 1 + 1 = omega (arith, c.if-arrows-eq0.false) in
-    sym (above_is c.args.arrows (c.args.arrows - 1) c.args.self.now.objects arrows ∙ ap parent_above (sym c.latest_with.ensures ∙ c.in-Some.is))
+    sym (above_is c.args.arrows (c.args.arrows - 1) c.args.self.now.objects arrows ∙ ap parent_above
+    (sym c.latest_with.ensures ∙ c.in-Some.is))
 
 pub returns-in-Some-clause-within : goal.returns-in-Some-clause-within
-returns-in-Some-clause-within c = latest-within (c.args.arrows - 1) c.args.self.now.objects c.in-Some.number (sym c.latest_with.ensures ∙ c.in-Some.is)
+returns-in-Some-clause-within c =
+    latest-within (c.args.arrows - 1) c.args.self.now.objects c.in-Some.number (sym c.latest_with.ensures ∙ c.in-Some.is)
 
 pub returns-in-Some-clause-reached : goal.returns-in-Some-clause-reached
 returns-in-Some-clause-reached c =
@@ -19,4 +21,5 @@ returns-in-Some-clause-reached c =
 pub returns-in-None-clause-value : goal.returns-in-None-clause-value
 returns-in-None-clause-value c =
     let arrows : c.args.arrows ≡ c.args.arrows - 1 + 1 = omega (arith, c.if-arrows-eq0.false) in
-    sym (above_is c.args.arrows (c.args.arrows - 1) c.args.self.now.objects arrows ∙ ap parent_above (sym c.latest_with.ensures ∙ c.in-None.is))
+    sym (above_is c.args.arrows (c.args.arrows - 1) c.args.self.now.objects arrows ∙ ap parent_above
+    (sym c.latest_with.ensures ∙ c.in-None.is))
