@@ -1,116 +1,21 @@
 -- What an action gathers of an expression is all that it does to the unit.
-use Rattle.std.proofs.Common.{◌≡◌, Bool, true, false, Some, refl, ap}
+use Rattle.std.proofs.Common.{◌≡◌, Bool, true, false, Option, Some, refl, ap}
+use Rattle.std.specs.Prelude.{unwrap_or}
 use Rattle.inf_syntax.specs.declared.actions.Action.{Action}
 use Rattle.inf_syntax.specs.declared.actions.Action.TheVariants as action
+use Rattle.inf_unit.specs.Roles.{role_of}
+use Rattle.inf_unit.specs.Steps.{step_in, step_of}
+use Rattle.inf_unit.specs.Units.{Unit, acted, played, stepped}
+use Rattle.inf_unit.specs.declared.roles.Role.{Role}
+use Rattle.inf_unit.specs.declared.roles.Role.TheVariants as role
 use Rattle.inf_unit.specs.declared.steps.Step.{Step}
-use Rattle.inf_unit.specs.Steps.{step_of}
-use Rattle.inf_unit.specs.Units.{Unit, acted, stepped}
 
-pub acted_step : (a : Action) (s : Step) (u : Unit) → step_of a ≡ Some s → acted a u ≡ stepped (Some s) u
-acted_step action.Routine s u e = ap (λ o. stepped o u) e
-acted_step action.EndLocals s u e = ap (λ o. stepped o u) e
-acted_step action.EndRoutine s u e = ap (λ o. stepped o u) e
-acted_step action.EndHeader s u e = ap (λ o. stepped o u) e
-acted_step action.EndText s u e = ap (λ o. stepped o u) e
-acted_step action.EndBody s u e = ap (λ o. stepped o u) e
-acted_step action.EndDirective s u e = ap (λ o. stepped o u) e
-acted_step action.Outer s u e = cc
-acted_step action.Name s u e = ap (λ o. stepped o u) e
-acted_step action.EndEntry s u e = ap (λ o. stepped o u) e
-acted_step action.EndAlone s u e = ap (λ o. stepped o u) e
-acted_step action.Hold s u e = cc
-acted_step action.EndClass s u e = ap (λ o. stepped o u) e
-acted_step action.EndProperty s u e = ap (λ o. stepped o u) e
-acted_step action.EndValue s u e = ap (λ o. stepped o u) e
-acted_step action.EndEmbedded s u e = ap (λ o. stepped o u) e
-acted_step action.Negate s u e = ap (λ o. stepped o u) e
-acted_step action.EndAttribute s u e = ap (λ o. stepped o u) e
-acted_step action.EndLine s u e = ap (λ o. stepped o u) e
-acted_step action.Comma s u e = ap (λ o. stepped o u) e
-acted_step action.Not s u e = ap (λ o. stepped o u) e
-acted_step action.BitNot s u e = ap (λ o. stepped o u) e
-acted_step action.Assign s u e = ap (λ o. stepped o u) e
-acted_step action.And s u e = ap (λ o. stepped o u) e
-acted_step action.Or s u e = ap (λ o. stepped o u) e
-acted_step action.Equal s u e = ap (λ o. stepped o u) e
-acted_step action.Unequal s u e = ap (λ o. stepped o u) e
-acted_step action.Less s u e = ap (λ o. stepped o u) e
-acted_step action.Greater s u e = ap (λ o. stepped o u) e
-acted_step action.LessOrEqual s u e = ap (λ o. stepped o u) e
-acted_step action.GreaterOrEqual s u e = ap (λ o. stepped o u) e
-acted_step action.Has s u e = ap (λ o. stepped o u) e
-acted_step action.HasNot s u e = ap (λ o. stepped o u) e
-acted_step action.In s u e = ap (λ o. stepped o u) e
-acted_step action.NotIn s u e = ap (λ o. stepped o u) e
-acted_step action.OfClass s u e = ap (λ o. stepped o u) e
-acted_step action.Provides s u e = ap (λ o. stepped o u) e
-acted_step action.Count s u e = ap (λ o. stepped o u) e
-acted_step action.Part s u e = ap (λ o. stepped o u) e
-acted_step action.Plus s u e = ap (λ o. stepped o u) e
-acted_step action.Minus s u e = ap (λ o. stepped o u) e
-acted_step action.Times s u e = ap (λ o. stepped o u) e
-acted_step action.Divide s u e = ap (λ o. stepped o u) e
-acted_step action.Remainder s u e = ap (λ o. stepped o u) e
-acted_step action.BitAnd s u e = ap (λ o. stepped o u) e
-acted_step action.BitOr s u e = ap (λ o. stepped o u) e
-acted_step action.ByteEntry s u e = ap (λ o. stepped o u) e
-acted_step action.WordEntry s u e = ap (λ o. stepped o u) e
-acted_step action.IncrementBefore s u e = ap (λ o. stepped o u) e
-acted_step action.DecrementBefore s u e = ap (λ o. stepped o u) e
-acted_step action.IncrementAfter s u e = ap (λ o. stepped o u) e
-acted_step action.DecrementAfter s u e = ap (λ o. stepped o u) e
-acted_step action.MemberAddress s u e = ap (λ o. stepped o u) e
-acted_step action.MemberLength s u e = ap (λ o. stepped o u) e
-acted_step action.Member s u e = ap (λ o. stepped o u) e
-acted_step action.Call s u e = ap (λ o. stepped o u) e
-acted_step action.Text s u e = ap (λ o. stepped o u) e
-acted_step action.Bracket s u e = ap (λ o. stepped o u) e
-acted_step action.Bracketed s u e = ap (λ o. stepped o u) e
-acted_step action.Number s u e = ap (λ o. stepped o u) e
-acted_step action.Char s u e = ap (λ o. stepped o u) e
-acted_step action.Word s u e = ap (λ o. stepped o u) e
-acted_step action.Action s u e = ap (λ o. stepped o u) e
-acted_step action.System s u e = ap (λ o. stepped o u) e
-acted_step action.Begin s u e = cc
-acted_step action.Deeper s u e = ap (λ o. stepped o u) e
-acted_step action.EndStatement s u e = ap (λ o. stepped o u) e
-acted_step action.OuterMaybe s u e = cc
-acted_step action.PrintText s u e = cc
-acted_step action.OuterSure s u e = cc
-acted_step action.OpenIf s u e = ap (λ o. stepped o u) e
-acted_step action.EndIf s u e = ap (λ o. stepped o u) e
-acted_step action.Else s u e = ap (λ o. stepped o u) e
-acted_step action.Close s u e = ap (λ o. stepped o u) e
-acted_step action.OpenWhile s u e = ap (λ o. stepped o u) e
-acted_step action.EndWhile s u e = ap (λ o. stepped o u) e
-acted_step action.OpenDo s u e = ap (λ o. stepped o u) e
-acted_step action.Until s u e = ap (λ o. stepped o u) e
-acted_step action.EndUntil s u e = ap (λ o. stepped o u) e
-acted_step action.OpenFor s u e = ap (λ o. stepped o u) e
-acted_step action.ForTop s u e = ap (λ o. stepped o u) e
-acted_step action.EndForStart s u e = ap (λ o. stepped o u) e
-acted_step action.EndForTest s u e = ap (λ o. stepped o u) e
-acted_step action.EndForStep s u e = ap (λ o. stepped o u) e
-acted_step action.OpenObjectloop s u e = ap (λ o. stepped o u) e
-acted_step action.EndObjectloop s u e = ap (λ o. stepped o u) e
-acted_step action.Loop s u e = ap (λ o. stepped o u) e
-acted_step action.OpenSwitch s u e = ap (λ o. stepped o u) e
-acted_step action.EndSwitch s u e = ap (λ o. stepped o u) e
-acted_step action.OuterEnd s u e = cc
-acted_step action.Set s u e = cc
-acted_step action.Clear s u e = cc
-acted_step action.AsmText s u e = cc
-acted_step action.Store s u e = cc
-acted_step action.Branch s u e = cc
-acted_step action.BranchNot s u e = cc
-acted_step action.PrintValue s u e = cc
-acted_step action.Rule s u e = cc
-acted_step action.PrintRule s u e = cc
-acted_step action.Default s u e = cc
-acted_step action.OuterWord s u e = cc
-acted_step action.EndCase s u e = ap (λ o. stepped o u) e
-acted_step action.To s u e = ap (λ o. stepped o u) e
-acted_step action.MaybeDeeper s u e = ap (λ o. stepped o u) e
+played_step : (r : Role) (s : Step) (u : Unit) → step_in r ≡ Some s → played r u ≡ stepped s u
+played_step (role.Gather t) s u e = ap (λ (o : Option Step). stepped (unwrap_or o s) u) e
+played_step _ s u e = cc
+
+pub acted_step : (a : Action) (s : Step) (u : Unit) → step_of a ≡ Some s → acted a u ≡ stepped s u
+acted_step a s u e = played_step (role_of a) s u e
 
 -- the action that only tells that an expression surely is one
 abbrev pub is_sure : Action → Bool
@@ -118,107 +23,5 @@ is_sure action.OuterSure = true
 is_sure _ = false
 
 pub only_sure : (a : Action) → is_sure a ≡ true → a ≡ action.OuterSure
-only_sure action.Routine e = cc
-only_sure action.EndLocals e = cc
-only_sure action.EndRoutine e = cc
-only_sure action.EndHeader e = cc
-only_sure action.EndText e = cc
-only_sure action.EndBody e = cc
-only_sure action.EndDirective e = cc
-only_sure action.Outer e = cc
-only_sure action.Name e = cc
-only_sure action.EndEntry e = cc
-only_sure action.EndAlone e = cc
-only_sure action.Hold e = cc
-only_sure action.EndClass e = cc
-only_sure action.EndProperty e = cc
-only_sure action.EndValue e = cc
-only_sure action.EndEmbedded e = cc
-only_sure action.Negate e = cc
-only_sure action.EndAttribute e = cc
-only_sure action.EndLine e = cc
-only_sure action.Comma e = cc
-only_sure action.Not e = cc
-only_sure action.BitNot e = cc
-only_sure action.Assign e = cc
-only_sure action.And e = cc
-only_sure action.Or e = cc
-only_sure action.Equal e = cc
-only_sure action.Unequal e = cc
-only_sure action.Less e = cc
-only_sure action.Greater e = cc
-only_sure action.LessOrEqual e = cc
-only_sure action.GreaterOrEqual e = cc
-only_sure action.Has e = cc
-only_sure action.HasNot e = cc
-only_sure action.In e = cc
-only_sure action.NotIn e = cc
-only_sure action.OfClass e = cc
-only_sure action.Provides e = cc
-only_sure action.Count e = cc
-only_sure action.Part e = cc
-only_sure action.Plus e = cc
-only_sure action.Minus e = cc
-only_sure action.Times e = cc
-only_sure action.Divide e = cc
-only_sure action.Remainder e = cc
-only_sure action.BitAnd e = cc
-only_sure action.BitOr e = cc
-only_sure action.ByteEntry e = cc
-only_sure action.WordEntry e = cc
-only_sure action.IncrementBefore e = cc
-only_sure action.DecrementBefore e = cc
-only_sure action.IncrementAfter e = cc
-only_sure action.DecrementAfter e = cc
-only_sure action.MemberAddress e = cc
-only_sure action.MemberLength e = cc
-only_sure action.Member e = cc
-only_sure action.Call e = cc
-only_sure action.Text e = cc
-only_sure action.Bracket e = cc
-only_sure action.Bracketed e = cc
-only_sure action.Number e = cc
-only_sure action.Char e = cc
-only_sure action.Word e = cc
-only_sure action.Action e = cc
-only_sure action.System e = cc
-only_sure action.Begin e = cc
-only_sure action.Deeper e = cc
-only_sure action.EndStatement e = cc
-only_sure action.OuterMaybe e = cc
-only_sure action.PrintText e = cc
 only_sure action.OuterSure e = refl
-only_sure action.OpenIf e = cc
-only_sure action.EndIf e = cc
-only_sure action.Else e = cc
-only_sure action.Close e = cc
-only_sure action.OpenWhile e = cc
-only_sure action.EndWhile e = cc
-only_sure action.OpenDo e = cc
-only_sure action.Until e = cc
-only_sure action.EndUntil e = cc
-only_sure action.OpenFor e = cc
-only_sure action.ForTop e = cc
-only_sure action.EndForStart e = cc
-only_sure action.EndForTest e = cc
-only_sure action.EndForStep e = cc
-only_sure action.OpenObjectloop e = cc
-only_sure action.EndObjectloop e = cc
-only_sure action.Loop e = cc
-only_sure action.OpenSwitch e = cc
-only_sure action.EndSwitch e = cc
-only_sure action.OuterEnd e = cc
-only_sure action.Set e = cc
-only_sure action.Clear e = cc
-only_sure action.AsmText e = cc
-only_sure action.Store e = cc
-only_sure action.Branch e = cc
-only_sure action.BranchNot e = cc
-only_sure action.PrintValue e = cc
-only_sure action.Rule e = cc
-only_sure action.PrintRule e = cc
-only_sure action.Default e = cc
-only_sure action.OuterWord e = cc
-only_sure action.EndCase e = cc
-only_sure action.To e = cc
-only_sure action.MaybeDeeper e = cc
+only_sure _ e = cc

@@ -91,41 +91,40 @@ two_by rest binary.Call c m s = elim m [ ]
 two_by rest binary.Then c m s = elim m [ ]
 two_by rest binary.To c m s = elim m [ ]
 
-stepped_stands : {f : Frame} {seen : List ℕ} (rest : List Item) (s : Option Step) (c : Change) → IsOneOf c (step_changes s) →
+stepped_stands : {f : Frame} {seen : List ℕ} (rest : List Item) (s : Step) (c : Change) → IsOneOf c (step_changes (Some s)) →
     (u : Unit) (tokens : List SourceToken) →
     Read f (c.old ++ rest) seen u tokens → Read f (c.now ++ rest) seen (stepped s u) tokens
-stepped_stands rest None c m u tokens r = elim m [ ]
-stepped_stands rest (Some step.Leaf) c first u tokens r = record { stands = leaf_stands u tokens r.at r.stands; at = at_gathered _ r.at }
-stepped_stands rest (Some step.Leaf) c (later m) u tokens r = elim m [ ]
-stepped_stands rest (Some step.Action) c first u tokens r =
+stepped_stands rest step.Leaf c first u tokens r = record { stands = leaf_stands u tokens r.at r.stands; at = at_gathered _ r.at }
+stepped_stands rest step.Leaf c (later m) u tokens r = elim m [ ]
+stepped_stands rest step.Action c first u tokens r =
     record { stands = action_stands u tokens r.at r.stands; at = at_gathered _ r.at }
-stepped_stands rest (Some step.Action) c (later m) u tokens r = elim m [ ]
-stepped_stands rest (Some (step.Prefix op)) c m u tokens r =
+stepped_stands rest step.Action c (later m) u tokens r = elim m [ ]
+stepped_stands rest (step.Prefix op) c m u tokens r =
     record { stands = front_by rest op c (sign_in_front op) refl m r.stands; at = at_gathered _ r.at }
-stepped_stands rest (Some (step.Suffix op)) c m u tokens r =
+stepped_stands rest (step.Suffix op) c m u tokens r =
     record { stands = suffix_by rest op c (sign_behind op) refl m r.stands; at = at_gathered _ r.at }
-stepped_stands rest (Some (step.Two op)) c m u tokens r = record { stands = two_by rest op c m r.stands; at = at_gathered _ r.at }
-stepped_stands rest (Some step.Comma) c first u tokens r = record { stands = comma_stands r.stands; at = at_gathered _ r.at }
-stepped_stands rest (Some step.Comma) c (later m) u tokens r = elim m [ ]
-stepped_stands rest (Some step.List) c first u tokens r = record { stands = list_stands r.stands; at = at_gathered _ r.at }
-stepped_stands rest (Some step.List) c (later m) u tokens r = elim m [ ]
-stepped_stands rest (Some step.Part) c first u tokens r = record { stands = one_stands r.stands; at = at_gathered _ r.at }
-stepped_stands rest (Some step.Part) c (later first) u tokens r = record { stands = one_stands r.stands; at = at_gathered _ r.at }
-stepped_stands rest (Some step.Part) c (later (later first)) u tokens r =
+stepped_stands rest (step.Two op) c m u tokens r = record { stands = two_by rest op c m r.stands; at = at_gathered _ r.at }
+stepped_stands rest step.Comma c first u tokens r = record { stands = comma_stands r.stands; at = at_gathered _ r.at }
+stepped_stands rest step.Comma c (later m) u tokens r = elim m [ ]
+stepped_stands rest step.List c first u tokens r = record { stands = list_stands r.stands; at = at_gathered _ r.at }
+stepped_stands rest step.List c (later m) u tokens r = elim m [ ]
+stepped_stands rest step.Part c first u tokens r = record { stands = one_stands r.stands; at = at_gathered _ r.at }
+stepped_stands rest step.Part c (later first) u tokens r = record { stands = one_stands r.stands; at = at_gathered _ r.at }
+stepped_stands rest step.Part c (later (later first)) u tokens r =
     record { stands = more_stands (few_seen r.at) r.stands; at = at_gathered _ r.at }
-stepped_stands rest (Some step.Part) c (later (later (later first))) u tokens r =
+stepped_stands rest step.Part c (later (later (later first))) u tokens r =
     record { stands = more_stands (few_seen r.at) r.stands; at = at_gathered _ r.at }
-stepped_stands rest (Some step.Part) c (later (later (later (later m)))) u tokens r = elim m [ ]
-stepped_stands rest (Some step.Call) c first u tokens r = record { stands = call_stands r.stands; at = at_gathered _ r.at }
-stepped_stands rest (Some step.Call) c (later m) u tokens r = elim m [ ]
-stepped_stands rest (Some (step.Test op)) c m u tokens r =
+stepped_stands rest step.Part c (later (later (later (later m)))) u tokens r = elim m [ ]
+stepped_stands rest step.Call c first u tokens r = record { stands = call_stands r.stands; at = at_gathered _ r.at }
+stepped_stands rest step.Call c (later m) u tokens r = elim m [ ]
+stepped_stands rest (step.Test op) c m u tokens r =
     record { stands = test_by rest op c (sign_of_test op) refl m r.stands; at = at_gathered _ r.at }
-stepped_stands rest (Some step.Bracket) c first u tokens r =
+stepped_stands rest step.Bracket c first u tokens r =
     record { stands = opened_stands u tokens r.at r.stands; at = at_gathered _ r.at }
-stepped_stands rest (Some step.Bracket) c (later m) u tokens r = elim m [ ]
-stepped_stands rest (Some step.Bracketed) c first u tokens r = record { stands = bracketed_stands r.stands; at = at_gathered _ r.at }
-stepped_stands rest (Some step.Bracketed) c (later first) u tokens r = record { stands = closing_stands r.stands; at = at_gathered _ r.at }
-stepped_stands rest (Some step.Bracketed) c (later (later m)) u tokens r = elim m [ ]
+stepped_stands rest step.Bracket c (later m) u tokens r = elim m [ ]
+stepped_stands rest step.Bracketed c first u tokens r = record { stands = bracketed_stands r.stands; at = at_gathered _ r.at }
+stepped_stands rest step.Bracketed c (later first) u tokens r = record { stands = closing_stands r.stands; at = at_gathered _ r.at }
+stepped_stands rest step.Bracketed c (later (later m)) u tokens r = elim m [ ]
 
 -- an action
 acts : {f : Frame} {seen : List ℕ} (rest : List Item) (a : Action) (c : Change) → IsOneOf c (step_changes (step_of a)) →
@@ -136,7 +135,7 @@ acts {f} {seen} rest a c m u tokens r = by_step (step_of a) refl m
     by_step : (o : Option Step) → step_of a ≡ o → IsOneOf c (step_changes o) → Read f (c.now ++ rest) seen (acted a u) tokens
     by_step None e n = elim n [ ]
     by_step (Some s) e n =
-        subst (λ v. Read f (c.now ++ rest) seen v tokens) (sym (acted_step a s u e)) (stepped_stands rest (Some s) c n u tokens r)
+        subst (λ v. Read f (c.now ++ rest) seen v tokens) (sym (acted_step a s u e)) (stepped_stands rest s c n u tokens r)
 
 -- A token
 last_of : {A : Type 0} (xs ys : List A) (y : A) → slice_get (xs ++ y ∷ ys) (length xs) ≡ Some y

@@ -3,8 +3,7 @@ use Rattle.std.proofs.Common.{◌≡◌, ℕ, List, [], ◌∷◌, Bool, true, f
 use Rattle.std.specs.Prelude.{◌-◌, if◌then◌else◌, nat_lt, unwrap_or}
 use Rattle.inf_sinks.specs.Locals.{no_locals, with_locals}
 use Rattle.inf_sinks.specs.Spellings.{Name}
-use Rattle.inf_unit.specs.Units.{acted as unit_acted, first_place, last_place, long_at, names_in, taken as unit_taken}
-use Rattle.inf_statements.specs.declared.constructs.Over.TheVariants as over
+use Rattle.inf_unit.specs.Units.{first_place, last_place, long_at, names_in, noted as unit_noted, taken as unit_taken}
 use Rattle.inf_work.specs.Actions.{Compilation, close, close_open, header_of, header_with, is_deep, is_replaced, named, nested, opens, passed, settled_of, sized, stopped, took, trees_at}
 use Rattle.inf_work.specs.Parts.{actions_named, case_prepared, construct_closed, construct_ended, construct_opened, constructs_laid, found_in, has_last, is_default, order_of, part_begun, part_carried, part_effect, part_ended, part_finished, part_prepared, place_of, statement_at, wanted_of}
 use Rattle.std.proofs.lemmas.Bool.{and_parts}
@@ -13,6 +12,12 @@ use Rattle.inf_expressions.specs.declared.findings.Finding.{Finding}
 use Rattle.inf_expressions.specs.Questions.{children_of}
 use Rattle.inf_expressions.specs.Rooted.{Rooted}
 use Rattle.inf_expressions.specs.Trees.{Tree}
+use Rattle.inf_unit.specs.Roles.{makes_sure, role_of}
+use Rattle.inf_unit.specs.declared.roles.Ending.{Ending}
+use Rattle.inf_unit.specs.declared.roles.Ending.TheVariants as ending
+use Rattle.inf_unit.specs.declared.roles.Note.{Note}
+use Rattle.inf_unit.specs.declared.roles.Role.{Role}
+use Rattle.inf_unit.specs.declared.roles.Role.TheVariants as role
 use Rattle.inf_syntax.specs.declared.actions.Action.{Action}
 use Rattle.inf_syntax.specs.declared.actions.Action.TheVariants as action
 use Rattle.inf_output.specs.declared.items.Item.{Item}
@@ -25,10 +30,10 @@ use Rattle.inf_statements.specs.declared.constructs.Case.TheVariants as case
 use Rattle.inf_statements.specs.declared.constructs.Construct.{Construct}
 use Rattle.inf_statements.specs.declared.constructs.Kind.{Kind}
 use Rattle.inf_statements.specs.declared.constructs.Kind.TheVariants as kind
-use Rattle.inf_work.specs.Acting.{act}
+use Rattle.inf_work.specs.Acting.{act, ended as ended_as, kind_of, noted, played}
 use Rattle.inf_work.specs.declared.parts.Part.{Part}
 use Rattle.inf_work.specs.declared.parts.Part.TheVariants as part
-use Rattle.inf_statement_laws.specs.Happenings.{Acts, Happening, Takes, happen_quietly, happens_quietly, is_quiet}
+use Rattle.inf_statement_laws.specs.Happenings.{Acts, Happening, Takes, happen_quietly, happens_quietly, is_quiet, is_quiet_end, is_quiet_role}
 use Rattle.inf_statement_laws.specs.Laid.{happens, run}
 
 -- the same are open, and as many are closed ahead
@@ -104,111 +109,31 @@ quiet_part files place p w q =
 
 -- Actions
 
+quiet_note : (files : FileNames) (n : Note) (w : Compilation) → SameOpen w (noted files n w)
+quiet_note files n w =
+    let v = record w { unit = unit_noted n w.unit } in
+    of_both (SameOpen w) (makes_sure n) (sized files v) v (λ _. sized_same files v) (λ _. (refl, refl))
+
+quiet_end : (files : FileNames) (place : Place) (e : Ending) (w : Compilation) → is_quiet_end e ≡ true → SameOpen w (ended_as files place e w)
+quiet_end files place ending.Statement w q = quiet_part files place (part.Statement (statement_at w)) w refl
+quiet_end files place ending.Condition w q = quiet_part files place part.Condition w refl
+quiet_end files place ending.Start w q = quiet_part files place part.Start w refl
+quiet_end files place ending.Switched w q = quiet_part files place part.Switched w refl
+quiet_end files place _ w q = cc
+
+quiet_role : (files : FileNames) (place : Place) (r : Role) (w : Compilation) → is_quiet_role r ≡ true → SameOpen w (played files place r w)
+quiet_role files place (role.Gather s) w q = (refl, refl)
+quiet_role files place (role.Note n) w q = quiet_note files n w
+quiet_role files place (role.End e) w q = quiet_end files place e w q
+quiet_role files place (role.Open o) w q = cc
+quiet_role files place role.Join w q = cc
+quiet_role files place role.Close w q = cc
+quiet_role files place role.Deeper w q = nested_same files place (is_deep w 1) w
+quiet_role files place role.MaybeDeeper w q = (refl, refl)
+quiet_role files place role.Nothing w q = (refl, refl)
+
 quiet_act : (files : FileNames) (place : Place) (a : Action) (w : Compilation) → is_quiet a ≡ true → SameOpen w (act files place a w)
-quiet_act files place action.Routine w q = (refl, refl)
-quiet_act files place action.EndLocals w q = cc
-quiet_act files place action.EndRoutine w q = cc
-quiet_act files place action.EndHeader w q = cc
-quiet_act files place action.EndText w q = (refl, refl)
-quiet_act files place action.EndBody w q = cc
-quiet_act files place action.EndDirective w q = cc
-quiet_act files place action.Outer w q = (refl, refl)
-quiet_act files place action.Name w q = (refl, refl)
-quiet_act files place action.EndEntry w q = cc
-quiet_act files place action.EndAlone w q = cc
-quiet_act files place action.Hold w q = (refl, refl)
-quiet_act files place action.EndClass w q = cc
-quiet_act files place action.EndProperty w q = cc
-quiet_act files place action.EndValue w q = cc
-quiet_act files place action.EndEmbedded w q = cc
-quiet_act files place action.Negate w q = (refl, refl)
-quiet_act files place action.EndAttribute w q = cc
-quiet_act files place action.EndLine w q = cc
-quiet_act files place action.Comma w q = (refl, refl)
-quiet_act files place action.Not w q = (refl, refl)
-quiet_act files place action.BitNot w q = (refl, refl)
-quiet_act files place action.Assign w q = (refl, refl)
-quiet_act files place action.And w q = (refl, refl)
-quiet_act files place action.Or w q = (refl, refl)
-quiet_act files place action.Equal w q = (refl, refl)
-quiet_act files place action.Unequal w q = (refl, refl)
-quiet_act files place action.Less w q = (refl, refl)
-quiet_act files place action.Greater w q = (refl, refl)
-quiet_act files place action.LessOrEqual w q = (refl, refl)
-quiet_act files place action.GreaterOrEqual w q = (refl, refl)
-quiet_act files place action.Has w q = (refl, refl)
-quiet_act files place action.HasNot w q = (refl, refl)
-quiet_act files place action.In w q = (refl, refl)
-quiet_act files place action.NotIn w q = (refl, refl)
-quiet_act files place action.OfClass w q = (refl, refl)
-quiet_act files place action.Provides w q = (refl, refl)
-quiet_act files place action.Count w q = (refl, refl)
-quiet_act files place action.Part w q = (refl, refl)
-quiet_act files place action.Plus w q = (refl, refl)
-quiet_act files place action.Minus w q = (refl, refl)
-quiet_act files place action.Times w q = (refl, refl)
-quiet_act files place action.Divide w q = (refl, refl)
-quiet_act files place action.Remainder w q = (refl, refl)
-quiet_act files place action.BitAnd w q = (refl, refl)
-quiet_act files place action.BitOr w q = (refl, refl)
-quiet_act files place action.ByteEntry w q = (refl, refl)
-quiet_act files place action.WordEntry w q = (refl, refl)
-quiet_act files place action.IncrementBefore w q = (refl, refl)
-quiet_act files place action.DecrementBefore w q = (refl, refl)
-quiet_act files place action.IncrementAfter w q = (refl, refl)
-quiet_act files place action.DecrementAfter w q = (refl, refl)
-quiet_act files place action.MemberAddress w q = (refl, refl)
-quiet_act files place action.MemberLength w q = (refl, refl)
-quiet_act files place action.Member w q = (refl, refl)
-quiet_act files place action.Call w q = (refl, refl)
-quiet_act files place action.Text w q = (refl, refl)
-quiet_act files place action.Bracket w q = (refl, refl)
-quiet_act files place action.Bracketed w q = (refl, refl)
-quiet_act files place action.Number w q = (refl, refl)
-quiet_act files place action.Char w q = (refl, refl)
-quiet_act files place action.Word w q = (refl, refl)
-quiet_act files place action.Action w q = (refl, refl)
-quiet_act files place action.System w q = (refl, refl)
-quiet_act files place action.Begin w q = (refl, refl)
-quiet_act files place action.Deeper w q = nested_same files place (is_deep w 1) w
-quiet_act files place action.EndStatement w q = quiet_part files place (part.Statement (statement_at w)) w refl
-quiet_act files place action.OuterMaybe w q = (refl, refl)
-quiet_act files place action.PrintText w q = (refl, refl)
-quiet_act files place action.OuterSure w q = sized_same files (record w { unit = unit_acted action.OuterSure w.unit })
-quiet_act files place action.OpenIf w q = cc
-quiet_act files place action.EndIf w q = quiet_part files place part.Condition w refl
-quiet_act files place action.Else w q = cc
-quiet_act files place action.Close w q = cc
-quiet_act files place action.OpenWhile w q = cc
-quiet_act files place action.EndWhile w q = quiet_part files place part.Condition w refl
-quiet_act files place action.OpenDo w q = cc
-quiet_act files place action.Until w q = cc
-quiet_act files place action.EndUntil w q = quiet_part files place part.Condition w refl
-quiet_act files place action.OpenFor w q = cc
-quiet_act files place action.ForTop w q = cc
-quiet_act files place action.EndForStart w q = quiet_part files place part.Start w refl
-quiet_act files place action.EndForTest w q = quiet_part files place part.Condition w refl
-quiet_act files place action.EndForStep w q = cc
-quiet_act files place action.OpenObjectloop w q = cc
-quiet_act files place action.EndObjectloop w q = cc
-quiet_act files place action.Loop w q = cc
-quiet_act files place action.OpenSwitch w q = cc
-quiet_act files place action.EndSwitch w q = quiet_part files place part.Switched w refl
-quiet_act files place action.OuterEnd w q = (refl, refl)
-quiet_act files place action.Set w q = (refl, refl)
-quiet_act files place action.Clear w q = (refl, refl)
-quiet_act files place action.AsmText w q = (refl, refl)
-quiet_act files place action.Store w q = (refl, refl)
-quiet_act files place action.Branch w q = (refl, refl)
-quiet_act files place action.BranchNot w q = (refl, refl)
-quiet_act files place action.PrintValue w q = (refl, refl)
-quiet_act files place action.Rule w q = (refl, refl)
-quiet_act files place action.PrintRule w q = (refl, refl)
-quiet_act files place action.Default w q = (refl, refl)
-quiet_act files place action.OuterWord w q = sized_same files (record w { unit = unit_acted action.OuterWord w.unit })
-quiet_act files place action.EndCase w q = cc
-quiet_act files place action.To w q = (refl, refl)
-quiet_act files place action.MaybeDeeper w q = (refl, refl)
+quiet_act files place a w q = quiet_role files place (role_of a) w q
 
 -- Happenings
 
@@ -396,19 +321,24 @@ case_alone files place w h =
 -- Whatever is done in a routine closes none ahead where none was closed
 
 -- an action of a routine
+abbrev pub is_inside_end : Ending → Bool
+is_inside_end ending.Locals = true
+is_inside_end ending.Routine = true
+is_inside_end ending.Statement = true
+is_inside_end ending.Condition = true
+is_inside_end ending.Start = true
+is_inside_end ending.Step = true
+is_inside_end ending.Loop = true
+is_inside_end ending.Switched = true
+is_inside_end ending.Case = true
+is_inside_end _ = false
+
+abbrev pub is_inside_role : Role → Bool
+is_inside_role (role.End e) = is_inside_end e
+is_inside_role _ = true
+
 abbrev pub is_inside : Action → Bool
-is_inside action.EndDirective = false
-is_inside action.EndHeader = false
-is_inside action.EndBody = false
-is_inside action.EndClass = false
-is_inside action.EndAttribute = false
-is_inside action.EndProperty = false
-is_inside action.EndValue = false
-is_inside action.EndEmbedded = false
-is_inside action.EndLine = false
-is_inside action.EndEntry = false
-is_inside action.EndAlone = false
-is_inside _ = true
+is_inside a = is_inside_role (role_of a)
 
 opened_none : (files : FileNames) (place : Place) (k : Kind) (w : Compilation) → (construct_opened files place k w).closed ≡ w.closed
 opened_none files place k w = (nested_same files (last_place w.unit.tokens place) (is_deep w 1) w).1
@@ -459,50 +389,48 @@ routine_none : (files : FileNames) (place : Place) (w : Compilation) → (close 
 routine_none files place w =
     of_both (λ (v : Compilation). v.closed ≡ w.closed) w.is_passed_over (passed true w) (close_open files place w) (λ _. refl) (λ _. refl)
 
+inside_end : (files : FileNames) (place : Place) (e : Ending) (w : Compilation) → is_inside_end e ≡ true → w.closed ≡ 0
+    → (ended_as files place e w).closed ≡ 0
+inside_end files place ending.Locals w i e = (header_same files (first_place w.unit.tokens place) (names_in w.unit.tokens) w).0 ∙ e
+inside_end files place ending.Routine w i e = routine_none files place w ∙ e
+inside_end files place ending.Statement w i e = (quiet_end files place ending.Statement w refl).1 ∙ e
+inside_end files place ending.Condition w i e = (quiet_end files place ending.Condition w refl).1 ∙ e
+inside_end files place ending.Start w i e = (quiet_end files place ending.Start w refl).1 ∙ e
+inside_end files place ending.Step w i e = step_none files place w ∙ e
+inside_end files place ending.Loop w i e = loop_none files place w ∙ e
+inside_end files place ending.Switched w i e = (quiet_end files place ending.Switched w refl).1 ∙ e
+inside_end files place ending.Case w i e = case_none_ahead files place w ∙ e
+inside_end files place _ w i e = cc
+
+inside_role : (files : FileNames) (place : Place) (r : Role) (w : Compilation) → is_inside_role r ≡ true → w.closed ≡ 0
+    → (played files place r w).closed ≡ 0
+inside_role files place (role.Gather s) w i e = e
+inside_role files place (role.Note n) w i e = (quiet_note files n w).1 ∙ e
+inside_role files place (role.End ends) w i e = inside_end files place ends w i e
+inside_role files place (role.Open o) w i e = opened_none files place (kind_of o) w ∙ e
+inside_role files place role.Join w i e = e
+inside_role files place role.Close w i e = closed_none w e
+inside_role files place role.Deeper w i e = (quiet_role files place role.Deeper w refl).1 ∙ e
+inside_role files place role.MaybeDeeper w i e = e
+inside_role files place role.Nothing w i e = e
+
 pub inside_act : (files : FileNames) (place : Place) (a : Action) (w : Compilation) → is_inside a ≡ true → w.closed ≡ 0
     → (act files place a w).closed ≡ 0
-inside_act files place action.OpenIf w i e = opened_none files place kind.If w ∙ e
-inside_act files place action.OpenWhile w i e = opened_none files place kind.While w ∙ e
-inside_act files place action.OpenDo w i e = opened_none files place kind.Do w ∙ e
-inside_act files place action.OpenFor w i e = opened_none files place kind.For w ∙ e
-inside_act files place action.OpenObjectloop w i e = opened_none files place (kind.Objects over.Nothing 0) w ∙ e
-inside_act files place action.OpenSwitch w i e = opened_none files place (kind.Switch case.Nothing false) w ∙ e
-inside_act files place action.Else w i e = e
-inside_act files place action.Until w i e = e
-inside_act files place action.ForTop w i e = e
-inside_act files place action.Loop w i e = e
-inside_act files place action.EndForStep w i e = step_none files place w ∙ e
-inside_act files place action.EndObjectloop w i e = loop_none files place w ∙ e
-inside_act files place action.EndCase w i e = case_none_ahead files place w ∙ e
-inside_act files place action.Close w i e = closed_none w e
-inside_act files place action.EndRoutine w i e = routine_none files place w ∙ e
-inside_act files place action.EndLocals w i e = (header_same files (first_place w.unit.tokens place) (names_in w.unit.tokens) w).0 ∙ e
-inside_act files place action.EndDirective w i e = cc
-inside_act files place action.EndHeader w i e = cc
-inside_act files place action.EndBody w i e = cc
-inside_act files place action.EndClass w i e = cc
-inside_act files place action.EndAttribute w i e = cc
-inside_act files place action.EndProperty w i e = cc
-inside_act files place action.EndValue w i e = cc
-inside_act files place action.EndEmbedded w i e = cc
-inside_act files place action.EndLine w i e = cc
-inside_act files place action.EndEntry w i e = cc
-inside_act files place action.EndAlone w i e = cc
-inside_act files place a w i e = (quiet_act files place a w refl).1 ∙ e
+inside_act files place a w i e = inside_role files place (role_of a) w i e
 
 pub took_none : (files : FileNames) (t : SourceToken) (w : Compilation) → (took files t w).closed ≡ w.closed
 took_none files t w = (took_same files t w).1
 
+quiet_end_inside : (e : Ending) → is_quiet_end e ≡ true → is_inside_end e ≡ true
+quiet_end_inside ending.Statement q = refl
+quiet_end_inside ending.Condition q = refl
+quiet_end_inside ending.Start q = refl
+quiet_end_inside ending.Switched q = refl
+quiet_end_inside _ q = cc
+
+quiet_role_inside : (r : Role) → is_quiet_role r ≡ true → is_inside_role r ≡ true
+quiet_role_inside (role.End e) q = quiet_end_inside e q
+quiet_role_inside _ q = refl
+
 pub quiet_inside : (a : Action) → is_quiet a ≡ true → is_inside a ≡ true
-quiet_inside action.EndDirective q = cc
-quiet_inside action.EndHeader q = cc
-quiet_inside action.EndBody q = cc
-quiet_inside action.EndClass q = cc
-quiet_inside action.EndAttribute q = cc
-quiet_inside action.EndProperty q = cc
-quiet_inside action.EndValue q = cc
-quiet_inside action.EndEmbedded q = cc
-quiet_inside action.EndLine q = cc
-quiet_inside action.EndEntry q = cc
-quiet_inside action.EndAlone q = cc
-quiet_inside _ q = refl
+quiet_inside a q = quiet_role_inside (role_of a) q

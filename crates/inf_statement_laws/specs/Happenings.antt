@@ -5,13 +5,17 @@ use Rattle.inf_scanner.specs.declared.tokens.Place.{Place}
 use Rattle.inf_machine.specs.declared.symbols.Symbol.{Symbol}
 use Rattle.inf_machine.specs.Grammar.{Event, Took, Did, IsText}
 use Rattle.inf_syntax.specs.declared.actions.Action.{Action}
-use Rattle.inf_syntax.specs.declared.actions.Action.TheVariants as action
 use Rattle.inf_syntax.specs.Parts.{directive_2, do_rest, for_rest, if_rest, objectloop_rest, switch_rest, value_3, while_rest}
 use Rattle.inf_grammar.specs.Language.{grammar}
 use Rattle.inf_output.specs.Output.{Out}
 use Rattle.inf_unit.specs.Directives.{Request}
 use Rattle.inf_unit.specs.Messages.{Reported}
 use Rattle.inf_unit.specs.Tokens.{SourceToken}
+use Rattle.inf_unit.specs.Roles.{role_of}
+use Rattle.inf_unit.specs.declared.roles.Ending.{Ending}
+use Rattle.inf_unit.specs.declared.roles.Ending.TheVariants as ending
+use Rattle.inf_unit.specs.declared.roles.Role.{Role}
+use Rattle.inf_unit.specs.declared.roles.Role.TheVariants as role
 
 -- What is done between two tokens: conditional directives may tell something and begin code, and what was told is written. What is open
 -- stays.
@@ -55,35 +59,22 @@ bodies = directive_2 ∷ value_3 ∷ []
 
 -- Whether an action neither opens a statement that holds others nor goes on with one nor ends one, whatever unit it may end. Those that
 -- stand outside of statements count as ones that do.
+abbrev pub is_quiet_end : Ending → Bool
+is_quiet_end ending.Statement = true
+is_quiet_end ending.Condition = true
+is_quiet_end ending.Start = true
+is_quiet_end ending.Switched = true
+is_quiet_end _ = false
+
+abbrev pub is_quiet_role : Role → Bool
+is_quiet_role (role.End e) = is_quiet_end e
+is_quiet_role (role.Open o) = false
+is_quiet_role role.Join = false
+is_quiet_role role.Close = false
+is_quiet_role _ = true
+
 abbrev pub is_quiet : Action → Bool
-is_quiet action.OpenIf = false
-is_quiet action.OpenWhile = false
-is_quiet action.OpenDo = false
-is_quiet action.OpenFor = false
-is_quiet action.OpenObjectloop = false
-is_quiet action.OpenSwitch = false
-is_quiet action.Else = false
-is_quiet action.Until = false
-is_quiet action.ForTop = false
-is_quiet action.Loop = false
-is_quiet action.EndForStep = false
-is_quiet action.EndObjectloop = false
-is_quiet action.EndCase = false
-is_quiet action.Close = false
-is_quiet action.EndRoutine = false
-is_quiet action.EndLocals = false
-is_quiet action.EndDirective = false
-is_quiet action.EndHeader = false
-is_quiet action.EndBody = false
-is_quiet action.EndClass = false
-is_quiet action.EndAttribute = false
-is_quiet action.EndProperty = false
-is_quiet action.EndValue = false
-is_quiet action.EndEmbedded = false
-is_quiet action.EndLine = false
-is_quiet action.EndEntry = false
-is_quiet action.EndAlone = false
-is_quiet _ = true
+is_quiet a = is_quiet_role (role_of a)
 
 abbrev pub happens_quietly : Happening → Bool
 happens_quietly (Acts at a) = is_quiet a

@@ -3,6 +3,7 @@ pub mod Messages
 pub mod Diagnostics
 pub mod Names
 pub mod Kept
+pub mod Roles
 pub mod Steps
 pub mod Texts
 pub mod Items

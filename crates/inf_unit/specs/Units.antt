@@ -12,9 +12,12 @@ use Rattle.inf_sinks.specs.Spellings.{Name}
 use Rattle.inf_opcode.specs.declared.opcodes.Opcode.{Opcode}
 use Rattle.inf_opcode.specs.Opcodes.{row_of}
 use Rattle.inf_syntax.specs.declared.actions.Action.{Action}
-use Rattle.inf_syntax.specs.declared.actions.Action.TheVariants as action
 use Rattle.inf_unit.specs.Tokens.{SourceToken, is_mark, name_of}
-use Rattle.inf_unit.specs.Steps.{step_of}
+use Rattle.inf_unit.specs.Roles.{role_of}
+use Rattle.inf_unit.specs.declared.roles.Note.{Note}
+use Rattle.inf_unit.specs.declared.roles.Note.TheVariants as note
+use Rattle.inf_unit.specs.declared.roles.Role.{Role}
+use Rattle.inf_unit.specs.declared.roles.Role.TheVariants as role
 use Rattle.inf_unit.specs.declared.steps.Step.{Step}
 use Rattle.inf_unit.specs.declared.steps.Step.TheVariants as step
 use Rattle.inf_unit.specs.declared.items.Item.{Item}
@@ -264,11 +267,10 @@ gathered (step.Test op) tokens g = with_test op g
 gathered step.Bracket tokens g = with_bracket (order (length tokens - 1)) g
 gathered step.Bracketed tokens g = with_closed_bracket g
 
-abbrev pub stepped : Option Step → Unit → Unit
-stepped None u = u
-stepped (Some step.Leaf) u = leaf_gathered u
-stepped (Some step.Action) u = action_gathered u
-stepped (Some s) u = record u { gathering = gathered s u.tokens u.gathering }
+abbrev pub stepped : Step → Unit → Unit
+stepped step.Leaf u = leaf_gathered u
+stepped step.Action u = action_gathered u
+stepped s u = record u { gathering = gathered s u.tokens u.gathering }
 
 -- one thing more beside its expressions
 abbrev pub with_item : Item → Unit → Unit
@@ -289,27 +291,38 @@ ruled u = ruled_by (rule_of (bytes_at u.tokens (length u.tokens - 2))) u
 abbrev pub opcode_text : Unit → Unit
 opcode_text u = if takes_text (bytes_at u.tokens (next_place u.begun)) then with_item (item.Text (last_leaf u)) u else leaf_gathered u
 
--- what an action gathers; one that ends a unit gathers nothing
+-- what an action notes of the unit
+abbrev pub noted : Note → Unit → Unit
+noted note.Begin u = begun u
+noted (note.Outer is_sure) u = record u { outer = Some (length u.tokens); is_sure = is_sure }
+noted note.OuterWord u = record u { outer = Some (last_leaf u); is_sure = true }
+noted note.OuterSure u = record u { is_sure = true }
+noted note.OuterEnd u = record u { outer = None }
+noted note.Hold u = record u { held = Some (length u.tokens); outer = None }
+noted note.PrintText u = printed (item.Text (last_leaf u)) u
+noted note.PrintValue u = printed item.Value u
+noted note.Rule u = ruled u
+noted note.Set u = with_item item.Set u
+noted note.Clear u = with_item item.Clear u
+noted note.Default u = with_item item.Default u
+noted note.AsmText u = opcode_text u
+noted note.Store u = with_item (item.Store (last_leaf u)) u
+noted (note.Branch sense) u = with_item (item.Branch (last_leaf u) sense) u
+
+-- what an action gathers or notes; one that ends a unit, or has to do with the statements around it, does neither
+abbrev pub played : Role → Unit → Unit
+played (role.Gather s) u = stepped s u
+played (role.Note n) u = noted n u
+played (role.End e) u = u
+played (role.Open o) u = u
+played role.Join u = u
+played role.Close u = u
+played role.Deeper u = u
+played role.MaybeDeeper u = u
+played role.Nothing u = u
+
 abbrev pub acted : Action → Unit → Unit
-acted action.Begin u = begun u
-acted action.Outer u = record u { outer = Some (length u.tokens); is_sure = true }
-acted action.OuterMaybe u = record u { outer = Some (length u.tokens); is_sure = false }
-acted action.OuterWord u = record u { outer = Some (last_leaf u); is_sure = true }
-acted action.OuterSure u = record u { is_sure = true }
-acted action.Hold u = record u { held = Some (length u.tokens); outer = None }
-acted action.OuterEnd u = record u { outer = None }
-acted action.PrintRule u = record u { outer = None }
-acted action.PrintText u = printed (item.Text (last_leaf u)) u
-acted action.PrintValue u = printed item.Value u
-acted action.Rule u = ruled u
-acted action.Set u = with_item item.Set u
-acted action.Clear u = with_item item.Clear u
-acted action.Default u = with_item item.Default u
-acted action.AsmText u = opcode_text u
-acted action.Store u = with_item (item.Store (last_leaf u)) u
-acted action.Branch u = with_item (item.Branch (last_leaf u) true) u
-acted action.BranchNot u = with_item (item.Branch (last_leaf u) false) u
-acted a u = stepped (step_of a) u
+acted a u = played (role_of a) u
 
 -- Whole units
 

@@ -6,6 +6,7 @@ pub mod items;
 pub mod messages;
 pub mod names;
 pub mod opcodes;
+pub mod roles;
 pub mod steps;
 pub mod texts;
 pub mod tokens;

@@ -1,13 +1,13 @@
 //! The unit at hand: its tokens, and what the grammar's actions gather of them.
 ghost use Rattle.std.specs.Prelude.{◌≡◌, ◌≤◌, ◌++◌, ◌∷◌, [], None, OnOk, Some, length};
 ghost use Rattle.inf_unit.specs.AtHand.{unit};
-ghost use Rattle.inf_unit.specs.Steps.{step_of};
 ghost use Rattle.inf_unit.specs.Tokens.{spelled};
-ghost use Rattle.inf_unit.specs.Units.{acted, begun, depth_behind, first_place, forgotten, is_alone, is_assembly, is_sign, jump_label, jump_of, last_leaf, leaf_of, long_at, marked_from, next_place, no_unit, opcode_text, order, over, outer_tokens, own_place, prepared, ruled, stepped, taken, told_leaf, with_item};
+ghost use Rattle.inf_unit.specs.Units.{acted, begun, depth_behind, first_place, forgotten, is_alone, is_assembly, is_sign, jump_label, jump_of, last_leaf, leaf_of, long_at, marked_from, next_place, no_unit, noted, opcode_text, order, over, outer_tokens, own_place, prepared, ruled, stepped, taken, told_leaf, with_item};
 
 use crate::items::{Item, rule_of};
 use crate::opcodes::{opcode_of, takes_text};
-use crate::steps::{Step, step_of};
+use crate::roles::{Note, Role, role_of};
+use crate::steps::Step;
 use crate::tokens::{SourceToken, is_mark};
 use crate::unit_tokens::UnitTokens;
 use inf_gathering::gathering::{Gathering, Leaf};
@@ -189,37 +189,50 @@ impl Unit {
         self.tokens.add(token)
     }
 
-    /// What an action of the grammar gathers. One that ends a unit gathers nothing.
+    /// What an action of the grammar gathers or notes. One that ends a unit, or has to do with the statements around it, does neither.
     pub fn act(&mut self, action: Action) -> Result<(), AllocError>
         ensures { OnOk result (unit self.new ≡ acted action (unit self.old)) }
     {
+        match role_of(action) {
+            Role::Gather(step) => self.step(step),
+            Role::Note(note) => self.note(note),
+            Role::End(_)
+            | Role::Open(_)
+            | Role::Join
+            | Role::Close
+            | Role::Deeper
+            | Role::MaybeDeeper
+            | Role::Nothing => Ok(()),
+        }
+    }
+
+    /// What an action of the grammar notes of it, beside what it gathers of expressions.
+    pub fn note(&mut self, note: Note) -> Result<(), AllocError>
+        ensures { OnOk result (unit self.new ≡ noted note (unit self.old)) }
+    {
         let last = self.last();
-        match action {
-            Action::Begin => self.begin(),
-            Action::Outer => self.open_outer(true),
-            Action::OuterMaybe => self.open_outer(false),
-            Action::OuterWord => {
+        match note {
+            Note::Begin => self.begin(),
+            Note::Outer(is_sure) => self.open_outer(is_sure),
+            Note::OuterWord => {
                 self.outer = Some(last);
                 self.is_sure = true;
             }
-            Action::OuterSure => self.is_sure = true,
-            Action::Hold => {
+            Note::OuterSure => self.is_sure = true,
+            Note::OuterEnd => self.outer = None,
+            Note::Hold => {
                 self.held = Some(self.tokens.len());
                 self.outer = None;
             }
-            Action::OuterEnd => self.outer = None,
-            Action::PrintRule => self.outer = None,
-            Action::PrintText => return self.print(Item::Text(last)),
-            Action::PrintValue => return self.print(Item::Value),
-            Action::Rule => return self.rule(),
-            Action::Set => return self.item(Item::Set),
-            Action::Clear => return self.item(Item::Clear),
-            Action::Default => return self.item(Item::Default),
-            Action::AsmText => return self.opcode_text(),
-            Action::Store => return self.item(Item::Store(last)),
-            Action::Branch => return self.item(Item::Branch(last, true)),
-            Action::BranchNot => return self.item(Item::Branch(last, false)),
-            _ => return self.step(step_of(action)),
+            Note::PrintText => return self.print(Item::Text(last)),
+            Note::PrintValue => return self.print(Item::Value),
+            Note::Rule => return self.rule(),
+            Note::Set => return self.item(Item::Set),
+            Note::Clear => return self.item(Item::Clear),
+            Note::Default => return self.item(Item::Default),
+            Note::AsmText => return self.opcode_text(),
+            Note::Store => return self.item(Item::Store(last)),
+            Note::Branch(sense) => return self.item(Item::Branch(last, sense)),
         }
         Ok(())
     }
@@ -323,13 +336,10 @@ impl Unit {
         self.item(Item::Jump(label))
     }
 
-    /// What is gathered of an expression.
-    fn step(&mut self, step: Option<Step>) -> Result<(), AllocError>
+    /// What an action of the grammar gathers of an expression.
+    pub fn step(&mut self, step: Step) -> Result<(), AllocError>
         ensures { OnOk result (unit self.new ≡ stepped step (unit self.old)) }
     {
-        let Some(step) = step else {
-            return Ok(());
-        };
         let last = order(self.last());
         match step {
             Step::Leaf => self.leaf(),
@@ -352,7 +362,7 @@ impl Unit {
 
     /// The last token names an action.
     fn action(&mut self) -> Result<(), AllocError>
-        ensures { OnOk result (unit self.new ≡ stepped (Some Step.Action) (unit self.old)) }
+        ensures { OnOk result (unit self.new ≡ stepped Step.Action (unit self.old)) }
     {
         let at = self.last();
         let first = marked_from(&self.tokens, at);
@@ -362,7 +372,7 @@ impl Unit {
 
     /// The last token is a leaf.
     fn leaf(&mut self) -> Result<(), AllocError>
-        ensures { OnOk result (unit self.new ≡ stepped (Some Step.Leaf) (unit self.old)) }
+        ensures { OnOk result (unit self.new ≡ stepped Step.Leaf (unit self.old)) }
     {
         let at = self.last();
         let is_alone = self.is_alone(at);

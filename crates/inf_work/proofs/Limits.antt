@@ -1,6 +1,6 @@
 -- No action changes what there may be of names and of code.
-use Rattle.std.proofs.Common.{◌≡◌, ℕ, List, [], ◌∷◌, ◌&&◌, Bool, true, false, cond, Option, Some, None, refl, map}
-use Rattle.std.specs.Prelude.{codes, is_some, length, nat_le, nat_lt, ◌+◌, ◌-◌, ◌++◌}
+use Rattle.std.proofs.Common.{ℕ, List, [], ◌∷◌, ◌&&◌, Bool, true, false, Option, Some, None, refl, map}
+use Rattle.std.specs.Prelude.{is_some, length, nat_le, nat_lt, ◌+◌, ◌-◌}
 use Rattle.inf_code.specs.Code.{place_behind}
 use Rattle.inf_scanner.specs.declared.tokens.Place.{Place}
 use Rattle.inf_assembler.specs.declared.routines.RoutineKind.TheVariants as routine_kind
@@ -10,16 +10,13 @@ use Rattle.inf_expressions.specs.Findings.{least_of_both}
 use Rattle.inf_expressions.specs.declared.units.Wanted.TheVariants as wanted
 use Rattle.inf_names.specs.declared.meanings.Meaning.{Meaning}
 use Rattle.inf_names.specs.declared.meanings.Meaning.TheVariants as meaning_of
-use Rattle.inf_names.specs.declared.symbols.Found.{Found}
-use Rattle.inf_names.specs.declared.symbols.Found.TheVariants as found
-use Rattle.inf_names.specs.Symbols.{declare_fault, found_in}
-use Rattle.inf_output.specs.Output.{Code, Out, begun, closed, declared, opened, referred}
-use Rattle.inf_output.specs.Limits.{Keeps, SameLimits as SameOutLimits}
+use Rattle.inf_names.specs.Symbols.{declare_fault}
+use Rattle.inf_output.specs.Output.{Out, begun, closed, declared, opened}
+use Rattle.inf_output.specs.Limits.{SameLimits as SameOutLimits}
 use Rattle.inf_output.proofs.Keeping.{begun_keeps, closed_keeps, declared_keeps, opened_keeps, referred_keeps, same_then as out_same_then}
 use Rattle.inf_sinks.specs.Spellings.{Name}
 use Rattle.inf_sinks.specs.Locals.{Headed, no_locals, with_locals}
 use Rattle.inf_syntax.specs.declared.actions.Action.{Action}
-use Rattle.inf_syntax.specs.declared.actions.Action.TheVariants as action
 use Rattle.inf_unit.specs.Directives.{directive_of}
 use Rattle.inf_unit.specs.declared.directives.Directive.{Directive}
 use Rattle.inf_unit.specs.declared.directives.Directive.TheVariants as directive
@@ -29,31 +26,31 @@ use Rattle.inf_report.specs.declared.messages.FixedLimit.TheVariants as countabl
 use Rattle.inf_area.specs.declared.targets.Value.{Value}
 use Rattle.inf_world.specs.declared.faults.AddFault.{AddFault}
 use Rattle.inf_world.specs.World.{attribute_fault, property_fault}
-use Rattle.std.specs.Str.{str_eq_ignore_ascii_case}
-use Rattle.inf_unit.specs.Messages.{Diagnostic, FileNames}
+use Rattle.inf_unit.specs.Messages.{FileNames}
 use Rattle.inf_unit.specs.Tokens.{SourceToken}
-use Rattle.inf_unit.specs.Units.{acted as unit_acted, bytes_at, first_place, last_place, long_at, name_order, names_in, taken as unit_taken}
+use Rattle.inf_unit.specs.Units.{first_place, last_place, long_at, name_order, names_in, noted as unit_noted, taken as unit_taken}
 use Rattle.inf_unit.proofs.Cases.{of_both}
-use Rattle.inf_statements.specs.Constructs.{Laying, are_own, begun as construct_begun, between, cases_begun, changed, condition_label, ended, entered, looped_over, next_case, stepped}
+use Rattle.inf_statements.specs.Constructs.{Laying, are_own, cases_begun, condition_label, ended, next_case}
 use Rattle.inf_statements.specs.Limits.{LayingKeeps}
-use Rattle.inf_statements.specs.Statements.{alone, switched, tested, tree_in}
-use Rattle.inf_statements.specs.Cases.{case_code}
-use Rattle.inf_statements.specs.declared.constructs.Case.TheVariants as case
+use Rattle.inf_statements.specs.Statements.{alone, tree_in}
 use Rattle.inf_statements.specs.declared.constructs.Construct.{Construct}
 use Rattle.inf_statements.specs.declared.constructs.Kind.{Kind}
-use Rattle.inf_statements.specs.declared.constructs.Kind.TheVariants as kind
-use Rattle.inf_statements.specs.declared.constructs.Over.TheVariants as over
 use Rattle.inf_statements.proofs.Keeping.{all_ended_keep, alone_keep, begun_keeps as begun_construct_keeps, case_keeps, cases_begun_keeps, cases_keep, ended_keeps, joined_keeps, leaf_added_keeps, leaves_same, looped_over_keeps, statement_keeps, stepped_keeps, switched_keeps, tested_keeps}
-use Rattle.inf_work.specs.Actions.{Compilation, begun_at, body_ended, cases_ended, close, close_open, constant, constant_added, constant_finding, constant_meaning, constant_of, constant_with, cut, finding_at, given_up, header_end, header_of, header_with, is_deep, is_first_declared, is_replaced, kind_ended, name_finding, named, nested, new_stub, opened_with, opening_checked, opening_checked_at, opens, operands_of, passed, replace, routine_declared, settled_of, sized, stopped, stub, stub_code, stub_locals, stubbed, token_checked, told, took, trees_at, unit_ended}
-use Rattle.inf_work.specs.Declarations.{alias_by, is_alias, alias_finding, alias_meaning, alias_told, alias_with, aliased, attribute, attribute_added, attribute_number, attribute_with, global_added, global_variable, global_with, is_additive, last_meaning, new_attribute, new_attribute_by, new_global, new_property, new_property_by, nothing_of, name_known, property, property_added, property_named, property_names, property_number, property_order, property_with, value_of, valued, with_variable}
+use Rattle.inf_work.specs.Actions.{Compilation, begun_at, body_ended, cases_ended, close, close_open, constant, constant_added, constant_finding, constant_meaning, constant_of, constant_with, cut, finding_at, given_up, header_of, header_with, is_deep, is_first_declared, is_replaced, kind_ended, name_finding, named, nested, new_stub, opening_checked, opening_checked_at, opens, operands_of, passed, replace, routine_declared, settled_of, sized, stopped, stub, stub_code, stub_locals, stubbed, token_checked, told, took, trees_at, unit_ended}
+use Rattle.inf_work.specs.Declarations.{is_alias, alias_finding, alias_told, aliased, attribute, attribute_added, attribute_number, attribute_with, global_added, global_variable, is_additive, last_meaning, new_attribute, new_attribute_by, new_global, new_property, new_property_by, nothing_of, name_known, property, property_added, property_named, property_names, property_number, property_order, property_with, value_of, valued, with_variable}
 use Rattle.inf_work.proofs.Bounds.{attribute_read_same, body_ended_same, class_read_same, embedded_read_same, property_read_same, value_read_same}
-use Rattle.inf_work.specs.Directives.{carried_out, default, directive_end, directive_of_names}
-use Rattle.inf_work.specs.declared.declarations.Declared.{Declared}
-use Rattle.inf_work.specs.Acting.{act, acted, all_acted}
+use Rattle.inf_work.specs.Directives.{carried_out, default, directive_of_names}
+use Rattle.inf_unit.specs.Roles.{makes_sure, role_of}
+use Rattle.inf_unit.specs.declared.roles.Ending.{Ending}
+use Rattle.inf_unit.specs.declared.roles.Ending.TheVariants as ending
+use Rattle.inf_unit.specs.declared.roles.Note.{Note}
+use Rattle.inf_unit.specs.declared.roles.Role.{Role}
+use Rattle.inf_unit.specs.declared.roles.Role.TheVariants as role
+use Rattle.inf_work.specs.Acting.{act, acted, all_acted, ended as ended_as, kind_of, noted, played}
 use Rattle.inf_work.specs.Findings.{header_fault, name_fault}
-use Rattle.inf_work.specs.Limits.{LimitsStay, SameLimits}
+use Rattle.inf_work.specs.Limits.{SameLimits}
 use Rattle.inf_work.proofs.ArrayLimits.{entry_same, header_same}
-use Rattle.inf_work.specs.Parts.{actions_named, case_prepared, closed_ahead, construct_closed, constructs_laid, construct_ended, construct_joined, construct_opened, found_in as found_in_part, has_last, is_default, order_of, part_begun, part_carried, part_effect, part_ended, part_finished, part_prepared, place_of, site_of, statement_at, wanted_of}
+use Rattle.inf_work.specs.Parts.{actions_named, case_prepared, closed_ahead, construct_closed, constructs_laid, construct_ended, construct_opened, found_in as found_in_part, has_last, is_default, order_of, part_begun, part_carried, part_effect, part_ended, part_finished, part_prepared, place_of, site_of, statement_at, wanted_of}
 use Rattle.inf_work.proofs.VerbLimits.{fake_same, line_same}
 use Rattle.inf_work.specs.declared.parts.Part.{Part}
 use Rattle.inf_work.specs.declared.parts.Part.TheVariants as part
@@ -338,111 +335,46 @@ closed_ahead_same count w = all_ended_keep (count - w.closed) w.constructs w.out
 
 -- Actions
 
+noted_same : (files : FileNames) (n : Note) (w : Compilation) → SameLimits w (noted files n w)
+noted_same files n w =
+    let v = record w { unit = unit_noted n w.unit } in
+    of_both (SameLimits w) (makes_sure n) (sized files v) v (λ _. sized_same files v) (λ _. (refl, refl))
+
+ended_same : (files : FileNames) (place : Place) (e : Ending) (w : Compilation) → SameLimits w (ended_as files place e w)
+ended_same files place ending.Locals w = header_of_same files (first_place w.unit.tokens place) (names_in w.unit.tokens) w
+ended_same files place ending.Embedded w = embedded_read_same files place w
+ended_same files place ending.Routine w = close_same files place w
+ended_same files place ending.Directive w = names_same files (first_place w.unit.tokens place) (names_in w.unit.tokens) w
+ended_same files place ending.Header w = header_same files place w
+ended_same files place ending.Body w = body_ended_same w
+ended_same files place ending.Class w = class_read_same files place w
+ended_same files place ending.Attribute w = attribute_read_same files place w
+ended_same files place ending.Property w = property_read_same files place w
+ended_same files place ending.Value w = value_read_same files place w
+ended_same files place ending.Line w = line_same files place w
+ended_same files place ending.Entry w = entry_same files place false w
+ended_same files place ending.Alone w = entry_same files place true w
+ended_same files place ending.Statement w = part_same files place (part.Statement (statement_at w)) w
+ended_same files place ending.Condition w = part_same files place part.Condition w
+ended_same files place ending.Start w = part_same files place part.Start w
+ended_same files place ending.Step w = part_same files place part.Step w
+ended_same files place ending.Loop w = part_same files place part.Loop w
+ended_same files place ending.Switched w = part_same files place part.Switched w
+ended_same files place ending.Case w = part_same files place part.Case w
+
+played_same : (files : FileNames) (place : Place) (r : Role) (w : Compilation) → SameLimits w (played files place r w)
+played_same files place (role.Gather s) w = (refl, refl)
+played_same files place (role.Note n) w = noted_same files n w
+played_same files place (role.End e) w = ended_same files place e w
+played_same files place (role.Open o) w = opened_same files place (kind_of o) w
+played_same files place role.Join w = joined_keeps w.constructs w.output
+played_same files place role.Close w = closed_same w
+played_same files place role.Deeper w = nested_same files place (is_deep w 1) w
+played_same files place role.MaybeDeeper w = (refl, refl)
+played_same files place role.Nothing w = (refl, refl)
+
 act_same : (files : FileNames) (place : Place) (a : Action) (w : Compilation) → SameLimits w (act files place a w)
-act_same files place action.EndLocals w = header_of_same files (first_place w.unit.tokens place) (names_in w.unit.tokens) w
-act_same files place action.EndDirective w = names_same files (first_place w.unit.tokens place) (names_in w.unit.tokens) w
-act_same files place action.EndStatement w = part_same files place (part.Statement (statement_at w)) w
-act_same files place action.EndRoutine w = close_same files place w
-act_same files place action.Deeper w = nested_same files place (is_deep w 1) w
-act_same files place action.OpenIf w = opened_same files place kind.If w
-act_same files place action.EndIf w = part_same files place part.Condition w
-act_same files place action.Else w = joined_keeps w.constructs w.output
-act_same files place action.Close w = closed_same w
-act_same files place action.OuterSure w = sized_same files (record w { unit = unit_acted action.OuterSure w.unit })
-act_same files place action.Routine w = (refl, refl)
-act_same files place action.EndHeader w = header_same files place w
-act_same files place action.EndText w = (refl, refl)
-act_same files place action.Outer w = (refl, refl)
-act_same files place action.Name w = (refl, refl)
-act_same files place action.EndEntry w = entry_same files place false w
-act_same files place action.EndAlone w = entry_same files place true w
-act_same files place action.Hold w = (refl, refl)
-act_same files place action.EndBody w = body_ended_same w
-act_same files place action.EndClass w = class_read_same files place w
-act_same files place action.EndProperty w = property_read_same files place w
-act_same files place action.EndValue w = value_read_same files place w
-act_same files place action.EndEmbedded w = embedded_read_same files place w
-act_same files place action.Negate w = (refl, refl)
-act_same files place action.EndAttribute w = attribute_read_same files place w
-act_same files place action.EndLine w = line_same files place w
-act_same files place action.Comma w = (refl, refl)
-act_same files place action.Not w = (refl, refl)
-act_same files place action.BitNot w = (refl, refl)
-act_same files place action.Assign w = (refl, refl)
-act_same files place action.And w = (refl, refl)
-act_same files place action.Or w = (refl, refl)
-act_same files place action.Equal w = (refl, refl)
-act_same files place action.Unequal w = (refl, refl)
-act_same files place action.Less w = (refl, refl)
-act_same files place action.Greater w = (refl, refl)
-act_same files place action.LessOrEqual w = (refl, refl)
-act_same files place action.GreaterOrEqual w = (refl, refl)
-act_same files place action.Has w = (refl, refl)
-act_same files place action.HasNot w = (refl, refl)
-act_same files place action.In w = (refl, refl)
-act_same files place action.NotIn w = (refl, refl)
-act_same files place action.OfClass w = (refl, refl)
-act_same files place action.Provides w = (refl, refl)
-act_same files place action.Count w = (refl, refl)
-act_same files place action.Part w = (refl, refl)
-act_same files place action.Plus w = (refl, refl)
-act_same files place action.Minus w = (refl, refl)
-act_same files place action.Times w = (refl, refl)
-act_same files place action.Divide w = (refl, refl)
-act_same files place action.Remainder w = (refl, refl)
-act_same files place action.BitAnd w = (refl, refl)
-act_same files place action.BitOr w = (refl, refl)
-act_same files place action.ByteEntry w = (refl, refl)
-act_same files place action.WordEntry w = (refl, refl)
-act_same files place action.IncrementBefore w = (refl, refl)
-act_same files place action.DecrementBefore w = (refl, refl)
-act_same files place action.IncrementAfter w = (refl, refl)
-act_same files place action.DecrementAfter w = (refl, refl)
-act_same files place action.MemberAddress w = (refl, refl)
-act_same files place action.MemberLength w = (refl, refl)
-act_same files place action.Member w = (refl, refl)
-act_same files place action.Call w = (refl, refl)
-act_same files place action.Text w = (refl, refl)
-act_same files place action.Bracket w = (refl, refl)
-act_same files place action.Bracketed w = (refl, refl)
-act_same files place action.Number w = (refl, refl)
-act_same files place action.Char w = (refl, refl)
-act_same files place action.Word w = (refl, refl)
-act_same files place action.Action w = (refl, refl)
-act_same files place action.System w = (refl, refl)
-act_same files place action.Begin w = (refl, refl)
-act_same files place action.OuterMaybe w = (refl, refl)
-act_same files place action.PrintText w = (refl, refl)
-act_same files place action.OpenWhile w = opened_same files place kind.While w
-act_same files place action.EndWhile w = part_same files place part.Condition w
-act_same files place action.OpenDo w = opened_same files place kind.Do w
-act_same files place action.Until w = joined_keeps w.constructs w.output
-act_same files place action.EndUntil w = part_same files place part.Condition w
-act_same files place action.OpenFor w = opened_same files place kind.For w
-act_same files place action.ForTop w = joined_keeps w.constructs w.output
-act_same files place action.EndForStart w = part_same files place part.Start w
-act_same files place action.EndForTest w = part_same files place part.Condition w
-act_same files place action.EndForStep w = part_same files place part.Step w
-act_same files place action.OpenObjectloop w = opened_same files place (kind.Objects over.Nothing 0) w
-act_same files place action.EndObjectloop w = part_same files place part.Loop w
-act_same files place action.Loop w = joined_keeps w.constructs w.output
-act_same files place action.OpenSwitch w = opened_same files place (kind.Switch case.Nothing false) w
-act_same files place action.EndSwitch w = part_same files place part.Switched w
-act_same files place action.OuterEnd w = (refl, refl)
-act_same files place action.Set w = (refl, refl)
-act_same files place action.Clear w = (refl, refl)
-act_same files place action.AsmText w = (refl, refl)
-act_same files place action.Store w = (refl, refl)
-act_same files place action.Branch w = (refl, refl)
-act_same files place action.BranchNot w = (refl, refl)
-act_same files place action.PrintValue w = (refl, refl)
-act_same files place action.Rule w = (refl, refl)
-act_same files place action.PrintRule w = (refl, refl)
-act_same files place action.Default w = (refl, refl)
-act_same files place action.OuterWord w = sized_same files (record w { unit = unit_acted action.OuterWord w.unit })
-act_same files place action.EndCase w = part_same files place part.Case w
-act_same files place action.To w = (refl, refl)
-act_same files place action.MaybeDeeper w = (refl, refl)
+act_same files place a w = played_same files place (role_of a) w
 
 acted_same : (files : FileNames) (place : Place) (actions : List Action) (w : Compilation) → SameLimits w (acted files place actions w)
 acted_same files place [] w = (refl, refl)

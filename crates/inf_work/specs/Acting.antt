@@ -1,11 +1,19 @@
 -- What each action of the grammar does.
-use Rattle.std.specs.Prelude.{List, [], ◌∷◌, None, Some, false, true}
+use Rattle.std.specs.Prelude.{List, [], ◌∷◌, None, Some, false, true, if◌then◌else◌}
 use Rattle.inf_scanner.specs.declared.tokens.Place.{Place}
 use Rattle.inf_syntax.specs.declared.actions.Action.{Action}
-use Rattle.inf_syntax.specs.declared.actions.Action.TheVariants as action
 use Rattle.inf_unit.specs.Messages.{FileNames}
-use Rattle.inf_unit.specs.Units.{acted as unit_acted}
+use Rattle.inf_unit.specs.Roles.{makes_sure, role_of}
+use Rattle.inf_unit.specs.declared.roles.Ending.{Ending}
+use Rattle.inf_unit.specs.declared.roles.Ending.TheVariants as ending
+use Rattle.inf_unit.specs.declared.roles.Note.{Note}
+use Rattle.inf_unit.specs.declared.roles.Opening.{Opening}
+use Rattle.inf_unit.specs.declared.roles.Opening.TheVariants as opening
+use Rattle.inf_unit.specs.declared.roles.Role.{Role}
+use Rattle.inf_unit.specs.declared.roles.Role.TheVariants as role
+use Rattle.inf_unit.specs.Units.{noted as unit_noted, stepped}
 use Rattle.inf_statements.specs.declared.constructs.Case.TheVariants as case
+use Rattle.inf_statements.specs.declared.constructs.Kind.{Kind}
 use Rattle.inf_statements.specs.declared.constructs.Kind.TheVariants as kind
 use Rattle.inf_statements.specs.declared.constructs.Over.TheVariants as over
 use Rattle.inf_work.specs.Actions.{Compilation, body_ended, close, header_end, is_deep, nested, sized}
@@ -17,47 +25,56 @@ use Rattle.inf_work.specs.Parts.{construct_closed, construct_joined, construct_o
 use Rattle.inf_work.specs.Verbs.{line_ended}
 use Rattle.inf_work.specs.declared.parts.Part.TheVariants as part
 
--- what an action does before a token at a place
+-- Something is noted of the unit at hand, by which its outermost expression may be too long.
+abbrev pub noted : FileNames → Note → Compilation → Compilation
+noted files n w = let v = record w { unit = unit_noted n w.unit } in if makes_sure n then sized files v else v
+
+-- The unit at hand ends, before a token at a place.
+abbrev pub ended : FileNames → Place → Ending → Compilation → Compilation
+ended files place ending.Locals w = header_end files place w
+ended files place ending.Embedded w = embedded_read files place w
+ended files place ending.Routine w = close files place w
+ended files place ending.Directive w = directive_end files place w
+ended files place ending.Header w = header_ended files place w
+ended files place ending.Body w = body_ended w
+ended files place ending.Class w = class_read files place w
+ended files place ending.Attribute w = attribute_read files place w
+ended files place ending.Property w = property_read files place w
+ended files place ending.Value w = value_read files place w
+ended files place ending.Line w = line_ended files place w
+ended files place ending.Entry w = entry_ended files place false w
+ended files place ending.Alone w = entry_ended files place true w
+ended files place ending.Statement w = part_ended files place (part.Statement (statement_at w)) w
+ended files place ending.Condition w = part_ended files place part.Condition w
+ended files place ending.Start w = part_ended files place part.Start w
+ended files place ending.Step w = part_ended files place part.Step w
+ended files place ending.Loop w = part_ended files place part.Loop w
+ended files place ending.Switched w = part_ended files place part.Switched w
+ended files place ending.Case w = part_ended files place part.Case w
+
+-- the kind of a statement that begins
+abbrev pub kind_of : Opening → Kind
+kind_of opening.If = kind.If
+kind_of opening.While = kind.While
+kind_of opening.Do = kind.Do
+kind_of opening.For = kind.For
+kind_of opening.Objectloop = kind.Objects over.Nothing 0
+kind_of opening.Switch = kind.Switch case.Nothing false
+
+-- what an action does that is there for something, before a token at a place
+abbrev pub played : FileNames → Place → Role → Compilation → Compilation
+played files place (role.Gather s) w = record w { unit = stepped s w.unit }
+played files place (role.Note n) w = noted files n w
+played files place (role.End e) w = ended files place e w
+played files place (role.Open o) w = construct_opened files place (kind_of o) w
+played files place role.Join w = construct_joined w
+played files place role.Close w = construct_closed w
+played files place role.Deeper w = nested files place (is_deep w 1) w
+played files place role.MaybeDeeper w = record w { opening = Some place }
+played files place role.Nothing w = w
+
 abbrev pub act : FileNames → Place → Action → Compilation → Compilation
-act files place action.EndLocals w = header_end files place w
-act files place action.EndDirective w = directive_end files place w
-act files place action.EndHeader w = header_ended files place w
-act files place action.EndBody w = body_ended w
-act files place action.EndClass w = class_read files place w
-act files place action.EndAttribute w = attribute_read files place w
-act files place action.EndProperty w = property_read files place w
-act files place action.EndValue w = value_read files place w
-act files place action.EndEmbedded w = embedded_read files place w
-act files place action.EndLine w = line_ended files place w
-act files place action.EndEntry w = entry_ended files place false w
-act files place action.EndAlone w = entry_ended files place true w
-act files place action.EndRoutine w = close files place w
-act files place action.EndStatement w = part_ended files place (part.Statement (statement_at w)) w
-act files place action.EndIf w = part_ended files place part.Condition w
-act files place action.EndWhile w = part_ended files place part.Condition w
-act files place action.EndUntil w = part_ended files place part.Condition w
-act files place action.EndForTest w = part_ended files place part.Condition w
-act files place action.EndForStart w = part_ended files place part.Start w
-act files place action.EndForStep w = part_ended files place part.Step w
-act files place action.EndObjectloop w = part_ended files place part.Loop w
-act files place action.EndSwitch w = part_ended files place part.Switched w
-act files place action.EndCase w = part_ended files place part.Case w
-act files place action.Deeper w = nested files place (is_deep w 1) w
-act files place action.MaybeDeeper w = record w { opening = Some place }
-act files place action.OpenIf w = construct_opened files place kind.If w
-act files place action.OpenWhile w = construct_opened files place kind.While w
-act files place action.OpenDo w = construct_opened files place kind.Do w
-act files place action.OpenFor w = construct_opened files place kind.For w
-act files place action.OpenObjectloop w = construct_opened files place (kind.Objects over.Nothing 0) w
-act files place action.OpenSwitch w = construct_opened files place (kind.Switch case.Nothing false) w
-act files place action.Else w = construct_joined w
-act files place action.Until w = construct_joined w
-act files place action.ForTop w = construct_joined w
-act files place action.Loop w = construct_joined w
-act files place action.Close w = construct_closed w
-act files place action.OuterSure w = sized files (record w { unit = unit_acted action.OuterSure w.unit })
-act files place action.OuterWord w = sized files (record w { unit = unit_acted action.OuterWord w.unit })
-act files place a w = record w { unit = unit_acted a w.unit }
+act files place a w = played files place (role_of a) w
 
 abbrev pub acted : FileNames → Place → List Action → Compilation → Compilation
 acted files place [] w = w

@@ -2,6 +2,7 @@
 ghost use Rattle.std.specs.Prelude.{◌≡◌, ◌≤◌, IfOk, None, OnOk};
 ghost use Rattle.inf_unit.specs.Messages.{location};
 ghost use Rattle.inf_unit.specs.Tokens.{spelled};
+ghost use Rattle.inf_work.specs.Acting.{kind_of};
 ghost use Rattle.inf_work.specs.Actions.{names_class, no_output};
 
 use crate::arrays::Listing;
@@ -29,6 +30,7 @@ use inf_text::CharSet;
 use inf_unit::directives::Request;
 use inf_unit::messages::{Diagnostics, location};
 use inf_unit::names::no_symbols;
+use inf_unit::roles::{Ending, Note, Opening, Role, makes_sure, role_of};
 use inf_unit::tokens::SourceToken;
 use inf_unit::unit::Unit;
 use inf_verbs::Place as LinePlace;
@@ -114,11 +116,25 @@ fn names_class(found: Found<Place>) -> bool
     matches!(found, Found::Declared(Meaning::Class(_), _))
 }
 
+/// The kind of a statement that begins.
+fn kind_of(opening: Opening) -> Kind
+    ensures { result ≡ kind_of opening }
+{
+    match opening {
+        Opening::If => Kind::If,
+        Opening::While => Kind::While,
+        Opening::Do => Kind::Do,
+        Opening::For => Kind::For,
+        Opening::Objectloop => Kind::Objects(Over::Nothing, 0),
+        Opening::Switch => Kind::Switch(Case::Nothing, false),
+    }
+}
+
 impl Compilation {
     ghost use Rattle.inf_unit.specs.Directives.{Nothing, asked, asks};
     ghost use Rattle.inf_work.specs.Actions.{begun_at, cut, entered, is_class, is_deep, labels_counted, left, nested, no_work, opening_checked, passed, piece_begun, sized, token_checked, took, unit_ended};
     ghost use Rattle.inf_work.specs.Parts.{closed_ahead, construct_closed};
-    ghost use Rattle.inf_work.specs.Acting.{act, acted, all_acted};
+    ghost use Rattle.inf_work.specs.Acting.{act, acted, all_acted, ended, noted};
     ghost use Rattle.inf_work.specs.Works.{work};
 
     /// Before the first unit of sources in a character set.
@@ -318,56 +334,61 @@ impl Compilation {
     fn act(&mut self, files: &Stack, place: Place, action: Action) -> Result<(), AllocError>
         ensures { OnOk result (work self.new ≡ act files.now.names place action (work self.old)) }
     {
-        match action {
-            Action::EndLocals => self.end_header(files, place),
-            Action::EndDirective => self.end_directive(files, place),
-            Action::EndHeader => self.end_directive_header(files, place),
-            Action::EndBody => self.end_body(),
-            Action::EndClass => self.class_of_body(files, place),
-            Action::EndAttribute => self.attribute_of_body(files, place),
-            Action::EndProperty => self.property_of_body(files, place),
-            Action::EndValue => self.value_of_body(files, place),
-            Action::EndEmbedded => self.routine_of_body(files, place),
-            Action::EndLine => self.end_line(files, place),
-            Action::EndEntry => self.end_entry(files, place, false),
-            Action::EndAlone => self.end_entry(files, place, true),
-            Action::EndRoutine => self.close(files, place),
-            Action::EndStatement => self.end_statement(files, place),
-            Action::EndIf | Action::EndWhile | Action::EndUntil | Action::EndForTest => {
-                self.end_part(files, place, Part::Condition)
-            }
-            Action::EndForStart => self.end_part(files, place, Part::Start),
-            Action::EndForStep => self.end_part(files, place, Part::Step),
-            Action::EndObjectloop => self.end_part(files, place, Part::Loop),
-            Action::EndSwitch => self.end_part(files, place, Part::Switched),
-            Action::EndCase => self.end_part(files, place, Part::Case),
-            Action::Deeper => {
+        match role_of(action) {
+            Role::Gather(step) => self.unit.step(step),
+            Role::Note(note) => self.note(files, note),
+            Role::End(ending) => self.end(files, place, ending),
+            Role::Open(opening) => self.open_construct(files, place, kind_of(opening)),
+            Role::Join => self.constructs.go_on(&mut self.output),
+            Role::Close => self.close_construct(),
+            Role::Deeper => {
                 let is_deep = self.is_deep(1);
                 self.nest(files, place, is_deep)
             }
-            Action::MaybeDeeper => {
+            Role::MaybeDeeper => {
                 self.opening = Some(place);
                 Ok(())
             }
-            Action::OpenIf => self.open_construct(files, place, Kind::If),
-            Action::OpenWhile => self.open_construct(files, place, Kind::While),
-            Action::OpenDo => self.open_construct(files, place, Kind::Do),
-            Action::OpenFor => self.open_construct(files, place, Kind::For),
-            Action::OpenObjectloop => {
-                self.open_construct(files, place, Kind::Objects(Over::Nothing, 0))
-            }
-            Action::OpenSwitch => {
-                self.open_construct(files, place, Kind::Switch(Case::Nothing, false))
-            }
-            Action::Else | Action::Until | Action::ForTop | Action::Loop => {
-                self.constructs.go_on(&mut self.output)
-            }
-            Action::Close => self.close_construct(),
-            Action::OuterSure | Action::OuterWord => {
-                self.unit.act(action)?;
-                self.size(files)
-            }
-            _ => self.unit.act(action),
+            Role::Nothing => Ok(()),
+        }
+    }
+
+    /// Something is noted of the unit at hand, by which its outermost expression may be too long.
+    fn note(&mut self, files: &Stack, note: Note) -> Result<(), AllocError>
+        ensures { OnOk result (work self.new ≡ noted files.now.names note (work self.old)) }
+    {
+        self.unit.note(note)?;
+        if makes_sure(note) {
+            return self.size(files);
+        }
+        Ok(())
+    }
+
+    /// The unit at hand ends, before a token at a place.
+    fn end(&mut self, files: &Stack, place: Place, ending: Ending) -> Result<(), AllocError>
+        ensures { OnOk result (work self.new ≡ ended files.now.names place ending (work self.old)) }
+    {
+        match ending {
+            Ending::Locals => self.end_header(files, place),
+            Ending::Embedded => self.routine_of_body(files, place),
+            Ending::Routine => self.close(files, place),
+            Ending::Directive => self.end_directive(files, place),
+            Ending::Header => self.end_directive_header(files, place),
+            Ending::Body => self.end_body(),
+            Ending::Class => self.class_of_body(files, place),
+            Ending::Attribute => self.attribute_of_body(files, place),
+            Ending::Property => self.property_of_body(files, place),
+            Ending::Value => self.value_of_body(files, place),
+            Ending::Line => self.end_line(files, place),
+            Ending::Entry => self.end_entry(files, place, false),
+            Ending::Alone => self.end_entry(files, place, true),
+            Ending::Statement => self.end_statement(files, place),
+            Ending::Condition => self.end_part(files, place, Part::Condition),
+            Ending::Start => self.end_part(files, place, Part::Start),
+            Ending::Step => self.end_part(files, place, Part::Step),
+            Ending::Loop => self.end_part(files, place, Part::Loop),
+            Ending::Switched => self.end_part(files, place, Part::Switched),
+            Ending::Case => self.end_part(files, place, Part::Case),
         }
     }
 

@@ -1,0 +1,270 @@
+//! What each action of the grammar is there for.
+ghost use Rattle.std.specs.Prelude.{◌≡◌};
+ghost use Rattle.inf_unit.specs.Roles.{failing, makes_sure, operation, prefix, property, role_of, suffix, test, two};
+
+use crate::steps::Step;
+use inf_expressions::{Binary, Operation, PropertyPart, Single, Step as Stepping, Test, Unary};
+use inf_syntax::Action;
+
+/// What an action notes of a unit beside what it gathers of expressions.
+#[derive(Clone, Copy, Debug, PartialEq, Eq)]
+pub enum Note {
+    /// The next token is the first of a unit.
+    Begin,
+    /// An outermost expression begins with the next token, and surely is one or not.
+    Outer(bool),
+    /// An outermost expression began with the last token.
+    OuterWord,
+    /// What is open surely is an expression.
+    OuterSure,
+    /// No outermost expression is open any more.
+    OuterEnd,
+    /// The unit is whole, and waits for what follows it.
+    Hold,
+    /// The last token is a text that is printed.
+    PrintText,
+    /// The latest expression is printed.
+    PrintValue,
+    /// The name in the bracket that was closed last is a print rule.
+    Rule,
+    /// Attributes that are set, or cleared.
+    Set,
+    Clear,
+    /// A default in place of a case.
+    Default,
+    /// The last token is a text behind an opcode.
+    AsmText,
+    /// The last token names where an instruction stores.
+    Store,
+    /// The last token names a label to which an instruction branches, where its test holds or where it fails.
+    Branch(bool),
+}
+
+/// Which unit ends.
+#[derive(Clone, Copy, Debug, PartialEq, Eq)]
+pub enum Ending {
+    /// The header of a routine, and of one that is the value of a property.
+    Locals,
+    Embedded,
+    /// A routine.
+    Routine,
+    /// A directive that is one unit.
+    Directive,
+    /// The header of one that is not.
+    Header,
+    /// The body of an object or a class; what stands in it.
+    Body,
+    Class,
+    Attribute,
+    Property,
+    Value,
+    /// A line of grammar.
+    Line,
+    /// An entry of an array, and one that is alone.
+    Entry,
+    Alone,
+    Statement,
+    /// The parts of statements that hold others: a condition; the three parts of a `for`; what a loop over objects goes over; what is
+    /// switched on; the values of a case.
+    Condition,
+    Start,
+    Step,
+    Loop,
+    Switched,
+    Case,
+}
+
+/// Which statement begins that holds others.
+#[derive(Clone, Copy, Debug, PartialEq, Eq)]
+pub enum Opening {
+    If,
+    While,
+    Do,
+    For,
+    Objectloop,
+    Switch,
+}
+
+/// What an action is there for.
+#[derive(Clone, Copy, Debug, PartialEq, Eq)]
+pub enum Role {
+    /// Something of an expression is gathered.
+    Gather(Step),
+    /// Something else of a unit is noted.
+    Note(Note),
+    /// A unit ends.
+    End(Ending),
+    /// A statement begins that holds others.
+    Open(Opening),
+    /// The innermost of these goes on with its next part.
+    Join,
+    /// The innermost of these is over.
+    Close,
+    /// A statement stands in another one, or may stand in one.
+    Deeper,
+    MaybeDeeper,
+    /// Nothing is done: the front of a routine, and what is not read yet.
+    Nothing,
+}
+
+/// An operator of one expression, in front of it.
+fn prefix(op: Unary) -> Role
+    ensures { result ≡ prefix op }
+{
+    Role::Gather(Step::Prefix(op))
+}
+
+/// An operator of one expression, behind it.
+fn suffix(op: Unary) -> Role
+    ensures { result ≡ suffix op }
+{
+    Role::Gather(Step::Suffix(op))
+}
+
+/// An operator of two expressions.
+fn two(op: Binary) -> Role
+    ensures { result ≡ two op }
+{
+    Role::Gather(Step::Two(op))
+}
+
+/// An operation of two expressions.
+fn operation(op: Operation) -> Role
+    ensures { result ≡ operation op }
+{
+    two(Binary::Operation(op))
+}
+
+/// What is read of a property of an object.
+fn property(part: PropertyPart) -> Role
+    ensures { result ≡ property part }
+{
+    two(Binary::Property(part))
+}
+
+/// A test that has to hold.
+fn test(by: Test) -> Role
+    ensures { result ≡ test by }
+{
+    Role::Gather(Step::Test(Binary::Test(by)))
+}
+
+/// A test that has to fail.
+fn failing(by: Test) -> Role
+    ensures { result ≡ failing by }
+{
+    Role::Gather(Step::Test(Binary::Fails(by)))
+}
+
+/// Whether what is noted makes sure that an expression is open, whose tokens then count.
+pub fn makes_sure(note: Note) -> bool
+    ensures { result ≡ makes_sure note }
+{
+    matches!(note, Note::OuterSure | Note::OuterWord)
+}
+
+/// What an action is there for.
+pub fn role_of(action: Action) -> Role
+    ensures { result ≡ role_of action }
+{
+    match action {
+        // Expressions
+        Action::Name | Action::Number | Action::Char | Action::Word | Action::Text => Role::Gather(
+            Step::Leaf,
+        ),
+        Action::Action => Role::Gather(Step::Action),
+        Action::Negate => prefix(Unary::Negate),
+        Action::BitNot => prefix(Unary::Single(Single::Complement)),
+        Action::Not => prefix(Unary::Not),
+        Action::IncrementBefore => prefix(Unary::Before(Stepping::Up)),
+        Action::DecrementBefore => prefix(Unary::Before(Stepping::Down)),
+        Action::IncrementAfter => suffix(Unary::Behind(Stepping::Up)),
+        Action::DecrementAfter => suffix(Unary::Behind(Stepping::Down)),
+        Action::Plus => operation(Operation::Add),
+        Action::Minus => operation(Operation::Subtract),
+        Action::Times => operation(Operation::Multiply),
+        Action::Divide => operation(Operation::Divide),
+        Action::Remainder => operation(Operation::Remainder),
+        Action::BitAnd => operation(Operation::BitAnd),
+        Action::BitOr => operation(Operation::BitOr),
+        Action::ByteEntry => operation(Operation::Byte),
+        Action::WordEntry => operation(Operation::Word),
+        Action::Member => property(PropertyPart::Value),
+        Action::MemberAddress => property(PropertyPart::Address),
+        Action::MemberLength => property(PropertyPart::Length),
+        Action::And => two(Binary::And),
+        Action::Or => two(Binary::Or),
+        Action::Assign => two(Binary::Assign),
+        Action::To => two(Binary::To),
+        Action::Comma => Role::Gather(Step::Comma),
+        Action::Count => Role::Gather(Step::List),
+        Action::Part => Role::Gather(Step::Part),
+        Action::Call => Role::Gather(Step::Call),
+        Action::Equal => test(Test::Equal),
+        Action::Unequal => failing(Test::Equal),
+        Action::Less => test(Test::Less),
+        Action::Greater => test(Test::Greater),
+        Action::LessOrEqual => test(Test::AtMost),
+        Action::GreaterOrEqual => test(Test::AtLeast),
+        Action::Has => test(Test::Has),
+        Action::HasNot => failing(Test::Has),
+        Action::In => test(Test::In),
+        Action::NotIn => failing(Test::In),
+        Action::OfClass => test(Test::OfClass),
+        Action::Provides => test(Test::Provides),
+        Action::Bracket => Role::Gather(Step::Bracket),
+        Action::Bracketed => Role::Gather(Step::Bracketed),
+        // Units
+        Action::Begin => Role::Note(Note::Begin),
+        Action::Outer => Role::Note(Note::Outer(true)),
+        Action::OuterMaybe => Role::Note(Note::Outer(false)),
+        Action::OuterWord => Role::Note(Note::OuterWord),
+        Action::OuterSure => Role::Note(Note::OuterSure),
+        Action::OuterEnd | Action::PrintRule => Role::Note(Note::OuterEnd),
+        Action::Hold => Role::Note(Note::Hold),
+        Action::PrintText => Role::Note(Note::PrintText),
+        Action::PrintValue => Role::Note(Note::PrintValue),
+        Action::Rule => Role::Note(Note::Rule),
+        Action::Set => Role::Note(Note::Set),
+        Action::Clear => Role::Note(Note::Clear),
+        Action::Default => Role::Note(Note::Default),
+        Action::AsmText => Role::Note(Note::AsmText),
+        Action::Store => Role::Note(Note::Store),
+        Action::Branch => Role::Note(Note::Branch(true)),
+        Action::BranchNot => Role::Note(Note::Branch(false)),
+        Action::EndLocals => Role::End(Ending::Locals),
+        Action::EndEmbedded => Role::End(Ending::Embedded),
+        Action::EndRoutine => Role::End(Ending::Routine),
+        Action::EndDirective => Role::End(Ending::Directive),
+        Action::EndHeader => Role::End(Ending::Header),
+        Action::EndBody => Role::End(Ending::Body),
+        Action::EndClass => Role::End(Ending::Class),
+        Action::EndAttribute => Role::End(Ending::Attribute),
+        Action::EndProperty => Role::End(Ending::Property),
+        Action::EndValue => Role::End(Ending::Value),
+        Action::EndLine => Role::End(Ending::Line),
+        Action::EndEntry => Role::End(Ending::Entry),
+        Action::EndAlone => Role::End(Ending::Alone),
+        Action::EndStatement => Role::End(Ending::Statement),
+        Action::EndIf | Action::EndWhile | Action::EndUntil | Action::EndForTest => Role::End(
+            Ending::Condition,
+        ),
+        Action::EndForStart => Role::End(Ending::Start),
+        Action::EndForStep => Role::End(Ending::Step),
+        Action::EndObjectloop => Role::End(Ending::Loop),
+        Action::EndSwitch => Role::End(Ending::Switched),
+        Action::EndCase => Role::End(Ending::Case),
+        // Statements that hold others
+        Action::OpenIf => Role::Open(Opening::If),
+        Action::OpenWhile => Role::Open(Opening::While),
+        Action::OpenDo => Role::Open(Opening::Do),
+        Action::OpenFor => Role::Open(Opening::For),
+        Action::OpenObjectloop => Role::Open(Opening::Objectloop),
+        Action::OpenSwitch => Role::Open(Opening::Switch),
+        Action::Else | Action::Until | Action::ForTop | Action::Loop => Role::Join,
+        Action::Close => Role::Close,
+        Action::Deeper => Role::Deeper,
+        Action::MaybeDeeper => Role::MaybeDeeper,
+        Action::Routine | Action::EndText | Action::System => Role::Nothing,
+    }
+}
