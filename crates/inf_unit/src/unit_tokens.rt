@@ -1,22 +1,30 @@
 //! The tokens of a unit.
 ghost use Rattle.std.specs.Prelude.{◌≡◌, ◌≤◌, [], ◌∷◌, ◌++◌, drop, IfOk, IfSome, OnOk, length, map, option_map, slice_get, take};
 ghost use Rattle.inf_sinks.specs.Spellings.{as_name};
-ghost use Rattle.inf_unit.specs.Kept.{as_spelled};
+ghost use Rattle.inf_unit.specs.Kept.{as_spelled, kept_bytes};
 ghost use Rattle.inf_unit.specs.NameTokens.{named};
 ghost use Rattle.inf_unit.specs.Tokens.{spelled};
 ghost use Rattle.inf_unit.specs.Units.{bytes_at, kind_at, last_place, name_at, name_order, names_behind, names_in, place_at, quoted_in, short_name_of, with_name};
 
 use crate::tokens::{SourceToken, is_mark};
+use arrayvec::ArrayVec;
 use inf_scanner::{Mark, Place, TokenKind};
-use inf_sinks::spellings::{MOST_NAME_BYTES, Name};
+use inf_sinks::spellings::{MOST_NAME_BYTES, Name, Spelling};
 use std::alloc::{AllocError, Global};
 use std::marker::Model;
+
+/// The bytes of a token that is kept. Those of most tokens are few, and take no memory of their own.
+#[derive(Drop)]
+pub enum KeptBytes {
+    Few(Spelling),
+    Many(Vec<u8>),
+}
 
 /// A token that is kept.
 #[derive(Drop)]
 pub struct Kept {
     kind: TokenKind,
-    bytes: Vec<u8>,
+    bytes: KeptBytes,
     place: Place,
 }
 
@@ -56,6 +64,31 @@ fn name_of<'t>(token: &SourceToken<'t>) -> Option<NameToken<'t>>
             place: token.place,
         }),
         _ => None,
+    }
+}
+
+impl KeptBytes {
+    /// A copy of these.
+    fn new(alloc: Global, bytes: &[u8]) -> Result<KeptBytes, AllocError>
+        ensures { IfOk result (λ kept. kept_bytes kept ≡ bytes.now) }
+    {
+        if bytes.len() <= MOST_NAME_BYTES {
+            let mut few = ArrayVec::new();
+            let _fits = few.try_extend_from_slice(bytes);
+            return Ok(KeptBytes::Few(few));
+        }
+        let mut many = Vec::new(alloc);
+        many.extend_from_slice(bytes)?;
+        Ok(KeptBytes::Many(many))
+    }
+
+    fn as_slice(&self) -> &[u8]
+        ensures { result.now ≡ kept_bytes self.now }
+    {
+        match self {
+            KeptBytes::Few(few) => few.as_slice(),
+            KeptBytes::Many(many) => many.as_slice(),
+        }
     }
 }
 
@@ -120,8 +153,7 @@ impl UnitTokens {
     pub fn add(&mut self, token: &SourceToken<'_>) -> Result<(), AllocError>
         ensures { OnOk result (self.new ≡ self.old ++ spelled token.now ∷ []) }
     {
-        let mut bytes = Vec::new(self.alloc);
-        bytes.extend_from_slice(token.bytes)?;
+        let bytes = KeptBytes::new(self.alloc, token.bytes)?;
         self.kept.push(Kept {
             kind: token.kind,
             bytes,
