@@ -9,6 +9,7 @@ ghost use Rattle.inf_session.specs.Faults.{IfRead, IfStory, UnlessStory};
 ghost use Rattle.inf_compile.specs.Compiling.{Compiles, DeliversPart, HasCause, OnlyStory, TakesPart, TakesStory, chosen_by, named_by, story_in};
 
 use inf_files::files::Files;
+use inf_names::hashing::NameHashing;
 use inf_outcome::translation::translate;
 use inf_session::compiled::{Compiled, Status, written};
 use inf_session::ending::no_file;
@@ -38,6 +39,7 @@ fn compile_named<F: Files, M: Sink, S: Sink>(
     alloc: Global,
     options: &Options<'_>,
     date: [u8; 6],
+    hashing: NameHashing,
     files: &mut F,
     messages: &mut M,
     story: &mut S,
@@ -78,6 +80,7 @@ fn compile_named<F: Files, M: Sink, S: Sink>(
         has_warnings: options.has_warnings(),
         settings: options.settings(),
         directories: directories.as_slice(),
+        hashing,
     };
     let compiled = translate(alloc, setup, files, name.as_str(), &date, messages)?;
     deliver(&compiled, story)
@@ -98,11 +101,10 @@ fn refuse<M: Sink>(alloc: Global, messages: &mut M) -> Result<Status, Fault>
 /// Compiles the source that the options name, with the files that it includes: writes each message as soon as it is found, and
 /// the story where no error was found.
 ///
-/// `date` is the story's serial number, six ASCII digits. The source's name is the word for it,
-/// with `.inf` where its last part has no extension; a name that is not there is a fatal message, and so is an empty word, for which
-/// nothing is
-/// opened. Included files are
-/// looked for in the directories of the options. `Status` tells whether an error is among the messages.
+/// `date` is the story's serial number, six ASCII digits. `hashing` changes nothing but how long a source takes whose names were made to
+/// fall together. The source's name is the word for it, with `.inf` where its last part has no extension; a name that is not there is a
+/// fatal message, and so is an empty word, for which nothing is opened. Included files are looked for in the directories of the options.
+/// `Status` tells whether an error is among the messages.
 ///
 /// Of the faults, `Memory` comes where a growth was refused; `Read` where a file could not be opened or read, is longer than
 /// 16,777,216 bytes, or is one of more than 65,535 names, and names it: as it was opened, or where it was not, as the
@@ -112,6 +114,7 @@ pub fn compile<F: Files, M: Sink, S: Sink>(
     alloc: Global,
     options: &Options<'_>,
     date: [u8; 6],
+    hashing: NameHashing,
     files: &mut F,
     messages: &mut M,
     story: &mut S,
@@ -165,5 +168,5 @@ pub fn compile<F: Files, M: Sink, S: Sink>(
     if options.names_nothing() {
         return refuse(alloc, messages);
     }
-    compile_named(alloc, options, date, files, messages, story)
+    compile_named(alloc, options, date, hashing, files, messages, story)
 }

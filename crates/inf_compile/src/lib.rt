@@ -4,5 +4,6 @@
 
 pub mod compile;
 
+pub use inf_names::hashing::NameHashing;
 pub use inf_session::compiled::Status;
 pub use inf_session::faults::Fault;

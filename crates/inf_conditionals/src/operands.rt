@@ -128,7 +128,7 @@ pub(crate) fn operands_of(
 ) -> Result<Vec<Operand>, AllocError>
     ensures { IfOk result (λ operands. operands.items ≡ operands_of declared out.now tokens.now leaves.now) }
 {
-    let mut ahead = Symbols::new(alloc, u32::MAX, false);
+    let mut ahead = Symbols::new(alloc, u32::MAX, false, out.names.hashing());
     let mut operands = Vec::with_capacity(alloc, leaves.len())?;
     for leaf in leaves {
         operands.push(operand_behind(declared, out, tokens, *leaf, &mut ahead)?)?;

@@ -2,6 +2,7 @@
 ghost use Rattle.std.specs.Prelude.{◌≡◌, ◌≤◌, ◌+◌, IfOk, OnOk, OnErr, MatchResult, None, Some, length, option_map};
 ghost use Rattle.inf_names.specs.Symbols.{folded};
 
+use crate::hashing::NameHashing;
 use crate::meanings::Meaning;
 use crate::system_names::system_meaning;
 use arrayvec::ArrayVec;
@@ -79,10 +80,11 @@ pub enum Entry<P> {
 /// The names that were declared or used so far, in the order in which they first came. The language's own are not among them.
 #[derive(Drop)]
 pub struct Symbols<P: Copy> {
-    entries: IndexMap<ArrayVec<u8, LONGEST_NAME>, Entry<P>>,
+    entries: IndexMap<ArrayVec<u8, LONGEST_NAME>, Entry<P>, NameHashing>,
     declared: usize,
     limit: u32,
     is_debugging: bool,
+    hashing: NameHashing,
 }
 
 impl<P: Copy> Model for Symbols<P> {
@@ -133,15 +135,21 @@ impl<P: Copy> Symbols<P> {
 
     /// No names, of which there may be so many. With debugging the language has the name `DEBUG` from the start. It takes no
     /// memory.
-    pub fn new(alloc: Global, limit: u32, is_debugging: bool) -> Symbols<P>
+    pub fn new(alloc: Global, limit: u32, is_debugging: bool, hashing: NameHashing) -> Symbols<P>
         ensures { result ≡ no_names limit is_debugging }
     {
         Symbols {
-            entries: IndexMap::new(alloc),
+            entries: IndexMap::with_hasher(alloc, hashing),
             declared: 0,
             limit,
             is_debugging,
+            hashing,
         }
+    }
+
+    /// How its names are hashed.
+    pub fn hashing(&self) -> NameHashing {
+        self.hashing
     }
 
     /// How many names were declared or used.

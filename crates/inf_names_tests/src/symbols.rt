@@ -1,4 +1,5 @@
 //! The names of a source: in which order they come, which is found, and how many there may be.
+use inf_names::hashing::NameHashing;
 use inf_names::meanings::Meaning;
 use inf_names::symbols::{DeclareFault, Found, LONGEST_NAME, ReferFault, Symbols};
 use std::process::Abort;
@@ -69,7 +70,7 @@ const COUNTED: [(&str, Asked); 4] = [
 
 #[test]
 fn counts_what_is_declared(rt: HostRuntime) {
-    let mut symbols: Symbols<Place> = Symbols::new(rt.alloc(), 10, false);
+    let mut symbols: Symbols<Place> = Symbols::new(rt.alloc(), 10, false, NameHashing::new(b""));
     ask_all(&rt, &mut symbols, &COUNTED);
     hold_all(&rt, &symbols, &[Counts(3, 3)]);
 }
@@ -94,7 +95,7 @@ const DECLARED_AGAIN: [(&str, Asked); 7] = [
 
 #[test]
 fn finds_the_first_declaration(rt: HostRuntime) {
-    let mut symbols: Symbols<Place> = Symbols::new(rt.alloc(), 10, false);
+    let mut symbols: Symbols<Place> = Symbols::new(rt.alloc(), 10, false, NameHashing::new(b""));
     ask_all(&rt, &mut symbols, &DECLARED_AGAIN);
     let held = [HasMeaning(0, Some(Meaning::Object(5))), NoUse(0)];
     hold_all(&rt, &symbols, &held);
@@ -122,7 +123,7 @@ const HELD_IN_ORDER: [Held; 5] = [
 
 #[test]
 fn keeps_the_first_uses_in_order(rt: HostRuntime) {
-    let mut symbols: Symbols<Place> = Symbols::new(rt.alloc(), 10, false);
+    let mut symbols: Symbols<Place> = Symbols::new(rt.alloc(), 10, false, NameHashing::new(b""));
     ask_all(&rt, &mut symbols, &USED_IN_ORDER);
     hold_all(&rt, &symbols, &HELD_IN_ORDER);
 }
@@ -138,7 +139,7 @@ const DECLARED_IN_ORDER: [(&str, Asked); 4] = [
 /// Where there are several declarations, a name is there from its own on.
 #[test]
 fn tells_what_was_declared_before(rt: HostRuntime) {
-    let mut symbols: Symbols<Place> = Symbols::new(rt.alloc(), 10, false);
+    let mut symbols: Symbols<Place> = Symbols::new(rt.alloc(), 10, false, NameHashing::new(b""));
     ask_all(&rt, &mut symbols, &DECLARED_IN_ORDER);
     for (name, first) in [("a", 1), ("b", 2), ("c", 3), ("d", 6), ("Nothing", 0)] {
         for n in 0..6 {
@@ -172,7 +173,7 @@ const LIMITED: [(&str, Asked); 9] = [
 
 #[test]
 fn has_a_limit(rt: HostRuntime) {
-    let mut symbols: Symbols<Place> = Symbols::new(rt.alloc(), 2, false);
+    let mut symbols: Symbols<Place> = Symbols::new(rt.alloc(), 2, false, NameHashing::new(b""));
     ask_all(&rt, &mut symbols, &LIMITED);
     hold_all(&rt, &symbols, &[Counts(2, 2)]);
 }
@@ -180,7 +181,7 @@ fn has_a_limit(rt: HostRuntime) {
 /// Names of which only the last letter is another.
 #[test]
 fn takes_the_longest_name(rt: HostRuntime) {
-    let mut symbols: Symbols<Place> = Symbols::new(rt.alloc(), 3, false);
+    let mut symbols: Symbols<Place> = Symbols::new(rt.alloc(), 3, false, NameHashing::new(b""));
     let name = &[b'N'; LONGEST_NAME];
     ask(&rt, &mut symbols, name, &Refer((0, 1), Ok(Some(0))));
     let shorter = &[b'n'; LONGEST_NAME - 1];
@@ -201,7 +202,7 @@ fn is_refused(symbols: &mut Symbols<Place>, name: &[u8; 2], line: u32) -> bool {
 /// Each growth refused in turn leaves the names as they were.
 #[test]
 fn refused_growths_change_nothing(rt: HostRuntime) {
-    let mut symbols: Symbols<Place> = Symbols::new(rt.alloc(), 100, false);
+    let mut symbols: Symbols<Place> = Symbols::new(rt.alloc(), 100, false, NameHashing::new(b""));
     for line in 0..100u32 {
         let name = [b'a' + (line / 26) as u8, b'a' + (line % 26) as u8];
         let before = (symbols.len(), symbols.declared());

@@ -1,4 +1,5 @@
 //! The names that the language has from the start, against a list of them.
+use inf_names::hashing::NameHashing;
 use inf_names::meanings::{Function, Meaning};
 use inf_names::symbols::{DeclareFault, Found, LONGEST_NAME, Symbols};
 use inf_names::system_names::system_meaning;
@@ -47,7 +48,7 @@ fn stays(rt: &impl Abort, symbols: &mut Symbols<u32>, name: &[u8], meaning: Mean
 
 #[test]
 fn has_the_listed_names(rt: HostRuntime) {
-    let mut symbols: Symbols<u32> = Symbols::new(rt.alloc(), 5, false);
+    let mut symbols: Symbols<u32> = Symbols::new(rt.alloc(), 5, false, NameHashing::new(b""));
     for (name, meaning) in LISTED {
         let name = name.as_bytes();
         assert_eq!(rt; system_meaning(name, false), Some(meaning));
@@ -75,8 +76,8 @@ fn finds_them_in_any_case_and_debug_where_it_is_asked_for(rt: HostRuntime) {
 
 #[test]
 fn symbols_have_debug_where_it_is_asked_for(rt: HostRuntime) {
-    let with: Symbols<u32> = Symbols::new(rt.alloc(), 5, true);
+    let with: Symbols<u32> = Symbols::new(rt.alloc(), 5, true, NameHashing::new(b""));
     assert_eq!(rt; with.look(b"debug"), Found::System(Meaning::Number(0)));
-    let without: Symbols<u32> = Symbols::new(rt.alloc(), 5, false);
+    let without: Symbols<u32> = Symbols::new(rt.alloc(), 5, false, NameHashing::new(b""));
     assert_eq!(rt; without.look(b"debug"), Found::Unknown);
 }

@@ -13,6 +13,7 @@ use inf_conditionals::atoms::atom_at;
 use inf_conditionals::ends::tell_lone;
 use inf_conditionals::judged::{Filtered, Forwarded, Site};
 use inf_lexer::{Place, Stack};
+use inf_names::hashing::NameHashing;
 use inf_report::messages::{Kind, Location};
 use inf_scanner::{Mark, TokenKind};
 use inf_settings::settings::Settings;
@@ -40,15 +41,20 @@ impl Progress {
     ghost use Rattle.inf_work.specs.Actions.{piece_begun as work_begun};
     ghost use Rattle.inf_work.specs.Works.{work};
 
-    /// Before the first token of sources in a character set.
-    pub fn new(alloc: Global, set: CharSet, settings: &Settings) -> Result<Progress, AllocError>
+    /// Before the first token of sources in a character set, of which names are hashed so.
+    pub fn new(
+        alloc: Global,
+        set: CharSet,
+        settings: &Settings,
+        hashing: NameHashing,
+    ) -> Result<Progress, AllocError>
         ensures { IfOk result (λ progress. standing progress ≡ begun_stand set settings.now) }
     {
         Ok(Progress {
             alloc,
             reader: Reader::new(alloc),
             actions: Vec::new(alloc),
-            work: Compilation::new(alloc, set, settings)?,
+            work: Compilation::new(alloc, set, settings, hashing)?,
         })
     }
 

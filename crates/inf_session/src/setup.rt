@@ -6,6 +6,7 @@ ghost use Rattle.inf_session.specs.Session.{begun_with, tables_full};
 
 use crate::ending::FIRST_LINE;
 use inf_lexer::Stack;
+use inf_names::hashing::NameHashing;
 use inf_reader::progress::Progress;
 use inf_settings::setting::Setting;
 use inf_settings::settings::Settings;
@@ -30,6 +31,8 @@ pub struct Setup<'a> {
     pub has_warnings: bool,
     pub settings: &'a Settings,
     pub directories: &'a [&'a str],
+    /// How names are hashed, which changes nothing but how long it takes.
+    pub hashing: NameHashing,
 }
 
 impl Setup<'_> {
@@ -40,7 +43,7 @@ impl Setup<'_> {
     {
         let mut report = Diagnostics::new(alloc, self.has_warnings);
         report.full(files, FIRST_LINE, self.tables_full())?;
-        let mut progress = Progress::new(alloc, self.set, self.settings)?;
+        let mut progress = Progress::new(alloc, self.set, self.settings, self.hashing)?;
         progress.work.report = report;
         Ok(progress)
     }

@@ -219,7 +219,7 @@ pub fn all_looked(
 ) -> Result<Vec<Operand>, AllocError>
     ensures { IfOk result (λ operands. operands.items ≡ all_looked (listed locals.now) out.now tokens.now leaves.now) }
 {
-    let mut ahead = Symbols::new(alloc, u32::MAX, false);
+    let mut ahead = Symbols::new(alloc, u32::MAX, false, out.names.hashing());
     let mut operands = Vec::with_capacity(alloc, leaves.len())?;
     for leaf in leaves {
         operands.push(looked_leaf(locals, out, tokens, *leaf, &mut ahead)?)?;

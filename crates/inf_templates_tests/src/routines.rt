@@ -6,6 +6,7 @@ use inf_assembler::RoutineKind;
 use inf_cells::Scale;
 use inf_code::code::{Code, CodeLimits};
 use inf_expressions::{Forest, Root};
+use inf_names::hashing::NameHashing;
 use inf_names::symbols::Symbols;
 use inf_opcode::Opcode;
 use inf_output::{Output, Simple, Strings, Veneer};
@@ -254,7 +255,7 @@ fn output_for(alloc: Global, way: &str, names: Symbols<Place>) -> Result<Output,
     let code = Code::new(alloc, limits, Scale::Four)?;
     let strings = Strings::new(alloc, 262_144, Scale::Four);
     let tables = Tables::new(alloc, &Settings::new());
-    let seen = Symbols::new(alloc, u32::MAX, false);
+    let seen = Symbols::new(alloc, u32::MAX, false, NameHashing::new(b""));
     Ok(Output::new(code, strings, tables, names, seen, HERE))
 }
 
@@ -272,7 +273,7 @@ fn told_by(
 /// The same of some that are spelled.
 pub(crate) fn answer(alloc: Global, way: &str, spelled: &str) -> Result<String, AllocError> {
     let most_names = word(way, 2).parse().unwrap_or(10_000);
-    let mut names = Symbols::new(alloc, most_names, false);
+    let mut names = Symbols::new(alloc, most_names, false, NameHashing::new(b""));
     let forest = trees(alloc, &mut names, spelled)?;
     let laying = Laying {
         tasks: Tasks::new(alloc),

@@ -4,6 +4,7 @@ ghost use Rattle.inf_unit.specs.Names.{main_of, no_symbols, routine_of, with_all
 
 use crate::messages::{Diagnostics, location};
 use inf_lexer::{Place, Stack};
+use inf_names::hashing::NameHashing;
 use inf_names::meanings::Meaning;
 use inf_names::symbols::{Found, Symbols};
 use inf_report::messages::Message;
@@ -12,10 +13,10 @@ use inf_settings::settings::Settings;
 use std::alloc::{AllocError, Global};
 
 /// No names, of which there may be as many as the settings say. It takes no memory until the first one comes.
-pub fn no_symbols(alloc: Global, settings: &Settings) -> Symbols<Place>
+pub fn no_symbols(alloc: Global, settings: &Settings, hashing: NameHashing) -> Symbols<Place>
     ensures { result ≡ no_symbols settings.now }
 {
-    Symbols::new(alloc, settings.of(Setting::Symbols), false)
+    Symbols::new(alloc, settings.of(Setting::Symbols), false, hashing)
 }
 
 /// The place of the routine with which a story begins, in bytes from the front of the code.

@@ -12,6 +12,7 @@ use crate::verbs::Extending;
 use inf_cells::Scale;
 use inf_code::code::{Code, CodeLimits};
 use inf_lexer::{Place, Stack};
+use inf_names::hashing::NameHashing;
 use inf_names::meanings::Meaning;
 use inf_names::symbols::{Found, Symbols};
 use inf_output::{Output, Strings};
@@ -88,7 +89,7 @@ pub struct Compilation {
 }
 
 /// No code and no names, of which there may be as many as the settings say.
-fn no_output(alloc: Global, settings: &Settings) -> Result<Output, AllocError>
+fn no_output(alloc: Global, settings: &Settings, hashing: NameHashing) -> Result<Output, AllocError>
     ensures { IfOk result (λ output. output ≡ no_output settings.now) }
 {
     let limits = CodeLimits {
@@ -103,8 +104,8 @@ fn no_output(alloc: Global, settings: &Settings) -> Result<Output, AllocError>
         code,
         strings,
         tables,
-        no_symbols(alloc, settings),
-        Symbols::new(alloc, u32::MAX, false),
+        no_symbols(alloc, settings, hashing),
+        Symbols::new(alloc, u32::MAX, false, hashing),
         NOWHERE,
     ))
 }
@@ -137,8 +138,13 @@ impl Compilation {
     ghost use Rattle.inf_work.specs.Acting.{act, acted, all_acted, ended, noted};
     ghost use Rattle.inf_work.specs.Works.{work};
 
-    /// Before the first unit of sources in a character set.
-    pub fn new(alloc: Global, set: CharSet, settings: &Settings) -> Result<Compilation, AllocError>
+    /// Before the first unit of sources in a character set, of which names are hashed so.
+    pub fn new(
+        alloc: Global,
+        set: CharSet,
+        settings: &Settings,
+        hashing: NameHashing,
+    ) -> Result<Compilation, AllocError>
         ensures { IfOk result (λ w. work w ≡ no_work set settings.now) }
     {
         Ok(Compilation {
@@ -153,11 +159,11 @@ impl Compilation {
             opening: None,
             labels: Labels::new(alloc),
             locals: Locals::new(),
-            output: no_output(alloc, settings)?,
+            output: no_output(alloc, settings, hashing)?,
             tasks: Tasks::new(alloc),
             report: Diagnostics::new(alloc, true),
             asked: Request::Nothing,
-            replaced: no_symbols(alloc, settings),
+            replaced: no_symbols(alloc, settings, hashing),
             is_system: false,
             waiting: Vec::new(alloc),
             is_passed_over: false,

@@ -1,6 +1,6 @@
 #![tactic(auto)]
 
-use inf_compile::{Fault, Status, compile};
+use inf_compile::{Fault, NameHashing, Status, compile};
 use inf_disk::disk::{DiskFiles, OutputSink, StoryPlace, StorySink, Trouble};
 use inf_words::command_line::{self, CommandLine, Options, WordFault};
 use inf_words::dates;
@@ -9,6 +9,7 @@ use jiff::tz::Offset;
 use std::alloc::AllocError;
 use std::fmt::Display;
 use std::io::{self, ErrorKind};
+use std::random::RandomSource;
 use std::process::ExitCode;
 use std::rt::{Clock, Env, Files};
 use std::{env, fs};
@@ -66,7 +67,7 @@ fn main(rt: HostRuntime) -> ExitCode {
     }
 }
 
-fn run<R: Env + Clock + Files + Print + Eprint + AllocGlobal>(rt: &R) -> Result<ExitCode, Failure> {
+fn run<R: Env + Clock + Files + RandomSource + Print + Eprint + AllocGlobal>(rt: &R) -> Result<ExitCode, Failure> {
     let args = match env::args(rt) {
         Ok(args) => args,
         // An argument is no text.
@@ -91,7 +92,7 @@ fn run<R: Env + Clock + Files + Print + Eprint + AllocGlobal>(rt: &R) -> Result<
 
 /// Compiles the source that the options name, with the date of the clock in UTC, and writes the
 /// messages to the standard output.
-fn compile_files<R: Clock + Files + Print + Eprint + AllocGlobal>(
+fn compile_files<R: Clock + Files + RandomSource + Print + Eprint + AllocGlobal>(
     rt: &R,
     options: &Options<'_>,
 ) -> Result<ExitCode, Failure> {
@@ -105,6 +106,7 @@ fn compile_files<R: Clock + Files + Print + Eprint + AllocGlobal>(
         rt.alloc(),
         options,
         date,
+        name_hashing(rt),
         &mut files,
         &mut messages,
         &mut story,
@@ -129,6 +131,13 @@ fn compile_files<R: Clock + Files + Print + Eprint + AllocGlobal>(
             Err(Failure::Told)
         }
     }
+}
+
+/// How names are hashed: by bytes that no source can know, where the system gives some.
+fn name_hashing(rt: &impl RandomSource) -> NameHashing {
+    let mut secret = [0; 16];
+    let _ = rt.fill_bytes(&mut secret);
+    NameHashing::new(&secret)
 }
 
 /// Why a device failed last.

@@ -3,6 +3,7 @@ ghost use Rattle.std.specs.Prelude.{◌≡◌, ◌<◌, IfOk, None, OnOk, [], fa
 ghost use Rattle.inf_session.specs.Standing.{IsSet};
 ghost use Rattle.inf_files.specs.Files.{last_count};
 
+use inf_compile::NameHashing;
 use inf_files::failures::Failures;
 use inf_files::files::{Files, OpenFault, ReadFault};
 use inf_files::memory_files::MemoryFiles;
@@ -118,6 +119,7 @@ fn begin<'a>(
         has_warnings: true,
         settings,
         directories: &[],
+        hashing: NameHashing::new(b""),
     };
     let Ok(session) = Session::new(alloc, setup, open_files) else {
         return Err(AllocError.into());

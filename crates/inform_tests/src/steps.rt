@@ -3,7 +3,7 @@ ghost use Rattle.std.specs.Prelude.{◌≡◌, ◌<◌, IfOk, OnOk, length, fals
 ghost use Rattle.inf_session.specs.Standing.{IsSet};
 
 use crate::running::assert_written;
-use inf_compile::{Fault, Status};
+use inf_compile::{Fault, NameHashing, Status};
 use inf_files::memory_files::MemoryFiles;
 use inf_session::compiled::Compiled;
 use inf_session::session::{Session, Step};
@@ -168,6 +168,7 @@ fn begin<'a>(
         has_warnings: true,
         settings,
         directories: &[],
+        hashing: NameHashing::new(b""),
     };
     let Ok(session) = Session::new(alloc, setup, open_files) else {
         return Err(AllocError.into());

@@ -1,6 +1,6 @@
 //! A compilation that tests look at.
 use inf_compile::compile::compile;
-use inf_compile::{Fault, Status};
+use inf_compile::{Fault, NameHashing, Status};
 use inf_files::files::Files;
 use inf_sinks::sinks::Sink;
 use inf_words::command_line::CommandLine;
@@ -19,7 +19,15 @@ pub fn run_words<F: Files, M: Sink, S: Sink>(
     story: &mut S,
 ) -> Result<Result<Status, Fault>, Fail> {
     let options = CommandLine::read(words)?;
-    Ok(compile(alloc, &options, DATE, files, messages, story))
+    Ok(compile(
+        alloc,
+        &options,
+        DATE,
+        NameHashing::new(b""),
+        files,
+        messages,
+        story,
+    ))
 }
 
 /// Compiles `t.inf`.
