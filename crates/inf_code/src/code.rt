@@ -196,6 +196,13 @@ impl Code {
         }
     }
 
+    /// The most bytes of code that there may be.
+    pub fn most_bytes(&self) -> usize
+        ensures { result ≡ self.now.limits.code }
+    {
+        self.limits.code
+    }
+
     /// How many more labels, branches and jumps the open routine may have; nothing where it has too many.
     pub fn labels_left(&self) -> Option<usize>
         ensures { result ≡ labels_left self.now }

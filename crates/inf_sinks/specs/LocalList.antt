@@ -14,7 +14,7 @@ abbrev pub listed : Locals → List Local
 listed locals = map local locals.list.items
 
 abbrev pub repeated : CodeRepeated → Repeated
-repeated r = record { name = as_name r.name.now; first = r.first }
+repeated r = record { name = as_name r.name; first = r.first }
 
 abbrev pub headed : CodeHeaded → Headed
 headed h = record { locals = listed h.locals; repeated = option_map repeated h.repeated; are_too_many = h.are_too_many }

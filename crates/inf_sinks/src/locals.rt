@@ -56,18 +56,18 @@ pub struct Locals {
 }
 
 /// A name that a header gives again, and where it stands first.
-#[derive(Clone, Copy, Debug)]
-pub struct Repeated<'t> {
-    pub name: &'t Name,
+#[derive(Debug, Drop)]
+pub struct Repeated {
+    pub name: Name,
     pub first: Place,
 }
 
 /// What a header says of local variables: the first 15 different ones, the first name that comes
 /// again, and whether there are more.
-#[derive(Drop)]
-pub struct Headed<'t> {
+#[derive(Debug, Drop)]
+pub struct Headed {
     pub locals: Locals,
-    pub repeated: Option<Repeated<'t>>,
+    pub repeated: Option<Repeated>,
     pub are_too_many: bool,
 }
 
@@ -128,11 +128,12 @@ impl Locals {
     }
 }
 
-impl<'t> Headed<'t> {
+impl Headed {
     ghost use Rattle.inf_sinks.specs.LocalList.{headed};
+    ghost use Rattle.inf_sinks.specs.Locals.{earlier};
 
     /// No local yet.
-    pub fn new() -> Headed<'t>
+    pub fn new() -> Headed
         ensures { headed result ≡ no_locals }
     {
         Headed {
@@ -142,13 +143,34 @@ impl<'t> Headed<'t> {
         }
     }
 
+    /// No local any more.
+    pub fn clear(&mut self)
+        ensures { headed self.new ≡ no_locals }
+    {
+        self.locals.list.clear();
+        self.repeated = None;
+        self.are_too_many = false;
+    }
+
+    /// A name stands first at a place, and comes again. The first that does is told.
+    fn repeat(&mut self, name: &Name, first: Place)
+        ensures { let before = headed self.old in headed self.new
+            ≡ record before { repeated = earlier before.repeated (record { name = as_name name.now; first = first }) } }
+    {
+        if self.repeated.is_none() {
+            self.repeated = Some(Repeated {
+                name: name.copy(),
+                first,
+            });
+        }
+    }
+
     /// One name more behind the routine's name.
-    pub fn add(&mut self, name: &'t Name)
+    pub fn add(&mut self, name: &Name)
         ensures { headed self.new ≡ with_local (as_name name.now) (headed self.old) }
     {
         if let Some(first) = self.locals.first_place(name.bytes()) {
-            let again = Repeated { name, first };
-            self.repeated = Some(self.repeated.unwrap_or(again));
+            self.repeat(name, first);
             return;
         }
         if self.locals.list.is_full() {

@@ -38,6 +38,16 @@ impl Name {
         Name { spelling, place }
     }
 
+    /// The same name at the same place.
+    pub(crate) fn copy(&self) -> Name
+        ensures { as_name result ≡ as_name self.now }
+    {
+        Name {
+            spelling: copy_of(&self.spelling),
+            place: self.place,
+        }
+    }
+
     /// Its bytes, at most 32.
     pub fn bytes(&self) -> &[u8]
         ensures value { result.now ≡ (as_name self.now).bytes }

@@ -1,9 +1,8 @@
 -- What each action leaves of the statements that are open.
 use Rattle.std.proofs.Common.{◌≡◌, ℕ, List, [], ◌∷◌, Bool, true, false, ◌&&◌, Option, Some, None, refl, ◌∙◌, ap}
 use Rattle.std.specs.Prelude.{◌-◌, if◌then◌else◌, nat_lt, unwrap_or}
-use Rattle.inf_sinks.specs.Locals.{no_locals, with_locals}
 use Rattle.inf_sinks.specs.Spellings.{Name}
-use Rattle.inf_unit.specs.Units.{first_place, last_place, long_at, names_in, noted as unit_noted, taken as unit_taken}
+use Rattle.inf_unit.specs.Units.{first_place, last_place, long_at, names_in, noted as unit_noted, taken as unit_taken, text_passed}
 use Rattle.inf_work.specs.Actions.{Compilation, close, close_open, header_of, header_with, is_deep, is_replaced, named, nested, opens, passed, settled_of, sized, stopped, took, trees_at}
 use Rattle.inf_work.specs.Parts.{actions_named, case_prepared, construct_closed, construct_ended, construct_opened, constructs_laid, found_in, has_last, is_default, order_of, part_begun, part_carried, part_effect, part_ended, part_finished, part_prepared, place_of, statement_at, wanted_of}
 use Rattle.std.proofs.lemmas.Bool.{and_parts}
@@ -12,7 +11,7 @@ use Rattle.inf_expressions.specs.declared.findings.Finding.{Finding}
 use Rattle.inf_expressions.specs.Questions.{children_of}
 use Rattle.inf_expressions.specs.Rooted.{Rooted}
 use Rattle.inf_expressions.specs.Trees.{Tree}
-use Rattle.inf_unit.specs.Roles.{makes_sure, role_of}
+use Rattle.inf_unit.specs.Roles.{is_text, makes_sure, role_of}
 use Rattle.inf_unit.specs.declared.roles.Ending.{Ending}
 use Rattle.inf_unit.specs.declared.roles.Ending.TheVariants as ending
 use Rattle.inf_unit.specs.declared.roles.Note.{Note}
@@ -30,7 +29,7 @@ use Rattle.inf_statements.specs.declared.constructs.Case.TheVariants as case
 use Rattle.inf_statements.specs.declared.constructs.Construct.{Construct}
 use Rattle.inf_statements.specs.declared.constructs.Kind.{Kind}
 use Rattle.inf_statements.specs.declared.constructs.Kind.TheVariants as kind
-use Rattle.inf_work.specs.Acting.{act, ended as ended_as, kind_of, noted, played}
+use Rattle.inf_work.specs.Acting.{act, ended as ended_as, is_crowded, kind_of, noted, noted_of, played}
 use Rattle.inf_work.specs.declared.parts.Part.{Part}
 use Rattle.inf_work.specs.declared.parts.Part.TheVariants as part
 use Rattle.inf_statement_laws.specs.Happenings.{Acts, Happening, Takes, happen_quietly, happens_quietly, is_quiet, is_quiet_end, is_quiet_role}
@@ -109,10 +108,15 @@ quiet_part files place p w q =
 
 -- Actions
 
-quiet_note : (files : FileNames) (n : Note) (w : Compilation) → SameOpen w (noted files n w)
-quiet_note files n w =
+quiet_note_of : (files : FileNames) (n : Note) (w : Compilation) → SameOpen w (noted_of files n w)
+quiet_note_of files n w =
     let v = record w { unit = unit_noted n w.unit } in
     of_both (SameOpen w) (makes_sure n) (sized files v) v (λ _. sized_same files v) (λ _. (refl, refl))
+
+quiet_note : (files : FileNames) (n : Note) (w : Compilation) → SameOpen w (noted files n w)
+quiet_note files n w =
+    of_both (SameOpen w) (is_text n && is_crowded w) (record w { unit = text_passed w.unit }) (noted_of files n w)
+    (λ _. (refl, refl)) (λ _. quiet_note_of files n w)
 
 quiet_end : (files : FileNames) (place : Place) (e : Ending) (w : Compilation) → is_quiet_end e ≡ true → SameOpen w (ended_as files place e w)
 quiet_end files place ending.Statement w q = quiet_part files place (part.Statement (statement_at w)) w refl
@@ -379,10 +383,10 @@ loop_none files place w =
 pub header_same : (files : FileNames) (first : Place) (names : List Name) (w : Compilation)
     → ((header_of files first names w).closed ≡ w.closed) × (w.constructs ≡ [] → (header_of files first names w).constructs ≡ [])
 header_same files first [] w = (refl, λ e. e)
-header_same files first (name ∷ locals) w =
+header_same files first (name ∷ names) w =
     of_both (λ (v : Compilation). (v.closed ≡ w.closed) × (w.constructs ≡ [] → v.constructs ≡ [])) (is_replaced name w)
     (passed true (record w { is_passed_over = true; is_embedded = false; constructs = [] }))
-    (header_with files first name (with_locals locals no_locals) (record w { is_passed_over = false; is_embedded = false }))
+    (header_with files first name w.unit.headed (record w { is_passed_over = false; is_embedded = false }))
     (λ _. (refl, λ e. refl)) (λ _. (refl, λ e. refl))
 
 routine_none : (files : FileNames) (place : Place) (w : Compilation) → (close files place w).closed ≡ w.closed

@@ -410,6 +410,9 @@ abbrev pub !end_body : Symbol Action
 abbrev pub !end_directive : Symbol Action
 !end_directive = Act action.EndDirective
 
+abbrev pub !local : Symbol Action
+!local = Act action.Local
+
 abbrev pub !outer : Symbol Action
 !outer = Act action.Outer
 

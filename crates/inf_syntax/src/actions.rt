@@ -10,6 +10,7 @@ pub enum Action {
     EndText,
     EndBody,
     EndDirective,
+    Local,
     Outer,
     Name,
     EndEntry,

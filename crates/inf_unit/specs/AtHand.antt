@@ -1,4 +1,5 @@
 -- What the code's unit at hand stands for.
+use Rattle.inf_sinks.specs.LocalList.{headed}
 use Rattle.inf_unit.specs.Units.{Unit}
 use Rattle.inf_unit.specs.declared.unit.Unit.{Unit as CodeUnit}
 
@@ -7,6 +8,7 @@ unit u = record {
   tokens = u.tokens;
   begun = u.begun;
   gathering = u.gathering;
+  headed = headed u.headed;
   items = u.items.items;
   outer = u.outer;
   is_sure = u.is_sure;

@@ -52,6 +52,11 @@ makes_sure note.OuterSure = true
 makes_sure note.OuterWord = true
 makes_sure _ = false
 
+-- whether a text is printed
+abbrev pub is_text : Note → Bool
+is_text note.PrintText = true
+is_text _ = false
+
 -- what an action is there for
 abbrev pub role_of : Action → Role
 role_of action.Name = role.Gather step.Leaf
@@ -102,6 +107,7 @@ role_of action.Provides = test testing.Provides
 role_of action.Bracket = role.Gather step.Bracket
 role_of action.Bracketed = role.Gather step.Bracketed
 role_of action.Begin = role.Note note.Begin
+role_of action.Local = role.Note note.Local
 role_of action.Outer = role.Note (note.Outer true)
 role_of action.OuterMaybe = role.Note (note.Outer false)
 role_of action.OuterWord = role.Note note.OuterWord

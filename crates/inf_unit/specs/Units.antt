@@ -8,6 +8,7 @@ use Rattle.inf_scanner.specs.declared.tokens.TokenKind.TheVariants as kind
 use Rattle.inf_gathering.specs.declared.gathering.Leaf.{Leaf}
 use Rattle.inf_gathering.specs.declared.gathering.Leaf.TheVariants as leaf
 use Rattle.inf_gathering.specs.Gatherings.{Gathering, nothing_gathered, with_bracket, with_call, with_closed_bracket, with_comma, with_leaf, with_list, with_part, with_prefix, with_rule, with_suffix, with_test, with_two}
+use Rattle.inf_sinks.specs.Locals.{Headed, no_locals, with_local}
 use Rattle.inf_sinks.specs.Spellings.{Name}
 use Rattle.inf_opcode.specs.declared.opcodes.Opcode.{Opcode}
 use Rattle.inf_opcode.specs.Opcodes.{row_of}
@@ -28,7 +29,7 @@ use Rattle.inf_unit.specs.Opcodes.{opcode_of, takes_text}
 
 -- Its tokens so far, before which the first of those between the unit before and its beginning stands, where there are such; where among
 -- them it begins;
--- what is gathered of its expressions; what it has beside them, in order; where among its tokens its outermost expression begins, if one is
+-- what is gathered of its expressions; the locals that it names, where it is the header of a routine; what it has beside them, in order; where among its tokens its outermost expression begins, if one is
 -- open, and whether that surely is one; whether the unit has ended, but for its last token; how many brackets and braces of its piece are
 -- open; and how many
 -- tokens it has, where it is whole and waits for what follows it.
@@ -36,6 +37,7 @@ pub record Unit : Type 0 where
   pub tokens : List SourceToken
   pub begun : ℕ
   pub gathering : Gathering
+  pub headed : Headed
   pub items : List Item
   pub outer : Option ℕ
   pub is_sure : Bool
@@ -49,6 +51,7 @@ no_unit = record {
   tokens = [];
   begun = 0;
   gathering = nothing_gathered;
+  headed = no_locals;
   items = [];
   outer = None;
   is_sure = false;
@@ -161,17 +164,6 @@ names_from (t ∷ tokens) names = names_from tokens (with_name (short_name_of t)
 
 abbrev pub names_in : List SourceToken → List Name
 names_in tokens = names_from tokens []
-
--- the names behind the last mark of a kind
-abbrev pub names_step : Mark → SourceToken → List Name → List Name
-names_step m t names = if is_mark m t.kind then [] else with_name (short_name_of t) names
-
-abbrev pub names_behind_from : Mark → List SourceToken → List Name → List Name
-names_behind_from m [] names = names
-names_behind_from m (t ∷ tokens) names = names_behind_from m tokens (names_step m t names)
-
-abbrev pub names_behind : Mark → List SourceToken → List Name
-names_behind m tokens = names_behind_from m tokens []
 
 -- Where the first token stands by which the outermost expression is too long, if it may have so many and surely is one.
 abbrev pub long_from : List SourceToken → ℕ → ℕ → Bool → Option Place
@@ -291,9 +283,22 @@ ruled u = ruled_by (rule_of (bytes_at u.tokens (length u.tokens - 2))) u
 abbrev pub opcode_text : Unit → Unit
 opcode_text u = if takes_text (bytes_at u.tokens (next_place u.begun)) then with_item (item.Text (last_leaf u)) u else leaf_gathered u
 
+-- A text that is printed stands behind a comma, and neither is kept.
+abbrev pub text_passed : Unit → Unit
+text_passed u = record u { tokens = take (length u.tokens - 2) u.tokens; outer = None }
+
+-- The last token names a local: it is kept among these, and not among the tokens.
+abbrev pub headed_by : Option Name → Headed → Headed
+headed_by None h = h
+headed_by (Some n) h = with_local n h
+
+abbrev pub headed_more : Unit → Unit
+headed_more u = record u { headed = headed_by (name_at u.tokens (last_leaf u)) u.headed; tokens = take (last_leaf u) u.tokens }
+
 -- what an action notes of the unit
 abbrev pub noted : Note → Unit → Unit
 noted note.Begin u = begun u
+noted note.Local u = headed_more u
 noted (note.Outer is_sure) u = record u { outer = Some (length u.tokens); is_sure = is_sure }
 noted note.OuterWord u = record u { outer = Some (last_leaf u); is_sure = true }
 noted note.OuterSure u = record u { is_sure = true }

@@ -1,6 +1,6 @@
 //! What each action of the grammar is there for.
 ghost use Rattle.std.specs.Prelude.{◌≡◌};
-ghost use Rattle.inf_unit.specs.Roles.{failing, makes_sure, operation, prefix, property, role_of, suffix, test, two};
+ghost use Rattle.inf_unit.specs.Roles.{failing, is_text, makes_sure, operation, prefix, property, role_of, suffix, test, two};
 
 use crate::steps::Step;
 use inf_expressions::{Binary, Operation, PropertyPart, Single, Step as Stepping, Test, Unary};
@@ -11,6 +11,8 @@ use inf_syntax::Action;
 pub enum Note {
     /// The next token is the first of a unit.
     Begin,
+    /// The last token names a local in the header of a routine.
+    Local,
     /// An outermost expression begins with the next token, and surely is one or not.
     Outer(bool),
     /// An outermost expression began with the last token.
@@ -163,6 +165,13 @@ pub fn makes_sure(note: Note) -> bool
     matches!(note, Note::OuterSure | Note::OuterWord)
 }
 
+/// Whether a text is printed.
+pub fn is_text(note: Note) -> bool
+    ensures { result ≡ is_text note }
+{
+    matches!(note, Note::PrintText)
+}
+
 /// What an action is there for.
 pub fn role_of(action: Action) -> Role
     ensures { result ≡ role_of action }
@@ -216,6 +225,7 @@ pub fn role_of(action: Action) -> Role
         Action::Bracketed => Role::Gather(Step::Bracketed),
         // Units
         Action::Begin => Role::Note(Note::Begin),
+        Action::Local => Role::Note(Note::Local),
         Action::Outer => Role::Note(Note::Outer(true)),
         Action::OuterMaybe => Role::Note(Note::Outer(false)),
         Action::OuterWord => Role::Note(Note::OuterWord),

@@ -2,7 +2,7 @@
 ghost use Rattle.std.specs.Prelude.{◌≡◌, ◌≤◌, ◌++◌, ◌∷◌, [], None, OnOk, Some, length};
 ghost use Rattle.inf_unit.specs.AtHand.{unit};
 ghost use Rattle.inf_unit.specs.Tokens.{spelled};
-ghost use Rattle.inf_unit.specs.Units.{acted, begun, depth_behind, first_place, forgotten, is_alone, is_assembly, is_sign, jump_label, jump_of, last_leaf, leaf_of, long_at, marked_from, next_place, no_unit, noted, opcode_text, order, over, outer_tokens, own_place, prepared, ruled, stepped, taken, told_leaf, with_item};
+ghost use Rattle.inf_unit.specs.Units.{acted, begun, depth_behind, first_place, forgotten, headed_more, is_alone, is_assembly, is_sign, jump_label, jump_of, last_leaf, leaf_of, long_at, marked_from, next_place, no_unit, noted, opcode_text, order, over, outer_tokens, own_place, prepared, ruled, stepped, taken, text_passed, told_leaf, with_item};
 
 use crate::items::{Item, rule_of};
 use crate::opcodes::{opcode_of, takes_text};
@@ -12,6 +12,8 @@ use crate::tokens::{SourceToken, is_mark};
 use crate::unit_tokens::UnitTokens;
 use inf_gathering::gathering::{Gathering, Leaf};
 use inf_scanner::{Mark, Place, TokenKind};
+use inf_sinks::locals::Headed;
+use inf_sinks::spellings::Name;
 use inf_syntax::Action;
 use std::alloc::{AllocError, Global};
 
@@ -23,6 +25,8 @@ pub struct Unit {
     /// Where among them the unit begins.
     pub begun: usize,
     pub gathering: Gathering,
+    /// The locals that it names, where it is the header of a routine.
+    pub headed: Headed,
     /// What it has beside its expressions, in order.
     pub items: Vec<Item>,
     /// Where its outermost expression begins among its tokens, if one is open.
@@ -125,6 +129,7 @@ impl Unit {
             tokens: UnitTokens::new(alloc),
             begun: 0,
             gathering: Gathering::new(alloc),
+            headed: Headed::new(),
             items: Vec::new(alloc),
             outer: None,
             is_sure: false,
@@ -157,6 +162,7 @@ impl Unit {
         ensures { unit self.new ≡ forgotten (unit self.old) }
     {
         self.gathering.clear();
+        self.headed.clear();
         self.items.clear();
         self.outer = None;
         self.is_sure = false;
@@ -213,6 +219,7 @@ impl Unit {
         let last = self.last();
         match note {
             Note::Begin => self.begin(),
+            Note::Local => self.local(),
             Note::Outer(is_sure) => self.open_outer(is_sure),
             Note::OuterWord => {
                 self.outer = Some(last);
@@ -235,6 +242,25 @@ impl Unit {
             Note::Branch(sense) => return self.item(Item::Branch(last, sense)),
         }
         Ok(())
+    }
+
+    /// A text that is printed stands behind a comma, and neither is kept.
+    pub fn pass_text(&mut self)
+        ensures { unit self.new ≡ text_passed (unit self.old) }
+    {
+        self.outer = None;
+        self.tokens.truncate(self.tokens.len().saturating_sub(2));
+    }
+
+    /// The last token names a local: it is kept among these, and not among the tokens.
+    fn local(&mut self)
+        ensures { unit self.new ≡ headed_more (unit self.old) }
+    {
+        let last = self.last();
+        if let Some(name) = self.tokens.name_at(last) {
+            self.headed.add(&Name::new(name.bytes, name.place));
+        }
+        self.tokens.truncate(last);
     }
 
     /// An outermost expression begins with the next token.

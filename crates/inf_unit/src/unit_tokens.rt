@@ -4,7 +4,7 @@ ghost use Rattle.inf_sinks.specs.Spellings.{as_name};
 ghost use Rattle.inf_unit.specs.Kept.{as_spelled, kept_bytes};
 ghost use Rattle.inf_unit.specs.NameTokens.{named};
 ghost use Rattle.inf_unit.specs.Tokens.{spelled};
-ghost use Rattle.inf_unit.specs.Units.{bytes_at, kind_at, last_place, name_at, name_order, names_behind, names_in, place_at, quoted_in, short_name_of, with_name};
+ghost use Rattle.inf_unit.specs.Units.{bytes_at, kind_at, last_place, name_at, name_order, names_in, place_at, quoted_in, short_name_of, with_name};
 
 use crate::tokens::{SourceToken, is_mark};
 use arrayvec::ArrayVec;
@@ -142,6 +142,13 @@ impl UnitTokens {
         }
     }
 
+    /// Keeps so many of the first alone.
+    pub fn truncate(&mut self, count: usize)
+        ensures { self.new ≡ take count self.old }
+    {
+        self.kept.truncate(count);
+    }
+
     /// How many there are.
     pub fn len(&self) -> usize
         ensures { result ≡ length self.now }
@@ -237,21 +244,6 @@ impl UnitTokens {
             Some(kind) if is_mark(kind, Mark::Hash) => 2,
             _ => 1,
         }
-    }
-
-    /// The names behind the last mark of a kind, in order; all, where there is no such mark.
-    pub fn names_behind(&self, alloc: Global, mark: Mark) -> Result<Vec<Name>, AllocError>
-        ensures { IfOk result (λ names. map as_name names.items ≡ names_behind mark self.now) }
-    {
-        let mut names = Vec::new(alloc);
-        for token in &self.kept {
-            if is_mark(token.kind, mark) {
-                names.clear();
-            } else {
-                add_name(name_of(&token.spelled()), &mut names)?;
-            }
-        }
-        Ok(names)
     }
 
     /// The names among them, in order.

@@ -12,15 +12,14 @@ use Rattle.inf_objects.specs.declared.objects.Object.{Object}
 use Rattle.inf_output.specs.Limits.{SameLimits as SameOutLimits}
 use Rattle.inf_output.specs.Output.{Out, opened}
 use Rattle.inf_output.proofs.Keeping.{declared_keeps, opened_keeps, passed_table_keeps, same, same_then as out_same_then, with_word_keeps}
-use Rattle.inf_scanner.specs.declared.tokens.Mark.TheVariants as mark
 use Rattle.inf_scanner.specs.declared.tokens.Place.{Place}
 use Rattle.inf_statements.proofs.Keeping.{leaves_same}
-use Rattle.inf_sinks.specs.Locals.{Headed, no_locals, with_locals}
+use Rattle.inf_sinks.specs.Locals.{Headed}
 use Rattle.inf_sinks.specs.Spellings.{Name}
 use Rattle.inf_text.specs.Packing.{dictionary_bytes}
 use Rattle.inf_unit.proofs.Cases.{of_both}
 use Rattle.inf_unit.specs.Messages.{FileNames}
-use Rattle.inf_unit.specs.Units.{first_place, name_at, name_order, names_behind}
+use Rattle.inf_unit.specs.Units.{first_place, name_at, name_order}
 use Rattle.inf_world.specs.declared.faults.AddFault.{AddFault}
 use Rattle.inf_world.specs.declared.faults.AddFault.TheVariants as fault
 use Rattle.inf_world.specs.declared.faults.Misfit.{Misfit}
@@ -295,5 +294,4 @@ embedded_same files first name h w =
 
 pub embedded_read_same : (files : FileNames) (place : Place) (w : Compilation) → SameLimits w (embedded_read files place w)
 embedded_read_same files place w =
-    embedded_same files (first_place w.unit.tokens place) (place_before (bracket_in w.unit.tokens))
-    (with_locals (names_behind mark.OpenBracket w.unit.tokens) no_locals) w
+    embedded_same files (first_place w.unit.tokens place) (place_before (bracket_in w.unit.tokens)) w.unit.headed w

@@ -15,7 +15,7 @@ use Rattle.inf_output.specs.Output.{Out, begun, closed, declared, opened}
 use Rattle.inf_output.specs.Limits.{SameLimits as SameOutLimits}
 use Rattle.inf_output.proofs.Keeping.{begun_keeps, closed_keeps, declared_keeps, opened_keeps, referred_keeps, same_then as out_same_then}
 use Rattle.inf_sinks.specs.Spellings.{Name}
-use Rattle.inf_sinks.specs.Locals.{Headed, no_locals, with_locals}
+use Rattle.inf_sinks.specs.Locals.{Headed}
 use Rattle.inf_syntax.specs.declared.actions.Action.{Action}
 use Rattle.inf_unit.specs.Directives.{directive_of}
 use Rattle.inf_unit.specs.declared.directives.Directive.{Directive}
@@ -28,7 +28,7 @@ use Rattle.inf_world.specs.declared.faults.AddFault.{AddFault}
 use Rattle.inf_world.specs.World.{attribute_fault, property_fault}
 use Rattle.inf_unit.specs.Messages.{FileNames}
 use Rattle.inf_unit.specs.Tokens.{SourceToken}
-use Rattle.inf_unit.specs.Units.{first_place, last_place, long_at, name_order, names_in, noted as unit_noted, taken as unit_taken}
+use Rattle.inf_unit.specs.Units.{first_place, last_place, long_at, name_order, names_in, noted as unit_noted, taken as unit_taken, text_passed}
 use Rattle.inf_unit.proofs.Cases.{of_both}
 use Rattle.inf_statements.specs.Constructs.{Laying, are_own, cases_begun, condition_label, ended, next_case}
 use Rattle.inf_statements.specs.Limits.{LayingKeeps}
@@ -40,13 +40,13 @@ use Rattle.inf_work.specs.Actions.{Compilation, begun_at, body_ended, cases_ende
 use Rattle.inf_work.specs.Declarations.{is_alias, alias_finding, alias_told, aliased, attribute, attribute_added, attribute_number, attribute_with, global_added, global_variable, is_additive, last_meaning, new_attribute, new_attribute_by, new_global, new_property, new_property_by, nothing_of, name_known, property, property_added, property_named, property_names, property_number, property_order, property_with, value_of, valued, with_variable}
 use Rattle.inf_work.proofs.Bounds.{attribute_read_same, body_ended_same, class_read_same, embedded_read_same, property_read_same, value_read_same}
 use Rattle.inf_work.specs.Directives.{carried_out, default, directive_of_names}
-use Rattle.inf_unit.specs.Roles.{makes_sure, role_of}
+use Rattle.inf_unit.specs.Roles.{is_text, makes_sure, role_of}
 use Rattle.inf_unit.specs.declared.roles.Ending.{Ending}
 use Rattle.inf_unit.specs.declared.roles.Ending.TheVariants as ending
 use Rattle.inf_unit.specs.declared.roles.Note.{Note}
 use Rattle.inf_unit.specs.declared.roles.Role.{Role}
 use Rattle.inf_unit.specs.declared.roles.Role.TheVariants as role
-use Rattle.inf_work.specs.Acting.{act, acted, all_acted, ended as ended_as, kind_of, noted, played}
+use Rattle.inf_work.specs.Acting.{act, acted, all_acted, ended as ended_as, is_crowded, kind_of, noted, noted_of, played}
 use Rattle.inf_work.specs.Findings.{header_fault, name_fault}
 use Rattle.inf_work.specs.Limits.{SameLimits}
 use Rattle.inf_work.proofs.ArrayLimits.{entry_same, header_same}
@@ -147,10 +147,10 @@ header_with_same files first name h w =
 
 header_of_same : (files : FileNames) (first : Place) (names : List Name) (w : Compilation) → SameLimits w (header_of files first names w)
 header_of_same files first [] w = (refl, refl)
-header_of_same files first (name ∷ locals) w =
+header_of_same files first (name ∷ names) w =
     of_both (SameLimits w) (is_replaced name w) (passed true (record w { is_passed_over = true; is_embedded = false; constructs = [] }))
-    (header_with files first name (with_locals locals no_locals) (record w { is_passed_over = false; is_embedded = false }))
-    (λ _. (refl, refl)) (λ _. header_with_same files first name (with_locals locals no_locals)
+    (header_with files first name w.unit.headed (record w { is_passed_over = false; is_embedded = false }))
+    (λ _. (refl, refl)) (λ _. header_with_same files first name w.unit.headed
     (record w { is_passed_over = false; is_embedded = false }))
 
 close_same : (files : FileNames) (place : Place) (w : Compilation) → SameLimits w (close files place w)
@@ -335,10 +335,15 @@ closed_ahead_same count w = all_ended_keep (count - w.closed) w.constructs w.out
 
 -- Actions
 
-noted_same : (files : FileNames) (n : Note) (w : Compilation) → SameLimits w (noted files n w)
-noted_same files n w =
+noted_of_same : (files : FileNames) (n : Note) (w : Compilation) → SameLimits w (noted_of files n w)
+noted_of_same files n w =
     let v = record w { unit = unit_noted n w.unit } in
     of_both (SameLimits w) (makes_sure n) (sized files v) v (λ _. sized_same files v) (λ _. (refl, refl))
+
+noted_same : (files : FileNames) (n : Note) (w : Compilation) → SameLimits w (noted files n w)
+noted_same files n w =
+    of_both (SameLimits w) (is_text n && is_crowded w) (record w { unit = text_passed w.unit }) (noted_of files n w)
+    (λ _. (refl, refl)) (λ _. noted_of_same files n w)
 
 ended_same : (files : FileNames) (place : Place) (e : Ending) (w : Compilation) → SameLimits w (ended_as files place e w)
 ended_same files place ending.Locals w = header_of_same files (first_place w.unit.tokens place) (names_in w.unit.tokens) w

@@ -1,9 +1,9 @@
 -- What each action of the grammar does.
-use Rattle.std.specs.Prelude.{List, [], ◌∷◌, None, Some, false, true, if◌then◌else◌}
+use Rattle.std.specs.Prelude.{List, [], ◌∷◌, length, Bool, false, true, ◌&&◌, None, Some, nat_lt, if◌then◌else◌}
 use Rattle.inf_scanner.specs.declared.tokens.Place.{Place}
 use Rattle.inf_syntax.specs.declared.actions.Action.{Action}
 use Rattle.inf_unit.specs.Messages.{FileNames}
-use Rattle.inf_unit.specs.Roles.{makes_sure, role_of}
+use Rattle.inf_unit.specs.Roles.{is_text, makes_sure, role_of}
 use Rattle.inf_unit.specs.declared.roles.Ending.{Ending}
 use Rattle.inf_unit.specs.declared.roles.Ending.TheVariants as ending
 use Rattle.inf_unit.specs.declared.roles.Note.{Note}
@@ -11,7 +11,7 @@ use Rattle.inf_unit.specs.declared.roles.Opening.{Opening}
 use Rattle.inf_unit.specs.declared.roles.Opening.TheVariants as opening
 use Rattle.inf_unit.specs.declared.roles.Role.{Role}
 use Rattle.inf_unit.specs.declared.roles.Role.TheVariants as role
-use Rattle.inf_unit.specs.Units.{noted as unit_noted, stepped}
+use Rattle.inf_unit.specs.Units.{noted as unit_noted, stepped, text_passed}
 use Rattle.inf_statements.specs.declared.constructs.Case.TheVariants as case
 use Rattle.inf_statements.specs.declared.constructs.Kind.{Kind}
 use Rattle.inf_statements.specs.declared.constructs.Kind.TheVariants as kind
@@ -25,9 +25,16 @@ use Rattle.inf_work.specs.Parts.{construct_closed, construct_joined, construct_o
 use Rattle.inf_work.specs.Verbs.{line_ended}
 use Rattle.inf_work.specs.declared.parts.Part.TheVariants as part
 
--- Something is noted of the unit at hand, by which its outermost expression may be too long.
+-- Whether the unit at hand prints more than code may have bytes. Its code then passes that setting, whatever else it prints.
+abbrev pub is_crowded : Compilation → Bool
+is_crowded w = nat_lt w.output.code.limits.code (length w.unit.items)
+
+-- Something is noted of the unit at hand, by which its outermost expression may be too long. Of texts that are printed so many are kept.
+abbrev pub noted_of : FileNames → Note → Compilation → Compilation
+noted_of files n w = let v = record w { unit = unit_noted n w.unit } in if makes_sure n then sized files v else v
+
 abbrev pub noted : FileNames → Note → Compilation → Compilation
-noted files n w = let v = record w { unit = unit_noted n w.unit } in if makes_sure n then sized files v else v
+noted files n w = if is_text n && is_crowded w then record w { unit = text_passed w.unit } else noted_of files n w
 
 -- The unit at hand ends, before a token at a place.
 abbrev pub ended : FileNames → Place → Ending → Compilation → Compilation

@@ -1,5 +1,5 @@
 -- What the actions of the grammar do. While a unit is read they gather what it has, and at its end it acts, as a whole.
-use Rattle.std.specs.Prelude.{ℕ, ◌+◌, ◌-◌, ◌==◌, max, List, [], ◌∷◌, ◌++◌, length, map, drop, nat_lt, slice_get, Bool, true, false, ◌&&◌, if◌then◌else◌, Option, Some, None, is_some, unwrap_or}
+use Rattle.std.specs.Prelude.{ℕ, ◌+◌, ◌-◌, ◌==◌, max, List, [], ◌∷◌, length, map, nat_lt, Bool, true, false, ◌&&◌, if◌then◌else◌, Option, Some, None, is_some, unwrap_or}
 use Rattle.inf_characters.specs.declared.characters.CharSet.{CharSet}
 use Rattle.inf_scanner.specs.declared.tokens.Mark.{Mark}
 use Rattle.inf_scanner.specs.declared.tokens.Mark.TheVariants as mark
@@ -29,7 +29,6 @@ use Rattle.inf_code.specs.declared.code.CodeLimits.{CodeLimits}
 use Rattle.inf_code.specs.Code.{fault_closed, labels as labels_of, no_routines, place_behind, with_none_open}
 use Rattle.inf_names.specs.Symbols.{Table, declare_fault, found_in, no_names, refer_fault, with_used}
 use Rattle.inf_names.specs.declared.symbols.DeclareFault.{DeclareFault}
-use Rattle.inf_names.specs.declared.symbols.DeclareFault.TheVariants as declaring
 use Rattle.inf_names.specs.declared.symbols.Found.{Found}
 use Rattle.inf_names.specs.declared.symbols.Found.TheVariants as found
 use Rattle.inf_names.specs.declared.meanings.Meaning.{Meaning}
@@ -37,16 +36,12 @@ use Rattle.inf_names.specs.declared.meanings.Meaning.TheVariants as meaning
 use Rattle.inf_report.specs.Messages.{BranchTooFar, ConstantOutOfRange, DeepNesting, Exceeded, LabelMissing, UnusedLocal}
 use Rattle.inf_report.specs.OwnWords.{Words}
 use Rattle.inf_sinks.specs.Spellings.{Name}
-use Rattle.inf_sinks.specs.Locals.{Local, Headed, with_locals, no_locals}
-use Rattle.inf_syntax.specs.declared.actions.Action.{Action}
-use Rattle.inf_syntax.specs.declared.actions.Action.TheVariants as action
-use Rattle.inf_unit.specs.Directives.{Request, Nothing, Include, End, directive_of, weight_of}
-use Rattle.inf_unit.specs.declared.directives.Directive.{Directive}
-use Rattle.inf_unit.specs.declared.directives.Directive.TheVariants as directive
-use Rattle.inf_unit.specs.Messages.{FileNames, Diagnostic, Reported, location, nothing_reported, with_error, with_fatal, with_fault, with_full, with_warning, with_words}
+use Rattle.inf_sinks.specs.Locals.{Local, Headed}
+use Rattle.inf_unit.specs.Directives.{Request, Nothing}
+use Rattle.inf_unit.specs.Messages.{FileNames, Diagnostic, Reported, location, nothing_reported, with_error, with_fatal, with_fault, with_full, with_warning}
 use Rattle.inf_unit.specs.Names.{no_symbols}
-use Rattle.inf_unit.specs.Tokens.{SourceToken, is_mark, number_of}
-use Rattle.inf_unit.specs.Units.{Unit, acted as unit_acted, bytes_at, first_place, kind_at, long_at, name_order, names_in, no_unit, outer_tokens, over, quoted_in, short_name_of, taken as unit_taken}
+use Rattle.inf_unit.specs.Tokens.{SourceToken, number_of}
+use Rattle.inf_unit.specs.Units.{Unit, bytes_at, first_place, kind_at, long_at, name_order, names_in, no_unit, outer_tokens, over, quoted_in, short_name_of, taken as unit_taken}
 use Rattle.inf_output.specs.Strings.{no_strings}
 use Rattle.inf_tables.specs.Tables.{no_tables}
 use Rattle.inf_output.specs.Output.{Code, Out, begun, closed, declared, full, opened, referred}
@@ -59,7 +54,7 @@ use Rattle.inf_verbs.specs.declared.verbs.Place.TheVariants as line_place
 use Rattle.inf_statements.specs.Constructs.{depth, ended}
 use Rattle.inf_statements.specs.declared.constructs.Construct.{Construct}
 use Rattle.inf_statements.specs.Labels.{NamedLabel, missing}
-use Rattle.inf_statements.specs.Operands.{Settled, all_looked, leaf_added, leaves_named, settled, stores_named, word_operand}
+use Rattle.inf_statements.specs.Operands.{Settled, all_looked, leaf_added, leaves_named, settled, stores_named}
 use Rattle.inf_statements.specs.Statements.{tree_in}
 use Rattle.inf_world.specs.declared.faults.AddFault.{AddFault}
 use Rattle.inf_world.specs.World.{WorldOf, no_body_fault, with_end}
@@ -312,12 +307,12 @@ is_kept _ = false
 abbrev pub is_replaced : Name → Compilation → Bool
 is_replaced n w = w.is_system && is_kept (found_in n.bytes w.replaced)
 
--- behind its bracket a header has the name of its routine and the locals
+-- behind its bracket a header has the name of its routine; its locals are kept apart
 abbrev pub header_of : FileNames → Place → List Name → Compilation → Compilation
 header_of files first [] w = passed true w
-header_of files first (name ∷ locals) w =
+header_of files first (name ∷ names) w =
     if is_replaced name w then passed true (record w { is_passed_over = true; is_embedded = false; constructs = [] })
-    else header_with files first name (with_locals locals no_locals) (record w { is_passed_over = false; is_embedded = false })
+    else header_with files first name w.unit.headed (record w { is_passed_over = false; is_embedded = false })
 
 abbrev pub header_end : FileNames → Place → Compilation → Compilation
 header_end files place w = header_of files (first_place w.unit.tokens place) (names_in w.unit.tokens) w

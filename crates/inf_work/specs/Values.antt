@@ -20,12 +20,12 @@ use Rattle.inf_scanner.specs.declared.tokens.Mark.TheVariants as mark
 use Rattle.inf_scanner.specs.declared.tokens.Place.{Place}
 use Rattle.inf_scanner.specs.declared.tokens.TokenKind.{TokenKind}
 use Rattle.inf_statements.specs.Printing.{text_at}
-use Rattle.inf_sinks.specs.Locals.{Headed, no_locals, with_locals}
+use Rattle.inf_sinks.specs.Locals.{Headed}
 use Rattle.inf_text.specs.Packing.{dictionary_bytes}
 use Rattle.inf_unit.specs.Messages.{Diagnostic, FileNames}
 use Rattle.inf_unit.specs.Texts.{fit_characters}
 use Rattle.inf_unit.specs.Tokens.{SourceToken, is_mark}
-use Rattle.inf_unit.specs.Units.{first_place, names_behind}
+use Rattle.inf_unit.specs.Units.{first_place}
 use Rattle.inf_work.specs.Actions.{Compilation, finding_at, opened_with, settled_of, told}
 use Rattle.inf_work.specs.Arrays.{looked_value, variables_from}
 use Rattle.inf_work.specs.Bodies.{is_words, last_at, place_finding, placed, placed_finding, property_of}
@@ -199,5 +199,4 @@ embedded files first name h w = embedded_by (blame_embedded files first name h w
 
 abbrev pub embedded_read : FileNames → Place → Compilation → Compilation
 embedded_read files place w =
-    embedded files (first_place w.unit.tokens place) (place_before (bracket_in w.unit.tokens))
-    (with_locals (names_behind mark.OpenBracket w.unit.tokens) no_locals) w
+    embedded files (first_place w.unit.tokens place) (place_before (bracket_in w.unit.tokens)) w.unit.headed w

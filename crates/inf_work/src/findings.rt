@@ -94,11 +94,11 @@ pub(crate) fn name_fault<'a>(
 }
 
 /// A local that is named again.
-fn local_fault<'a>(files: &'a Stack, repeated: Option<Repeated<'a>>) -> Option<Diagnostic<'a>>
-    ensures { option_map blamed result ≡ local_fault files.now.names (option_map repeated_of repeated.entry) }
+fn local_fault<'a>(files: &'a Stack, repeated: Option<&'a Repeated>) -> Option<Diagnostic<'a>>
+    ensures { option_map blamed result ≡ local_fault files.now.names (option_map (λ r. repeated_of r.now) repeated) }
 {
     let repeated = repeated?;
-    Some(again(files, repeated.name, repeated.first))
+    Some(again(files, &repeated.name, repeated.first))
 }
 
 /// The first error of a header by its place: too many locals, which stands at its bracket, its
@@ -107,10 +107,10 @@ pub(crate) fn header_fault<'a>(
     files: &'a Stack,
     unit: Place,
     of_name: Option<Diagnostic<'a>>,
-    headed: &Headed<'a>,
+    headed: &'a Headed,
 ) -> Option<Diagnostic<'a>>
     ensures { option_map blamed result
-        ≡ header_fault files.now.names unit (option_map blamed of_name.entry) (as_headed headed.entry.now) }
+        ≡ header_fault files.now.names unit (option_map blamed of_name.entry) (as_headed headed.now) }
 {
     if headed.are_too_many {
         return Some(Diagnostic {
@@ -118,5 +118,5 @@ pub(crate) fn header_fault<'a>(
             message: Message::TooMany(FixedLimit::Locals),
         });
     }
-    of_name.or(local_fault(files, headed.repeated))
+    of_name.or(local_fault(files, headed.repeated.as_ref()))
 }

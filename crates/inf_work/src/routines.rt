@@ -2,7 +2,7 @@
 ghost use Rattle.std.specs.Prelude.{◌≡◌, IfOk, None, OnOk, is_some, map, option_map};
 ghost use Rattle.inf_names.specs.Symbols.{declare_fault};
 ghost use Rattle.inf_sinks.specs.LocalList.{headed as as_headed, listed};
-ghost use Rattle.inf_sinks.specs.Locals.{no_locals, with_locals};
+ghost use Rattle.inf_sinks.specs.Locals.{no_locals};
 ghost use Rattle.inf_sinks.specs.Spellings.{as_name};
 ghost use Rattle.inf_unit.specs.Diagnostics.{blamed};
 ghost use Rattle.inf_work.specs.Actions.{kind_ended, with_all_unused, with_routine_fault};
@@ -20,6 +20,7 @@ use inf_sinks::spellings::Name;
 use inf_statements::labels::Labels;
 use inf_unit::messages::{Diagnostic, Diagnostics, location};
 use std::alloc::AllocError;
+use std::mem;
 
 impl Compilation {
     ghost use Rattle.inf_work.specs.Actions.{close, code_closed, header_end, header_with, is_replaced, opened_with, routine_declared};
@@ -30,7 +31,7 @@ impl Compilation {
         ensures { OnOk result (work self.new ≡ header_end files.now.names place (work self.old)) }
     {
         let names = self.unit.tokens.names(self.alloc)?;
-        let Some((name, locals)) = names.split_first() else {
+        let Some(name) = names.first() else {
             self.pass(true);
             return Ok(());
         };
@@ -41,9 +42,18 @@ impl Compilation {
             self.pass(true);
             return Ok(());
         }
-        let headed = headed_of(locals);
+        let headed = self.take_headed();
         let first = self.unit.first_place(place);
         self.open(files, first, name, headed)
+    }
+
+    /// Takes away the locals that the header of a routine named.
+    pub(crate) fn take_headed(&mut self) -> Headed
+        ensures headed { as_headed result ≡ (work self.old).unit.headed }
+        ensures none { let before = work self.old in
+            work self.new ≡ record before { unit = record before.unit { headed = no_locals } } }
+    {
+        mem::replace(&mut self.unit.headed, Headed::new())
     }
 
     /// Whether the routine of a name is to be replaced, which it may be in a file that is marked.
@@ -60,10 +70,10 @@ impl Compilation {
         files: &Stack,
         first: Place,
         name: &Name,
-        headed: Headed<'_>,
+        headed: Headed,
     ) -> Result<(), AllocError>
         ensures { OnOk result (work self.new
-            ≡ header_with files.now.names first (as_name name.now) (as_headed headed.entry) (work self.old)) }
+            ≡ header_with files.now.names first (as_name name.now) (as_headed headed) (work self.old)) }
     {
         let refused = self.declare_routine(name)?;
         let blame = header_blame(files, first, name, refused, &headed);
@@ -89,10 +99,10 @@ impl Compilation {
         &mut self,
         files: &Stack,
         first: Place,
-        headed: Headed<'_>,
+        headed: Headed,
         is_lost: bool,
     ) -> Result<(), AllocError>
-        ensures { OnOk result (work self.new ≡ opened_with files.now.names first (as_headed headed.entry) is_lost (work self.old)) }
+        ensures { OnOk result (work self.new ≡ opened_with files.now.names first (as_headed headed) is_lost (work self.old)) }
     {
         let locals = headed.locals.count();
         self.output.open(self.alloc, locals, is_lost)?;
@@ -139,27 +149,16 @@ fn kind_ended(is_embedded: bool) -> RoutineKind
     }
 }
 
-/// The locals that the names behind a routine's name declare.
-pub(crate) fn headed_of(names: &[Name]) -> Headed<'_>
-    ensures { as_headed result ≡ with_locals (map as_name names.now) no_locals }
-{
-    let mut headed = Headed::new();
-    for name in names {
-        headed.add(name);
-    }
-    headed
-}
-
 /// The first error of a header, by what the names refuse.
 fn header_blame<'a>(
     files: &'a Stack,
     first: Place,
     name: &'a Name,
     refused: Option<DeclareFault<Place>>,
-    headed: &Headed<'a>,
+    headed: &'a Headed,
 ) -> Option<Diagnostic<'a>>
     ensures { option_map blamed result
-        ≡ header_fault files.now.names first (name_fault files.now.names (as_name name.now) refused) (as_headed headed.entry.now) }
+        ≡ header_fault files.now.names first (name_fault files.now.names (as_name name.now) refused) (as_headed headed.now) }
 {
     let of_name = name_fault(files, name, refused);
     header_fault(files, first, of_name, headed)

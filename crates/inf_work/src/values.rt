@@ -8,7 +8,7 @@ use crate::arrays::has_variables;
 use crate::bodies::{is_words, last_at, property_of};
 use crate::findings::{TOO_MANY, header_fault};
 use crate::objects::{entry_blame, text_in};
-use crate::routines::{headed_of, is_told};
+use crate::routines::is_told;
 use crate::work::Compilation;
 use inf_area::{AreaName, Target, Value};
 use inf_expressions::{Finding, Wanted, least_of_both};
@@ -99,8 +99,8 @@ fn bracket_in(tokens: &UnitTokens) -> usize
 }
 
 /// Whether there are too many locals, which is told before what is wrong with where a routine goes, unless that is told of the first token.
-fn is_first(finding: Finding, headed: &Headed<'_>) -> bool
-    ensures { result ≡ is_first finding (as_headed headed.entry.now) }
+fn is_first(finding: Finding, headed: &Headed) -> bool
+    ensures { result ≡ is_first finding (as_headed headed.now) }
 {
     finding.number != TOO_MANY && headed.are_too_many
 }
@@ -110,11 +110,11 @@ fn misplaced_blame<'a>(
     tokens: &'a UnitTokens,
     files: &'a Stack,
     first: Place,
-    headed: &Headed<'a>,
+    headed: &'a Headed,
     finding: Finding,
 ) -> Option<Diagnostic<'a>>
     ensures { option_map blamed result
-        ≡ misplaced_blame tokens.now files.now.names first (as_headed headed.entry.now) finding }
+        ≡ misplaced_blame tokens.now files.now.names first (as_headed headed.now) finding }
 {
     if is_first(finding, headed) {
         header_fault(files, first, None, headed)
@@ -128,11 +128,11 @@ fn embedded_blame<'a>(
     tokens: &'a UnitTokens,
     files: &'a Stack,
     first: Place,
-    headed: &Headed<'a>,
+    headed: &'a Headed,
     own: Option<Finding>,
 ) -> Option<Diagnostic<'a>>
     ensures { option_map blamed result
-        ≡ embedded_blame tokens.now files.now.names first (as_headed headed.entry.now) own }
+        ≡ embedded_blame tokens.now files.now.names first (as_headed headed.now) own }
 {
     match own {
         Some(finding) => misplaced_blame(tokens, files, first, headed, finding),
@@ -309,11 +309,11 @@ impl Compilation {
         &mut self,
         files: &Stack,
         first: Place,
-        headed: Headed<'_>,
+        headed: Headed,
         is_lost: bool,
     ) -> Result<(), AllocError>
         ensures { OnOk result (work self.new
-            ≡ embedded_opened files.now.names first (as_headed headed.entry) is_lost (work self.old)) }
+            ≡ embedded_opened files.now.names first (as_headed headed) is_lost (work self.old)) }
     {
         self.is_embedded = true;
         self.is_passed_over = false;
@@ -326,11 +326,11 @@ impl Compilation {
         files: &Stack,
         first: Place,
         name: Option<usize>,
-        headed: Headed<'_>,
+        headed: Headed,
         is_lost: bool,
     ) -> Result<(), AllocError>
         ensures { OnOk result (work self.new
-            ≡ embedded_begun files.now.names first name (as_headed headed.entry) is_lost (work self.old)) }
+            ≡ embedded_begun files.now.names first name (as_headed headed) is_lost (work self.old)) }
     {
         self.place_routine(name, is_lost)?;
         self.open_embedded(files, first, headed, is_lost)
@@ -349,9 +349,9 @@ impl Compilation {
         files: &Stack,
         first: Place,
         name: Option<usize>,
-        headed: Headed<'_>,
+        headed: Headed,
     ) -> Result<(), AllocError>
-        ensures { OnOk result (work self.new ≡ embedded files.now.names first name (as_headed headed.entry) (work self.old)) }
+        ensures { OnOk result (work self.new ≡ embedded files.now.names first name (as_headed headed) (work self.old)) }
     {
         let own = self.embedding_finding(name);
         let blame = embedded_blame(&self.unit.tokens, files, first, &headed, own);
@@ -366,10 +366,7 @@ impl Compilation {
     {
         let first = self.unit.first_place(place);
         let name = place_before(bracket_in(&self.unit.tokens));
-        let locals = self
-            .unit
-            .tokens
-            .names_behind(self.alloc, Mark::OpenBracket)?;
-        self.embed(files, first, name, headed_of(locals.as_slice()))
+        let headed = self.take_headed();
+        self.embed(files, first, name, headed)
     }
 }

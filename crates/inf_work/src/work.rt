@@ -31,7 +31,7 @@ use inf_text::CharSet;
 use inf_unit::directives::Request;
 use inf_unit::messages::{Diagnostics, location};
 use inf_unit::names::no_symbols;
-use inf_unit::roles::{Ending, Note, Opening, Role, makes_sure, role_of};
+use inf_unit::roles::{Ending, Note, Opening, Role, is_text, makes_sure, role_of};
 use inf_unit::tokens::SourceToken;
 use inf_unit::unit::Unit;
 use inf_verbs::Place as LinePlace;
@@ -135,7 +135,7 @@ impl Compilation {
     ghost use Rattle.inf_unit.specs.Directives.{Nothing, asked, asks};
     ghost use Rattle.inf_work.specs.Actions.{begun_at, cut, entered, is_class, is_deep, labels_counted, left, nested, no_work, opening_checked, passed, piece_begun, sized, token_checked, took, unit_ended};
     ghost use Rattle.inf_work.specs.Parts.{closed_ahead, construct_closed};
-    ghost use Rattle.inf_work.specs.Acting.{act, acted, all_acted, ended, noted};
+    ghost use Rattle.inf_work.specs.Acting.{act, acted, all_acted, ended, is_crowded, noted};
     ghost use Rattle.inf_work.specs.Works.{work};
 
     /// Before the first unit of sources in a character set, of which names are hashed so.
@@ -359,10 +359,22 @@ impl Compilation {
         }
     }
 
-    /// Something is noted of the unit at hand, by which its outermost expression may be too long.
+    /// Whether the unit at hand prints more than code may have bytes. Its code then passes that setting, whatever else it prints.
+    fn is_crowded(&self) -> bool
+        ensures { result ≡ is_crowded (work self.now) }
+    {
+        self.unit.items.len() > self.output.code.most_bytes()
+    }
+
+    /// Something is noted of the unit at hand, by which its outermost expression may be too long. Of texts that are printed so many are
+    /// kept.
     fn note(&mut self, files: &Stack, note: Note) -> Result<(), AllocError>
         ensures { OnOk result (work self.new ≡ noted files.now.names note (work self.old)) }
     {
+        if is_text(note) && self.is_crowded() {
+            self.unit.pass_text();
+            return Ok(());
+        }
         self.unit.note(note)?;
         if makes_sure(note) {
             return self.size(files);
