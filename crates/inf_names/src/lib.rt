@@ -1,6 +1,7 @@
 //! The names of a compilation: those that the language has from the start, and one map of those that a source declares or uses.
 #![tactic(auto)]
 
+mod keys;
 pub mod meanings;
 pub mod symbols;
 pub mod system_names;
