@@ -2,6 +2,7 @@
 ghost use Rattle.std.specs.Prelude.{◌≡◌};
 ghost use Rattle.inf_expressions.specs.Nodes.{tree_at};
 ghost use Rattle.inf_expressions.specs.Rooted.{kind_of};
+ghost use Rattle.inf_expressions.specs.Trees.{Leaf};
 
 use crate::nodes::{Node, Nodes};
 use crate::operators::{Binary, Function, Operand, Operation, PropertyPart};
@@ -31,16 +32,25 @@ pub(crate) struct Seen {
     pub origin: Origin,
 }
 
+/// The kind of a leaf.
+pub(crate) fn kind_of_leaf(operand: Operand) -> Kind
+    ensures { result ≡ kind_of (Leaf operand) }
+{
+    match operand {
+        Operand::Known(number) => Kind::Number(number),
+        Operand::Variable(_) => Kind::Variable,
+        Operand::Later(_) => Kind::Constant,
+        Operand::Function(function) => Kind::Function(function),
+        Operand::Unknown => Kind::Number(0),
+    }
+}
+
 /// The kind of the tree at a place.
 pub(crate) fn kind_of(nodes: &Nodes, place: usize) -> Kind
     ensures { result ≡ kind_of (tree_at nodes.now place) }
 {
     match nodes.node(place) {
-        Node::Leaf(Operand::Known(number)) => Kind::Number(number),
-        Node::Leaf(Operand::Variable(_)) => Kind::Variable,
-        Node::Leaf(Operand::Later(_)) => Kind::Constant,
-        Node::Leaf(Operand::Function(function)) => Kind::Function(function),
-        Node::Leaf(Operand::Unknown) => Kind::Number(0),
+        Node::Leaf(operand) => kind_of_leaf(operand),
         Node::Two(Binary::Operation(Operation::Byte | Operation::Word), _, _) => Kind::Entry,
         Node::Two(Binary::Property(PropertyPart::Value), _, _) => Kind::Property,
         Node::Two(Binary::To, _, _) => Kind::Range,

@@ -41,13 +41,13 @@ impl Model for Nodes {
 }
 
 impl Nodes {
-    /// No nodes.
-    pub(crate) fn new(alloc: Global) -> Nodes
-        ensures { result ≡ [] }
+    /// No nodes, with room for so many.
+    pub(crate) fn with_capacity(alloc: Global, count: usize) -> Result<Nodes, AllocError>
+        ensures { IfOk result (λ nodes. nodes ≡ []) }
     {
-        Nodes {
-            nodes: Vec::new(alloc),
-        }
+        Ok(Nodes {
+            nodes: Vec::with_capacity(alloc, count)?,
+        })
     }
 
     /// One node more, whose parts stand before it. It answers its place.

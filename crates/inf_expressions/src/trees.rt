@@ -78,13 +78,14 @@ fn begun(front: Option<u32>, origin: Origin) -> Origin
 }
 
 impl Trees {
-    pub(crate) fn new(alloc: Global) -> Trees
-        ensures { result ≡ [] }
+    /// None, with room for so many.
+    pub(crate) fn with_capacity(alloc: Global, count: usize) -> Result<Trees, AllocError>
+        ensures { IfOk result (λ trees. trees ≡ []) }
     {
-        Trees {
-            nodes: Nodes::new(alloc),
-            roots: Vec::new(alloc),
-        }
+        Ok(Trees {
+            nodes: Nodes::with_capacity(alloc, count)?,
+            roots: Vec::with_capacity(alloc, count)?,
+        })
     }
 
     #[tactic(auto, using(crate::proofs::Roots::roots_step))]

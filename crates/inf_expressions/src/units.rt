@@ -1,13 +1,16 @@
 //! The expressions of a unit, from their symbols.
-ghost use Rattle.std.specs.Prelude.{◌≡◌, IfOk, OnOk, List, reverse};
+ghost use Rattle.std.specs.Prelude.{◌≡◌, [], ◌∷◌, IfOk, OnOk, List, reverse};
 ghost use Rattle.inf_expressions.specs.Forests.{trees_in};
 ghost use Rattle.inf_expressions.specs.Units.{acted, called, call_joined, gathered, judged, listed, nothing_gathered};
 ghost use Rattle.inf_expressions.specs.Units.{operand_at, parted, roots_finding, trees_of};
+ghost use Rattle.inf_expressions.specs.declared.operators.Operand.{Operand as Standing};
+ghost use Rattle.inf_expressions.specs.declared.symbols.Symbol.TheVariants as symbol;
 ghost use Rattle.inf_expressions.specs.Units.{with_brackets, with_operand, with_two_of, with_unary_of};
 
 use crate::findings::Finding;
 use crate::forest::Forest;
 use crate::judging::{call_finding, leaf_finding, root_finding, two_finding, unary_finding};
+use crate::kinds::{Seen, kind_of_leaf};
 use crate::operators::{Binary, Operand, Unary};
 use crate::origins::Origin;
 use crate::symbols::Symbol;
@@ -54,13 +57,14 @@ impl Model for Gathered {
 }
 
 impl Gathered {
-    fn new(alloc: Global) -> Gathered
-        ensures { result ≡ nothing_gathered }
+    /// Nothing, with room for so many trees.
+    fn with_capacity(alloc: Global, count: usize) -> Result<Gathered, AllocError>
+        ensures { IfOk result (λ g. g ≡ nothing_gathered) }
     {
-        Gathered {
-            trees: Trees::new(alloc),
+        Ok(Gathered {
+            trees: Trees::with_capacity(alloc, count)?,
             finding: None,
-        }
+        })
     }
 
     fn leaf(
@@ -196,7 +200,7 @@ fn gather(
 ) -> Result<Gathered, AllocError>
     ensures { IfOk result (λ g. g ≡ gathered wanted unit operands.now symbols.now nothing_gathered) }
 {
-    let mut gathered = Gathered::new(alloc);
+    let mut gathered = Gathered::with_capacity(alloc, symbols.len())?;
     for symbol in symbols {
         act(&mut gathered, wanted, unit, operands, *symbol)?;
     }
@@ -214,6 +218,25 @@ fn found_of(wanted: Wanted, unit: u32, forest: &Forest, finding: Option<Finding>
     found
 }
 
+/// The least finding of a unit of one leaf. Most units are such ones, and it takes no tree to judge them.
+fn judge_leaf(
+    wanted: Wanted,
+    unit: u32,
+    first: u32,
+    token: u32,
+    leaf: usize,
+    operand: Operand,
+) -> Option<Finding>
+    ensures { (operands : List Standing) → operand ≡ operand_at operands leaf →
+        result ≡ judged wanted unit operands (symbol.Leaf first token leaf ∷ []) }
+{
+    let seen = Seen {
+        kind: kind_of_leaf(operand),
+        origin: Origin::of_leaf(first, token, leaf, operand),
+    };
+    root_finding(wanted, unit, seen, leaf_finding(operand, token, None))
+}
+
 /// The least finding of a unit whose first token has the order `unit`, or that there is none.
 ///
 /// The operands are those that looking names up gives, and nothing else changes by a look. A symbol whose place has none is the number 0.
@@ -227,6 +250,10 @@ pub fn judge(
 ) -> Result<Option<Finding>, AllocError>
     ensures { IfOk result (λ found. found ≡ judged wanted unit operands.now symbols.now) }
 {
+    if let [Symbol::Leaf { first, token, leaf }] = *symbols {
+        let operand = operand_at(operands, leaf);
+        return Ok(judge_leaf(wanted, unit, first, token, leaf, operand));
+    }
     let gathered = gather(alloc, wanted, unit, symbols, operands)?;
     let finding = gathered.finding;
     let forest = gathered.into_forest();

@@ -148,7 +148,7 @@ fn reach<T: Table>(
             Symbol::Act(action) => actions.push(action)?,
             Symbol::Rule(rule) if T::begins(rule, atom) => {
                 let opening = openings.find(rule, atom)?;
-                actions.extend_from_slice(opening.actions())?;
+                add_all(actions, opening.actions())?;
                 replace(symbols, below, opening.left())?;
                 return Ok(true);
             }
@@ -159,7 +159,18 @@ fn reach<T: Table>(
     Ok(false)
 }
 
-/// Puts symbols in place of those from a place on.
+/// Puts actions behind others. They are few, so each is put there by itself.
+fn add_all<A: Copy>(actions: &mut Vec<A>, others: &[A]) -> Result<(), AllocError>
+    ensures ok { OnOk result (actions.new.items ≡ actions.old.items ++ others.now) }
+    ensures before { take (vec_len actions.old) actions.new.items ≡ actions.old.items }
+{
+    for other in others {
+        actions.push(*other)?;
+    }
+    Ok(())
+}
+
+/// Puts symbols in place of those from a place on. They are few, so each is put there by itself.
 fn replace<A: Copy>(
     symbols: &mut Vec<Symbol<A>>,
     below: usize,
@@ -170,7 +181,10 @@ fn replace<A: Copy>(
 {
     symbols.reserve(others.len())?;
     symbols.truncate(below);
-    symbols.extend_from_slice(others)
+    for other in others {
+        symbols.push_reserved(*other);
+    }
+    Ok(())
 }
 
 /// Puts the actions of a row behind others. The row is given with its last part first.

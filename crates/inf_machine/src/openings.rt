@@ -7,7 +7,7 @@ use crate::table::Table;
 use std::alloc::{AllocError, Global};
 
 /// How many openings are kept at most.
-const PLACES: usize = 1024;
+const PLACES: usize = 4096;
 
 /// The openings that were met, each at the place of its rule and atom. One that is met takes the place of another.
 #[derive(Drop)]
@@ -18,7 +18,7 @@ pub(crate) struct Openings<T: Table> {
 
 /// The place of an opening. Those that come often in a source have places of their own.
 fn place_of(rule: u8, atom: u8) -> usize {
-    (rule as usize * 37 + atom as usize) % PLACES
+    (rule as usize * 211 + atom as usize) % PLACES
 }
 
 impl<T: Table> Openings<T> {

@@ -1,2 +1,3 @@
+pub mod KeyBytes
 pub mod Putting
 pub mod Unknown

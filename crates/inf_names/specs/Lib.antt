@@ -1,3 +1,4 @@
 pub mod SystemNames
 pub mod Symbols
 pub mod Entries
+pub mod Keys

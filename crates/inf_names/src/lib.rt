@@ -2,6 +2,7 @@
 #![tactic(auto)]
 
 pub mod hashing;
+mod keys;
 pub mod meanings;
 pub mod symbols;
 pub mod system_names;

@@ -1,8 +1,8 @@
 //! The names that a source declares or uses.
 ghost use Rattle.std.specs.Prelude.{◌≡◌, ◌≤◌, ◌+◌, IfOk, OnOk, OnErr, MatchResult, None, Some, length, option_map};
-ghost use Rattle.inf_names.specs.Symbols.{folded};
 
 use crate::hashing::NameHashing;
+use crate::keys::Key;
 use crate::meanings::Meaning;
 use crate::system_names::system_meaning;
 use arrayvec::ArrayVec;
@@ -80,7 +80,7 @@ pub enum Entry<P> {
 /// The names that were declared or used so far, in the order in which they first came. The language's own are not among them.
 #[derive(Drop)]
 pub struct Symbols<P: Copy> {
-    entries: IndexMap<ArrayVec<u8, LONGEST_NAME>, Entry<P>, NameHashing>,
+    entries: IndexMap<Key, Entry<P>, NameHashing>,
     declared: usize,
     limit: u32,
     is_debugging: bool,
@@ -103,18 +103,6 @@ impl<P: Copy> Model for Symbols<P> {
     } };
 
     ghost invariant = { λ s. (s.declared ≡ declarations (map as_named s.entries.entries)) × (length s.entries.entries ≤ s.limit) };
-}
-
-/// A name of at most 35 bytes, without case.
-fn folded(name: &[u8]) -> ArrayVec<u8, LONGEST_NAME>
-    requires { length name.now ≤ 35 }
-    ensures { result.items ≡ folded name.now }
-{
-    let mut key = ArrayVec::new();
-    for byte in name {
-        key.push(byte.to_ascii_lowercase());
-    }
-    key
 }
 
 /// A name of at most 35 bytes, as it is spelled.
@@ -203,7 +191,7 @@ impl<P: Copy> Symbols<P> {
             return Err(fault);
         }
         let entry = Entry::Declared(self.declared, meaning, place);
-        self.entries.insert(folded(name), entry)?;
+        self.entries.insert(Key::of(name), entry)?;
         self.declared += 1;
         Ok(self.declared)
     }
@@ -238,7 +226,7 @@ impl<P: Copy> Symbols<P> {
         ensures fault { let fault = refer_fault name.now self.old in
             MatchResult result (λ _. fault ≡ None) (λ refused. refused ≡ refer_refusal fault) }
     {
-        let key = folded(name);
+        let key = Key::of(name);
         if let Some(number) = self.number(&key) {
             return Ok((self.found_at(number), Some(number)));
         }
@@ -302,7 +290,7 @@ impl<P: Copy> Symbols<P> {
         requires { length name.now ≤ 35 }
         ensures { option_map (λ e. standing e.now) result ≡ standing_of (key_of name.now) self.now.names }
     {
-        let key = folded(name);
+        let key = Key::of(name);
         self.entries.get(&key)
     }
 
@@ -315,7 +303,7 @@ impl<P: Copy> Symbols<P> {
     }
 
     /// How many names came before one that was declared or used, given without case.
-    fn number(&self, key: &ArrayVec<u8, LONGEST_NAME>) -> Option<usize>
+    fn number(&self, key: &Key) -> Option<usize>
         ensures { result ≡ number_among key.now.items self.now.names }
     {
         self.entries.get_index_of(key)

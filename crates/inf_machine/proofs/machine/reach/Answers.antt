@@ -70,6 +70,6 @@ returns-in-Rule-clause-actions g c t =
     c.in_ok-opening-in-Rule.opening.now
     (omega arith) c.loop-below.invariant.within c.loop-below.invariant.same c.index.ensures c.in-Rule.is
     (sym c.begins.ensures ∙ c.if-begins.true) c.in_ok-opening-in-Rule.ensures c.loop-below.invariant.on in
-    c.in_ok-extend_from_slice-in-Rule.ensures.items
+    c.in_ok-add_all-in-Rule.ensures.ok
     ∙ ap (λ xs. c.loop-below.actions.items ++ xs) c.actions.ensures
     ∙ end.actions

@@ -41,7 +41,7 @@ invariant_of-self-2 g c =
     ap (declare_fault c.args.name.now) c.self.view_is ∙ sym c.in_default.ensures in
     let new = c.insert.new.self.entries in
     let is : map as_named new ≡ put key put_in names =
-    ap (map as_named) c.in_ok-insert.ensures.entries ∙ put-insert _ _ es ∙ ap (λ k. put k put_in names) c.folded.ensures in
+    ap (map as_named) c.in_ok-insert.ensures.entries ∙ put-insert _ _ es ∙ ap (λ k. put k put_in names) c.of.ensures in
     let count : length new ≡ length es + cond (is_some known) 0 1 =
     sym (length-map new as_named) ∙ ap length is ∙ length-put key put_in names
     ∙ ap (λ n. n + cond (is_some known) 0 1) (length-map es as_named) in
@@ -59,7 +59,7 @@ returns-clause-ok g c =
     let es = inside.entries.entries in
     let put_in = IsDeclared inside.declared c.args.meaning c.args.place in
     let is : map as_named c.insert.new.self.entries ≡ put (folded c.args.name.now) put_in (map as_named es) =
-    ap (map as_named) c.in_ok-insert.ensures.entries ∙ put-insert _ _ es ∙ ap (λ k. put k put_in (map as_named es)) c.folded.ensures in
+    ap (map as_named) c.in_ok-insert.ensures.entries ∙ put-insert _ _ es ∙ ap (λ k. put k put_in (map as_named es)) c.of.ensures in
     ap (λ (names : List (Named _)). record {
       names = names;
       declared = inside.declared + 1;

@@ -18,11 +18,11 @@ invariant_of-self-2 g c =
     let put_in = IsUsed c.args.name.now c.args.place in
     let absent : is_some known ≡ false =
     ap (λ (t : Table _). is_some (standing_of key t.names)) c.self.view_is
-    ∙ not_numbered key c.args.self.now.names (c.in_default.ensures ∙ ap (λ k. number_among k c.args.self.now.names) c.folded-key.ensures) in
+    ∙ not_numbered key c.args.self.now.names (c.in_default.ensures ∙ ap (λ k. number_among k c.args.self.now.names) c.of-key.ensures) in
     let new = c.insert.new.self.entries in
     let is : map as_named new ≡ put key put_in names =
     ap (map as_named) c.in_ok-insert.ensures.entries ∙ put-insert _ _ es
-    ∙ ap (λ k. put k (IsUsed c.spelled.result.items c.args.place) names) c.folded-key.ensures
+    ∙ ap (λ k. put k (IsUsed c.spelled.result.items c.args.place) names) c.of-key.ensures
     ∙ ap (λ s. put key (IsUsed s c.args.place) names) c.spelled.ensures in
     let count : length new ≡ length es + cond (is_some known) 0 1 =
     sym (length-map new as_named) ∙ ap length is ∙ length-put key put_in names
@@ -44,11 +44,11 @@ returns-clause-ok g c =
     let t : Table _ = record { names = names; declared = inside.declared; limit = inside.limit; is_debugging = inside.is_debugging } in
     let absent : is_some (standing_of key names) ≡ false =
     ap (λ (t : Table _). is_some (standing_of key t.names)) c.self.view_is
-    ∙ not_numbered key c.args.self.now.names (c.in_default.ensures ∙ ap (λ k. number_among k c.args.self.now.names) c.folded-key.ensures) in
+    ∙ not_numbered key c.args.self.now.names (c.in_default.ensures ∙ ap (λ k. number_among k c.args.self.now.names) c.of-key.ensures) in
     let free : is_some system ≡ false = ap is_some (sym c.in_default-system_meaning.ensures) in
     let is : map as_named c.insert.new.self.entries ≡ put key (IsUsed c.args.name.now c.args.place) names =
     ap (map as_named) c.in_ok-insert.ensures.entries ∙ put-insert _ _ es
-    ∙ ap (λ k. put k (IsUsed c.spelled.result.items c.args.place) names) c.folded-key.ensures
+    ∙ ap (λ k. put k (IsUsed c.spelled.result.items c.args.place) names) c.of-key.ensures
     ∙ ap (λ s. put key (IsUsed s c.args.place) names) c.spelled.ensures in
     ap (λ (names : List (Named _)). record {
       names = names;
@@ -70,7 +70,7 @@ returns-clause-number g c =
     let t : Table _ = record { names = names; declared = inside.declared; limit = inside.limit; is_debugging = inside.is_debugging } in
     let absent : is_some (standing_of key names) ≡ false =
     ap (λ (t : Table _). is_some (standing_of key t.names)) c.self.view_is
-    ∙ not_numbered key c.args.self.now.names (c.in_default.ensures ∙ ap (λ k. number_among k c.args.self.now.names) c.folded-key.ensures) in
+    ∙ not_numbered key c.args.self.now.names (c.in_default.ensures ∙ ap (λ k. number_among k c.args.self.now.names) c.of-key.ensures) in
     let free : is_some system ≡ false = ap is_some (sym c.in_default-system_meaning.ensures) in
     ap Some (c.len-number.ensures.count ∙ ap (λ (t : Table _). length t.names) (sym c.self.view_is) ∙ sym
     (index_of-absent key names absent))
@@ -82,4 +82,4 @@ returns-in-Some-clause-found g c =
     let t = c.args.self.now in
     c.found_at.ensures
     ∙ found_at_number (system_meaning t.is_debugging c.args.name.now) (folded c.args.name.now) t.names c.in-Some.number
-    (sym c.in-Some.is ∙ c.number.ensures ∙ ap (λ k. number_among k t.names) c.folded-key.ensures)
+    (sym c.in-Some.is ∙ c.number.ensures ∙ ap (λ k. number_among k t.names) c.of-key.ensures)

@@ -1,0 +1,10 @@
+-- What was put there stands behind what stays, and there is room for the rest.
+use Rattle.std.proofs.Common.{◌≡◌, ◌≤◌, ◌+◌, ◌++◌, length, take}
+use Rattle.std.specs.Vec.{vec_capacity}
+use Rattle.inf_machine.proofs.machine.replace.Given as goal
+
+abbrev pub invariant-loop-other : goal.invariant-loop-other
+invariant-loop-other g l = record {
+  items : l.symbols.items ≡ take l.below l.initial.symbols.items ++ take l.other-index l.others;
+  room : length (take l.below l.initial.symbols.items) + length l.others ≤ vec_capacity l.symbols;
+}

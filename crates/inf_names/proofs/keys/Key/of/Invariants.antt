@@ -1,0 +1,8 @@
+-- What is without case so far, and the bytes that are left, are the bytes without case.
+use Rattle.std.proofs.Common.{◌≡◌, ◌++◌, drop, map, take}
+use Rattle.std.specs.Char.{to_ascii_lowercase}
+use Rattle.inf_names.proofs.keys.Key.of.Given as goal
+
+abbrev pub invariant-loop-byte : goal.invariant-loop-byte
+invariant-loop-byte l =
+    take l.byte-index l.byte-items ++ map to_ascii_lowercase (drop l.byte-index l.byte-items) ≡ map to_ascii_lowercase l.initial.byte-items
