@@ -42,17 +42,12 @@ impl Simple {
     }
 }
 
-/// Operands of an instruction behind others.
-pub(crate) fn with_written(
-    front: ArrayVec<Operand, MOST_OPERANDS>,
-    operands: &[Simple],
-) -> ArrayVec<Operand, MOST_OPERANDS>
-    requires { length front.items + length operands.now ≤ 8 }
-    ensures { result.items ≡ front.items ++ map written operands.now }
+/// Puts operands of an instruction behind others.
+pub(crate) fn add_written(all: &mut ArrayVec<Operand, MOST_OPERANDS>, operands: &[Simple])
+    requires { length all.old.items + length operands.now ≤ 8 }
+    ensures { all.new.items ≡ all.old.items ++ map written operands.now }
 {
-    let mut all = front;
     for operand in operands {
         all.push(operand.written());
     }
-    all
 }

@@ -10,7 +10,7 @@ ghost use Rattle.inf_output.specs.declared.items.Item.TheVariants as item;
 ghost use Rattle.inf_output.specs.Output.{Takes, TakesVariable, apart, begun, behind, closed, code_closed, counted, declared, first_table, found_simple, full, full_of, full_past, in_routine, instruction, items_of, jumped, laid, laid_all, less, low_string_at, marked, naming, next_label, opened, or_full, passed, passed_limit, passed_table, past_of, referred, referred_as, routine, simple_by, standing_simple, string_at, symbols_passed, table_passed, taken, together, used, whole, with_low_text, with_text, with_word};
 
 use crate::items::{Item, Items, proper_operands};
-use crate::operands::{Simple, with_written};
+use crate::operands::{Simple, add_written};
 use crate::strings::Strings;
 use crate::veneer::Veneer;
 use arrayvec::ArrayVec;
@@ -427,10 +427,11 @@ impl Output {
         requires { Takes opcode (length operands.now) (is_some store) (is_some branch) }
         ensures { OnOk result (self.new ≡ instruction opcode operands.now store branch self.old) }
     {
-        let operands = with_written(ArrayVec::new(), operands);
+        let mut written = ArrayVec::new();
+        add_written(&mut written, operands);
         self.emit(&Instruction {
             opcode,
-            operands: &operands,
+            operands: &written,
             store,
             branch,
             text: &[],
@@ -450,12 +451,12 @@ impl Output {
         requires { TakesVariable opcode (length operands.now) (is_some store) (is_some branch) }
         ensures { OnOk result (self.new ≡ naming opcode variable operands.now store branch self.old) }
     {
-        let mut front = ArrayVec::new();
-        front.push(Operand::Small(variable));
-        let operands = with_written(front, operands);
+        let mut all = ArrayVec::new();
+        all.push(Operand::Small(variable));
+        add_written(&mut all, operands);
         self.emit(&Instruction {
             opcode,
-            operands: &operands,
+            operands: &all,
             store,
             branch,
             text: &[],

@@ -5,3 +5,4 @@ pub mod Runs
 pub mod SpellingLaws
 pub mod Taking
 pub mod TokenLaws
+pub mod NameBytes

@@ -1,5 +1,5 @@
 -- Runs of bytes that leave a state as it is: what they do together. Only the crate's private clauses cite them.
-use Rattle.std.specs.Prelude.{ℕ, ◌-◌, List, ◌++◌, length, take, Bool, true, false, not, ◌||◌, ◌==◌, nat_le, if◌then◌else◌}
+use Rattle.std.specs.Prelude.{ℕ, zero, suc, ◌-◌, List, [], ◌∷◌, ◌++◌, length, take, Bool, true, false, not, ◌||◌, ◌==◌, nat_le, if◌then◌else◌}
 use Rattle.inf_characters.specs.Characters.{is_line_end}
 use Rattle.inf_scanner.specs.Kept.{Kept}
 use Rattle.inf_scanner.specs.Scanning.{is_digit, is_letter}
@@ -13,6 +13,15 @@ is_blank b = b == 32 || b == 9 || b == 12
 -- a byte of names, but for `$`
 abbrev pub is_name_byte : ℕ → Bool
 is_name_byte b = (is_letter b || is_digit b) || b == 95
+
+-- of so many bytes from one on, whether each stands in names
+abbrev pub names_from : ℕ → ℕ → List Bool
+names_from zero b = []
+names_from (suc n) b = is_name_byte b ∷ names_from n (suc b)
+
+-- of all bytes
+unfoldable pub name_bytes : List Bool
+name_bytes = names_from 256 0
 
 -- a byte that ends no line, text or quote, and is no `@`
 abbrev pub is_plain : ℕ → Bool

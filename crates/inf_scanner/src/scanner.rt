@@ -3,7 +3,7 @@ ghost use Rattle.std.specs.Prelude.{◌≡◌, ℕ, ◌+◌, ◌<◌, ◌≤◌,
 ghost use Rattle.inf_characters.specs.declared.characters.CharSet.{CharSet as Set};
 ghost use Rattle.inf_scanner.specs.Lines.{first_line};
 ghost use Rattle.std.specs.List.{prefix_len};
-ghost use Rattle.inf_scanner.specs.Runs.{is_blank, is_name_byte, is_plain, stays};
+ghost use Rattle.inf_scanner.specs.Runs.{is_blank, is_name_byte, is_plain, name_bytes, stays};
 ghost use Rattle.inf_scanner.specs.Scanning.{is_run_byte, begins_number, step_of, begin, at_end, most, is_gap, turn, sight, marked, begun, ended_at, find, found_after, goes_on, is_behind, is_on, is_open, is_quoted, most_behind, Sight};
 
 use crate::lines::Lines;
@@ -77,11 +77,39 @@ fn is_blank(byte: u8) -> bool
     matches!(byte, b' ' | b'\t' | 12)
 }
 
+/// Which bytes stand in names, but for `$`: a look into a table takes fewer steps than the tests of a byte.
+#[rattlefmt::skip]
+const NAME_BYTES: [bool; 256] = [
+    false, false, false, false, false, false, false, false, false, false, false, false, false, false, false, false,
+    false, false, false, false, false, false, false, false, false, false, false, false, false, false, false, false,
+    false, false, false, false, false, false, false, false, false, false, false, false, false, false, false, false,
+    true, true, true, true, true, true, true, true, true, true, false, false, false, false, false, false,
+    false, true, true, true, true, true, true, true, true, true, true, true, true, true, true, true,
+    true, true, true, true, true, true, true, true, true, true, true, false, false, false, false, true,
+    false, true, true, true, true, true, true, true, true, true, true, true, true, true, true, true,
+    true, true, true, true, true, true, true, true, true, true, true, false, false, false, false, false,
+    false, false, false, false, false, false, false, false, false, false, false, false, false, false, false, false,
+    false, false, false, false, false, false, false, false, false, false, false, false, false, false, false, false,
+    false, false, false, false, false, false, false, false, false, false, false, false, false, false, false, false,
+    false, false, false, false, false, false, false, false, false, false, false, false, false, false, false, false,
+    false, false, false, false, false, false, false, false, false, false, false, false, false, false, false, false,
+    false, false, false, false, false, false, false, false, false, false, false, false, false, false, false, false,
+    false, false, false, false, false, false, false, false, false, false, false, false, false, false, false, false,
+    false, false, false, false, false, false, false, false, false, false, false, false, false, false, false, false,
+];
+
+/// For each byte whether it stands in names.
+fn name_bytes() -> &'static [bool; 256]
+    ensures { result.now ≡ name_bytes }
+{
+    &NAME_BYTES
+}
+
 /// A byte that stands in names, but for `$`.
 fn is_name_byte(byte: u8) -> bool
     ensures { result ≡ is_name_byte byte }
 {
-    byte.is_ascii_alphanumeric() || byte == b'_'
+    name_bytes()[byte as usize]
 }
 
 /// A byte that ends no line, text or quote, and is no `@`.
