@@ -3,7 +3,7 @@ use Rattle.std.proofs.Common.{◌≡◌, ℕ, List, [], ◌∷◌, Bool, true, f
 use Rattle.std.specs.Prelude.{◌-◌, if◌then◌else◌, nat_lt, unwrap_or}
 use Rattle.inf_sinks.specs.Spellings.{Name}
 use Rattle.inf_unit.specs.Units.{first_place, last_place, long_at, names_in, noted as unit_noted, taken as unit_taken, text_passed}
-use Rattle.inf_work.specs.Actions.{Compilation, close, close_open, header_of, header_with, is_deep, is_replaced, named, nested, opens, passed, settled_of, sized, stopped, took, trees_at}
+use Rattle.inf_work.specs.Actions.{Compilation, close, close_open, header_of, header_with, is_deep, is_to_be_replaced, named, nested, opens, passed, settled_of, sized, stopped, took, trees_at}
 use Rattle.inf_work.specs.Parts.{actions_named, case_prepared, construct_closed, construct_ended, construct_opened, constructs_laid, found_in, has_last, is_default, order_of, part_begun, part_carried, part_effect, part_ended, part_finished, part_prepared, place_of, statement_at, wanted_of}
 use Rattle.std.proofs.lemmas.Bool.{and_parts}
 use Rattle.inf_scanner.specs.declared.tokens.Place.{Place}
@@ -101,7 +101,7 @@ quiet_part : (files : FileNames) (place : Place) (p : Part) (w : Compilation) �
     SameOpen w (part_ended files place p w)
 quiet_part files place p w q =
     let ready = case_prepared p (part_prepared w) in
-    of_both (SameOpen w) w.is_passed_over (passed (has_last p) w) (part_finished files (place_of p place ready) p ready)
+    of_both (SameOpen w) w.is_replaced (passed (has_last p) w) (part_finished files (place_of p place ready) p ready)
     (λ _. (refl, refl))
     (λ _. same_then w ready (part_finished files (place_of p place ready) p ready) (quiet_prepared p (part_prepared w) q)
     (quiet_finished files (place_of p place ready) p ready q))
@@ -173,7 +173,7 @@ pub step_ends : (files : FileNames) (place : Place) (w : Compilation) (c : Const
     → StepIn c around (act files place action.EndForStep w).constructs × ((act files place action.EndForStep w).closed ≡ w.closed)
 step_ends files place w c around e =
     let ready = part_prepared w in
-    of_both (λ (v : Compilation). StepIn c around v.constructs × (v.closed ≡ w.closed)) w.is_passed_over (passed (has_last part.Step) w)
+    of_both (λ (v : Compilation). StepIn c around v.constructs × (v.closed ≡ w.closed)) w.is_replaced (passed (has_last part.Step) w)
     (part_finished files (place_of part.Step place ready) part.Step ready)
     (λ _. ((c.step, e), refl)) (λ _. step_carried files (place_of part.Step place ready) (found_in part.Step ready) (named ready) c
     around e)
@@ -211,7 +211,7 @@ pub loop_ends : (files : FileNames) (place : Place) (w : Compilation) (c : Const
     → KindIn c around (act files place action.EndObjectloop w).constructs × ((act files place action.EndObjectloop w).closed ≡ w.closed)
 loop_ends files place w c around e =
     let ready = part_prepared w in
-    of_both (λ (v : Compilation). KindIn c around v.constructs × (v.closed ≡ w.closed)) w.is_passed_over (passed (has_last part.Loop) w)
+    of_both (λ (v : Compilation). KindIn c around v.constructs × (v.closed ≡ w.closed)) w.is_replaced (passed (has_last part.Loop) w)
     (part_finished files (place_of part.Loop place ready) part.Loop ready)
     (λ _. ((c.kind, e), refl)) (λ _. loop_carried files (place_of part.Loop place ready) (found_in part.Loop ready) (named ready) c
     around e)
@@ -258,7 +258,7 @@ pub case_ends : (files : FileNames) (place : Place) (w : Compilation) (c : Const
 case_ends files place w c around e =
     let before = part_prepared w in
     let ready = case_prepared part.Case before in
-    of_both (λ (v : Compilation). KindIn c around v.constructs) w.is_passed_over (passed (has_last part.Case) w)
+    of_both (λ (v : Compilation). KindIn c around v.constructs) w.is_replaced (passed (has_last part.Case) w)
     (part_finished files (place_of part.Case place ready) part.Case ready)
     (λ _. (c.kind, e)) (λ _. (case_finished files (place_of part.Case place ready) ready c around (case_ready before c around e).0).0)
 
@@ -268,7 +268,7 @@ case_none_ahead files place w =
     let before = part_prepared w in
     let ready = case_prepared part.Case before in
     let begun = constructs_laid (cases_begun before.constructs) before in
-    of_both (λ (v : Compilation). v.closed ≡ w.closed) w.is_passed_over (passed (has_last part.Case) w)
+    of_both (λ (v : Compilation). v.closed ≡ w.closed) w.is_replaced (passed (has_last part.Case) w)
     (part_finished files (place_of part.Case place ready) part.Case ready)
     (λ _. refl)
     (λ _. (case_carried files (place_of part.Case place ready) (found_in part.Case ready) (named (part_begun part.Case ready))).1
@@ -315,7 +315,7 @@ case_alone files place w h =
     let at = place_of part.Case place ready in
     let begun = constructs_laid (cases_begun before.constructs) before in
     let entering = part_begun part.Case ready in
-    of_both (λ (v : Compilation). own_alone v.constructs ≡ true) w.is_passed_over (passed (has_last part.Case) w)
+    of_both (λ (v : Compilation). own_alone v.constructs ≡ true) w.is_replaced (passed (has_last part.Case) w)
     (part_finished files at part.Case ready)
     (λ _. h)
     (λ _. ap own_alone (case_carried files at (found_in part.Case ready) (named entering)).0
@@ -361,7 +361,7 @@ step_none : (files : FileNames) (place : Place) (w : Compilation) → (act files
 step_none files place w =
     let ready = part_prepared w in
     let first = place_of part.Step place ready in
-    of_both (λ (v : Compilation). v.closed ≡ w.closed) w.is_passed_over (passed (has_last part.Step) w)
+    of_both (λ (v : Compilation). v.closed ≡ w.closed) w.is_replaced (passed (has_last part.Step) w)
     (part_finished files first part.Step ready)
     (λ _. refl) (λ _. step_carried_none files first (found_in part.Step ready) (named ready))
 
@@ -375,7 +375,7 @@ loop_none : (files : FileNames) (place : Place) (w : Compilation) → (act files
 loop_none files place w =
     let ready = part_prepared w in
     let first = place_of part.Loop place ready in
-    of_both (λ (v : Compilation). v.closed ≡ w.closed) w.is_passed_over (passed (has_last part.Loop) w)
+    of_both (λ (v : Compilation). v.closed ≡ w.closed) w.is_replaced (passed (has_last part.Loop) w)
     (part_finished files first part.Loop ready)
     (λ _. refl) (λ _. loop_carried_none files first (found_in part.Loop ready) (named ready))
 
@@ -384,14 +384,14 @@ pub header_same : (files : FileNames) (first : Place) (names : List Name) (w : C
     → ((header_of files first names w).closed ≡ w.closed) × (w.constructs ≡ [] → (header_of files first names w).constructs ≡ [])
 header_same files first [] w = (refl, λ e. e)
 header_same files first (name ∷ names) w =
-    of_both (λ (v : Compilation). (v.closed ≡ w.closed) × (w.constructs ≡ [] → v.constructs ≡ [])) (is_replaced name w)
-    (passed true (record w { is_passed_over = true; is_embedded = false; constructs = [] }))
-    (header_with files first name w.unit.headed (record w { is_passed_over = false; is_embedded = false }))
+    of_both (λ (v : Compilation). (v.closed ≡ w.closed) × (w.constructs ≡ [] → v.constructs ≡ [])) (is_to_be_replaced name w)
+    (passed true (record w { is_replaced = true; is_embedded = false; constructs = [] }))
+    (header_with files first name w.unit.headed (record w { is_replaced = false; is_embedded = false }))
     (λ _. (refl, λ e. refl)) (λ _. (refl, λ e. refl))
 
 routine_none : (files : FileNames) (place : Place) (w : Compilation) → (close files place w).closed ≡ w.closed
 routine_none files place w =
-    of_both (λ (v : Compilation). v.closed ≡ w.closed) w.is_passed_over (passed true w) (close_open files place w) (λ _. refl) (λ _. refl)
+    of_both (λ (v : Compilation). v.closed ≡ w.closed) w.is_replaced (passed true w) (close_open files place w) (λ _. refl) (λ _. refl)
 
 inside_end : (files : FileNames) (place : Place) (e : Ending) (w : Compilation) → is_inside_end e ≡ true → w.closed ≡ 0
     → (ended_as files place e w).closed ≡ 0

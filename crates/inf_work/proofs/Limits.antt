@@ -36,7 +36,7 @@ use Rattle.inf_statements.specs.Statements.{alone, tree_in}
 use Rattle.inf_statements.specs.declared.constructs.Construct.{Construct}
 use Rattle.inf_statements.specs.declared.constructs.Kind.{Kind}
 use Rattle.inf_statements.proofs.Keeping.{all_ended_keep, alone_keep, begun_keeps as begun_construct_keeps, case_keeps, cases_begun_keeps, cases_keep, ended_keeps, joined_keeps, leaf_added_keeps, leaves_same, looped_over_keeps, statement_keeps, stepped_keeps, switched_keeps, tested_keeps}
-use Rattle.inf_work.specs.Actions.{Compilation, begun_at, body_ended, cases_ended, close, close_open, constant, constant_added, constant_finding, constant_meaning, constant_of, constant_with, cut, finding_at, given_up, header_of, header_with, is_deep, is_first_declared, is_replaced, kind_ended, name_finding, named, nested, new_stub, opening_checked, opening_checked_at, opens, operands_of, passed, replace, routine_declared, settled_of, sized, stopped, stub, stub_code, stub_locals, stubbed, token_checked, told, took, trees_at, unit_ended}
+use Rattle.inf_work.specs.Actions.{Compilation, begun_at, body_ended, cases_ended, close, close_open, constant, constant_added, constant_finding, constant_meaning, constant_of, constant_with, cut, finding_at, given_up, header_of, header_with, is_deep, is_first_declared, is_to_be_replaced, kind_ended, name_finding, named, nested, new_stub, opening_checked, opening_checked_at, opens, operands_of, passed, replace, routine_declared, settled_of, sized, stopped, stub, stub_code, stub_locals, stubbed, token_checked, told, took, trees_at, unit_ended}
 use Rattle.inf_work.specs.Declarations.{is_alias, alias_finding, alias_told, aliased, attribute, attribute_added, attribute_number, attribute_with, global_added, global_variable, is_additive, last_meaning, new_attribute, new_attribute_by, new_global, new_property, new_property_by, nothing_of, name_known, property, property_added, property_named, property_names, property_number, property_order, property_with, value_of, valued, with_variable}
 use Rattle.inf_work.proofs.Bounds.{attribute_read_same, body_ended_same, class_read_same, embedded_read_same, property_read_same, value_read_same}
 use Rattle.inf_work.specs.Directives.{carried_out, default, directive_of_names}
@@ -112,7 +112,7 @@ finished_same files first p w =
 part_same : (files : FileNames) (place : Place) (p : Part) (w : Compilation) → SameLimits w (part_ended files place p w)
 part_same files place p w =
     let ready = case_prepared p (part_prepared w) in
-    of_both (SameLimits w) w.is_passed_over (passed (has_last p) w) (part_finished files (place_of p place ready) p ready)
+    of_both (SameLimits w) w.is_replaced (passed (has_last p) w) (part_finished files (place_of p place ready) p ready)
     (λ _. (refl, refl))
     (λ _. same_then w ready (part_finished files (place_of p place ready) p ready) (prepared_same p (part_prepared w))
     (finished_same files (place_of p place ready) p ready))
@@ -148,15 +148,15 @@ header_with_same files first name h w =
 header_of_same : (files : FileNames) (first : Place) (names : List Name) (w : Compilation) → SameLimits w (header_of files first names w)
 header_of_same files first [] w = (refl, refl)
 header_of_same files first (name ∷ names) w =
-    of_both (SameLimits w) (is_replaced name w) (passed true (record w { is_passed_over = true; is_embedded = false; constructs = [] }))
-    (header_with files first name w.unit.headed (record w { is_passed_over = false; is_embedded = false }))
+    of_both (SameLimits w) (is_to_be_replaced name w) (passed true (record w { is_replaced = true; is_embedded = false; constructs = [] }))
+    (header_with files first name w.unit.headed (record w { is_replaced = false; is_embedded = false }))
     (λ _. (refl, refl)) (λ _. header_with_same files first name w.unit.headed
-    (record w { is_passed_over = false; is_embedded = false }))
+    (record w { is_replaced = false; is_embedded = false }))
 
 close_same : (files : FileNames) (place : Place) (w : Compilation) → SameLimits w (close files place w)
 close_same files place w =
     let ended = cases_ended w in
-    of_both (SameLimits w) w.is_passed_over (passed true w) (close_open files place w) (λ _. (refl, refl))
+    of_both (SameLimits w) w.is_replaced (passed true w) (close_open files place w) (λ _. (refl, refl))
     (λ _. out_same_then w.output ended.output (closed (kind_ended w.is_embedded) ended.output) (ended_keeps w.constructs w.output)
     (closed_keeps (kind_ended w.is_embedded) ended.output))
 

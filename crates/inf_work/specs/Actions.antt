@@ -107,7 +107,7 @@ pub record Compilation : Type 0 where
   pub replaced : Table Place
   pub is_system : Bool
   pub waiting : List Bool
-  pub is_passed_over : Bool
+  pub is_replaced : Bool
   pub listing : Listing
   pub lost : AllArrays
   pub is_name : Bool
@@ -133,7 +133,7 @@ no_work set settings = record {
   replaced = no_symbols settings;
   is_system = false;
   waiting = [];
-  is_passed_over = false;
+  is_replaced = false;
   listing = record { is_lost = false; has_entries = false };
   lost = no_arrays 18446744073709551615;
   is_name = false;
@@ -304,15 +304,15 @@ is_kept found.Used = true
 is_kept _ = false
 
 -- In a file that is marked a routine gives nothing which is to be replaced: it is passed over.
-abbrev pub is_replaced : Name → Compilation → Bool
-is_replaced n w = w.is_system && is_kept (found_in n.bytes w.replaced)
+abbrev pub is_to_be_replaced : Name → Compilation → Bool
+is_to_be_replaced n w = w.is_system && is_kept (found_in n.bytes w.replaced)
 
 -- behind its bracket a header has the name of its routine; its locals are kept apart
 abbrev pub header_of : FileNames → Place → List Name → Compilation → Compilation
 header_of files first [] w = passed true w
 header_of files first (name ∷ names) w =
-    if is_replaced name w then passed true (record w { is_passed_over = true; is_embedded = false; constructs = [] })
-    else header_with files first name w.unit.headed (record w { is_passed_over = false; is_embedded = false })
+    if is_to_be_replaced name w then passed true (record w { is_replaced = true; is_embedded = false; constructs = [] })
+    else header_with files first name w.unit.headed (record w { is_replaced = false; is_embedded = false })
 
 abbrev pub header_end : FileNames → Place → Compilation → Compilation
 header_end files place w = header_of files (first_place w.unit.tokens place) (names_in w.unit.tokens) w
@@ -368,7 +368,7 @@ abbrev pub close_open : FileNames → Place → Compilation → Compilation
 close_open files place w = code_closed files place (cases_ended w)
 
 abbrev pub close : FileNames → Place → Compilation → Compilation
-close files place w = if w.is_passed_over then passed true w else close_open files place w
+close files place w = if w.is_replaced then passed true w else close_open files place w
 
 -- Directives, which begin at a place
 

@@ -125,7 +125,7 @@ case_prepared _ w = w
 -- before a token at a place; in a routine that is passed over nothing has an effect
 abbrev pub part_ended : FileNames → Place → Part → Compilation → Compilation
 part_ended files place p w =
-    if w.is_passed_over then passed (has_last p) w
+    if w.is_replaced then passed (has_last p) w
     else let ready = case_prepared p (part_prepared w) in part_finished files (place_of p place ready) p ready
 
 -- Statements that hold others: where the word was read that is told where it stands too deep, between their parts, and where they end.

@@ -186,7 +186,7 @@ abbrev pub routine_placed : Option ℕ → Bool → Compilation → Compilation
 routine_placed name is_lost w = placed name (next_routine w) (wrong_if is_lost) w
 
 abbrev pub embedded_opened : FileNames → Place → Headed → Bool → Compilation → Compilation
-embedded_opened files first h is_lost w = opened_with files first h is_lost (record w { is_embedded = true; is_passed_over = false })
+embedded_opened files first h is_lost w = opened_with files first h is_lost (record w { is_embedded = true; is_replaced = false })
 
 abbrev pub embedded_begun : FileNames → Place → Option ℕ → Headed → Bool → Compilation → Compilation
 embedded_begun files first name h is_lost w = embedded_opened files first h is_lost (routine_placed name is_lost w)

@@ -330,7 +330,7 @@ impl Compilation {
     ) -> Result<(), AllocError>
         ensures { OnOk result (work self.new ≡ part_ended files.now.names place part (work self.old)) }
     {
-        if self.is_passed_over {
+        if self.is_replaced {
             self.pass(part.has_last());
             return Ok(());
         }

@@ -23,7 +23,7 @@ use std::alloc::AllocError;
 use std::mem;
 
 impl Compilation {
-    ghost use Rattle.inf_work.specs.Actions.{close, code_closed, header_end, header_with, is_replaced, opened_with, routine_declared};
+    ghost use Rattle.inf_work.specs.Actions.{close, code_closed, header_end, header_with, is_to_be_replaced, opened_with, routine_declared};
     ghost use Rattle.inf_work.specs.Works.{work};
 
     /// The header of a routine ends, before a token at a place.
@@ -36,8 +36,8 @@ impl Compilation {
             return Ok(());
         };
         self.is_embedded = false;
-        self.is_passed_over = self.is_replaced(name);
-        if self.is_passed_over {
+        self.is_replaced = self.is_to_be_replaced(name);
+        if self.is_replaced {
             self.constructs.clear();
             self.pass(true);
             return Ok(());
@@ -57,8 +57,8 @@ impl Compilation {
     }
 
     /// Whether the routine of a name is to be replaced, which it may be in a file that is marked.
-    fn is_replaced(&self, name: &Name) -> bool
-        ensures { result ≡ is_replaced (as_name name.now) (work self.now) }
+    fn is_to_be_replaced(&self, name: &Name) -> bool
+        ensures { result ≡ is_to_be_replaced (as_name name.now) (work self.now) }
     {
         self.is_system && matches!(self.replaced.look(name.bytes()), Found::Used)
     }
@@ -116,7 +116,7 @@ impl Compilation {
     pub(crate) fn close(&mut self, files: &Stack, place: Place) -> Result<(), AllocError>
         ensures { OnOk result (work self.new ≡ close files.now.names place (work self.old)) }
     {
-        if self.is_passed_over {
+        if self.is_replaced {
             self.pass(true);
             return Ok(());
         }

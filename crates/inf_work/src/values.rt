@@ -316,7 +316,7 @@ impl Compilation {
             ≡ embedded_opened files.now.names first (as_headed headed) is_lost (work self.old)) }
     {
         self.is_embedded = true;
-        self.is_passed_over = false;
+        self.is_replaced = false;
         self.open_code(files, first, headed, is_lost)
     }
 

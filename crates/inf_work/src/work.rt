@@ -76,7 +76,7 @@ pub struct Compilation {
     /// The same of the files that wait, the inner files last.
     waiting: Vec<bool>,
     /// Whether the routine at hand is passed over, since it is to be replaced.
-    pub(crate) is_passed_over: bool,
+    pub(crate) is_replaced: bool,
     /// The array whose entries are read, and where they go if its header had an error.
     pub(crate) listing: Listing,
     pub(crate) lost: Arrays,
@@ -166,7 +166,7 @@ impl Compilation {
             replaced: no_symbols(alloc, settings, hashing),
             is_system: false,
             waiting: Vec::new(alloc),
-            is_passed_over: false,
+            is_replaced: false,
             listing: Listing {
                 is_lost: false,
                 has_entries: false,

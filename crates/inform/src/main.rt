@@ -9,8 +9,8 @@ use jiff::tz::Offset;
 use std::alloc::AllocError;
 use std::fmt::Display;
 use std::io::{self, ErrorKind};
-use std::random::RandomSource;
 use std::process::ExitCode;
+use std::random::RandomSource;
 use std::rt::{Clock, Env, Files};
 use std::{env, fs};
 
@@ -67,7 +67,9 @@ fn main(rt: HostRuntime) -> ExitCode {
     }
 }
 
-fn run<R: Env + Clock + Files + RandomSource + Print + Eprint + AllocGlobal>(rt: &R) -> Result<ExitCode, Failure> {
+fn run<R: Env + Clock + Files + RandomSource + Print + Eprint + AllocGlobal>(
+    rt: &R,
+) -> Result<ExitCode, Failure> {
     let args = match env::args(rt) {
         Ok(args) => args,
         // An argument is no text.
