@@ -95,7 +95,7 @@ pub(crate) fn name_fault<'a>(
 
 /// A local that is named again.
 fn local_fault<'a>(files: &'a Stack, repeated: Option<&'a Repeated>) -> Option<Diagnostic<'a>>
-    ensures { option_map blamed result ≡ local_fault files.now.names (option_map (λ r. repeated_of r.now) repeated) }
+    ensures { option_map blamed result ≡ local_fault files.now.names (option_map (λ r. repeated_of r.now) repeated.entry) }
 {
     let repeated = repeated?;
     Some(again(files, &repeated.name, repeated.first))
