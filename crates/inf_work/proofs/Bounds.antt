@@ -14,7 +14,7 @@ use Rattle.inf_output.specs.Output.{Out, opened}
 use Rattle.inf_output.proofs.Keeping.{declared_keeps, opened_keeps, passed_table_keeps, same, same_then as out_same_then, with_word_keeps}
 use Rattle.inf_scanner.specs.declared.tokens.Place.{Place}
 use Rattle.inf_statements.proofs.Keeping.{leaves_same}
-use Rattle.inf_sinks.specs.Locals.{Headed}
+use Rattle.inf_sinks.specs.Locals.{Headed, no_locals}
 use Rattle.inf_sinks.specs.Spellings.{Name}
 use Rattle.inf_text.specs.Packing.{dictionary_bytes}
 use Rattle.inf_unit.proofs.Cases.{of_both}
@@ -285,6 +285,7 @@ value_read_same files place w =
 
 embedded_same : (files : FileNames) (first : Place) (name : Option ℕ) (h : Headed) (w : Compilation) →
     SameLimits w (embedded files first name h w)
+unfolding embedded
 embedded_same files first name h w =
     let b = blame_embedded files first name h w in
     let t = told files first b w in
@@ -294,4 +295,5 @@ embedded_same files first name h w =
 
 pub embedded_read_same : (files : FileNames) (place : Place) (w : Compilation) → SameLimits w (embedded_read files place w)
 embedded_read_same files place w =
-    embedded_same files (first_place w.unit.tokens place) (place_before (bracket_in w.unit.tokens)) w.unit.headed w
+    embedded_same files (first_place w.unit.tokens place) (place_before (bracket_in w.unit.tokens)) w.unit.headed
+    (record w { unit = record w.unit { headed = no_locals } })

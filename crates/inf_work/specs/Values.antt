@@ -20,7 +20,7 @@ use Rattle.inf_scanner.specs.declared.tokens.Mark.TheVariants as mark
 use Rattle.inf_scanner.specs.declared.tokens.Place.{Place}
 use Rattle.inf_scanner.specs.declared.tokens.TokenKind.{TokenKind}
 use Rattle.inf_statements.specs.Printing.{text_at}
-use Rattle.inf_sinks.specs.Locals.{Headed}
+use Rattle.inf_sinks.specs.Locals.{Headed, no_locals}
 use Rattle.inf_text.specs.Packing.{dictionary_bytes}
 use Rattle.inf_unit.specs.Messages.{Diagnostic, FileNames}
 use Rattle.inf_unit.specs.Texts.{fit_characters}
@@ -194,9 +194,10 @@ embedded_begun files first name h is_lost w = embedded_opened files first h is_l
 abbrev pub embedded_by : Option Diagnostic → FileNames → Place → Option ℕ → Headed → Compilation → Compilation
 embedded_by b files first name h w = embedded_begun files first name h (is_some b) (told files first b w)
 
-abbrev pub embedded : FileNames → Place → Option ℕ → Headed → Compilation → Compilation
+unfoldable pub embedded : FileNames → Place → Option ℕ → Headed → Compilation → Compilation
 embedded files first name h w = embedded_by (blame_embedded files first name h w) files first name h w
 
 abbrev pub embedded_read : FileNames → Place → Compilation → Compilation
 embedded_read files place w =
-    embedded files (first_place w.unit.tokens place) (place_before (bracket_in w.unit.tokens)) w.unit.headed w
+    embedded files (first_place w.unit.tokens place) (place_before (bracket_in w.unit.tokens)) w.unit.headed
+    (record w { unit = record w.unit { headed = no_locals } })

@@ -344,6 +344,7 @@ impl Compilation {
     }
 
     /// A routine that is a value, with these locals.
+    #[tactic(auto, unfolding(crate::specs::Values::embedded))]
     fn embed(
         &mut self,
         files: &Stack,
