@@ -19,7 +19,7 @@ use Rattle.inf_reader.specs.Handing.{judged_taken, said_told, sign_taken, site_o
 use Rattle.inf_reader.specs.Reading.{Reading, ReaderState, is_mode_ended}
 use Rattle.inf_session.specs.Choices.{Choices}
 use Rattle.inf_session.specs.Session.{State, answered, asked_nothing, has_ended, carried_out, is_resting, left, piece_closed, rested, stand_of, stepped, token_of, turn}
-use Rattle.inf_work.specs.Actions.{Compilation}
+use Rattle.inf_compilation.specs.Actions.{Compilation}
 use Rattle.inf_conditional_laws.specs.KeptSides.{all_behind, all_handed_on, ended_behind, going_on, handed_as, handed_on, handed_sign, handed_token, judged_at}
 use Rattle.inf_laws.specs.KeptTokens.{given_as, given_of, given_sign, given_token}
 use Rattle.inf_laws.specs.KeptTurns.{given_by, given_in, turned}

@@ -11,7 +11,7 @@ use Rattle.inf_names.specs.declared.symbols.Found.TheVariants as found
 use Rattle.inf_sinks.specs.Spellings.{Name}
 use Rattle.inf_sinks.specs.Locals.{Headed, Local, Repeated, earlier, local_of, most_locals, no_locals, number_from, number_of, with_local_by, with_locals}
 use Rattle.inf_unit.specs.Messages.{Diagnostic, FileNames}
-use Rattle.inf_work.specs.Findings.{first_fault, header_fault, local_fault, name_fault}
+use Rattle.inf_compilation.specs.Findings.{first_fault, header_fault, local_fault, name_fault}
 use Rattle.inf_laws.specs.Findings.{Finding, HeadersTellTheFirst, IsBefore, IsLeast, IsTold, declared_before, different, first_named, many_locals, repeated_local, repeated_locals, repeated_one, taken_as, taken_name, system_routine, too_many_locals}
 use Rattle.inf_laws.proofs.Choices.{either, either-none}
 use Rattle.inf_laws.proofs.SameNames.{same_names}

@@ -22,7 +22,7 @@ use Rattle.inf_conditionals.specs.declared.judged.Forwarded.{Forwarded}
 use Rattle.inf_conditionals.specs.declared.judged.Forwarded.TheVariants as handed
 use Rattle.inf_conditionals.specs.declared.judged.Filtered.{Filtered}
 use Rattle.inf_conditionals.specs.declared.judged.Sign.{Sign}
-use Rattle.inf_work.specs.Actions.{Compilation, is_class, piece_begun as work_begun}
+use Rattle.inf_compilation.specs.Actions.{Compilation, is_class, piece_begun as work_begun}
 use Rattle.inf_reader.specs.Handing.{handed_as, hash, judged_taken, lone_told, sign_taken, token_taken, unfit_in, unit_ended}
 use Rattle.inf_reader.specs.Pieces.{BeginsPiece, IsPiece}
 use Rattle.inf_reader.specs.Reading.{Reading, ReaderState, bad, between, judged, passed, piece_begun, piece_rule, read_at, skip_of, step, step_in, took}

@@ -30,7 +30,7 @@ use Rattle.inf_conditionals.specs.declared.pending.Pending.{Pending}
 use Rattle.inf_conditionals.specs.Ends.{file_left, file_left_to, side_kept}
 use Rattle.inf_conditionals.specs.Judging.{Behind, is_none_pending, judged, may_part}
 use Rattle.inf_conditionals.specs.Open.{Conditions}
-use Rattle.inf_work.specs.Actions.{Compilation, is_class}
+use Rattle.inf_compilation.specs.Actions.{Compilation, is_class}
 use Rattle.inf_reader.specs.Handing.{hash, is_empty, reads, said_told, sign_taken, site_of}
 use Rattle.inf_reader.specs.Reading.{Reading, ReaderState, between, is_mode_ended, passed, piece_rule}
 use Rattle.inf_reader.specs.declared.mode.Recovery.{Recovery}

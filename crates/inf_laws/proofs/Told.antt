@@ -9,7 +9,7 @@ use Rattle.inf_machine.specs.Machine.{fits}
 use Rattle.inf_syntax.specs.declared.actions.Action.{Action}
 use Rattle.inf_grammar.specs.Language.{grammar, known}
 use Rattle.inf_conditionals.specs.Atoms.{atom_as}
-use Rattle.inf_work.specs.Actions.{Compilation, is_class, piece_begun as work_begun}
+use Rattle.inf_compilation.specs.Actions.{Compilation, is_class, piece_begun as work_begun}
 use Rattle.inf_reader.specs.Handing.{unfit_in}
 use Rattle.inf_reader.specs.Pieces.{BeginsPiece, at_hand, at_hand_by, work_by}
 use Rattle.inf_reader.specs.Reading.{Reading, ReaderState, bad, between, judged, piece_begun, read_at, step_in, took}

@@ -10,7 +10,7 @@ use Rattle.inf_report.specs.declared.messages.FixedLimit.TheVariants as countabl
 use Rattle.inf_sinks.specs.Spellings.{Name}
 use Rattle.inf_sinks.specs.Locals.{with_locals, no_locals}
 use Rattle.inf_unit.specs.Messages.{FileNames, Diagnostic, location}
-use Rattle.inf_work.specs.Findings.{header_fault, name_fault}
+use Rattle.inf_compilation.specs.Findings.{header_fault, name_fault}
 
 -- What a rule finds: at which token of the unit, counted from 0, the unit's first; the number of the kind of its message; and
 -- the message at its place. The kinds: 8, a name that was declared before or is a system name; 19, too many locals.

@@ -12,7 +12,7 @@ use Rattle.inf_conditionals.specs.declared.judged.Forwarded.{Forwarded}
 use Rattle.inf_conditionals.specs.declared.judged.Forwarded.TheVariants as handed
 use Rattle.inf_conditionals.specs.declared.judged.Filtered.{Filtered}
 use Rattle.inf_conditionals.specs.declared.judged.Sign.{Sign}
-use Rattle.inf_work.specs.Actions.{Compilation, is_class}
+use Rattle.inf_compilation.specs.Actions.{Compilation, is_class}
 use Rattle.inf_reader.specs.Handing.{hash, is_empty, judged_taken, reads, sign_taken}
 use Rattle.inf_reader.specs.Pieces.{BeginsPiece, IsPiece}
 use Rattle.inf_reader.specs.Reading.{Reading, ReaderState, between, is_mode_ended, passed, piece_begun, skip_of}

@@ -2,7 +2,7 @@
 use Rattle.std.specs.Prelude.{◌≡◌, ◌⊎◌, List, [], ◌∷◌, ◌++◌, map, false}
 use Rattle.inf_unit.specs.Messages.{FileNames}
 use Rattle.inf_unit.specs.Tokens.{SourceToken, is_end}
-use Rattle.inf_work.specs.Actions.{is_class}
+use Rattle.inf_compilation.specs.Actions.{is_class}
 use Rattle.inf_reader.specs.Pieces.{BeginsPiece, at_hand, work_by}
 use Rattle.inf_reader.specs.Reading.{ReaderState, bad, between, took}
 use Rattle.inf_reader.specs.declared.mode.Recovery.TheVariants as mode

@@ -7,7 +7,7 @@ use Rattle.inf_report.specs.Messages.{UnusedLocal}
 use Rattle.inf_sinks.specs.Spellings.{Name}
 use Rattle.inf_sinks.specs.Locals.{Local, with_all_named, with_locals, no_locals}
 use Rattle.inf_unit.specs.Messages.{FileNames, Reported, location, with_warning}
-use Rattle.inf_work.specs.Actions.{with_all_unused}
+use Rattle.inf_compilation.specs.Actions.{with_all_unused}
 
 -- some local has this name, in any case
 abbrev pub is_local : List ℕ → List Local → Bool

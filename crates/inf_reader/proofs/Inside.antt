@@ -4,7 +4,7 @@ use Rattle.inf_machine.specs.declared.symbols.Symbol.{Symbol}
 use Rattle.inf_syntax.specs.declared.actions.Action.{Action}
 use Rattle.inf_unit.specs.Messages.{FileNames}
 use Rattle.inf_unit.specs.Tokens.{SourceToken, is_end}
-use Rattle.inf_work.specs.Actions.{Compilation, piece_begun as work_begun}
+use Rattle.inf_compilation.specs.Actions.{Compilation, piece_begun as work_begun}
 use Rattle.inf_reader.specs.Reading.{Reading, judged, piece_begun, read_at}
 use Rattle.inf_reader.specs.declared.mode.Recovery.TheVariants as mode
 

@@ -12,11 +12,11 @@ use Rattle.inf_conditionals.specs.declared.judged.Forwarded.{Forwarded}
 use Rattle.inf_conditionals.specs.declared.judged.Forwarded.TheVariants as handed
 use Rattle.inf_conditionals.specs.declared.judged.Filtered.{Filtered}
 use Rattle.inf_conditionals.specs.declared.judged.Sign.{Sign}
-use Rattle.inf_work.specs.Actions.{Compilation, begun_at, is_class, piece_begun as work_begun, took as work_took}
+use Rattle.inf_compilation.specs.Actions.{Compilation, begun_at, is_class, piece_begun as work_begun, took as work_took}
 use Rattle.inf_work.specs.Acting.{all_acted}
 use Rattle.inf_work.specs.Limits.{SameLimits}
 use Rattle.inf_grammar.specs.Routines.{closings}
-use Rattle.inf_work.specs.Parts.{closed_ahead}
+use Rattle.inf_compilation.specs.Parts.{closed_ahead}
 use Rattle.inf_work.proofs.Limits.{all_acted_same, begun_at_same, closed_ahead_same, cut_same, same_then, took_same as work_took_same}
 use Rattle.inf_reader.specs.Handing.{handed_as, hash, judged_taken, lone_told, sign_taken, token_taken, unfit_in, unit_ended}
 use Rattle.inf_reader.specs.Reading.{Reading, ReaderState, bad, judged, piece_begun, read_at, step, step_in, took}

@@ -6,7 +6,7 @@ use Rattle.inf_scanner.specs.declared.tokens.TokenKind.TheVariants as kind
 use Rattle.inf_unit.specs.Tokens.{SourceToken, is_end}
 use Rattle.inf_syntax.specs.declared.actions.Action.{Action}
 use Rattle.inf_machine.specs.declared.symbols.Symbol.{Symbol}
-use Rattle.inf_work.specs.Actions.{Compilation}
+use Rattle.inf_compilation.specs.Actions.{Compilation}
 use Rattle.inf_unit.specs.Messages.{FileNames}
 use Rattle.inf_reader.specs.Reading.{Reading, bad, took, judged, read_at, step_in}
 use Rattle.inf_reader.specs.declared.mode.Recovery.{Recovery}

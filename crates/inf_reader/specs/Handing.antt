@@ -15,8 +15,8 @@ use Rattle.inf_conditionals.specs.declared.judged.Filtered.{Filtered}
 use Rattle.inf_conditionals.specs.declared.judged.Sign.{Sign}
 use Rattle.inf_conditionals.specs.declared.judged.Site.{Site}
 use Rattle.inf_grammar.specs.Routines.{closings}
-use Rattle.inf_work.specs.Actions.{begun_at}
-use Rattle.inf_work.specs.Parts.{closed_ahead}
+use Rattle.inf_compilation.specs.Actions.{begun_at}
+use Rattle.inf_compilation.specs.Parts.{closed_ahead}
 use Rattle.inf_reader.specs.Reading.{Reading, ReaderState, bad, step}
 use Rattle.inf_reader.specs.declared.mode.Recovery.{Recovery}
 use Rattle.inf_reader.specs.declared.mode.Recovery.TheVariants as mode

@@ -10,7 +10,7 @@ use Rattle.inf_grammar.specs.Language.{grammar, known}
 use Rattle.inf_machine.specs.Machine.{fits}
 use Rattle.inf_conditionals.specs.Atoms.{atom_as}
 use Rattle.inf_reader.specs.Tests.{fault_of}
-use Rattle.inf_work.specs.Actions.{Compilation, is_class, piece_begun as work_begun}
+use Rattle.inf_compilation.specs.Actions.{Compilation, is_class, piece_begun as work_begun}
 use Rattle.inf_reader.specs.Reading.{Reading, piece_rule, piece_begun}
 
 -- Tokens that the grammar sees so are a piece: a text of its rule for pieces.

@@ -18,7 +18,7 @@ use Rattle.inf_machine.specs.declared.symbols.Symbol.TheVariants.{Rule}
 use Rattle.inf_machine.specs.Machine.{fits, taken}
 use Rattle.inf_grammar.specs.Routines.{is_in_routine}
 use Rattle.inf_grammar.specs.Language.{grammar, known}
-use Rattle.inf_work.specs.Actions.{Compilation, cut, is_class, no_work, piece_begun as work_begun, took as work_took}
+use Rattle.inf_compilation.specs.Actions.{Compilation, cut, is_class, no_work, piece_begun as work_begun, took as work_took}
 use Rattle.inf_work.specs.Acting.{all_acted}
 use Rattle.inf_conditionals.specs.Atoms.{atom_as}
 use Rattle.inf_reader.specs.Tests.{complaint_of}

@@ -1,5 +1,5 @@
 -- What the parts of the code's reading stand for.
-use Rattle.inf_work.specs.Works.{work}
+use Rattle.inf_compilation.specs.Works.{work}
 use Rattle.inf_reader.specs.Reading.{Reading, ReaderState}
 use Rattle.inf_reader.specs.declared.reader.Reader.{Reader}
 use Rattle.inf_reader.specs.declared.progress.Progress.{Progress}

@@ -9,6 +9,7 @@ ghost use Rattle.inf_reader.specs.Tests.{complaint_of};
 use crate::mode::{Recovery, passed};
 use crate::reader::Reader;
 use crate::tokens::complaint_of;
+use inf_compilation::compilation::Compilation;
 use inf_conditionals::atoms::atom_at;
 use inf_conditionals::ends::tell_lone;
 use inf_conditionals::judged::{Filtered, Forwarded, Site};
@@ -21,7 +22,7 @@ use inf_syntax::Action;
 use inf_text::CharSet;
 use inf_unit::messages::{Diagnostics, location};
 use inf_unit::tokens::{SourceToken, is_end};
-use inf_work::work::Compilation;
+use inf_work::work::{act_all, cut};
 use std::alloc::{AllocError, Global};
 
 /// How far a source was read, and what was compiled of it.
@@ -38,8 +39,8 @@ impl Progress {
     ghost use Rattle.inf_reader.specs.Handing.{handed_as, judged_taken, site_of};
     ghost use Rattle.inf_reader.specs.Reading.{bad, begun_stand, has_ended_at, judged, piece_begun, read_at, step};
     ghost use Rattle.inf_reader.specs.Standing.{reading, standing};
-    ghost use Rattle.inf_work.specs.Actions.{piece_begun as work_begun};
-    ghost use Rattle.inf_work.specs.Works.{work};
+    ghost use Rattle.inf_compilation.specs.Actions.{piece_begun as work_begun};
+    ghost use Rattle.inf_compilation.specs.Works.{work};
 
     /// Before the first token of sources in a character set, of which names are hashed so.
     pub fn new(
@@ -186,8 +187,7 @@ impl Progress {
         {
             return self.bad(files, token);
         }
-        self.work
-            .act_all(files, token.place, self.actions.as_slice())?;
+        act_all(&mut self.work, files, token.place, self.actions.as_slice())?;
         self.work.take(files, token)
     }
 
@@ -197,7 +197,7 @@ impl Progress {
             OnOk result (standing self.new ≡ bad files.now.names (spelled token.now) before (work self.old.work)) }
     {
         self.reader.give_up(token);
-        self.work.cut(files)?;
+        cut(&mut self.work, files)?;
         complain(&mut self.work.report, location(files, token.place), token)
     }
 }

@@ -15,10 +15,10 @@ use Rattle.inf_settings.specs.declared.setting.Setting.TheVariants.{ExpressionNo
 use Rattle.inf_unit.proofs.Cases.{of_both}
 use Rattle.inf_unit.specs.Messages.{FileNames, none_reported, with_full}
 use Rattle.inf_unit.specs.Tokens.{SourceToken}
-use Rattle.inf_work.specs.Actions.{Compilation, left, left_to}
+use Rattle.inf_compilation.specs.Actions.{Compilation, left, left_to}
 use Rattle.inf_output.specs.Limits.{TableBounds, bounds, table_bounds}
 use Rattle.inf_work.specs.Limits.{SameLimits}
-use Rattle.inf_work.specs.Works.{work as work_of}
+use Rattle.inf_compilation.specs.Works.{work as work_of}
 use Rattle.inf_work.proofs.Limits.{same_then}
 use Rattle.inf_reader.specs.Reading.{ReaderState, has_ended_at}
 use Rattle.inf_reader.specs.Standing.{standing}

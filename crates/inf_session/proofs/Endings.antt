@@ -11,7 +11,7 @@ use Rattle.inf_link.specs.declared.link.LinkFault.{LinkFault}
 use Rattle.inf_link.specs.declared.link.LinkFault.TheVariants as link_fault
 use Rattle.inf_story.specs.Names.{values_of}
 use Rattle.inf_story.specs.Stories.{too_long}
-use Rattle.inf_work.specs.Actions.{Compilation, begun_at}
+use Rattle.inf_compilation.specs.Actions.{Compilation, begun_at}
 use Rattle.inf_unit.proofs.Cases.{of_both}
 use Rattle.inf_unit.specs.Messages.{FileNames, Reported, with_closing, with_fatal}
 use Rattle.inf_unit.specs.Names.{main_of, with_all_undeclared}

@@ -12,7 +12,7 @@ use Rattle.inf_tables.specs.declared.tables.Tables.{Tables}
 use Rattle.inf_report.specs.Messages.{Location, NoMain, NoSource, NotConstant, ReadableTooLong, StoryTooLong}
 use Rattle.inf_story.specs.Names.{values_of}
 use Rattle.inf_story.specs.Stories.{story, too_long}
-use Rattle.inf_work.specs.Actions.{Compilation, begun_at}
+use Rattle.inf_compilation.specs.Actions.{Compilation, begun_at}
 use Rattle.inf_unit.specs.Messages.{FileNames, Reported, location, nothing_reported, with_closing, with_error, with_fatal}
 use Rattle.inf_unit.specs.Names.{main_of, with_all_undeclared}
 use Rattle.inf_session.specs.Session.{first_place}

@@ -1,7 +1,7 @@
 //! What comes of a compilation, and the end of one.
 ghost use Rattle.std.specs.Prelude.{◌≡◌, None, IfOk, IfErr, OnErr};
 ghost use Rattle.inf_files.specs.Files.{Rose};
-ghost use Rattle.inf_work.specs.Works.{work as work_of};
+ghost use Rattle.inf_compilation.specs.Works.{work as work_of};
 ghost use Rattle.inf_session.specs.Delivered.{Appends, Delivers, EndsClean, TakesFront};
 ghost use Rattle.inf_session.specs.Ending.{finished, seen};
 ghost use Rattle.inf_session.specs.Faults.{Caused};
@@ -10,7 +10,7 @@ use crate::ending::{Outcome, finish};
 use crate::faults::Fault;
 use inf_lexer::Stack;
 use inf_sinks::sinks::{Sink, write_whole};
-use inf_work::work::Compilation;
+use inf_compilation::compilation::Compilation;
 use std::alloc::Global;
 
 /// How a compilation ended.

@@ -5,8 +5,8 @@ ghost use Rattle.inf_report.specs.Meant.{meant};
 ghost use Rattle.inf_story.specs.Stories.{too_long};
 ghost use Rattle.inf_unit.specs.Messages.{with_closing, with_error, with_fatal};
 ghost use Rattle.inf_unit.specs.Names.{main_of, with_all_undeclared};
-ghost use Rattle.inf_work.specs.Actions.{begun_at};
-ghost use Rattle.inf_work.specs.Works.{work as work_of};
+ghost use Rattle.inf_compilation.specs.Actions.{begun_at};
+ghost use Rattle.inf_compilation.specs.Works.{work as work_of};
 ghost use Rattle.inf_session.specs.Ending.{begun, fields_of, finished, first_line, is_clean, laid, linked, missing, named, refused, seen};
 ghost use Rattle.inf_session.specs.Session.{first_place};
 
@@ -23,7 +23,7 @@ use inf_story::{LinkFault, Story, story, values_of};
 use inf_tables::Tables;
 use inf_unit::messages::{Diagnostics, location};
 use inf_unit::names::{main_of, tell_undeclared};
-use inf_work::work::Compilation;
+use inf_compilation::compilation::Compilation;
 use std::alloc::{AllocError, Global};
 
 /// What comes at the end of a compilation: the lines of its last messages, its story where no error was found, and how

@@ -12,7 +12,7 @@ ghost use Rattle.inf_session.specs.Delivered.{Appends, Delivers, EndsClean, Take
 ghost use Rattle.inf_session.specs.Ending.{finished};
 ghost use Rattle.inf_settings.specs.Settings.{all_settings};
 ghost use Rattle.inf_work.specs.Limits.{SameLimits};
-ghost use Rattle.inf_work.specs.Works.{work as work_of};
+ghost use Rattle.inf_compilation.specs.Works.{work as work_of};
 ghost use Rattle.inf_session.specs.Leading.{CutsShort, GivenUp, NotTried, OpensAll, OpensWithin, StopsFor, StopsAtInclusion, StopsInToken, Writes};
 ghost use Rattle.inf_conditionals.specs.Open.{no_conditions};
 ghost use Rattle.inf_session.specs.Session.{begun_with, followed, carried_out, included, left, part, quoted_behind, quoted_bytes, rested, run, stepped, turn};

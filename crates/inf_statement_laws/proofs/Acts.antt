@@ -3,8 +3,8 @@ use Rattle.std.proofs.Common.{◌≡◌, ℕ, List, [], ◌∷◌, Bool, true, f
 use Rattle.std.specs.Prelude.{◌-◌, if◌then◌else◌, nat_lt, unwrap_or}
 use Rattle.inf_sinks.specs.Spellings.{Name}
 use Rattle.inf_unit.specs.Units.{first_place, last_place, long_at, names_in, noted as unit_noted, taken as unit_taken, text_passed}
-use Rattle.inf_work.specs.Actions.{Compilation, close, close_open, header_of, header_with, is_deep, is_to_be_replaced, named, nested, opens, passed, settled_of, sized, stopped, took, trees_at}
-use Rattle.inf_work.specs.Parts.{actions_named, case_prepared, construct_closed, construct_ended, construct_opened, constructs_laid, found_in, has_last, is_default, order_of, part_begun, part_carried, part_effect, part_ended, part_finished, part_prepared, place_of, statement_at, wanted_of}
+use Rattle.inf_compilation.specs.Actions.{Compilation, close, close_open, header_of, header_with, is_deep, is_to_be_replaced, named, nested, opens, passed, settled_of, sized, stopped, took, trees_at}
+use Rattle.inf_compilation.specs.Parts.{actions_named, case_prepared, construct_closed, construct_ended, construct_opened, constructs_laid, found_in, has_last, is_default, order_of, part_begun, part_carried, part_effect, part_ended, part_finished, part_prepared, place_of, statement_at, wanted_of}
 use Rattle.std.proofs.lemmas.Bool.{and_parts}
 use Rattle.inf_scanner.specs.declared.tokens.Place.{Place}
 use Rattle.inf_expressions.specs.declared.findings.Finding.{Finding}
@@ -30,8 +30,8 @@ use Rattle.inf_statements.specs.declared.constructs.Construct.{Construct}
 use Rattle.inf_statements.specs.declared.constructs.Kind.{Kind}
 use Rattle.inf_statements.specs.declared.constructs.Kind.TheVariants as kind
 use Rattle.inf_work.specs.Acting.{act, ended as ended_as, is_crowded, kind_of, noted, noted_of, played}
-use Rattle.inf_work.specs.declared.parts.Part.{Part}
-use Rattle.inf_work.specs.declared.parts.Part.TheVariants as part
+use Rattle.inf_compilation.specs.declared.parts.Part.{Part}
+use Rattle.inf_compilation.specs.declared.parts.Part.TheVariants as part
 use Rattle.inf_statement_laws.specs.Happenings.{Acts, Happening, Takes, happen_quietly, happens_quietly, is_quiet, is_quiet_end, is_quiet_role}
 use Rattle.inf_statement_laws.specs.Laid.{happens, run}
 

@@ -18,8 +18,8 @@ use Rattle.inf_statements.specs.declared.constructs.Kind.{Kind}
 use Rattle.inf_statements.specs.declared.constructs.Kind.TheVariants as kind
 use Rattle.inf_statements.specs.declared.constructs.Over.TheVariants as over
 use Rattle.inf_work.specs.Acting.{act}
-use Rattle.inf_work.specs.Actions.{Compilation, is_deep, nested}
-use Rattle.inf_work.specs.Parts.{closed_ahead, construct_closed, construct_ended, construct_joined, construct_opened, constructs_laid}
+use Rattle.inf_compilation.specs.Actions.{Compilation, is_deep, nested}
+use Rattle.inf_compilation.specs.Parts.{closed_ahead, construct_closed, construct_ended, construct_joined, construct_opened, constructs_laid}
 use Rattle.inf_statement_laws.specs.Happenings.{Acts, Between, Happening, IsRead, Moment, Quiet, bodies, rests}
 use Rattle.inf_statement_laws.specs.Nested.{Case, Do, For, If, IfElse, Nested, NoStep, Objectloop, Plain, Step, StepEnds, Switch, Then, While, happenings, step_happenings}
 use Rattle.inf_statement_laws.specs.Laid.{ended_as, happens, holding, laid, opened_at, passed, run, with_kind_in, with_step_in}

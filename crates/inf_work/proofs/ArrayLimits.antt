@@ -16,12 +16,13 @@ use Rattle.inf_sinks.specs.Spellings.{Name}
 use Rattle.inf_unit.specs.Messages.{FileNames}
 use Rattle.inf_unit.specs.Units.{first_place, name_order, names_in}
 use Rattle.inf_unit.proofs.Cases.{of_both}
-use Rattle.inf_work.specs.Actions.{Compilation, settled_of}
-use Rattle.inf_work.specs.Arrays.{added, adding, array_header, array_named, array_opened, array_opened_by, bare_text, class_named, codes_of, entry_added, entry_added_by, entry_ended, entry_finding, entry_with, header_as, header_ended, header_of, heading_of, is_alone, kind_in, listed, lost_added, one_more, story_added, text_added, value_added, with_arrays}
-use Rattle.inf_work.specs.Declarations.{plainly_known, value_of}
+use Rattle.inf_compilation.specs.Actions.{Compilation, settled_of}
+use Rattle.inf_listings.specs.Arrays.{added, adding, array_header, array_named, array_opened, array_opened_by, bare_text, codes_of, entry_added, entry_added_by, entry_ended, entry_finding, entry_with, is_alone, kind_in, listed, lost_added, one_more, story_added, text_added, value_added, with_arrays}
+use Rattle.inf_work.specs.Headers.{class_named, header_as, header_ended, header_of, heading_of}
+use Rattle.inf_declarations.specs.Declarations.{plainly_known, value_of}
 use Rattle.inf_work.specs.Limits.{SameLimits}
-use Rattle.inf_work.specs.declared.arrays.Heading.{Heading}
-use Rattle.inf_work.specs.declared.arrays.Heading.TheVariants as heading
+use Rattle.inf_work.specs.declared.headers.Heading.{Heading}
+use Rattle.inf_work.specs.declared.headers.Heading.TheVariants as heading
 use Rattle.inf_work.proofs.Bounds.{class_header_same, object_header_same}
 use Rattle.inf_work.proofs.VerbLimits.{extend_header_same, verb_header_same}
 

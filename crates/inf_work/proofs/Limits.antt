@@ -36,10 +36,11 @@ use Rattle.inf_statements.specs.Statements.{alone, tree_in}
 use Rattle.inf_statements.specs.declared.constructs.Construct.{Construct}
 use Rattle.inf_statements.specs.declared.constructs.Kind.{Kind}
 use Rattle.inf_statements.proofs.Keeping.{all_ended_keep, alone_keep, begun_keeps as begun_construct_keeps, case_keeps, cases_begun_keeps, cases_keep, ended_keeps, joined_keeps, leaf_added_keeps, leaves_same, looped_over_keeps, statement_keeps, stepped_keeps, switched_keeps, tested_keeps}
-use Rattle.inf_work.specs.Actions.{Compilation, begun_at, body_ended, cases_ended, close, close_open, constant, constant_added, constant_finding, constant_meaning, constant_of, constant_with, cut, finding_at, given_up, header_of, header_with, is_deep, is_first_declared, is_to_be_replaced, kind_ended, name_finding, named, nested, new_stub, opening_checked, opening_checked_at, opens, operands_of, passed, replace, routine_declared, settled_of, sized, stopped, stub, stub_code, stub_locals, stubbed, token_checked, told, took, trees_at, unit_ended}
-use Rattle.inf_work.specs.Declarations.{is_alias, alias_finding, alias_told, aliased, attribute, attribute_added, attribute_number, attribute_with, global_added, global_variable, is_additive, last_meaning, new_attribute, new_attribute_by, new_global, new_property, new_property_by, nothing_of, name_known, property, property_added, property_named, property_names, property_number, property_order, property_with, value_of, valued, with_variable}
+use Rattle.inf_compilation.specs.Actions.{Compilation, begun_at, body_ended, cases_ended, close, close_open, constant, constant_added, constant_finding, constant_meaning, constant_of, constant_with, cut, finding_at, given_up, header_of, header_with, is_deep, is_first_declared, is_to_be_replaced, kind_ended, name_finding, named, nested, new_stub, opening_checked, opening_checked_at, opens, operands_of, passed, replace, routine_declared, settled_of, sized, stopped, stub, stub_code, stub_locals, stubbed, token_checked, told, took, trees_at, unit_ended}
+use Rattle.inf_declarations.specs.Declarations.{is_alias, alias_finding, alias_told, aliased, attribute, attribute_added, attribute_number, attribute_with, global_added, global_variable, is_additive, last_meaning, new_attribute, new_attribute_by, new_global, new_property, new_property_by, nothing_of, name_known, property, property_added, property_named, property_names, property_number, property_order, property_with, value_of, valued, with_variable}
 use Rattle.inf_work.proofs.Bounds.{attribute_read_same, body_ended_same, class_read_same, embedded_read_same, property_read_same, value_read_same}
-use Rattle.inf_work.specs.Directives.{carried_out, default, directive_of_names}
+use Rattle.inf_work.specs.Directives.{carried_out, directive_of_names}
+use Rattle.inf_declarations.specs.Defaults.{default}
 use Rattle.inf_unit.specs.Roles.{is_text, makes_sure, role_of}
 use Rattle.inf_unit.specs.declared.roles.Ending.{Ending}
 use Rattle.inf_unit.specs.declared.roles.Ending.TheVariants as ending
@@ -47,13 +48,13 @@ use Rattle.inf_unit.specs.declared.roles.Note.{Note}
 use Rattle.inf_unit.specs.declared.roles.Role.{Role}
 use Rattle.inf_unit.specs.declared.roles.Role.TheVariants as role
 use Rattle.inf_work.specs.Acting.{act, acted, all_acted, ended as ended_as, is_crowded, kind_of, noted, noted_of, played}
-use Rattle.inf_work.specs.Findings.{header_fault, name_fault}
+use Rattle.inf_compilation.specs.Findings.{header_fault, name_fault}
 use Rattle.inf_work.specs.Limits.{SameLimits}
 use Rattle.inf_work.proofs.ArrayLimits.{entry_same, header_same}
-use Rattle.inf_work.specs.Parts.{actions_named, case_prepared, closed_ahead, construct_closed, constructs_laid, construct_ended, construct_opened, found_in as found_in_part, has_last, is_default, order_of, part_begun, part_carried, part_effect, part_ended, part_finished, part_prepared, place_of, site_of, statement_at, wanted_of}
+use Rattle.inf_compilation.specs.Parts.{actions_named, case_prepared, closed_ahead, construct_closed, constructs_laid, construct_ended, construct_opened, found_in as found_in_part, has_last, is_default, order_of, part_begun, part_carried, part_effect, part_ended, part_finished, part_prepared, place_of, site_of, statement_at, wanted_of}
 use Rattle.inf_work.proofs.VerbLimits.{fake_same, line_same}
-use Rattle.inf_work.specs.declared.parts.Part.{Part}
-use Rattle.inf_work.specs.declared.parts.Part.TheVariants as part
+use Rattle.inf_compilation.specs.declared.parts.Part.{Part}
+use Rattle.inf_compilation.specs.declared.parts.Part.TheVariants as part
 
 -- Units
 

@@ -26,13 +26,13 @@ use Rattle.inf_verbs.specs.declared.verbs.LineFault.{LineFault}
 use Rattle.inf_verbs.specs.declared.verbs.Place.{Place as LinePlace}
 use Rattle.inf_verbs.specs.declared.verbs.VerbFault.{VerbFault}
 use Rattle.inf_verbs.specs.declared.verbs.VerbFault.TheVariants as verb_fault
-use Rattle.inf_work.specs.Actions.{Compilation}
+use Rattle.inf_compilation.specs.Actions.{Compilation}
 use Rattle.inf_work.specs.Limits.{SameLimits}
-use Rattle.inf_work.specs.Verbs.{action_by, arrow_in, attribute_in, extend_header, fake_action, has_verb, head_finding, header_opened, is_reverse, like_used, line_added, line_ended, line_kept_by, line_laid, line_token, line_token_by, line_tokens, lines_extended, lone_by, name_token, named_at, new_verb_by, noun_named, one_line_by, parsing_as, parsing_routine, place_named, tokens_finding, verb_begun, verb_extended, verb_head, verb_header, verb_named, verb_opened, verb_use, with_verbs, word_at, word_used, words_given, words_used}
-use Rattle.inf_work.specs.declared.verbs.Extending.{Extending}
-use Rattle.inf_work.specs.declared.verbs.Named.{Named}
-use Rattle.inf_work.specs.declared.verbs.Named.TheVariants as named
-use Rattle.inf_work.specs.declared.verbs.VerbHead.{VerbHead}
+use Rattle.inf_verb_lines.specs.Verbs.{action_by, arrow_in, attribute_in, extend_header, fake_action, has_verb, head_finding, header_opened, is_reverse, like_used, line_added, line_ended, line_kept_by, line_laid, line_token, line_token_by, line_tokens, lines_extended, lone_by, name_token, named_at, new_verb_by, noun_named, one_line_by, parsing_as, parsing_routine, place_named, tokens_finding, verb_begun, verb_extended, verb_head, verb_header, verb_named, verb_opened, verb_use, with_verbs, word_at, word_used, words_given, words_used}
+use Rattle.inf_compilation.specs.declared.compilation.Extending.{Extending}
+use Rattle.inf_verb_lines.specs.declared.lines.Named.{Named}
+use Rattle.inf_verb_lines.specs.declared.lines.Named.TheVariants as named
+use Rattle.inf_verb_lines.specs.declared.verbs.VerbHead.{VerbHead}
 
 -- Words
 

@@ -16,14 +16,15 @@ use Rattle.inf_statements.specs.declared.constructs.Case.TheVariants as case
 use Rattle.inf_statements.specs.declared.constructs.Kind.{Kind}
 use Rattle.inf_statements.specs.declared.constructs.Kind.TheVariants as kind
 use Rattle.inf_statements.specs.declared.constructs.Over.TheVariants as over
-use Rattle.inf_work.specs.Actions.{Compilation, body_ended, close, header_end, is_deep, nested, sized}
+use Rattle.inf_compilation.specs.Actions.{Compilation, body_ended, close, header_end, is_deep, nested, sized}
 use Rattle.inf_work.specs.Directives.{directive_end}
-use Rattle.inf_work.specs.Arrays.{entry_ended, header_ended}
-use Rattle.inf_work.specs.Bodies.{attribute_read, class_read, property_read}
-use Rattle.inf_work.specs.Values.{embedded_read, value_read}
-use Rattle.inf_work.specs.Parts.{construct_closed, construct_joined, construct_opened, part_ended, statement_at}
-use Rattle.inf_work.specs.Verbs.{line_ended}
-use Rattle.inf_work.specs.declared.parts.Part.TheVariants as part
+use Rattle.inf_listings.specs.Arrays.{entry_ended}
+use Rattle.inf_work.specs.Headers.{header_ended}
+use Rattle.inf_bodies.specs.Bodies.{attribute_read, class_read, property_read}
+use Rattle.inf_bodies.specs.Values.{embedded_read, value_read}
+use Rattle.inf_compilation.specs.Parts.{construct_closed, construct_joined, construct_opened, part_ended, statement_at}
+use Rattle.inf_verb_lines.specs.Verbs.{line_ended}
+use Rattle.inf_compilation.specs.declared.parts.Part.TheVariants as part
 
 -- Whether the unit at hand prints more than code may have bytes. Its code then passes that setting, whatever else it prints.
 abbrev pub is_crowded : Compilation → Bool

@@ -1,5 +1,5 @@
 -- What the directives do that are one unit.
-use Rattle.std.specs.Prelude.{List, [], ◌∷◌, true, None, if◌then◌else◌}
+use Rattle.std.specs.Prelude.{List, [], ◌∷◌, true}
 use Rattle.inf_scanner.specs.declared.tokens.Place.{Place}
 use Rattle.inf_sinks.specs.Spellings.{Name}
 use Rattle.inf_unit.specs.Directives.{Include, End, directive_of, weight_of}
@@ -7,14 +7,10 @@ use Rattle.inf_unit.specs.declared.directives.Directive.{Directive}
 use Rattle.inf_unit.specs.declared.directives.Directive.TheVariants as directive
 use Rattle.inf_unit.specs.Messages.{FileNames, location, with_words}
 use Rattle.inf_unit.specs.Units.{first_place, names_in, quoted_in}
-use Rattle.inf_work.specs.Actions.{Compilation, begun_at, constant, is_first_declared, passed, replace, stub, unit_ended, words_of}
-use Rattle.inf_work.specs.Declarations.{attribute, global_variable, property}
-use Rattle.inf_work.specs.Verbs.{fake_action}
-
--- a constant, unless its name is declared
-abbrev pub default : FileNames → Place → List Name → Compilation → Compilation
-default files first names w =
-    if is_first_declared names w.output.names then unit_ended files first true None w else constant files first names w
+use Rattle.inf_compilation.specs.Actions.{Compilation, begun_at, constant, passed, replace, stub, words_of}
+use Rattle.inf_declarations.specs.Declarations.{attribute, global_variable, property}
+use Rattle.inf_verb_lines.specs.Verbs.{fake_action}
+use Rattle.inf_declarations.specs.Defaults.{default}
 
 abbrev pub carried_out : Directive → FileNames → Place → List Name → Compilation → Compilation
 carried_out directive.Include files first names w = passed true (record w { asked = Include (quoted_in w.unit.tokens) first })

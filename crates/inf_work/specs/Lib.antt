@@ -1,14 +1,4 @@
-pub mod Words
-pub mod Findings
-pub mod Actions
-pub mod Declarations
-pub mod Objects
-pub mod Verbs
-pub mod Arrays
-pub mod Bodies
-pub mod Values
+pub mod Headers
 pub mod Directives
-pub mod Parts
 pub mod Acting
-pub mod Works
 pub mod Limits

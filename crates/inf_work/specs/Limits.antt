@@ -4,7 +4,7 @@ use Rattle.inf_scanner.specs.declared.tokens.Place.{Place}
 use Rattle.inf_syntax.specs.declared.actions.Action.{Action}
 use Rattle.inf_unit.specs.Messages.{FileNames}
 use Rattle.inf_output.specs.Limits.{SameLimits as SameOutLimits}
-use Rattle.inf_work.specs.Actions.{Compilation}
+use Rattle.inf_compilation.specs.Actions.{Compilation}
 use Rattle.inf_work.specs.Acting.{all_acted}
 
 -- as much as before

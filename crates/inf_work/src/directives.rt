@@ -1,400 +1,66 @@
-//! The directives that are one unit.
-ghost use Rattle.std.specs.Prelude.{◌≡◌, ◌≤◌, IfOk, OnOk, length, map, option_map};
-ghost use Rattle.inf_expressions.specs.Forests.{trees_in as rooted_in};
-ghost use Rattle.inf_names.specs.Symbols.{found_in};
-ghost use Rattle.inf_statements.specs.Statements.{tree_in};
+//! The directives that are one unit: each is told by its word.
+ghost use Rattle.std.specs.Prelude.{OnOk, map, ◌≡◌};
 ghost use Rattle.inf_sinks.specs.Spellings.{as_name};
-ghost use Rattle.inf_unit.specs.Diagnostics.{blamed};
-ghost use Rattle.inf_unit.specs.Messages.{location, with_words};
-ghost use Rattle.inf_unit.specs.Units.{quoted_in};
-ghost use Rattle.inf_work.specs.Actions.{as_constant, constant_blame, constant_finding, constant_meaning, declared_meaning, is_declared, leaf_meaning, name_finding, named_leaf, stub_locals, used_name};
-ghost use Rattle.inf_statements.specs.Operands.{leaf_added};
+ghost use Rattle.inf_unit.specs.Directives.{Include, asked};
+ghost use Rattle.inf_compilation.specs.Actions.{constant, replace, stub};
+ghost use Rattle.inf_work.specs.Directives.{carried_out, directive_end};
+ghost use Rattle.inf_declarations.specs.Defaults.{default};
+ghost use Rattle.inf_compilation.specs.Works.{work};
 
-use crate::findings::{blame_of, name_fault};
-use crate::work::Compilation;
-use inf_area::Value;
-use inf_assembler::RoutineKind;
-use inf_expressions::{Finding, Forest, Wanted, build, constant, least_of_both};
-use inf_gathering::gathering::Leaf;
+use inf_compilation::compilation::Compilation;
+use inf_declarations::declarations::attribute;
+use inf_declarations::directives::{constant, default, inclusion, message, replace, stub};
+use inf_declarations::globals::global_variable;
+use inf_declarations::properties::property;
 use inf_lexer::{Place, Stack};
-use inf_names::meanings::Meaning;
-use inf_names::symbols::{DeclareFault, Found, ReferFault, Symbols};
-use inf_report::messages::Message;
-use inf_report::own_words::OwnWords;
 use inf_sinks::spellings::Name;
-use inf_statements::operands::add_leaf;
-use inf_unit::directives::{Directive, Request, directive_of, weight_of};
-use inf_unit::messages::{Diagnostic, location};
-use inf_unit::tokens::number_of;
-use inf_unit::unit_tokens::UnitTokens;
+use inf_unit::directives::{Directive, Request, directive_of};
+use inf_verb_lines::verbs::fake_action;
 use std::alloc::AllocError;
 
-/// The most locals of a routine that `Stub` makes (Designer's Manual, fourth edition, section 25).
-const MOST_STUB_LOCALS: u16 = 4;
-
-impl Compilation {
-    ghost use Rattle.inf_unit.specs.Directives.{Include, asked, weight_of};
-    ghost use Rattle.inf_work.specs.Actions.{constant, constant_of, constant_ended, constant_with, is_first_declared, new_stub, replace, stub, stubbed, words_of};
-    ghost use Rattle.inf_work.specs.Directives.{carried_out, default, directive_end};
-    ghost use Rattle.inf_work.specs.Works.{work};
-
-    /// A directive ends, before a token at a place.
-    pub(crate) fn end_directive(&mut self, files: &Stack, place: Place) -> Result<(), AllocError>
-        ensures { OnOk result (work self.new ≡ directive_end files.now.names place (work self.old)) }
-    {
-        let names = self.unit.tokens.names(self.alloc)?;
-        let Some((word, names)) = names.split_first() else {
-            self.pass(true);
-            return Ok(());
-        };
-        let first = self.unit.first_place(place);
-        self.carry_out(directive_of(word.bytes()), files, first, names)?;
-        self.begin(files, first)
-    }
-
-    /// Carries out a directive that begins at a place, with these names behind its word.
-    fn carry_out(
-        &mut self,
-        directive: Directive,
-        files: &Stack,
-        first: Place,
-        names: &[Name],
-    ) -> Result<(), AllocError>
-        ensures { OnOk result (work self.new
-            ≡ carried_out directive files.now.names first (map as_name names.now) (work self.old)) }
-    {
-        match directive {
-            Directive::Include => self.asked = self.inclusion(first)?,
-            Directive::Message => self.message(files, first, names)?,
-            Directive::End => self.asked = Request::End,
-            Directive::Constant => return self.constant(files, first, names),
-            Directive::Replace => return self.replace(files, first, names),
-            Directive::Stub => return self.stub(files, first, names),
-            Directive::Default => return self.default(files, first, names),
-            Directive::Attribute => return self.attribute(files, first, names),
-            Directive::Property => return self.property(files, first, names),
-            Directive::Global => return self.global_variable(files, first, names),
-            Directive::FakeAction => return self.fake_action(files, first, names),
-            Directive::SystemFile => self.is_system = true,
-        }
-        self.pass(true);
-        Ok(())
-    }
-
-    /// Keeps the first of these names as that of a routine that is to be replaced, and uses it.
-    fn replace(&mut self, files: &Stack, first: Place, names: &[Name]) -> Result<(), AllocError>
-        ensures { OnOk result (work self.new
-            ≡ replace files.now.names first (map as_name names.now) (work self.old)) }
-    {
-        let Some(name) = names.first() else {
-            self.pass(true);
-            return Ok(());
-        };
-        self.output.refer(name.bytes(), name.place)?;
-        use_name(&mut self.replaced, name)?;
-        self.end_unit(files, first, true)
-    }
-
-    /// Declares the first of these names as a routine of so many locals as the number behind it says, which returns 0, unless the name is
-    /// declared.
-    fn stub(&mut self, files: &Stack, first: Place, names: &[Name]) -> Result<(), AllocError>
-        ensures { OnOk result (work self.new
-            ≡ stub files.now.names first (map as_name names.now) (work self.old)) }
-    {
-        if self.is_first_declared(names) {
-            self.end_unit(files, first, true)
-        } else {
-            self.new_stub(files, first, names)
-        }
-    }
-
-    /// Declares the first of these names as that of the routine of a `Stub`.
-    fn new_stub(&mut self, files: &Stack, first: Place, names: &[Name]) -> Result<(), AllocError>
-        ensures { OnOk result (work self.new ≡ new_stub files.now.names first (map as_name names.now) (work self.old)) }
-    {
-        let Some(name) = names.first() else {
-            self.pass(true);
-            return Ok(());
-        };
-        self.declare_routine(name)?;
-        self.stub_routine(files, first)
-    }
-
-    /// The routine of a `Stub`, whose name is declared.
-    fn stub_routine(&mut self, files: &Stack, first: Place) -> Result<(), AllocError>
-        ensures { OnOk result (work self.new ≡ stubbed files.now.names first (work self.old)) }
-    {
-        let locals = stub_locals(&self.unit.tokens);
-        if locals > MOST_STUB_LOCALS {
-            let blame = Diagnostic {
-                place: first,
-                message: Message::ConstantOutOfRange,
-            };
-            self.report.fault(files, first, Some(blame))?;
-            return self.end_unit(files, first, true);
-        }
-        self.output.open(self.alloc, locals as u8, false)?;
-        self.output.close(RoutineKind::Embedded)?;
-        self.end_unit(files, first, true)
-    }
-
-    /// Declares the first of these names as a constant, as `Constant` does, unless it is declared.
-    fn default(&mut self, files: &Stack, first: Place, names: &[Name]) -> Result<(), AllocError>
-        ensures { OnOk result (work self.new
-            ≡ default files.now.names first (map as_name names.now) (work self.old)) }
-    {
-        if self.is_first_declared(names) {
-            self.end_unit(files, first, true)
-        } else {
-            self.constant(files, first, names)
-        }
-    }
-
-    /// Whether the first of these names is declared.
-    fn is_first_declared(&self, names: &[Name]) -> bool
-        ensures { result ≡ is_first_declared (map as_name names.now) (work self.now).output.names }
-    {
-        match names.first() {
-            Some(name) => is_declared(self.output.names.look(name.bytes())),
-            None => false,
-        }
-    }
-
-    /// Declares the first of these names as a constant, with what its expression is, or 0.
-    fn constant(&mut self, files: &Stack, first: Place, names: &[Name]) -> Result<(), AllocError>
-        ensures { OnOk result (work self.new
-            ≡ constant files.now.names first (map as_name names.now) (work self.old)) }
-    {
-        let Some(name) = names.first() else {
-            self.pass(true);
-            return Ok(());
-        };
-        let operands = self.operands()?;
-        let found = self.finding(0, Wanted::Constant, operands.as_slice())?;
-        let forest = build(
-            self.alloc,
-            Wanted::Constant,
-            0,
-            self.unit.gathering.symbols(),
-            operands.as_slice(),
-        )?;
-        let meaning = self.constant_of(&forest);
-        self.declare_constant(files, first, name, meaning, found)
-    }
-
-    /// That the file is read whose name is the text of the unit.
-    fn inclusion(&self, unit: Place) -> Result<Request, AllocError>
-        ensures { IfOk result (λ a. asked a ≡ Include (quoted_in (work self.now).unit.tokens) unit) }
-    {
-        let mut text = Vec::new(self.alloc);
-        text.extend_from_slice(self.unit.tokens.quoted())?;
-        Ok(Request::Include { text, unit })
-    }
-
-    /// Tells the text of the unit, by the weight that its names say.
-    fn message(&mut self, files: &Stack, first: Place, names: &[Name]) -> Result<(), AllocError>
-        ensures { let before = work self.old in OnOk result (work self.new ≡ record before {
-          report = with_words (location files.now.names first) (weight_of (map as_name names.now)) (words_of before.set before.unit)
-              before.report;
-        }) }
-    {
-        let words = OwnWords {
-            bytes: self.unit.tokens.quoted(),
-            set: self.set,
-        };
-        self.report
-            .words(location(files, first), weight_of(names), words)
-    }
-
-    /// What a constant stands for, by the tree of its expression: a known number, 0 where it has none, a string, a word, or what a name
-    /// stands for
-    /// that was declared before.
-    fn constant_of(&self, forest: &Forest) -> Option<Meaning>
-        ensures { result ≡ constant_of (map tree_in (rooted_in forest.now)) (work self.now) }
-    {
-        let Some(root) = forest.roots.first() else {
-            return Some(Meaning::Number(0));
-        };
-        match constant(&forest.nodes, root.place)? {
-            Value::Known(number) => Some(Meaning::Number(number)),
-            Value::Later(_) => self.leaf_constant(),
-        }
-    }
-
-    /// What the leaf stands for that a constant's expression is: a text is the next string, and a word of the dictionary stands for itself.
-    fn leaf_constant(&self) -> Option<Meaning>
-        ensures { let w = work self.now in result ≡ leaf_meaning w.unit.gathering.leaves w }
-    {
-        match self.unit.gathering.leaves().first() {
-            Some(Leaf::Text(_)) => Some(Meaning::Text(self.output.strings.len())),
-            Some(Leaf::Word(word)) => Some(Meaning::Word(word.text)),
-            _ => self.named_constant(),
-        }
-    }
-
-    /// What the name stands for that a constant's expression is, where it was declared before.
-    fn named_constant(&self) -> Option<Meaning>
-        ensures { let w = work self.now in
-            result ≡ declared_meaning (found_in (named_leaf w.unit.tokens w.unit.gathering.leaves) w.output.names) }
-    {
-        let name = named_leaf(&self.unit.tokens, self.unit.gathering.leaves());
-        match self.output.names.look(name) {
-            Found::Declared(meaning, _) => Some(as_constant(meaning)),
-            Found::System(_) | Found::Used | Found::Unknown => None,
-        }
-    }
-
-    /// Declares a name as a constant with what it stands for, if that is known, and tells the first error of its directive.
-    fn declare_constant(
-        &mut self,
-        files: &Stack,
-        first: Place,
-        name: &Name,
-        meaning: Option<Meaning>,
-        found: Option<Finding>,
-    ) -> Result<(), AllocError>
-        ensures { OnOk result (work self.new
-            ≡ constant_with files.now.names first (as_name name.now) meaning found (work self.old)) }
-    {
-        let finding = constant_finding(meaning, found);
-        let stands = constant_meaning(meaning, finding);
-        let refused = self.output.declare(name.bytes(), name.place, stands)?;
-        self.end_constant(files, first, name, refused, finding)
-    }
-
-    /// The end of the directive of a constant, whose name was refused or not.
-    fn end_constant(
-        &mut self,
-        files: &Stack,
-        first: Place,
-        name: &Name,
-        refused: Option<DeclareFault<Place>>,
-        finding: Option<Finding>,
-    ) -> Result<(), AllocError>
-        ensures { OnOk result (work self.new
-            ≡ constant_ended files.now.names first (as_name name.now) refused finding (work self.old)) }
-    {
-        let of_name = name_fault(files, name, refused);
-        let order = self.unit.tokens.name_order();
-        let least = least_of_both(name_finding(order, &of_name), finding);
-        let blame = constant_blame(&self.unit.tokens, of_name, least);
-        self.report.fault(files, first, blame)?;
-        if least.is_none() {
-            self.add_leaf()?;
-        }
-        self.end_unit(files, first, true)
-    }
-
-    /// Adds the text or the word that a constant's expression is.
-    fn add_leaf(&mut self) -> Result<(), AllocError>
-        ensures { let before = work self.old in OnOk result (work self.new ≡ record before {
-          output = leaf_added before.set before.unit.tokens before.unit.gathering.leaves before.output;
-        }) }
-    {
-        let leaves = self.unit.gathering.leaves();
-        add_leaf(
-            self.alloc,
-            self.set,
-            &self.unit.tokens,
-            leaves,
-            &mut self.output,
-        )
-    }
+/// A directive ends, before a token at a place.
+pub(crate) fn end_directive(
+    compilation: &mut Compilation,
+    files: &Stack,
+    place: Place,
+) -> Result<(), AllocError>
+    ensures { OnOk result (work compilation.new ≡ directive_end files.now.names place (work compilation.old)) }
+{
+    let names = compilation.unit.tokens.names(compilation.alloc)?;
+    let Some((word, names)) = names.split_first() else {
+        compilation.pass(true);
+        return Ok(());
+    };
+    let first = compilation.unit.first_place(place);
+    carry_out(compilation, directive_of(word.bytes()), files, first, names)?;
+    compilation.begin(files, first)
 }
 
-/// Whether a name is declared, by what looking for it found.
-fn is_declared(found: Found<Place>) -> bool
-    ensures { result ≡ is_declared found }
+/// Carries out a directive that begins at a place, with these names behind its word.
+fn carry_out(
+    compilation: &mut Compilation,
+    directive: Directive,
+    files: &Stack,
+    first: Place,
+    names: &[Name],
+) -> Result<(), AllocError>
+    ensures { OnOk result (work compilation.new
+        ≡ carried_out directive files.now.names first (map as_name names.now) (work compilation.old)) }
 {
-    match found {
-        Found::System(_) | Found::Declared(..) => true,
-        Found::Used | Found::Unknown => false,
+    match directive {
+        Directive::Include => compilation.asked = inclusion(compilation, first)?,
+        Directive::Message => message(compilation, files, first, names)?,
+        Directive::End => compilation.asked = Request::End,
+        Directive::Constant => return constant(compilation, files, first, names),
+        Directive::Replace => return replace(compilation, files, first, names),
+        Directive::Stub => return stub(compilation, files, first, names),
+        Directive::Default => return default(compilation, files, first, names),
+        Directive::Attribute => return attribute(compilation, files, first, names),
+        Directive::Property => return property(compilation, files, first, names),
+        Directive::Global => return global_variable(compilation, files, first, names),
+        Directive::FakeAction => return fake_action(compilation, files, first, names),
+        Directive::SystemFile => compilation.is_system = true,
     }
-}
-
-/// Uses a name, unless it would be one too many.
-fn use_name(names: &mut Symbols<Place>, name: &Name) -> Result<(), AllocError>
-    ensures { OnOk result (names.new ≡ used_name (as_name name.now) names.old) }
-{
-    match names.refer(name.bytes(), name.place) {
-        Ok(_) | Err(ReferFault::Full) => Ok(()),
-        Err(ReferFault::Memory) => Err(AllocError),
-    }
-}
-
-/// The name that is the first leaf of a unit with these tokens; an empty one where it is none.
-fn named_leaf<'t>(tokens: &'t UnitTokens, leaves: &[Leaf]) -> &'t [u8]
-    ensures value { result.now ≡ named_leaf tokens.now leaves.now }
-    ensures few { length result.now ≤ 32 }
-{
-    match leaves.first() {
-        Some(Leaf::Name(at)) => tokens.bytes_at(*at),
-        _ => b"",
-    }
-}
-
-/// What a constant stands for that is what something else stands for: one that is a routine is none itself.
-fn as_constant(meaning: Meaning) -> Meaning
-    ensures { result ≡ as_constant meaning }
-{
-    match meaning {
-        Meaning::Routine(place) => Meaning::PackedAddress(place),
-        _ => meaning,
-    }
-}
-
-/// What is wrong with a constant's expression: also that it stands for nothing.
-fn constant_finding(meaning: Option<Meaning>, found: Option<Finding>) -> Option<Finding>
-    ensures { result ≡ constant_finding meaning found }
-{
-    match (meaning, found) {
-        (None, None) => Some(Finding::no_constant(0)),
-        _ => found,
-    }
-}
-
-/// What a constant stands for: 0, where something is wrong with it.
-fn constant_meaning(meaning: Option<Meaning>, found: Option<Finding>) -> Meaning
-    ensures { result ≡ constant_meaning meaning found }
-{
-    match (meaning, found) {
-        (Some(meaning), None) => meaning,
-        _ => Meaning::Number(0),
-    }
-}
-
-/// What is wrong with a name that has this order, as a finding. Its number is that of a name that stands already.
-pub(crate) fn name_finding(order: u32, of_name: &Option<Diagnostic<'_>>) -> Option<Finding>
-    ensures { result ≡ name_finding order (option_map blamed of_name.now) }
-{
-    match of_name {
-        Some(_) => Some(Finding { order, number: 8 }),
-        None => None,
-    }
-}
-
-/// What is told of a constant, by the least that was found.
-fn constant_blame<'t>(
-    tokens: &'t UnitTokens,
-    of_name: Option<Diagnostic<'t>>,
-    found: Option<Finding>,
-) -> Option<Diagnostic<'t>>
-    ensures { option_map blamed result ≡ constant_blame tokens.now (option_map blamed of_name.entry) found }
-{
-    let finding = found?;
-    if finding.number == 8 {
-        of_name
-    } else {
-        Some(blame_of(tokens, finding))
-    }
-}
-
-/// How many locals a `Stub` gives its routine: the number that is its last token.
-fn stub_locals(tokens: &UnitTokens) -> u16
-    ensures { result ≡ stub_locals tokens.now }
-{
-    match tokens.kind(tokens.len().saturating_sub(1)) {
-        Some(kind) => number_of(kind).unwrap_or(0),
-        None => 0,
-    }
+    compilation.pass(true);
+    Ok(())
 }

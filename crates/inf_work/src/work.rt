@@ -1,121 +1,23 @@
 //! What the actions of the grammar do: they gather what a unit has, which acts at its end.
-ghost use Rattle.std.specs.Prelude.{◌≡◌, ◌≤◌, IfOk, None, OnOk};
-ghost use Rattle.inf_unit.specs.Messages.{location};
-ghost use Rattle.inf_unit.specs.Tokens.{spelled};
-ghost use Rattle.inf_work.specs.Acting.{kind_of};
-ghost use Rattle.inf_work.specs.Actions.{names_class, no_output};
+ghost use Rattle.std.specs.Prelude.{None, OnOk, ◌≡◌};
+ghost use Rattle.inf_work.specs.Acting.{act, acted, all_acted, ended, is_crowded, kind_of, noted};
+ghost use Rattle.inf_unit.specs.Directives.{Nothing};
+ghost use Rattle.inf_compilation.specs.Actions.{cut, is_deep};
+ghost use Rattle.inf_compilation.specs.Works.{work};
 
-use crate::arrays::Listing;
-use crate::findings::NOWHERE;
-use crate::parts::Part;
-use crate::verbs::Extending;
-use inf_cells::Scale;
-use inf_code::code::{Code, CodeLimits};
+use crate::directives::end_directive;
+use crate::headers::end_directive_header;
+use inf_bodies::bodies::{attribute_of_body, class_of_body, end_body, property_of_body};
+use inf_bodies::values::{routine_of_body, value_of_body};
+use inf_compilation::compilation::Compilation;
+use inf_compilation::parts::Part;
 use inf_lexer::{Place, Stack};
-use inf_names::hashing::NameHashing;
-use inf_names::meanings::Meaning;
-use inf_names::symbols::{Found, Symbols};
-use inf_output::{Output, Strings};
-use inf_report::messages::Message;
-use inf_scanner::{Mark, TokenKind};
-use inf_settings::setting::Setting;
-use inf_settings::settings::Settings;
-use inf_sinks::locals::Locals;
-use inf_sinks::spellings::MOST_NAME_BYTES;
-use inf_statements::constructs::{Case, Constructs, Kind, Over};
-use inf_statements::labels::Labels;
+use inf_listings::arrays::end_entry;
+use inf_statements::constructs::{Case, Kind, Over};
 use inf_syntax::Action;
-use inf_tables::{Arrays, Tables};
-use inf_templates::Tasks;
-use inf_text::CharSet;
-use inf_unit::directives::Request;
-use inf_unit::messages::{Diagnostics, location};
-use inf_unit::names::no_symbols;
 use inf_unit::roles::{Ending, Note, Opening, Role, is_text, makes_sure, role_of};
-use inf_unit::tokens::SourceToken;
-use inf_unit::unit::Unit;
-use inf_verbs::Place as LinePlace;
-use std::alloc::{AllocError, Global};
-use std::mem;
-
-/// How deep brackets, braces and compound statements may stand in one another.
-const MOST_NESTED: usize = 64;
-
-/// What was compiled so far.
-#[derive(Drop)]
-pub struct Compilation {
-    pub(crate) alloc: Global,
-    /// The character set of the sources.
-    pub(crate) set: CharSet,
-    /// The most tokens that an expression may have, and that one had so far.
-    longest: usize,
-    pub most_tokens: usize,
-    /// The most labels, branches and jumps that a routine had so far, where units were finished.
-    pub most_labels: usize,
-    pub(crate) unit: Unit,
-    /// The statements that are open.
-    pub(crate) constructs: Constructs,
-    /// How many that the next token ends, whatever it is, were closed before it, since a conditional stands before it.
-    closed: usize,
-    /// Where the last token is, if it is the word of a compound statement where a case may stand, too.
-    opening: Option<Place>,
-    /// The labels with names of the routine that was opened last.
-    pub(crate) labels: Labels,
-    /// Its locals.
-    pub(crate) locals: Locals,
-    pub output: Output,
-    /// What is left to be laid of a tree: nothing, between the calls that lay.
-    pub(crate) tasks: Tasks,
-    pub report: Diagnostics,
-    /// What the directive that was finished last asks of the reading.
-    pub(crate) asked: Request,
-    /// The names of routines that are to be replaced.
-    pub(crate) replaced: Symbols<Place>,
-    /// Whether routines of the file at hand may be replaced.
-    pub(crate) is_system: bool,
-    /// The same of the files that wait, the inner files last.
-    waiting: Vec<bool>,
-    /// Whether the routine at hand is passed over, since it is to be replaced.
-    pub(crate) is_replaced: bool,
-    /// The array whose entries are read, and where they go if its header had an error.
-    pub(crate) listing: Listing,
-    pub(crate) lost: Arrays,
-    /// Whether the values that are read are those of the property `name`.
-    pub(crate) is_name: bool,
-    /// Whether the open routine is a value of a property.
-    pub(crate) is_embedded: bool,
-    /// The verb whose lines are read.
-    pub(crate) extending: Extending,
-}
-
-/// No code and no names, of which there may be as many as the settings say.
-fn no_output(alloc: Global, settings: &Settings, hashing: NameHashing) -> Result<Output, AllocError>
-    ensures { IfOk result (λ output. output ≡ no_output settings.now) }
-{
-    let limits = CodeLimits {
-        labels: settings.of(Setting::Labels) as usize,
-        code: settings.of(Setting::Code) as usize,
-        refs: settings.of(Setting::References) as usize,
-    };
-    let code = Code::new(alloc, limits, Scale::Four)?;
-    let strings = Strings::new(alloc, settings.of(Setting::Strings) as usize, Scale::Four);
-    let tables = Tables::new(alloc, settings);
-    Ok(Output::new(
-        code,
-        strings,
-        tables,
-        no_symbols(alloc, settings, hashing),
-        Symbols::new(alloc, u32::MAX, false, hashing),
-        NOWHERE,
-    ))
-}
-
-/// Whether a name stands for a class, by what looking for it found.
-fn names_class(found: Found<Place>) -> bool
-    ensures { result ≡ names_class found }
-{
-    matches!(found, Found::Declared(Meaning::Class(_), _))
-}
+use inf_verb_lines::lines::end_line;
+use std::alloc::AllocError;
 
 /// The kind of a statement that begins.
 fn kind_of(opening: Opening) -> Kind
@@ -131,355 +33,127 @@ fn kind_of(opening: Opening) -> Kind
     }
 }
 
-impl Compilation {
-    ghost use Rattle.inf_unit.specs.Directives.{Nothing, asked, asks};
-    ghost use Rattle.inf_work.specs.Actions.{begun_at, cut, entered, is_class, is_deep, labels_counted, left, nested, no_work, opening_checked, passed, piece_begun, sized, token_checked, took, unit_ended};
-    ghost use Rattle.inf_work.specs.Parts.{closed_ahead, construct_closed};
-    ghost use Rattle.inf_work.specs.Acting.{act, acted, all_acted, ended, is_crowded, noted};
-    ghost use Rattle.inf_work.specs.Works.{work};
+/// A bad token cuts the unit at hand, of which the outermost expression surely was one, and the word before it opened its statement.
+/// The routine in
+/// which it stands is given up.
+pub fn cut(compilation: &mut Compilation, files: &Stack) -> Result<(), AllocError>
+    ensures { OnOk result (work compilation.new ≡ cut files.now.names (work compilation.old)) }
+{
+    compilation.unit.is_sure = true;
+    end_body(compilation)?;
+    compilation.output.code.give_up();
+    compilation.size(files)?;
+    compilation.check_opening(files)
+}
 
-    /// Before the first unit of sources in a character set, of which names are hashed so.
-    pub fn new(
-        alloc: Global,
-        set: CharSet,
-        settings: &Settings,
-        hashing: NameHashing,
-    ) -> Result<Compilation, AllocError>
-        ensures { IfOk result (λ w. work w ≡ no_work set settings.now) }
-    {
-        Ok(Compilation {
-            alloc,
-            set,
-            longest: settings.of(Setting::ExpressionNodes) as usize,
-            most_tokens: 0,
-            most_labels: 0,
-            unit: Unit::new(alloc),
-            constructs: Constructs::new(alloc),
-            closed: 0,
-            opening: None,
-            labels: Labels::new(alloc),
-            locals: Locals::new(),
-            output: no_output(alloc, settings, hashing)?,
-            tasks: Tasks::new(alloc),
-            report: Diagnostics::new(alloc, true),
-            asked: Request::Nothing,
-            replaced: no_symbols(alloc, settings, hashing),
-            is_system: false,
-            waiting: Vec::new(alloc),
-            is_replaced: false,
-            listing: Listing {
-                is_lost: false,
-                has_entries: false,
-            },
-            lost: Arrays::new(alloc, usize::MAX),
-            is_name: false,
-            is_embedded: false,
-            extending: Extending {
-                verb: None,
-                place: LinePlace::Last,
-            },
-        })
+/// Carries out the actions on the way to a token at a place.
+pub fn act_all(
+    compilation: &mut Compilation,
+    files: &Stack,
+    place: Place,
+    actions: &[Action],
+) -> Result<(), AllocError>
+    ensures { OnOk result (work compilation.new ≡ all_acted files.now.names place actions.now (work compilation.old)) }
+{
+    compilation.opening = None;
+    act_each(compilation, files, place, actions)
+}
+
+/// Carries out some actions, before a token at a place.
+fn act_each(
+    compilation: &mut Compilation,
+    files: &Stack,
+    place: Place,
+    actions: &[Action],
+) -> Result<(), AllocError>
+    ensures { OnOk result (work compilation.new ≡ acted files.now.names place actions.now (work compilation.old)) }
+{
+    for action in actions {
+        act(compilation, files, place, *action)?;
     }
+    Ok(())
+}
 
-    /// Whether a token is the name of a class.
-    pub fn is_class(&self, token: &SourceToken<'_>) -> bool
-        ensures { result ≡ is_class (spelled token.now) (work self.now) }
-    {
-        match token.kind {
-            TokenKind::Name if token.bytes.len() <= MOST_NAME_BYTES => {
-                names_class(self.output.names.look(token.bytes))
-            }
-            _ => false,
+/// Carries out an action, before a token at a place.
+fn act(
+    compilation: &mut Compilation,
+    files: &Stack,
+    place: Place,
+    action: Action,
+) -> Result<(), AllocError>
+    ensures { OnOk result (work compilation.new ≡ act files.now.names place action (work compilation.old)) }
+{
+    match role_of(action) {
+        Role::Gather(step) => compilation.unit.step(step),
+        Role::Note(noted) => note(compilation, files, noted),
+        Role::End(ending) => end(compilation, files, place, ending),
+        Role::Open(opening) => compilation.open_construct(files, place, kind_of(opening)),
+        Role::Join => compilation.constructs.go_on(&mut compilation.output),
+        Role::Close => compilation.close_construct(),
+        Role::Deeper => {
+            let is_deep = compilation.is_deep(1);
+            compilation.nest(files, place, is_deep)
         }
-    }
-
-    /// Whether a directive asks something of the reading.
-    pub fn asks(&self) -> bool
-        ensures { result ≡ asks (work self.now).asked }
-    {
-        !matches!(self.asked, Request::Nothing)
-    }
-
-    /// Takes away what a directive asks of the reading, which is then nothing.
-    pub fn take_asked(&mut self) -> Request
-        ensures asked { asked result ≡ (work self.old).asked }
-        ensures nothing { work self.new ≡ record (work self.old) { asked = Nothing } }
-    {
-        mem::replace(&mut self.asked, Request::Nothing)
-    }
-
-    /// A file is entered, of which no routine may be replaced yet.
-    pub fn enter_file(&mut self) -> Result<(), AllocError>
-        ensures { OnOk result (work self.new ≡ entered (work self.old)) }
-    {
-        self.waiting.push(self.is_system)?;
-        self.is_system = false;
-        Ok(())
-    }
-
-    /// The file at hand is left for the one that waits for it, if one does.
-    pub fn leave_file(&mut self)
-        ensures { work self.new ≡ left (work self.old) }
-    {
-        if let Some(is_system) = self.waiting.pop() {
-            self.is_system = is_system;
+        Role::MaybeDeeper => {
+            compilation.opening = Some(place);
+            Ok(())
         }
+        Role::Nothing => Ok(()),
     }
+}
 
-    /// A piece begins. No locals of a routine before it are known in it.
-    pub fn begin_piece(&mut self)
-        ensures { work self.new ≡ piece_begun (work self.old) }
-    {
-        self.unit.clear();
-        self.constructs.clear();
-        self.closed = 0;
-        self.opening = None;
-        self.locals = Locals::new();
+/// Whether the unit at hand prints more than code may have bytes. Its code then passes that setting, whatever else it prints.
+fn is_crowded(compilation: &Compilation) -> bool
+    ensures { result ≡ is_crowded (work compilation.now) }
+{
+    compilation.unit.items.len() > compilation.output.code.most_bytes()
+}
+
+/// Something is noted of the unit at hand, by which its outermost expression may be too long. Of texts that are printed so many are
+/// kept.
+fn note(compilation: &mut Compilation, files: &Stack, note: Note) -> Result<(), AllocError>
+    ensures { OnOk result (work compilation.new ≡ noted files.now.names note (work compilation.old)) }
+{
+    if is_text(note) && is_crowded(compilation) {
+        compilation.unit.pass_text();
+        return Ok(());
     }
-
-    /// A unit that begins at a place is finished, with which code begins, unless it has begun. Where that would pass a setting, it
-    /// ends the compilation.
-    pub fn begin(&mut self, files: &Stack, first: Place) -> Result<(), AllocError>
-        ensures { OnOk result (work self.new ≡ begun_at files.now.names first (work self.old)) }
-    {
-        self.output.begin();
-        self.count_labels();
-        self.report.full(files, first, self.output.full())
+    compilation.unit.note(note)?;
+    if makes_sure(note) {
+        return compilation.size(files);
     }
+    Ok(())
+}
 
-    /// The labels, branches and jumps of the open routine are counted.
-    pub(crate) fn count_labels(&mut self)
-        ensures { work self.new ≡ labels_counted (work self.old) }
-    {
-        self.most_labels = self.most_labels.max(self.output.code.labels());
-    }
-
-    /// So many of the innermost statements are over, whatever the next token is, and a conditional stands before it: they are closed now.
-    pub fn close_ahead(&mut self, count: usize) -> Result<(), AllocError>
-        ensures { OnOk result (work self.new ≡ closed_ahead count (work self.old)) }
-    {
-        let more = count.saturating_sub(self.closed);
-        self.constructs.end_all(more, &mut self.output)?;
-        self.closed = self.closed.max(count);
-        Ok(())
-    }
-
-    /// The innermost statement is over. It may have been closed before.
-    fn close_construct(&mut self) -> Result<(), AllocError>
-        ensures { OnOk result (work self.new ≡ construct_closed (work self.old)) }
-    {
-        if self.closed > 0 {
-            self.closed -= 1;
-            return Ok(());
-        }
-        self.constructs.end(&mut self.output)
-    }
-
-    /// A token is taken.
-    pub fn take(&mut self, files: &Stack, token: &SourceToken<'_>) -> Result<(), AllocError>
-        ensures { OnOk result (work self.new ≡ took files.now.names (spelled token.now) (work self.old)) }
-    {
-        self.unit.take(token)?;
-        self.size(files)?;
-        self.check_token(files, token)
-    }
-
-    /// A bad token cuts the unit at hand, of which the outermost expression surely was one, and the word before it opened its statement.
-    /// The routine in
-    /// which it stands is given up.
-    pub fn cut(&mut self, files: &Stack) -> Result<(), AllocError>
-        ensures { OnOk result (work self.new ≡ cut files.now.names (work self.old)) }
-    {
-        self.unit.is_sure = true;
-        self.end_body()?;
-        self.output.code.give_up();
-        self.size(files)?;
-        self.check_opening(files)
-    }
-
-    /// The word of a compound statement that was taken last may stand too deep.
-    fn check_opening(&mut self, files: &Stack) -> Result<(), AllocError>
-        ensures { OnOk result (work self.new ≡ opening_checked files.now.names (work self.old)) }
-    {
-        let Some(place) = self.opening else {
-            return Ok(());
-        };
-        let is_deep = self.is_deep(1);
-        self.nest(files, place, is_deep)
-    }
-
-    /// Carries out the actions on the way to a token at a place.
-    pub fn act_all(
-        &mut self,
-        files: &Stack,
-        place: Place,
-        actions: &[Action],
-    ) -> Result<(), AllocError>
-        ensures { OnOk result (work self.new ≡ all_acted files.now.names place actions.now (work self.old)) }
-    {
-        self.opening = None;
-        self.act_each(files, place, actions)
-    }
-
-    /// Carries out some actions, before a token at a place.
-    fn act_each(
-        &mut self,
-        files: &Stack,
-        place: Place,
-        actions: &[Action],
-    ) -> Result<(), AllocError>
-        ensures { OnOk result (work self.new ≡ acted files.now.names place actions.now (work self.old)) }
-    {
-        for action in actions {
-            self.act(files, place, *action)?;
-        }
-        Ok(())
-    }
-
-    /// Carries out an action, before a token at a place.
-    fn act(&mut self, files: &Stack, place: Place, action: Action) -> Result<(), AllocError>
-        ensures { OnOk result (work self.new ≡ act files.now.names place action (work self.old)) }
-    {
-        match role_of(action) {
-            Role::Gather(step) => self.unit.step(step),
-            Role::Note(note) => self.note(files, note),
-            Role::End(ending) => self.end(files, place, ending),
-            Role::Open(opening) => self.open_construct(files, place, kind_of(opening)),
-            Role::Join => self.constructs.go_on(&mut self.output),
-            Role::Close => self.close_construct(),
-            Role::Deeper => {
-                let is_deep = self.is_deep(1);
-                self.nest(files, place, is_deep)
-            }
-            Role::MaybeDeeper => {
-                self.opening = Some(place);
-                Ok(())
-            }
-            Role::Nothing => Ok(()),
-        }
-    }
-
-    /// Whether the unit at hand prints more than code may have bytes. Its code then passes that setting, whatever else it prints.
-    fn is_crowded(&self) -> bool
-        ensures { result ≡ is_crowded (work self.now) }
-    {
-        self.unit.items.len() > self.output.code.most_bytes()
-    }
-
-    /// Something is noted of the unit at hand, by which its outermost expression may be too long. Of texts that are printed so many are
-    /// kept.
-    fn note(&mut self, files: &Stack, note: Note) -> Result<(), AllocError>
-        ensures { OnOk result (work self.new ≡ noted files.now.names note (work self.old)) }
-    {
-        if is_text(note) && self.is_crowded() {
-            self.unit.pass_text();
-            return Ok(());
-        }
-        self.unit.note(note)?;
-        if makes_sure(note) {
-            return self.size(files);
-        }
-        Ok(())
-    }
-
-    /// The unit at hand ends, before a token at a place.
-    fn end(&mut self, files: &Stack, place: Place, ending: Ending) -> Result<(), AllocError>
-        ensures { OnOk result (work self.new ≡ ended files.now.names place ending (work self.old)) }
-    {
-        match ending {
-            Ending::Locals => self.end_header(files, place),
-            Ending::Embedded => self.routine_of_body(files, place),
-            Ending::Routine => self.close(files, place),
-            Ending::Directive => self.end_directive(files, place),
-            Ending::Header => self.end_directive_header(files, place),
-            Ending::Body => self.end_body(),
-            Ending::Class => self.class_of_body(files, place),
-            Ending::Attribute => self.attribute_of_body(files, place),
-            Ending::Property => self.property_of_body(files, place),
-            Ending::Value => self.value_of_body(files, place),
-            Ending::Line => self.end_line(files, place),
-            Ending::Entry => self.end_entry(files, place, false),
-            Ending::Alone => self.end_entry(files, place, true),
-            Ending::Statement => self.end_statement(files, place),
-            Ending::Condition => self.end_part(files, place, Part::Condition),
-            Ending::Start => self.end_part(files, place, Part::Start),
-            Ending::Step => self.end_part(files, place, Part::Step),
-            Ending::Loop => self.end_part(files, place, Part::Loop),
-            Ending::Switched => self.end_part(files, place, Part::Switched),
-            Ending::Case => self.end_part(files, place, Part::Case),
-        }
-    }
-
-    /// An expression of more tokens than it may have ends the compilation, at the first token too many.
-    fn size(&mut self, files: &Stack) -> Result<(), AllocError>
-        ensures { OnOk result (work self.new ≡ sized files.now.names (work self.old)) }
-    {
-        if let Some(place) = self.unit.long_at(self.longest) {
-            return self.report.fatal(
-                location(files, place),
-                &Message::Exceeded(Setting::ExpressionNodes),
-            );
-        }
-        self.most_tokens = self.most_tokens.max(self.unit.outer_tokens());
-        Ok(())
-    }
-
-    /// Whether brackets, braces and compound statements, with so many more, stand too deep in one another.
-    pub(crate) fn is_deep(&self, more: usize) -> bool
-        requires { more ≤ 1 }
-        ensures { result ≡ is_deep (work self.now) more }
-    {
-        let constructs = self.constructs.depth();
-        let room = MOST_NESTED.saturating_sub(self.unit.depth as usize);
-        constructs > room || constructs + more > room || self.unit.depth as usize > MOST_NESTED
-    }
-
-    /// What stands too deep ends the compilation at a place.
-    pub(crate) fn nest(
-        &mut self,
-        files: &Stack,
-        place: Place,
-        is_deep: bool,
-    ) -> Result<(), AllocError>
-        ensures { OnOk result (work self.new ≡ nested files.now.names place is_deep (work self.old)) }
-    {
-        if !is_deep {
-            return Ok(());
-        }
-        self.report
-            .fatal(location(files, place), &Message::DeepNesting)
-    }
-
-    /// A bracket or brace that was taken may stand too deep.
-    fn check_token(&mut self, files: &Stack, token: &SourceToken<'_>) -> Result<(), AllocError>
-        ensures { OnOk result (work self.new ≡ token_checked files.now.names (spelled token.now) (work self.old)) }
-    {
-        let opens = matches!(
-            token.kind,
-            TokenKind::Mark(Mark::OpenParenthesis | Mark::OpenBrace)
-        );
-        let is_deep = opens && self.is_deep(0);
-        self.nest(files, token.place, is_deep)
-    }
-
-    /// The end of a unit that begins at a place: its error is told, if it has one, and then the first limit that was passed.
-    pub(crate) fn end_unit(
-        &mut self,
-        files: &Stack,
-        first: Place,
-        has_last: bool,
-    ) -> Result<(), AllocError>
-        ensures { OnOk result (work self.new ≡ unit_ended files.now.names first has_last None (work self.old)) }
-    {
-        self.unit.end(has_last);
-        self.count_labels();
-        self.report.full(files, first, self.output.full())
-    }
-
-    /// Nothing comes of a unit.
-    pub(crate) fn pass(&mut self, has_last: bool)
-        ensures { work self.new ≡ passed has_last (work self.old) }
-    {
-        self.unit.end(has_last);
+/// The unit at hand ends, before a token at a place.
+fn end(
+    compilation: &mut Compilation,
+    files: &Stack,
+    place: Place,
+    ending: Ending,
+) -> Result<(), AllocError>
+    ensures { OnOk result (work compilation.new ≡ ended files.now.names place ending (work compilation.old)) }
+{
+    match ending {
+        Ending::Locals => compilation.end_header(files, place),
+        Ending::Embedded => routine_of_body(compilation, files, place),
+        Ending::Routine => compilation.close(files, place),
+        Ending::Directive => end_directive(compilation, files, place),
+        Ending::Header => end_directive_header(compilation, files, place),
+        Ending::Body => end_body(compilation),
+        Ending::Class => class_of_body(compilation, files, place),
+        Ending::Attribute => attribute_of_body(compilation, files, place),
+        Ending::Property => property_of_body(compilation, files, place),
+        Ending::Value => value_of_body(compilation, files, place),
+        Ending::Line => end_line(compilation, files, place),
+        Ending::Entry => end_entry(compilation, files, place, false),
+        Ending::Alone => end_entry(compilation, files, place, true),
+        Ending::Statement => compilation.end_statement(files, place),
+        Ending::Condition => compilation.end_part(files, place, Part::Condition),
+        Ending::Start => compilation.end_part(files, place, Part::Start),
+        Ending::Step => compilation.end_part(files, place, Part::Step),
+        Ending::Loop => compilation.end_part(files, place, Part::Loop),
+        Ending::Switched => compilation.end_part(files, place, Part::Switched),
+        Ending::Case => compilation.end_part(files, place, Part::Case),
     }
 }

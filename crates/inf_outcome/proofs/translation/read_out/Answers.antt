@@ -2,7 +2,7 @@ use Rattle.std.proofs.Common.{◌≡◌, [], IfOk, refl, subst, sym}
 use Rattle.inf_opcode.proofs.Growing.{on_err}
 use Rattle.inf_sources.specs.Open.{Open, opened_since}
 use Rattle.inf_sources.proofs.Calls.{went_as}
-use Rattle.inf_work.specs.Works.{work as work_of}
+use Rattle.inf_compilation.specs.Works.{work as work_of}
 use Rattle.inf_session.specs.Choices.{chosen}
 use Rattle.inf_session.specs.Delivered.{Delivers, EndsClean, TakesFront}
 use Rattle.inf_session.specs.declared.compiled.Status.TheVariants as status

@@ -1,6 +1,6 @@
 use Rattle.std.proofs.Common.{◌≡◌, IfOk, None, subst}
 use Rattle.inf_opcode.proofs.Growing.{on_err}
-use Rattle.inf_work.specs.Works.{work as work_of}
+use Rattle.inf_compilation.specs.Works.{work as work_of}
 use Rattle.inf_session.specs.Delivered.{Delivers, EndsClean}
 use Rattle.inf_session.specs.Ending.{Outcome, finished}
 use Rattle.inf_session.specs.declared.compiled.Status.TheVariants as status

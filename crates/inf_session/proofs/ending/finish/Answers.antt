@@ -1,4 +1,4 @@
-use Rattle.inf_work.specs.Works.{work as work_of}
+use Rattle.inf_compilation.specs.Works.{work as work_of}
 use Rattle.inf_session.proofs.Endings.{told_is_finished}
 use Rattle.inf_session.proofs.ending.finish.Goals as goal
 

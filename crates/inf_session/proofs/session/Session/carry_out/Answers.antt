@@ -4,7 +4,7 @@ use Rattle.inf_reader.specs.Reading.{is_mode_ended}
 use Rattle.inf_files.specs.Files.{Rose}
 use Rattle.inf_sources.specs.Open.{nesting, opened_since}
 use Rattle.inf_unit.specs.Directives.{Include}
-use Rattle.inf_work.specs.Actions.{Compilation}
+use Rattle.inf_compilation.specs.Actions.{Compilation}
 use Rattle.inf_session.specs.Choices.{chosen}
 use Rattle.inf_session.specs.Leading.{NotTried, StopsAtInclusion}
 use Rattle.inf_session.specs.Session.{included}

@@ -1,6 +1,6 @@
 use Rattle.std.proofs.Common.{IfOk, OnErr, ap, subst}
 use Rattle.inf_unit.specs.Messages.{FileNames}
-use Rattle.inf_work.specs.Works.{work as work_of}
+use Rattle.inf_compilation.specs.Works.{work as work_of}
 use Rattle.inf_session.specs.Delivered.{Delivers, TakesFront}
 use Rattle.inf_session.specs.Ending.{finished}
 use Rattle.inf_session.proofs.session.Session.finish.Goals as goal

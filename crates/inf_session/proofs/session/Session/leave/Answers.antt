@@ -2,7 +2,7 @@ use Rattle.std.proofs.Common.{List, refl, ap, drop, length, map, ◌∙◌}
 use Rattle.inf_conditionals.specs.Ends.{file_told}
 use Rattle.inf_files.specs.Files.{Opening}
 use Rattle.inf_sources.specs.Open.{nesting}
-use Rattle.inf_work.specs.Works.{work as work_of}
+use Rattle.inf_compilation.specs.Works.{work as work_of}
 use Rattle.inf_session.specs.Standing.{state}
 use Rattle.inf_session.proofs.Bounds.{left_same}
 use Rattle.inf_session.proofs.Standings.{left_is, none_waits, one_waits, stays}

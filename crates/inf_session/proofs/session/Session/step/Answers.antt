@@ -5,7 +5,7 @@ use Rattle.inf_lexer.proofs.Candidates.{rose_earlier}
 use Rattle.inf_sources.specs.Open.{opened_since}
 use Rattle.inf_sources.specs.Calls.{IsUnreadable}
 use Rattle.inf_sources.proofs.Calls.{fit_then, unreadable_then, went_then}
-use Rattle.inf_work.specs.Works.{work as work_of}
+use Rattle.inf_compilation.specs.Works.{work as work_of}
 use Rattle.inf_work.proofs.Limits.{same_then}
 use Rattle.inf_session.specs.Choices.{Choices, chosen, most_quoted}
 use Rattle.inf_session.specs.Faults.{Caused, IfRead}

@@ -12,7 +12,7 @@ use Rattle.inf_session.specs.Choices.{Choices, chosen, most_quoted}
 use Rattle.inf_session.specs.Faults.{Caused, IfRead}
 use Rattle.inf_session.specs.Leading.{OpensWithin, StopsFor, StopsAtInclusion, StopsInToken}
 use Rattle.inf_session.specs.Session.{State, followed, stepped}
-use Rattle.inf_work.specs.Works.{work as work_of}
+use Rattle.inf_compilation.specs.Works.{work as work_of}
 use Rattle.inf_session.proofs.Opening.{turned_within}
 use Rattle.inf_session.specs.Standing.{state}
 use Rattle.inf_session.proofs.Delivering.{appends_none}

@@ -1,0 +1,312 @@
+-- Objects and classes: their headers. Designer's Manual, fourth edition, sections 3.1 to 3.8.
+use Rattle.std.specs.Prelude.{ℕ, ◌+◌, ◌-◌, ◌%◌, ◌==◌, nat_lt, List, [], ◌∷◌, ◌++◌, length, codes, Bool, false, if◌then◌else◌, Option, Some, None, unwrap_or, Result, Ok, Err}
+use Rattle.std.specs.Str.{str_eq_ignore_ascii_case}
+use Rattle.inf_characters.specs.Reading.{text_of}
+use Rattle.inf_characters.specs.declared.characters.CharSet.{CharSet}
+use Rattle.inf_characters.specs.declared.reading.Mode.TheVariants as mode
+use Rattle.inf_characters.specs.declared.texts.TextItem.{TextItem}
+use Rattle.inf_expressions.specs.declared.findings.Finding.{Finding}
+use Rattle.inf_expressions.specs.Findings.{least_of_both, wrong_kind}
+use Rattle.inf_names.specs.Symbols.{found_in}
+use Rattle.inf_names.specs.declared.meanings.Meaning.{Meaning}
+use Rattle.inf_names.specs.declared.meanings.Meaning.TheVariants as meaning
+use Rattle.inf_names.specs.declared.symbols.Found.{Found}
+use Rattle.inf_names.specs.declared.symbols.Found.TheVariants as found
+use Rattle.inf_output.specs.Output.{Code, Out, declared, passed_table}
+use Rattle.inf_report.specs.Messages.{TooMany}
+use Rattle.inf_report.specs.declared.messages.FixedLimit.TheVariants as countable
+use Rattle.inf_scanner.specs.declared.tokens.Place.{Place}
+use Rattle.inf_scanner.specs.declared.tokens.TokenKind.{TokenKind}
+use Rattle.inf_scanner.specs.declared.tokens.TokenKind.TheVariants as kind
+use Rattle.inf_settings.specs.declared.setting.Setting.{Setting}
+use Rattle.inf_settings.specs.declared.setting.Setting.TheVariants as setting
+use Rattle.inf_statements.specs.Printing.{text_at}
+use Rattle.inf_sinks.specs.Spellings.{Name}
+use Rattle.inf_text.specs.Packing.{packed}
+use Rattle.inf_unit.specs.Messages.{Diagnostic, FileNames}
+use Rattle.inf_unit.specs.Texts.{fit_characters}
+use Rattle.inf_unit.specs.Tokens.{SourceToken}
+use Rattle.inf_unit.specs.Units.{bytes_at, name_at, name_order, next_place, order}
+use Rattle.inf_world.specs.declared.faults.AddFault.{AddFault}
+use Rattle.inf_world.specs.declared.faults.AddFault.TheVariants as fault
+use Rattle.inf_world.specs.declared.faults.Misfit.{Misfit}
+use Rattle.inf_world.specs.declared.faults.Setting.{Setting as WorldSetting}
+use Rattle.inf_world.specs.declared.faults.Setting.TheVariants as world_setting
+use Rattle.inf_world.specs.declared.kinds.Parent.{Parent}
+use Rattle.inf_world.specs.declared.kinds.Parent.TheVariants as parent
+use Rattle.inf_world.specs.Objects.{parent_of}
+use Rattle.inf_world.specs.World.{class_header_fault, class_of_fault, lost_header_fault, object_header_fault, with_class_header, with_class_of, with_lost_header, with_object_header}
+use Rattle.inf_compilation.specs.Actions.{Compilation, unit_ended}
+use Rattle.inf_declarations.specs.Declarations.{declared_ended, plainly_known, with_world}
+use Rattle.inf_compilation.specs.Findings.{blame_of}
+use Rattle.inf_declarations.specs.declared.declarations.Declared.{Declared}
+use Rattle.inf_bodies.specs.declared.headers.Header.{Header}
+
+-- What the world refuses
+
+-- the setting that bounds a count
+abbrev pub setting_of : WorldSetting → Setting
+setting_of world_setting.Objects = setting.Objects
+setting_of world_setting.PropertyTables = setting.PropertyTables
+
+-- A refused entry does nothing; where it would pass a setting, that is passed.
+abbrev pub noted : AddFault → Code
+noted (fault.Limit l) o = o
+noted (fault.Misfit m) o = o
+noted (fault.Full s) o = passed_table (setting_of s) o
+noted fault.Memory o = o
+
+-- What is wrong with a refused entry, whose name has an order. That a setting would be passed is no error of the unit.
+abbrev pub refused_finding : Option AddFault → ℕ → Option Finding
+refused_finding None name = None
+refused_finding (Some (fault.Limit l)) name = Some (record { order = 0; number = 19 })
+refused_finding (Some (fault.Misfit m)) name = Some (wrong_kind name)
+refused_finding (Some (fault.Full s)) name = None
+refused_finding (Some fault.Memory) name = None
+
+-- Units, which begin at a place: what was found is told, that there are too many values at the first token.
+abbrev pub entry_blame : List SourceToken → Place → Option Finding → Option Diagnostic
+entry_blame tokens first None = None
+entry_blame tokens first (Some f) =
+    if f.number == 19 then Some (record { place = first; message = TooMany countable.Values }) else Some (blame_of tokens f)
+
+abbrev pub entry_told : FileNames → Place → Option Finding → Compilation → Compilation
+entry_told files first f w = unit_ended files first false (entry_blame w.unit.tokens first f) w
+
+-- What names stand for
+
+abbrev pub found_at : ℕ → Compilation → Found Place
+found_at at w = found_in (bytes_at w.unit.tokens at) w.output.names
+
+abbrev pub object_in : Meaning → Option ℕ
+object_in (meaning.Object number) = Some number
+object_in _ = None
+
+abbrev pub object_of : Found Place → Option ℕ
+object_of (found.System m) = object_in m
+object_of (found.Declared m first) = object_in m
+object_of found.Used = None
+object_of found.Unknown = None
+
+-- the class of the source
+abbrev pub class_in : Meaning → Option ℕ
+class_in (meaning.Class number) = Some number
+class_in _ = None
+
+abbrev pub class_of : Found Place → Option ℕ
+class_of (found.System m) = None
+class_of (found.Declared m first) = class_in m
+class_of found.Used = None
+class_of found.Unknown = None
+
+-- The header of an object: behind its word arrows, the object's own name, a text as its short name, and the name of its parent
+
+abbrev pub no_header : Header
+no_header = record { own = None; text = None; parent = None; arrow = None; arrows = 0 }
+
+abbrev pub arrow_at : ℕ → Header → Header
+arrow_at at h = record h { arrow = Some (unwrap_or h.arrow at); arrows = next_place h.arrows }
+
+-- a name behind the own one, or behind the text, is that of the parent
+abbrev pub named_by : Option ℕ → Option ℕ → ℕ → Header → Header
+named_by None None at h = record h { own = Some at }
+named_by None (Some text) at h = record h { parent = Some at }
+named_by (Some own) text at h = record h { parent = Some at }
+
+abbrev pub named_at : ℕ → Header → Header
+named_at at h = named_by h.own h.text at h
+
+abbrev pub header_with : ℕ → TokenKind → Header → Header
+header_with at (kind.Mark m) h = arrow_at at h
+header_with at kind.Text h = record h { text = Some at }
+header_with at _ h = named_at at h
+
+abbrev pub header_step : ℕ → ℕ → Option TokenKind → Header → Header
+header_step word at None h = h
+header_step word at (Some k) h = if nat_lt word at then header_with at k h else h
+
+abbrev pub header_from : ℕ → ℕ → List SourceToken → Header → Header
+header_from word at [] h = h
+header_from word at (t ∷ tokens) h = header_from word (at + 1) tokens (header_step word at (Some t.kind) h)
+
+abbrev pub header_of : ℕ → List SourceToken → Header
+header_of word tokens = header_from word 0 tokens no_header
+
+-- the place of the word, before which a `#` may stand
+abbrev pub word_place : List SourceToken → ℕ
+word_place tokens = name_order tokens - 1
+
+-- `Nearby` is an object with one arrow
+abbrev pub is_nearby : List ℕ → Bool
+is_nearby word = str_eq_ignore_ascii_case word (codes "nearby")
+
+abbrev pub below : ℕ → Header → Header
+below word h = record h { arrow = Some word; arrows = 1 }
+
+abbrev pub header_in : List SourceToken → Header
+header_in tokens =
+    let word = word_place tokens in
+    if is_nearby (bytes_at tokens word) then below word (header_of word tokens) else header_of word tokens
+
+-- Short names
+
+abbrev pub packed_name : Option (List TextItem) → List ℕ
+packed_name None = []
+packed_name (Some items) = packed items []
+
+-- a name in round brackets
+abbrev pub in_brackets : List ℕ → List ℕ
+in_brackets name = 40 ∷ (name ++ 41 ∷ [])
+
+-- the short name of what has no text for it
+abbrev pub bracketed : CharSet → List ℕ → List ℕ
+bracketed set name = packed_name (fit_characters (text_of set mode.Text (in_brackets name)))
+
+-- what has no name, either, is shown as a question mark
+abbrev pub shown_name : Option Name → List ℕ
+shown_name None = codes "?"
+shown_name (Some n) = n.bytes
+
+-- Classes
+
+-- a body is open that belongs to nothing, since something is wrong with its header
+abbrev pub lost_begun_by : Option AddFault → Code
+lost_begun_by None o = with_world (with_lost_header o.tables.world) o
+lost_begun_by (Some f) o = o
+
+abbrev pub lost_begun : Code
+lost_begun o = lost_begun_by (lost_header_fault o.tables.world) o
+
+abbrev pub class_lost : Name → Code
+class_lost name o = declared name.bytes name.place (meaning.Class 0) (lost_begun o)
+
+abbrev pub class_begun_by : Option AddFault → List ℕ → Name → Code
+class_begun_by None short name o =
+    declared name.bytes name.place (meaning.Class ((5 + length o.tables.world.objects) % 65536))
+    (with_world (with_class_header short o.tables.world) o)
+class_begun_by (Some f) short name o = noted f o
+
+abbrev pub class_begun : List ℕ → Name → Code
+class_begun short name o = class_begun_by (class_header_fault short o.tables.world) short name o
+
+abbrev pub class_opened : Option Finding → Name → Compilation → Compilation
+class_opened None name w = record w { output = class_begun (bracketed w.set name.bytes) name w.output }
+class_opened (Some f) name w = record w { output = class_lost name w.output }
+
+abbrev pub class_with : FileNames → Place → Name → Declared → Compilation → Compilation
+class_with files first name d w = declared_ended files first false name countable.Globals d (class_opened d.finding name w)
+
+abbrev pub class_header : FileNames → Place → Name → Compilation → Compilation
+class_header files first name w = class_with files first name (plainly_known files name (name_order w.unit.tokens) w) w
+
+-- Objects
+
+-- what is wrong with arrows, the first of which stands at a place: no object stands above them
+abbrev pub hung_finding : Result ℕ Misfit → ℕ → Option Finding
+hung_finding (Ok number) at = None
+hung_finding (Err m) at = Some (wrong_kind (order at))
+
+abbrev pub above_finding : Option ℕ → ℕ → Compilation → Option Finding
+above_finding None arrows w = None
+above_finding (Some at) arrows w = hung_finding (parent_of (parent.Arrows arrows) w.output.tables.world.objects) at
+
+-- what is wrong with the name of a parent: it is that of no object, or arrows are there, too
+abbrev pub parent_fit : Option ℕ → Option ℕ → ℕ → Option Finding
+parent_fit (Some number) None at = None
+parent_fit (Some number) (Some arrow) at = Some (wrong_kind (order at))
+parent_fit None arrow at = Some (wrong_kind (order at))
+
+abbrev pub named_parent_finding : Option ℕ → Option ℕ → Compilation → Option Finding
+named_parent_finding None arrow w = None
+named_parent_finding (Some at) arrow w = parent_fit (object_of (found_at at w)) arrow at
+
+abbrev pub parent_finding : Header → Compilation → Option Finding
+parent_finding h w = least_of_both (above_finding h.arrow h.arrows w) (named_parent_finding h.parent h.arrow w)
+
+abbrev pub parent_in : Option ℕ → ℕ → Compilation → Parent
+parent_in None arrows w = parent.Arrows arrows
+parent_in (Some at) arrows w = parent.Object (unwrap_or (object_of (found_at at w)) 0)
+
+abbrev pub own_name : Option ℕ → Compilation → Option Name
+own_name None w = None
+own_name (Some at) w = name_at w.unit.tokens at
+
+abbrev pub header_text : Option ℕ → Compilation → Option (List TextItem)
+header_text None w = None
+header_text (Some at) w = text_at w.set w.unit.tokens at
+
+abbrev pub short_by : Option (List TextItem) → Option Name → Compilation → List ℕ
+short_by None name w = bracketed w.set (shown_name name)
+short_by (Some items) name w = packed_name (Some items)
+
+abbrev pub short_name : Header → Option Name → Compilation → List ℕ
+short_name h name w = short_by (header_text h.text w) name w
+
+-- the class that the word of the header names, if it does
+abbrev pub class_of_word : Compilation → Option ℕ
+class_of_word w = class_of (found_at (word_place w.unit.tokens) w)
+
+abbrev pub joined_by : Option AddFault → ℕ → Code
+joined_by None number o = with_world (with_class_of number o.tables.world) o
+joined_by (Some f) number o = noted f o
+
+abbrev pub joined : ℕ → Code
+joined number o = joined_by (class_of_fault number o.tables.world) number o
+
+abbrev pub joined_some : Option ℕ → Code
+joined_some None o = o
+joined_some (Some number) o = joined number o
+
+abbrev pub joined_fault : Option ℕ → Out → Option AddFault
+joined_fault None o = None
+joined_fault (Some number) o = class_of_fault number o.tables.world
+
+abbrev pub object_declared : Option Name → ℕ → Code
+object_declared None number o = o
+object_declared (Some n) number o = declared n.bytes n.place (meaning.Object (number % 65536)) o
+
+abbrev pub object_named : Option ℕ → Option Name → ℕ → Code
+object_named class name number o = object_declared name number (joined_some class o)
+
+abbrev pub object_lost : Option Name → Code
+object_lost name o = object_declared name 0 (lost_begun o)
+
+abbrev pub object_begun_by : Option AddFault → Parent → List ℕ → Option ℕ → Option Name → Code
+object_begun_by None p short class name o =
+    object_named class name (5 + length o.tables.world.objects) (with_world (with_object_header p short o.tables.world) o)
+object_begun_by (Some f) p short class name o = noted f o
+
+abbrev pub object_begun : Parent → List ℕ → Option ℕ → Option Name → Code
+object_begun p short class name o = object_begun_by (object_header_fault p short o.tables.world) p short class name o
+
+abbrev pub object_new : Header → Option Name → Compilation → Compilation
+object_new h name w =
+    record w { output = object_begun (parent_in h.parent h.arrows w) (short_name h name w) (class_of_word w) name w.output }
+
+abbrev pub object_opened : Option Finding → Header → Option Name → Compilation → Compilation
+object_opened None h name w = object_new h name w
+object_opened (Some f) h name w = record w { output = object_lost name w.output }
+
+-- what is known of it: what is wrong with its name, and with where it is to stand
+abbrev pub named_known : FileNames → Header → ℕ → Name → Compilation → Declared
+named_known files h at name w =
+    let d = plainly_known files name (order at) w in
+    record { found = d.found; finding = least_of_both d.finding (parent_finding h w) }
+
+abbrev pub object_known : FileNames → Header → Option Name → Compilation → Declared
+object_known files h None w = record { found = found.Unknown; finding = parent_finding h w }
+object_known files h (Some name) w = named_known files h (unwrap_or h.own 0) name w
+
+abbrev pub object_ended : FileNames → Place → Option Name → Declared → Compilation → Compilation
+object_ended files first None d w = entry_told files first d.finding w
+object_ended files first (Some name) d w = declared_ended files first false name countable.Globals d w
+
+abbrev pub object_with_known : FileNames → Place → Header → Option Name → Declared → Compilation → Compilation
+object_with_known files first h name d w = object_ended files first name d (object_opened d.finding h name w)
+
+abbrev pub object_with : FileNames → Place → Header → Option Name → Compilation → Compilation
+object_with files first h name w = object_with_known files first h name (object_known files h name w) w
+
+abbrev pub object_header : FileNames → Place → Compilation → Compilation
+object_header files first w =
+    let h = header_in w.unit.tokens in object_with files first h (own_name h.own w) w

@@ -1,0 +1,203 @@
+-- The values of properties: words of the dictionary, expressions, and routines. Designer's Manual, fourth edition, sections 3.2 to 3.5.
+use Rattle.std.specs.Prelude.{ℕ, ◌+◌, ◌-◌, ◌==◌, List, [], ◌∷◌, length, slice_get, Bool, true, false, not, ◌&&◌, if◌then◌else◌, Option, Some, None, is_some}
+use Rattle.inf_area.specs.declared.targets.AreaName.TheVariants as area
+use Rattle.inf_area.specs.declared.targets.Target.TheVariants as target
+use Rattle.inf_area.specs.declared.targets.Value.{Value}
+use Rattle.inf_area.specs.declared.targets.Value.TheVariants as value
+use Rattle.inf_characters.specs.Reading.{text_of}
+use Rattle.inf_characters.specs.declared.characters.CharSet.{CharSet}
+use Rattle.inf_characters.specs.declared.reading.Mode.TheVariants as mode
+use Rattle.inf_characters.specs.declared.texts.TextItem.{TextItem}
+use Rattle.inf_code.specs.Code.{place_behind}
+use Rattle.inf_dictionary.specs.declared.uses.WordUse.TheVariants as word_use
+use Rattle.inf_expressions.specs.declared.findings.Finding.{Finding}
+use Rattle.inf_expressions.specs.declared.units.Wanted.TheVariants as wanted
+use Rattle.inf_expressions.specs.Findings.{least_of_both, out_of_range}
+use Rattle.inf_gathering.specs.declared.gathering.Leaf.{Leaf}
+use Rattle.inf_gathering.specs.declared.gathering.Leaf.TheVariants as leaf
+use Rattle.inf_output.specs.Output.{with_word}
+use Rattle.inf_scanner.specs.declared.tokens.Mark.TheVariants as mark
+use Rattle.inf_scanner.specs.declared.tokens.Place.{Place}
+use Rattle.inf_scanner.specs.declared.tokens.TokenKind.{TokenKind}
+use Rattle.inf_statements.specs.Printing.{text_at}
+use Rattle.inf_sinks.specs.Locals.{Headed, no_locals}
+use Rattle.inf_text.specs.Packing.{dictionary_bytes}
+use Rattle.inf_unit.specs.Messages.{Diagnostic, FileNames}
+use Rattle.inf_unit.specs.Texts.{fit_characters}
+use Rattle.inf_unit.specs.Tokens.{SourceToken, is_mark}
+use Rattle.inf_unit.specs.Units.{first_place}
+use Rattle.inf_compilation.specs.Actions.{Compilation, finding_at, opened_with, settled_of, told}
+use Rattle.inf_listings.specs.Arrays.{looked_value, variables_from}
+use Rattle.inf_bodies.specs.Bodies.{is_words, last_at, place_finding, placed, placed_finding, property_of}
+use Rattle.inf_declarations.specs.Declarations.{value_of}
+use Rattle.inf_compilation.specs.Findings.{header_fault}
+use Rattle.inf_bodies.specs.Objects.{entry_blame, entry_told, found_at}
+
+-- the place of the name of a property, which stands before its first value
+abbrev pub place_before : ℕ → Option ℕ
+place_before at = if at == 0 then None else Some (at - 1)
+
+abbrev pub name_place : Option ℕ → Option ℕ
+name_place None = None
+name_place (Some at) = place_before at
+
+abbrev pub wrong_if : Bool → Option Finding
+wrong_if is_wrong = if is_wrong then Some (out_of_range 0) else None
+
+-- Words of the dictionary: a character or a text, as a value of `name`
+
+abbrev pub takes_words : Option ℕ → Compilation → Bool
+takes_words None w = w.is_name
+takes_words (Some at) w = is_words (property_of (found_at at w))
+
+abbrev pub only_leaf : List Leaf → Option Leaf
+only_leaf (l ∷ []) = Some l
+only_leaf _ = None
+
+abbrev pub word_leaf : Bool → Compilation → Option Leaf
+word_leaf takes w = if takes && (length w.unit.gathering.symbols == 1) then only_leaf w.unit.gathering.leaves else None
+
+-- the character that the last token is, as a text
+abbrev pub char_by : CharSet → Option SourceToken → Option (List TextItem)
+char_by set None = None
+char_by set (Some t) = fit_characters (text_of set mode.Quote t.bytes)
+
+abbrev pub char_text : Compilation → Option (List TextItem)
+char_text w = char_by w.set (slice_get w.unit.tokens (last_at w.unit.tokens))
+
+abbrev pub leaf_text : Leaf → Compilation → Option (List TextItem)
+leaf_text (leaf.Char c) w = char_text w
+leaf_text (leaf.Text at) w = text_at w.set w.unit.tokens at
+leaf_text _ w = None
+
+abbrev pub word_text_by : Option Leaf → Compilation → Option (List TextItem)
+word_text_by None w = None
+word_text_by (Some l) w = leaf_text l w
+
+abbrev pub word_text : Bool → Compilation → Option (List TextItem)
+word_text takes w = word_text_by (word_leaf takes w) w
+
+-- no string variable may be among its characters
+abbrev pub text_value : Bool → List TextItem → Value
+text_value has_variables items = if has_variables then value.Known 0 else value.Later (target.Word (dictionary_bytes items))
+
+abbrev pub word_used : Option Finding → List TextItem → Compilation → Compilation
+word_used None items w = record w { output = with_word (dictionary_bytes items) word_use.Other false w.output }
+word_used (Some f) items w = w
+
+abbrev pub text_finding_by : Bool → Option ℕ → List TextItem → Compilation → Option Finding
+text_finding_by is_wrong name items w = placed_finding name (text_value is_wrong items) (wrong_if is_wrong) w
+
+abbrev pub text_placed_by : Bool → Option ℕ → List TextItem → Compilation → Compilation
+text_placed_by is_wrong name items w =
+    word_used (text_finding_by is_wrong name items w) items (placed name (text_value is_wrong items) (wrong_if is_wrong) w)
+
+abbrev pub text_finding : Option ℕ → List TextItem → Compilation → Option Finding
+text_finding name items w = text_finding_by (variables_from items false) name items w
+
+abbrev pub text_placed : Option ℕ → List TextItem → Compilation → Compilation
+text_placed name items w = text_placed_by (variables_from items false) name items w
+
+-- Expressions: what is wrong with one is found before its names are used
+
+abbrev pub settled_work : Compilation → Compilation
+settled_work w = record w { output = (settled_of w).out }
+
+abbrev pub settled_finding : Option ℕ → Compilation → Option Finding
+settled_finding name w = placed_finding name (value_of w) None (settled_work w)
+
+abbrev pub settled_placed : Option ℕ → Compilation → Compilation
+settled_placed name w = placed name (value_of w) None (settled_work w)
+
+abbrev pub value_finding_by : Option Finding → Option ℕ → Option Finding → Value → Compilation → Option Finding
+value_finding_by None name judged looked w = settled_finding name w
+value_finding_by (Some f) name judged looked w = placed_finding name looked judged w
+
+abbrev pub value_by : Option Finding → Option ℕ → Option Finding → Value → Compilation → Compilation
+value_by None name judged looked w = settled_placed name w
+value_by (Some f) name judged looked w = placed name looked judged w
+
+abbrev pub value_with_finding : Option ℕ → Option Finding → Value → Compilation → Option Finding
+value_with_finding name judged looked w = value_finding_by (least_of_both judged (place_finding name looked w)) name judged looked w
+
+abbrev pub value_with : Option ℕ → Option Finding → Value → Compilation → Compilation
+value_with name judged looked w = value_by (least_of_both judged (place_finding name looked w)) name judged looked w
+
+abbrev pub expression_finding : Option ℕ → Compilation → Option Finding
+expression_finding name w = value_with_finding name (finding_at 0 wanted.Constant w) (looked_value w) w
+
+abbrev pub expression_placed : Option ℕ → Compilation → Compilation
+expression_placed name w = value_with name (finding_at 0 wanted.Constant w) (looked_value w) w
+
+abbrev pub any_finding : Option (List TextItem) → Option ℕ → Compilation → Option Finding
+any_finding None name w = expression_finding name w
+any_finding (Some items) name w = text_finding name items w
+
+abbrev pub any_placed : Option (List TextItem) → Option ℕ → Compilation → Compilation
+any_placed None name w = expression_placed name w
+any_placed (Some items) name w = text_placed name items w
+
+abbrev pub value_finding : Option ℕ → Compilation → Option Finding
+value_finding name w = any_finding (word_text (takes_words name w) w) name w
+
+abbrev pub value_placed : Option ℕ → Compilation → Compilation
+value_placed name w = any_placed (word_text (takes_words name w) w) name w
+
+abbrev pub value_read_at : FileNames → Place → Option ℕ → Compilation → Compilation
+value_read_at files first name w = entry_told files first (value_finding name w) (value_placed name w)
+
+abbrev pub value_read : FileNames → Place → Compilation → Compilation
+value_read files place w = value_read_at files (first_place w.unit.tokens place) (name_place w.unit.outer) w
+
+-- Routines
+
+-- the place of the bracket that opens one, which is the last of its unit
+abbrev pub bracket_step : ℕ → Option TokenKind → ℕ → ℕ
+bracket_step at None bracket = bracket
+bracket_step at (Some k) bracket = if is_mark mark.OpenBracket k then at else bracket
+
+abbrev pub bracket_from : ℕ → List SourceToken → ℕ → ℕ
+bracket_from at [] bracket = bracket
+bracket_from at (t ∷ tokens) bracket = bracket_from (at + 1) tokens (bracket_step at (Some t.kind) bracket)
+
+abbrev pub bracket_in : List SourceToken → ℕ
+bracket_in tokens = bracket_from 0 tokens 0
+
+abbrev pub next_routine : Compilation → Value
+next_routine w = value.Later (target.Place area.Code (place_behind w.output.code.finished))
+
+-- What is wrong with where it goes is told before what is wrong with its locals, but not before that there are too many of these, unless it
+-- is told of
+-- the first token.
+abbrev pub is_first : Finding → Headed → Bool
+is_first f h = not (f.number == 19) && h.are_too_many
+
+abbrev pub misplaced_blame : List SourceToken → FileNames → Place → Headed → Finding → Option Diagnostic
+misplaced_blame tokens files first h f = if is_first f h then header_fault files first None h else entry_blame tokens first (Some f)
+
+abbrev pub embedded_blame : List SourceToken → FileNames → Place → Headed → Option Finding → Option Diagnostic
+embedded_blame tokens files first h None = header_fault files first None h
+embedded_blame tokens files first h (Some f) = misplaced_blame tokens files first h f
+
+abbrev pub blame_embedded : FileNames → Place → Option ℕ → Headed → Compilation → Option Diagnostic
+blame_embedded files first name h w = embedded_blame w.unit.tokens files first h (place_finding name (next_routine w) w)
+
+abbrev pub routine_placed : Option ℕ → Bool → Compilation → Compilation
+routine_placed name is_lost w = placed name (next_routine w) (wrong_if is_lost) w
+
+abbrev pub embedded_opened : FileNames → Place → Headed → Bool → Compilation → Compilation
+embedded_opened files first h is_lost w = opened_with files first h is_lost (record w { is_embedded = true; is_replaced = false })
+
+abbrev pub embedded_begun : FileNames → Place → Option ℕ → Headed → Bool → Compilation → Compilation
+embedded_begun files first name h is_lost w = embedded_opened files first h is_lost (routine_placed name is_lost w)
+
+abbrev pub embedded_by : Option Diagnostic → FileNames → Place → Option ℕ → Headed → Compilation → Compilation
+embedded_by b files first name h w = embedded_begun files first name h (is_some b) (told files first b w)
+
+unfoldable pub embedded : FileNames → Place → Option ℕ → Headed → Compilation → Compilation
+embedded files first name h w = embedded_by (blame_embedded files first name h w) files first name h w
+
+abbrev pub embedded_read : FileNames → Place → Compilation → Compilation
+embedded_read files place w =
+    embedded files (first_place w.unit.tokens place) (place_before (bracket_in w.unit.tokens)) w.unit.headed
+    (record w { unit = record w.unit { headed = no_locals } })

@@ -1,0 +1,416 @@
+//! What stands in the bodies of objects and classes: classes, attributes and properties.
+ghost use Rattle.std.specs.Prelude.{IfOk, OnOk, option_map, ◌≡◌};
+ghost use Rattle.inf_sinks.specs.Spellings.{as_name};
+ghost use Rattle.inf_bodies.specs.Bodies.{attribute_finding, attribute_of, attribute_read, attribute_set, attribute_set_some, class_finding, class_read, further, further_added, further_finding, further_found, further_placed, given, given_finding, given_with, individual_declared, individual_given, individual_named, is_given, is_words, last_at, number_finding, place_finding, placed, placed_finding, property_finding, property_given, property_gives, property_in, property_lost, property_of, property_read};
+ghost use Rattle.inf_compilation.specs.Actions.{body_ended};
+ghost use Rattle.inf_compilation.specs.Works.{work};
+
+use crate::objects::{
+    class_of, found_at, join_some, name_at, refused_finding, setting_of, tell_entry,
+};
+use inf_area::Value;
+use inf_compilation::compilation::Compilation;
+use inf_expressions::{Finding, least_of_both};
+use inf_lexer::{Place, Stack};
+use inf_names::meanings::Meaning;
+use inf_names::symbols::Found;
+use inf_output::Output;
+use inf_scanner::Mark;
+use inf_sinks::spellings::Name;
+use inf_tables::WorldFault;
+use inf_unit::tokens::is_mark;
+use inf_unit::unit::order;
+use inf_unit::unit_tokens::UnitTokens;
+use std::alloc::AllocError;
+
+/// The number of the property `name`, whose values are words of the dictionary.
+const NAME: usize = 1;
+
+/// The place of the last token.
+pub(crate) fn last_at(tokens: &UnitTokens) -> usize
+    ensures { result ≡ last_at tokens.now }
+{
+    tokens.len().saturating_sub(1)
+}
+
+/// The number of the property that a name stands for.
+fn property_in(meaning: Meaning) -> Option<usize>
+    ensures { result ≡ property_in meaning }
+{
+    match meaning {
+        Meaning::Property { number, .. } => Some(usize::from(number)),
+        Meaning::IndividualProperty(number) => Some(usize::from(number)),
+        _ => None,
+    }
+}
+
+/// The same, by what looking for the name found.
+pub(crate) fn property_of(found: Found<Place>) -> Option<usize>
+    ensures { result ≡ property_of found }
+{
+    match found {
+        Found::System(meaning) | Found::Declared(meaning, _) => property_in(meaning),
+        Found::Used | Found::Unknown => None,
+    }
+}
+
+/// Whether a number is that of the property `name`.
+pub(crate) fn is_words(number: Option<usize>) -> bool
+    ensures { result ≡ is_words number }
+{
+    match number {
+        Some(number) => number == NAME,
+        None => false,
+    }
+}
+
+// Classes and attributes
+
+/// What is wrong with the name of a class at a place, by what the world says of the class.
+fn class_finding(class: Option<usize>, fault: Option<WorldFault>, at: usize) -> Option<Finding>
+    ensures { result ≡ class_finding class fault at }
+{
+    match class {
+        Some(_) => refused_finding(fault, order(at)),
+        None => Some(Finding::wrong_kind(order(at))),
+    }
+}
+
+/// The number of the attribute that a name stands for, by what looking for it found.
+fn attribute_of(found: Found<Place>) -> Option<usize>
+    ensures { result ≡ attribute_of found }
+{
+    match found {
+        Found::Declared(Meaning::Attribute(number), _) => Some(usize::from(number)),
+        _ => None,
+    }
+}
+
+/// Whether the attribute whose name stands at a place is given, and not taken away by `~`.
+fn is_given(tokens: &UnitTokens, at: usize) -> bool
+    ensures { result ≡ is_given tokens.now at }
+{
+    match tokens.kind(at.saturating_sub(1)) {
+        Some(kind) => !is_mark(kind, Mark::BitNot),
+        None => true,
+    }
+}
+
+/// The open body gives an attribute, or takes it away.
+fn set_attribute(number: usize, is_given: bool, out: &mut Output) -> Result<(), AllocError>
+    ensures { OnOk result (out.new ≡ attribute_set number is_given out.old) }
+{
+    match out.tables.world.set_attribute(number, is_given) {
+        Ok(()) | Err(WorldFault::Limit(_) | WorldFault::Misfit(_) | WorldFault::Full(_)) => Ok(()),
+        Err(WorldFault::Memory) => Err(AllocError),
+    }
+}
+
+/// The same, if there is such an attribute.
+fn set_some(number: Option<usize>, is_given: bool, out: &mut Output) -> Result<(), AllocError>
+    ensures { OnOk result (out.new ≡ attribute_set_some number is_given out.old) }
+{
+    match number {
+        Some(number) => set_attribute(number, is_given, out),
+        None => Ok(()),
+    }
+}
+
+/// What is wrong with the name of an attribute at a place.
+fn attribute_finding(number: Option<usize>, at: usize) -> Option<Finding>
+    ensures { result ≡ attribute_finding number at }
+{
+    match number {
+        Some(_) => None,
+        None => Some(Finding::wrong_kind(order(at))),
+    }
+}
+
+// Properties
+
+/// A name is declared as that of an individual property, where it is new.
+fn declare_individual(
+    name: &Option<Name>,
+    number: usize,
+    out: &mut Output,
+) -> Result<(), AllocError>
+    ensures { OnOk result (out.new ≡ individual_declared (option_map as_name name.now) number out.old) }
+{
+    match name {
+        Some(name) => {
+            let meaning = Meaning::IndividualProperty((number % 65536) as u16);
+            out.declare(name.bytes(), name.place, meaning)?;
+            Ok(())
+        }
+        None => Ok(()),
+    }
+}
+
+/// A property with something wrong: further values give nothing.
+fn lose_property(name: &Option<Name>, out: &mut Output) -> Result<(), AllocError>
+    ensures { OnOk result (out.new ≡ property_lost (option_map as_name name.now) out.old) }
+{
+    declare_individual(name, 0, out)?;
+    out.tables.world.lose_property();
+    Ok(())
+}
+
+/// The open body gives a property, with its first value if it has one.
+fn give_property(number: usize, value: Option<Value>, out: &mut Output) -> Result<(), AllocError>
+    ensures { OnOk result (out.new ≡ property_given number value out.old) }
+{
+    match out.tables.world.give_property(number, value) {
+        Ok(()) => Ok(()),
+        Err(WorldFault::Memory) => Err(AllocError),
+        Err(WorldFault::Full(setting)) => {
+            out.pass_table(setting_of(setting));
+            Ok(())
+        }
+        Err(WorldFault::Limit(_) | WorldFault::Misfit(_)) => Ok(()),
+    }
+}
+
+/// An individual property with its name, which the open body gives.
+fn give_named(
+    name: &Option<Name>,
+    number: usize,
+    value: Option<Value>,
+    out: &mut Output,
+) -> Result<(), AllocError>
+    ensures { OnOk result (out.new ≡ individual_named (option_map as_name name.now) number value out.old) }
+{
+    declare_individual(name, number, out)?;
+    give_property(number, value, out)
+}
+
+/// A new individual property, which the open body gives.
+fn give_individual(
+    name: &Option<Name>,
+    value: Option<Value>,
+    out: &mut Output,
+) -> Result<(), AllocError>
+    ensures { OnOk result (out.new ≡ individual_given (option_map as_name name.now) value out.old) }
+{
+    match out.tables.world.declare_individual() {
+        Ok(number) => give_named(name, number, value, out),
+        Err(WorldFault::Limit(_) | WorldFault::Misfit(_) | WorldFault::Full(_)) => Ok(()),
+        Err(WorldFault::Memory) => Err(AllocError),
+    }
+}
+
+/// A further value of the property that was given last.
+fn add_further(value: Value, out: &mut Output) -> Result<(), AllocError>
+    ensures { OnOk result (out.new ≡ further_added value out.old) }
+{
+    match out.tables.world.add_value(value) {
+        Ok(()) => Ok(()),
+        Err(WorldFault::Memory) => Err(AllocError),
+        Err(WorldFault::Full(setting)) => {
+            out.pass_table(setting_of(setting));
+            Ok(())
+        }
+        Err(WorldFault::Limit(_) | WorldFault::Misfit(_)) => Ok(()),
+    }
+}
+
+/// The body of an object or class ends, if one is open.
+pub fn end_body(compilation: &mut Compilation) -> Result<(), AllocError>
+    ensures { OnOk result (work compilation.new ≡ body_ended (work compilation.old)) }
+{
+    match compilation.output.tables.world.end_body() {
+        Ok(()) | Err(WorldFault::Limit(_) | WorldFault::Misfit(_) | WorldFault::Full(_)) => Ok(()),
+        Err(WorldFault::Memory) => Err(AllocError),
+    }
+}
+
+/// A class of the open body, which the last token names.
+pub fn class_of_body(
+    compilation: &mut Compilation,
+    files: &Stack,
+    place: Place,
+) -> Result<(), AllocError>
+    ensures { OnOk result (work compilation.new ≡ class_read files.now.names place (work compilation.old)) }
+{
+    let first = compilation.unit.first_place(place);
+    let at = last_at(&compilation.unit.tokens);
+    let class = class_of(found_at(compilation, at));
+    let fault = join_some(class, &mut compilation.output)?;
+    tell_entry(compilation, files, first, class_finding(class, fault, at))
+}
+
+/// An attribute of the open body, which the last token names, and which `~` before it takes away.
+pub fn attribute_of_body(
+    compilation: &mut Compilation,
+    files: &Stack,
+    place: Place,
+) -> Result<(), AllocError>
+    ensures { OnOk result (work compilation.new ≡ attribute_read files.now.names place (work compilation.old)) }
+{
+    let first = compilation.unit.first_place(place);
+    let at = last_at(&compilation.unit.tokens);
+    let number = attribute_of(found_at(compilation, at));
+    set_some(
+        number,
+        is_given(&compilation.unit.tokens, at),
+        &mut compilation.output,
+    )?;
+    tell_entry(compilation, files, first, attribute_finding(number, at))
+}
+
+// Where values go
+
+/// What is wrong with a property with a number, if its name at a place has one, and with this first value.
+fn number_finding(
+    compilation: &Compilation,
+    number: Option<usize>,
+    value: Option<Value>,
+    at: usize,
+) -> Option<Finding>
+    ensures { result ≡ number_finding number value at (work compilation.now) }
+{
+    match number {
+        Some(number) => refused_finding(
+            compilation.output.tables.world.give_fault(number, value),
+            order(at),
+        ),
+        None => Some(Finding::wrong_kind(order(at))),
+    }
+}
+
+/// What is wrong with a property whose name stands at a place, with this first value. A name that is not declared is that of a new one.
+fn property_finding(compilation: &Compilation, at: usize, value: Option<Value>) -> Option<Finding>
+    ensures { result ≡ property_finding at value (work compilation.now) }
+{
+    match found_at(compilation, at) {
+        Found::System(meaning) | Found::Declared(meaning, _) => {
+            number_finding(compilation, property_in(meaning), value, at)
+        }
+        Found::Used | Found::Unknown => None,
+    }
+}
+
+/// What is wrong with a further value.
+fn further_finding(compilation: &Compilation, value: Value) -> Option<Finding>
+    ensures { result ≡ further_finding value (work compilation.now) }
+{
+    refused_finding(compilation.output.tables.world.value_fault(value), 0)
+}
+
+/// What is wrong with where a value goes: to the property whose name stands before it, or to the one that was given last.
+pub(crate) fn place_finding(
+    compilation: &Compilation,
+    name: Option<usize>,
+    value: Value,
+) -> Option<Finding>
+    ensures { result ≡ place_finding name value (work compilation.now) }
+{
+    match name {
+        Some(at) => property_finding(compilation, at, Some(value)),
+        None => further_finding(compilation, value),
+    }
+}
+
+/// The property is given whose name stands at a place and with which nothing is wrong.
+fn give(compilation: &mut Compilation, at: usize, value: Option<Value>) -> Result<(), AllocError>
+    ensures { OnOk result (work compilation.new ≡ property_gives at value (work compilation.old)) }
+{
+    match property_of(found_at(compilation, at)) {
+        Some(number) => give_property(number, value, &mut compilation.output),
+        None => {
+            let name = name_at(compilation, at);
+            give_individual(&name, value, &mut compilation.output)
+        }
+    }
+}
+
+/// The property whose name stands at a place, in which this was found.
+fn give_with(
+    compilation: &mut Compilation,
+    found: Option<Finding>,
+    at: usize,
+    value: Option<Value>,
+) -> Result<(), AllocError>
+    ensures { OnOk result (work compilation.new ≡ given_with found at value (work compilation.old)) }
+{
+    match found {
+        Some(_) => {
+            let name = name_at(compilation, at);
+            lose_property(&name, &mut compilation.output)
+        }
+        None => give(compilation, at, value),
+    }
+}
+
+/// A property whose name stands at a place, with this first value, and what is found of that. Answers what is wrong.
+fn given(
+    compilation: &mut Compilation,
+    at: usize,
+    value: Option<Value>,
+    of_value: Option<Finding>,
+) -> Result<Option<Finding>, AllocError>
+    ensures value { OnOk result (work compilation.new ≡ given at value of_value (work compilation.old)) }
+    ensures finding { IfOk result (λ f. f ≡ given_finding at value of_value (work compilation.old)) }
+{
+    let found = least_of_both(property_finding(compilation, at, value), of_value);
+    compilation.is_name = is_words(property_of(found_at(compilation, at)));
+    give_with(compilation, found, at, value)?;
+    Ok(found)
+}
+
+/// A further value, where this is wrong with it.
+fn further_with(
+    compilation: &mut Compilation,
+    found: Option<Finding>,
+    value: Value,
+) -> Result<(), AllocError>
+    ensures { OnOk result (work compilation.new ≡ further_placed found value (work compilation.old)) }
+{
+    match found {
+        Some(_) => Ok(()),
+        None => add_further(value, &mut compilation.output),
+    }
+}
+
+/// A further value, with what was found of it before. Answers what is wrong.
+fn further(
+    compilation: &mut Compilation,
+    value: Value,
+    of_value: Option<Finding>,
+) -> Result<Option<Finding>, AllocError>
+    ensures value { OnOk result (work compilation.new ≡ further value of_value (work compilation.old)) }
+    ensures finding { IfOk result (λ f. f ≡ further_found value of_value (work compilation.old)) }
+{
+    let found = least_of_both(of_value, further_finding(compilation, value));
+    further_with(compilation, found, value)?;
+    Ok(found)
+}
+
+/// A value goes where it is to go. Answers what is wrong, with what was found of it before.
+pub(crate) fn placed(
+    compilation: &mut Compilation,
+    name: Option<usize>,
+    value: Value,
+    of_value: Option<Finding>,
+) -> Result<Option<Finding>, AllocError>
+    ensures value { OnOk result (work compilation.new ≡ placed name value of_value (work compilation.old)) }
+    ensures finding { IfOk result (λ f. f ≡ placed_finding name value of_value (work compilation.old)) }
+{
+    match name {
+        Some(at) => given(compilation, at, Some(value), of_value),
+        None => further(compilation, value, of_value),
+    }
+}
+
+/// A property without values, which the last token names.
+pub fn property_of_body(
+    compilation: &mut Compilation,
+    files: &Stack,
+    place: Place,
+) -> Result<(), AllocError>
+    ensures { OnOk result (work compilation.new ≡ property_read files.now.names place (work compilation.old)) }
+{
+    let first = compilation.unit.first_place(place);
+    let at = last_at(&compilation.unit.tokens);
+    let found = given(compilation, at, None, None)?;
+    tell_entry(compilation, files, first, found)
+}

@@ -1,0 +1,7 @@
+//! Objects and classes: their headers, and what stands in their bodies.
+#![tactic(auto)]
+
+pub mod bodies;
+pub mod headers;
+pub mod objects;
+pub mod values;

@@ -1,0 +1,610 @@
+//! The headers of classes and objects.
+ghost use Rattle.std.specs.Prelude.{IfOk, OnOk, option_map, ◌≡◌};
+ghost use Rattle.inf_characters.specs.Reading.{text_of as read_in};
+ghost use Rattle.inf_sinks.specs.Spellings.{as_name};
+ghost use Rattle.inf_unit.specs.Diagnostics.{blamed};
+ghost use Rattle.inf_unit.specs.Texts.{fit_characters};
+ghost use Rattle.inf_bodies.specs.Objects.{above_finding, bracketed, class_begun, class_header, class_lost, class_of, class_of_word, class_opened, class_with, entry_blame, entry_told, found_at, header_in, header_text, hung_finding, in_brackets, joined, joined_fault, joined_some, lost_begun, named_known, named_parent_finding, object_begun, object_declared, object_ended, object_header, object_in, object_known, object_lost, object_named, object_new, object_of, object_opened, object_with, own_name, packed_name, parent_finding, parent_fit, parent_in, refused_finding, setting_of, short_name, shown_name, word_place};
+ghost use Rattle.inf_world.specs.World.{class_of_fault};
+ghost use Rattle.inf_unit.specs.Units.{name_at};
+ghost use Rattle.inf_compilation.specs.Works.{work};
+
+use crate::headers::{Header, header_in, word_place};
+use inf_compilation::compilation::Compilation;
+use inf_compilation::findings::{TOO_MANY, blame_of};
+use inf_declarations::declarations::{Declared, end_declared, plainly_known};
+use inf_expressions::{Finding, least_of_both};
+use inf_lexer::{Place, Stack};
+use inf_listings::arrays::text_at;
+use inf_names::meanings::Meaning;
+use inf_names::symbols::Found;
+use inf_output::Output;
+use inf_report::messages::{FixedLimit, Message};
+use inf_settings::setting::Setting;
+use inf_sinks::spellings::Name;
+use inf_tables::{Misfit, Parent, ShortName, WorldFault};
+use inf_text::{CharSet, Mode, Text, TextFault, pack, read_text};
+use inf_unit::messages::Diagnostic;
+use inf_unit::unit::order;
+use inf_unit::unit_tokens::UnitTokens;
+use inf_world::Setting as WorldSetting;
+use std::alloc::{AllocError, Global};
+
+/// What is wrong with an entry of a body that the world refuses. What passes a setting is no error of the unit.
+pub(crate) fn refused_finding(fault: Option<WorldFault>, name: u32) -> Option<Finding>
+    ensures { result ≡ refused_finding fault name }
+{
+    match fault? {
+        WorldFault::Limit(_) => Some(Finding {
+            order: 0,
+            number: TOO_MANY,
+        }),
+        WorldFault::Misfit(_) => Some(Finding::wrong_kind(name)),
+        WorldFault::Full(_) | WorldFault::Memory => None,
+    }
+}
+
+/// The setting that bounds a count of the world.
+pub(crate) fn setting_of(setting: WorldSetting) -> Setting
+    ensures { result ≡ setting_of setting }
+{
+    match setting {
+        WorldSetting::Objects => Setting::Objects,
+        WorldSetting::PropertyTables => Setting::PropertyTables,
+    }
+}
+
+/// What is told of a unit of an object or a class that begins at a place, by what was found.
+pub(crate) fn entry_blame<'t>(
+    tokens: &'t UnitTokens,
+    first: Place,
+    found: Option<Finding>,
+) -> Option<Diagnostic<'t>>
+    ensures { option_map blamed result ≡ entry_blame tokens.now first found }
+{
+    let finding = found?;
+    match finding.number {
+        TOO_MANY => Some(Diagnostic {
+            place: first,
+            message: Message::TooMany(FixedLimit::Values),
+        }),
+        _ => Some(blame_of(tokens, finding)),
+    }
+}
+
+/// The number of the object that a name stands for.
+fn object_in(meaning: Meaning) -> Option<usize>
+    ensures { result ≡ object_in meaning }
+{
+    match meaning {
+        Meaning::Object(number) => Some(usize::from(number)),
+        _ => None,
+    }
+}
+
+/// The same, by what looking for the name found.
+fn object_of(found: Found<Place>) -> Option<usize>
+    ensures { result ≡ object_of found }
+{
+    match found {
+        Found::System(meaning) | Found::Declared(meaning, _) => object_in(meaning),
+        Found::Used | Found::Unknown => None,
+    }
+}
+
+/// The number of the class of the source that a name stands for, by what looking for it found.
+pub(crate) fn class_of(found: Found<Place>) -> Option<usize>
+    ensures { result ≡ class_of found }
+{
+    match found {
+        Found::Declared(Meaning::Class(number), _) => Some(usize::from(number)),
+        _ => None,
+    }
+}
+
+// The header of an object
+
+/// What is wrong with a header's arrows, the first of which stands at a place, by what the world says of them.
+fn hung_finding(hung: Result<usize, Misfit>, at: usize) -> Option<Finding>
+    ensures { result ≡ hung_finding hung at }
+{
+    match hung {
+        Ok(_) => None,
+        Err(_) => Some(Finding::wrong_kind(order(at))),
+    }
+}
+
+/// What is wrong with the name of a parent at a place: it is that of no object, or an arrow stands before it, too.
+fn parent_fit(number: Option<usize>, arrow: Option<usize>, at: usize) -> Option<Finding>
+    ensures { result ≡ parent_fit number arrow at }
+{
+    match (number, arrow) {
+        (Some(_), None) => None,
+        _ => Some(Finding::wrong_kind(order(at))),
+    }
+}
+
+// Short names
+
+/// The characters of bytes in a character set, where they have no fault.
+pub(crate) fn text_in(
+    alloc: Global,
+    set: CharSet,
+    mode: Mode,
+    bytes: &[u8],
+) -> Result<Option<Text>, AllocError>
+    ensures { IfOk result (λ text. text ≡ fit_characters (read_in set mode bytes.now)) }
+{
+    match read_text(alloc, bytes, set, mode) {
+        Ok(text) => Ok(Some(text)),
+        Err(TextFault::Memory) => Err(AllocError),
+        Err(TextFault::UnknownEscape | TextFault::NoZscii | TextFault::BadCode) => Ok(None),
+    }
+}
+
+/// A short name of these characters.
+fn packed_name(alloc: Global, text: Option<Text>) -> Result<ShortName, AllocError>
+    ensures { IfOk result (λ short. short ≡ packed_name text) }
+{
+    match text {
+        Some(text) => Ok(ShortName::new(pack(alloc, &text, None)?)),
+        None => Ok(ShortName::empty(alloc)),
+    }
+}
+
+/// A name in round brackets.
+fn in_brackets(alloc: Global, name: &[u8]) -> Result<Vec<u8>, AllocError>
+    ensures { IfOk result (λ bytes. bytes.items ≡ in_brackets name.now) }
+{
+    let mut bytes = Vec::new(alloc);
+    bytes.push(b'(')?;
+    bytes.extend_from_slice(name)?;
+    bytes.push(b')')?;
+    Ok(bytes)
+}
+
+/// The short name of what has no text for it: its name, in round brackets.
+fn bracketed(alloc: Global, set: CharSet, name: &[u8]) -> Result<ShortName, AllocError>
+    ensures { IfOk result (λ short. short ≡ bracketed set name.now) }
+{
+    let bytes = in_brackets(alloc, name)?;
+    let text = text_in(alloc, set, Mode::Text, bytes.as_slice())?;
+    packed_name(alloc, text)
+}
+
+/// How an object is shown that has no text for it: by its name, or a question mark.
+fn shown_name(name: &Option<Name>) -> &[u8]
+    ensures { result.now ≡ shown_name (option_map as_name name.now) }
+{
+    match name {
+        Some(name) => name.bytes(),
+        None => b"?",
+    }
+}
+
+// What headers do
+
+/// A body is open that belongs to nothing, since something is wrong with its header.
+fn begin_lost(out: &mut Output) -> Result<(), AllocError>
+    ensures { OnOk result (out.new ≡ lost_begun out.old) }
+{
+    match out.tables.world.begin_lost() {
+        Ok(()) | Err(WorldFault::Limit(_) | WorldFault::Misfit(_) | WorldFault::Full(_)) => Ok(()),
+        Err(WorldFault::Memory) => Err(AllocError),
+    }
+}
+
+/// A class with something wrong in its header: its name stands for no class.
+fn lose_class(name: &Name, out: &mut Output) -> Result<(), AllocError>
+    ensures { OnOk result (out.new ≡ class_lost (as_name name.now) out.old) }
+{
+    begin_lost(out)?;
+    out.declare(name.bytes(), name.place, Meaning::Class(0))?;
+    Ok(())
+}
+
+/// A class with its name. Where it would pass a limit there is none.
+fn begin_class(name: &Name, short: ShortName, out: &mut Output) -> Result<(), AllocError>
+    ensures { OnOk result (out.new ≡ class_begun short (as_name name.now) out.old) }
+{
+    match out.tables.world.begin_class(short) {
+        Ok(number) => {
+            out.declare(
+                name.bytes(),
+                name.place,
+                Meaning::Class((number % 65536) as u16),
+            )?;
+            Ok(())
+        }
+        Err(WorldFault::Memory) => Err(AllocError),
+        Err(WorldFault::Full(setting)) => {
+            out.pass_table(setting_of(setting));
+            Ok(())
+        }
+        Err(WorldFault::Limit(_) | WorldFault::Misfit(_)) => Ok(()),
+    }
+}
+
+/// The name of an object is declared, if it has one.
+fn declare_object(name: &Option<Name>, number: usize, out: &mut Output) -> Result<(), AllocError>
+    ensures { OnOk result (out.new ≡ object_declared (option_map as_name name.now) number out.old) }
+{
+    match name {
+        Some(name) => {
+            out.declare(
+                name.bytes(),
+                name.place,
+                Meaning::Object((number % 65536) as u16),
+            )?;
+            Ok(())
+        }
+        None => Ok(()),
+    }
+}
+
+/// An object with something wrong in its header: its name stands for no object.
+fn lose_object(name: &Option<Name>, out: &mut Output) -> Result<(), AllocError>
+    ensures { OnOk result (out.new ≡ object_lost (option_map as_name name.now) out.old) }
+{
+    begin_lost(out)?;
+    declare_object(name, 0, out)
+}
+
+/// The open body is of the class with a number, unless the world refuses it. Answers why it does.
+fn join(number: usize, out: &mut Output) -> Result<Option<WorldFault>, AllocError>
+    ensures value { OnOk result (out.new ≡ joined number out.old) }
+    ensures fault { IfOk result (λ fault. fault ≡ class_of_fault number out.old.tables.world) }
+{
+    match out.tables.world.join_class(number) {
+        Ok(()) => Ok(None),
+        Err(WorldFault::Memory) => Err(AllocError),
+        Err(WorldFault::Full(setting)) => {
+            out.pass_table(setting_of(setting));
+            Ok(Some(WorldFault::Full(setting)))
+        }
+        Err(WorldFault::Limit(limit)) => Ok(Some(WorldFault::Limit(limit))),
+        Err(WorldFault::Misfit(misfit)) => Ok(Some(WorldFault::Misfit(misfit))),
+    }
+}
+
+/// The same, if there is such a class.
+pub(crate) fn join_some(
+    class: Option<usize>,
+    out: &mut Output,
+) -> Result<Option<WorldFault>, AllocError>
+    ensures value { OnOk result (out.new ≡ joined_some class out.old) }
+    ensures fault { IfOk result (λ fault. fault ≡ joined_fault class out.old) }
+{
+    match class {
+        Some(number) => join(number, out),
+        None => Ok(None),
+    }
+}
+
+/// What is left to do for an object with a number: it is of the class that its word names, and its name is declared.
+fn name_object(
+    class: Option<usize>,
+    name: &Option<Name>,
+    number: usize,
+    out: &mut Output,
+) -> Result<(), AllocError>
+    ensures { OnOk result (out.new ≡ object_named class (option_map as_name name.now) number out.old) }
+{
+    join_some(class, out)?;
+    declare_object(name, number, out)
+}
+
+/// An object with its name. Where it would pass a limit there is none.
+fn begin_object(
+    parent: Parent,
+    short: ShortName,
+    class: Option<usize>,
+    name: &Option<Name>,
+    out: &mut Output,
+) -> Result<(), AllocError>
+    ensures { OnOk result (out.new ≡ object_begun parent short class (option_map as_name name.now) out.old) }
+{
+    match out.tables.world.begin_object(parent, short) {
+        Ok(number) => name_object(class, name, number, out),
+        Err(WorldFault::Memory) => Err(AllocError),
+        Err(WorldFault::Full(setting)) => {
+            out.pass_table(setting_of(setting));
+            Ok(())
+        }
+        Err(WorldFault::Limit(_) | WorldFault::Misfit(_)) => Ok(()),
+    }
+}
+
+/// What looking for the name at a place of the unit finds.
+pub(crate) fn found_at(compilation: &Compilation, at: usize) -> Found<Place>
+    ensures { result ≡ found_at at (work compilation.now) }
+{
+    compilation
+        .output
+        .names
+        .look(compilation.unit.tokens.bytes_at(at))
+}
+
+/// The end of a unit of an object or a class that begins at a place, in which this was found.
+pub(crate) fn tell_entry(
+    compilation: &mut Compilation,
+    files: &Stack,
+    first: Place,
+    found: Option<Finding>,
+) -> Result<(), AllocError>
+    ensures { OnOk result (work compilation.new ≡ entry_told files.now.names first found (work compilation.old)) }
+{
+    let blame = entry_blame(&compilation.unit.tokens, first, found);
+    compilation.report.fault(files, first, blame)?;
+    compilation.end_unit(files, first, false)
+}
+
+// Classes
+
+/// The header of a class of this name.
+pub fn class_header(
+    compilation: &mut Compilation,
+    files: &Stack,
+    first: Place,
+    name: &Name,
+) -> Result<(), AllocError>
+    ensures { OnOk result (work compilation.new ≡ class_header files.now.names first (as_name name.now) (work compilation.old)) }
+{
+    let order = compilation.unit.tokens.name_order();
+    let declared = plainly_known(compilation, files, name, order);
+    class_with(compilation, files, first, name, declared)
+}
+
+/// The same, where so much is known of its name.
+fn class_with(
+    compilation: &mut Compilation,
+    files: &Stack,
+    first: Place,
+    name: &Name,
+    declared: Declared,
+) -> Result<(), AllocError>
+    ensures { OnOk result (work compilation.new
+        ≡ class_with files.now.names first (as_name name.now) declared (work compilation.old)) }
+{
+    open_class(compilation, name, declared.finding)?;
+    end_declared(
+        compilation,
+        files,
+        first,
+        false,
+        name,
+        FixedLimit::Globals,
+        declared,
+    )
+}
+
+/// A class of this name is open, or, where something is wrong with its header, a body that belongs to nothing.
+fn open_class(
+    compilation: &mut Compilation,
+    name: &Name,
+    found: Option<Finding>,
+) -> Result<(), AllocError>
+    ensures { OnOk result (work compilation.new ≡ class_opened found (as_name name.now) (work compilation.old)) }
+{
+    match found {
+        Some(_) => lose_class(name, &mut compilation.output),
+        None => {
+            let short = bracketed(compilation.alloc, compilation.set, name.bytes())?;
+            begin_class(name, short, &mut compilation.output)
+        }
+    }
+}
+
+// Objects
+
+/// The class of the source that the word of a header names.
+fn class_of_word(compilation: &Compilation) -> Option<usize>
+    ensures { result ≡ class_of_word (work compilation.now) }
+{
+    class_of(found_at(compilation, word_place(&compilation.unit.tokens)))
+}
+
+/// What is wrong with the arrows of a header: no object stands above them.
+fn above_finding(compilation: &Compilation, header: Header) -> Option<Finding>
+    ensures { result ≡ above_finding header.arrow header.arrows (work compilation.now) }
+{
+    let world = &compilation.output.tables.world;
+    match header.arrow {
+        Some(at) => hung_finding(world.parent_number(Parent::Arrows(header.arrows)), at),
+        None => None,
+    }
+}
+
+/// What is wrong with the parent that a header names.
+fn named_parent_finding(compilation: &Compilation, header: Header) -> Option<Finding>
+    ensures { result ≡ named_parent_finding header.parent header.arrow (work compilation.now) }
+{
+    match header.parent {
+        Some(at) => parent_fit(object_of(found_at(compilation, at)), header.arrow, at),
+        None => None,
+    }
+}
+
+/// What is wrong with where a header puts its object.
+fn parent_finding(compilation: &Compilation, header: Header) -> Option<Finding>
+    ensures { result ≡ parent_finding header (work compilation.now) }
+{
+    least_of_both(
+        above_finding(compilation, header),
+        named_parent_finding(compilation, header),
+    )
+}
+
+/// The parent that a header gives.
+fn parent(compilation: &Compilation, header: Header) -> Parent
+    ensures { result ≡ parent_in header.parent header.arrows (work compilation.now) }
+{
+    match header.parent {
+        Some(at) => Parent::Object(object_of(found_at(compilation, at)).unwrap_or(0)),
+        None => Parent::Arrows(header.arrows),
+    }
+}
+
+/// The name at a place of the unit.
+pub(crate) fn name_at(compilation: &Compilation, at: usize) -> Option<Name>
+    ensures { option_map as_name result ≡ name_at (work compilation.now).unit.tokens at }
+{
+    match compilation.unit.tokens.name_at(at) {
+        Some(token) => Some(Name::new(token.bytes, token.place)),
+        None => None,
+    }
+}
+
+/// The name that a header gives its object.
+fn own_name(compilation: &Compilation, header: Header) -> Option<Name>
+    ensures { option_map as_name result ≡ own_name header.own (work compilation.now) }
+{
+    match header.own {
+        Some(at) => name_at(compilation, at),
+        None => None,
+    }
+}
+
+/// The characters of the text of a header.
+fn header_text(compilation: &Compilation, header: Header) -> Result<Option<Text>, AllocError>
+    ensures { IfOk result (λ text. text ≡ header_text header.text (work compilation.now)) }
+{
+    match header.text {
+        Some(at) => text_at(compilation, at),
+        None => Ok(None),
+    }
+}
+
+/// The short name of an object: its text, or its name in round brackets.
+fn short_name(
+    compilation: &Compilation,
+    header: Header,
+    name: &Option<Name>,
+) -> Result<ShortName, AllocError>
+    ensures { IfOk result (λ short. short ≡ short_name header (option_map as_name name.now) (work compilation.now)) }
+{
+    match header_text(compilation, header)? {
+        Some(text) => packed_name(compilation.alloc, Some(text)),
+        None => bracketed(compilation.alloc, compilation.set, shown_name(name)),
+    }
+}
+
+/// What is known of an object with a name.
+fn named_known(
+    compilation: &Compilation,
+    files: &Stack,
+    header: Header,
+    at: usize,
+    name: &Name,
+) -> Declared
+    ensures { result ≡ named_known files.now.names header at (as_name name.now) (work compilation.now) }
+{
+    let declared = plainly_known(compilation, files, name, order(at));
+    Declared {
+        found: declared.found,
+        finding: least_of_both(declared.finding, parent_finding(compilation, header)),
+    }
+}
+
+/// What is known of an object by its header.
+fn object_known(
+    compilation: &Compilation,
+    files: &Stack,
+    header: Header,
+    name: &Option<Name>,
+) -> Declared
+    ensures { result ≡ object_known files.now.names header (option_map as_name name.now) (work compilation.now) }
+{
+    match name {
+        Some(name) => named_known(compilation, files, header, header.own.unwrap_or(0), name),
+        None => Declared {
+            found: Found::Unknown,
+            finding: parent_finding(compilation, header),
+        },
+    }
+}
+
+/// An object is open, or, where something is wrong with its header, a body that belongs to nothing.
+fn open_object(
+    compilation: &mut Compilation,
+    header: Header,
+    name: &Option<Name>,
+    found: Option<Finding>,
+) -> Result<(), AllocError>
+    ensures { OnOk result (work compilation.new ≡ object_opened found header (option_map as_name name.now) (work compilation.old)) }
+{
+    match found {
+        Some(_) => lose_object(name, &mut compilation.output),
+        None => new_object(compilation, header, name),
+    }
+}
+
+/// An object with a header in which nothing is wrong.
+fn new_object(
+    compilation: &mut Compilation,
+    header: Header,
+    name: &Option<Name>,
+) -> Result<(), AllocError>
+    ensures { OnOk result (work compilation.new ≡ object_new header (option_map as_name name.now) (work compilation.old)) }
+{
+    let short = short_name(compilation, header, name)?;
+    let class = class_of_word(compilation);
+    let parent = parent(compilation, header);
+    begin_object(parent, short, class, name, &mut compilation.output)
+}
+
+/// The end of a header that begins at a place: what is wrong with it is told.
+fn end_object(
+    compilation: &mut Compilation,
+    files: &Stack,
+    first: Place,
+    name: &Option<Name>,
+    declared: Declared,
+) -> Result<(), AllocError>
+    ensures { OnOk result (work compilation.new
+        ≡ object_ended files.now.names first (option_map as_name name.now) declared (work compilation.old)) }
+{
+    match name {
+        Some(name) => {
+            end_declared(
+                compilation,
+                files,
+                first,
+                false,
+                name,
+                FixedLimit::Globals,
+                declared,
+            )
+        }
+        None => tell_entry(compilation, files, first, declared.finding),
+    }
+}
+
+/// The header of an object.
+fn object_with(
+    compilation: &mut Compilation,
+    files: &Stack,
+    first: Place,
+    header: Header,
+    name: &Option<Name>,
+) -> Result<(), AllocError>
+    ensures { OnOk result (work compilation.new
+        ≡ object_with files.now.names first header (option_map as_name name.now) (work compilation.old)) }
+{
+    let declared = object_known(compilation, files, header, name);
+    open_object(compilation, header, name, declared.finding)?;
+    end_object(compilation, files, first, name, declared)
+}
+
+/// The header of an object, which may be one of a class that its word names.
+pub fn object_header(
+    compilation: &mut Compilation,
+    files: &Stack,
+    first: Place,
+) -> Result<(), AllocError>
+    ensures { OnOk result (work compilation.new ≡ object_header files.now.names first (work compilation.old)) }
+{
+    let header = header_in(&compilation.unit.tokens);
+    let name = own_name(compilation, header);
+    object_with(compilation, files, first, header, &name)
+}

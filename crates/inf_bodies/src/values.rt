@@ -1,0 +1,401 @@
+//! The values of properties: words of the dictionary, expressions, and routines.
+ghost use Rattle.std.specs.Prelude.{IfOk, OnOk, option_map, ◌≡◌};
+ghost use Rattle.inf_sinks.specs.LocalList.{headed as as_headed};
+ghost use Rattle.inf_unit.specs.Diagnostics.{blamed};
+ghost use Rattle.inf_bodies.specs.Values.{bracket_in, bracket_step, char_text, embedded, embedded_begun, embedded_blame, embedded_opened, embedded_read, expression_finding, expression_placed, is_first, leaf_text, misplaced_blame, name_place, next_routine, only_leaf, place_before, routine_placed, settled_finding, settled_placed, takes_words, text_finding, text_placed, text_value, value_finding, value_placed, value_read, value_with, value_with_finding, word_leaf, word_text, word_used, wrong_if};
+ghost use Rattle.inf_bodies.specs.Bodies.{place_finding};
+ghost use Rattle.inf_compilation.specs.Works.{work};
+
+use crate::bodies::{is_words, last_at, place_finding, placed, property_of};
+use crate::objects::{entry_blame, found_at, tell_entry, text_in};
+use inf_area::{AreaName, Target, Value};
+use inf_compilation::compilation::Compilation;
+use inf_compilation::findings::{TOO_MANY, header_fault};
+use inf_compilation::routines::is_told;
+use inf_declarations::declarations::value;
+use inf_expressions::{Finding, Wanted, least_of_both};
+use inf_gathering::gathering::Leaf;
+use inf_lexer::{Place, Stack};
+use inf_listings::arrays::{has_variables, looked_value, text_at};
+use inf_scanner::{Mark, TokenKind};
+use inf_sinks::locals::Headed;
+use inf_tables::WordUse;
+use inf_text::{Mode, Text, dict_word};
+use inf_unit::messages::Diagnostic;
+use inf_unit::tokens::is_mark;
+use inf_unit::unit_tokens::UnitTokens;
+use std::alloc::AllocError;
+
+/// The place before another one.
+fn place_before(at: usize) -> Option<usize>
+    ensures { result ≡ place_before at }
+{
+    if at == 0 { None } else { Some(at - 1) }
+}
+
+/// The place of the name of a property, which stands before its first value, where that begins at a place.
+fn name_place(outer: Option<usize>) -> Option<usize>
+    ensures { result ≡ name_place outer }
+{
+    match outer {
+        Some(at) => place_before(at),
+        None => None,
+    }
+}
+
+/// That something is wrong with a value.
+fn wrong_if(is_wrong: bool) -> Option<Finding>
+    ensures { result ≡ wrong_if is_wrong }
+{
+    if is_wrong {
+        Some(Finding::out_of_range(0))
+    } else {
+        None
+    }
+}
+
+// Words of the dictionary
+
+/// The leaf that an expression with these leaves has alone.
+fn only_leaf(leaves: &[Leaf]) -> Option<Leaf>
+    ensures { result ≡ only_leaf leaves.now }
+{
+    match leaves {
+        [leaf] => Some(*leaf),
+        _ => None,
+    }
+}
+
+/// The word of the dictionary with these characters as a value; 0, where a string variable is among them.
+fn text_value(has_variables: bool, text: &Text) -> Value
+    ensures { result ≡ text_value has_variables text.now }
+{
+    if has_variables {
+        Value::Known(0)
+    } else {
+        Value::Later(Target::Word(dict_word(text)))
+    }
+}
+
+// Routines
+
+/// The place of the last bracket, with one token more.
+fn bracket_step(bracket: usize, at: usize, kind: Option<TokenKind>) -> usize
+    ensures { result ≡ bracket_step at kind bracket }
+{
+    match kind {
+        Some(kind) if is_mark(kind, Mark::OpenBracket) => at,
+        _ => bracket,
+    }
+}
+
+/// The place of the bracket that opens a routine, which is the last one of its unit.
+#[tactic(auto, using(crate::proofs::KindSteps::bracket_goes))]
+fn bracket_in(tokens: &UnitTokens) -> usize
+    ensures { result ≡ bracket_in tokens.now }
+{
+    let mut bracket = 0;
+    for at in 0..tokens.len() {
+        bracket = bracket_step(bracket, at, tokens.kind(at));
+    }
+    bracket
+}
+
+/// Whether there are too many locals, which is told before what is wrong with where a routine goes, unless that is told of the first token.
+pub fn is_first(finding: Finding, headed: &Headed) -> bool
+    ensures { result ≡ is_first finding (as_headed headed.now) }
+{
+    finding.number != TOO_MANY && headed.are_too_many
+}
+
+/// What is told of the header of a routine that is a value, where this is wrong with where it goes.
+fn misplaced_blame<'a>(
+    tokens: &'a UnitTokens,
+    files: &'a Stack,
+    first: Place,
+    headed: &'a Headed,
+    finding: Finding,
+) -> Option<Diagnostic<'a>>
+    ensures { option_map blamed result
+        ≡ misplaced_blame tokens.now files.now.names first (as_headed headed.now) finding }
+{
+    if is_first(finding, headed) {
+        header_fault(files, first, None, headed)
+    } else {
+        entry_blame(tokens, first, Some(finding))
+    }
+}
+
+/// The same, where this was found of where it goes.
+fn embedded_blame<'a>(
+    tokens: &'a UnitTokens,
+    files: &'a Stack,
+    first: Place,
+    headed: &'a Headed,
+    own: Option<Finding>,
+) -> Option<Diagnostic<'a>>
+    ensures { option_map blamed result
+        ≡ embedded_blame tokens.now files.now.names first (as_headed headed.now) own }
+{
+    match own {
+        Some(finding) => misplaced_blame(tokens, files, first, headed, finding),
+        None => header_fault(files, first, None, headed),
+    }
+}
+
+// Words of the dictionary
+
+/// Whether a character or a text is a word of the dictionary, as a value of the property whose name stands at a place, or of the one
+/// that was given last.
+fn takes_words(compilation: &Compilation, name: Option<usize>) -> bool
+    ensures { result ≡ takes_words name (work compilation.now) }
+{
+    match name {
+        Some(at) => is_words(property_of(found_at(compilation, at))),
+        None => compilation.is_name,
+    }
+}
+
+/// The leaf that may be a word of the dictionary: that of an expression which has no more.
+fn word_leaf(compilation: &Compilation, takes_words: bool) -> Option<Leaf>
+    ensures { result ≡ word_leaf takes_words (work compilation.now) }
+{
+    let gathering = &compilation.unit.gathering;
+    if takes_words && gathering.symbols().len() == 1 {
+        only_leaf(gathering.leaves())
+    } else {
+        None
+    }
+}
+
+/// The character that the last token is, as a text.
+fn char_text(compilation: &Compilation) -> Result<Option<Text>, AllocError>
+    ensures { IfOk result (λ text. text ≡ char_text (work compilation.now)) }
+{
+    match compilation
+        .unit
+        .tokens
+        .get(last_at(&compilation.unit.tokens))
+    {
+        Some(token) => text_in(compilation.alloc, compilation.set, Mode::Quote, token.bytes),
+        None => Ok(None),
+    }
+}
+
+/// The characters of a leaf that is a character or a text.
+fn leaf_text(compilation: &Compilation, leaf: Leaf) -> Result<Option<Text>, AllocError>
+    ensures { IfOk result (λ text. text ≡ leaf_text leaf (work compilation.now)) }
+{
+    match leaf {
+        Leaf::Char(_) => char_text(compilation),
+        Leaf::Text(at) => text_at(compilation, at),
+        _ => Ok(None),
+    }
+}
+
+/// The characters of the word of the dictionary that a value is.
+fn word_text(compilation: &Compilation, takes_words: bool) -> Result<Option<Text>, AllocError>
+    ensures { IfOk result (λ text. text ≡ word_text takes_words (work compilation.now)) }
+{
+    match word_leaf(compilation, takes_words) {
+        Some(leaf) => leaf_text(compilation, leaf),
+        None => Ok(None),
+    }
+}
+
+/// A word as a value is used, unless something is wrong with it.
+fn use_word(
+    compilation: &mut Compilation,
+    found: Option<Finding>,
+    text: &Text,
+) -> Result<(), AllocError>
+    ensures { OnOk result (work compilation.new ≡ word_used found text.now (work compilation.old)) }
+{
+    match found {
+        Some(_) => Ok(()),
+        None => compilation
+            .output
+            .word(dict_word(text), WordUse::Other, false),
+    }
+}
+
+/// A value that is a word with these characters.
+fn place_text(
+    compilation: &mut Compilation,
+    name: Option<usize>,
+    text: &Text,
+) -> Result<Option<Finding>, AllocError>
+    ensures value { OnOk result (work compilation.new ≡ text_placed name text.now (work compilation.old)) }
+    ensures finding { IfOk result (λ f. f ≡ text_finding name text.now (work compilation.old)) }
+{
+    let is_wrong = has_variables(text.as_slice());
+    let value = text_value(is_wrong, text);
+    let found = placed(compilation, name, value, wrong_if(is_wrong))?;
+    use_word(compilation, found, text)?;
+    Ok(found)
+}
+
+// Expressions
+
+/// A value that is the unit's expression, with which nothing is wrong.
+fn place_settled(
+    compilation: &mut Compilation,
+    name: Option<usize>,
+) -> Result<Option<Finding>, AllocError>
+    ensures value { OnOk result (work compilation.new ≡ settled_placed name (work compilation.old)) }
+    ensures finding { IfOk result (λ f. f ≡ settled_finding name (work compilation.old)) }
+{
+    let value = value(compilation)?;
+    placed(compilation, name, value, None)
+}
+
+/// A value that is the unit's expression, of which this was found, and this is its value where its names are only looked up.
+fn place_with(
+    compilation: &mut Compilation,
+    name: Option<usize>,
+    judged: Option<Finding>,
+    looked: Value,
+) -> Result<Option<Finding>, AllocError>
+    ensures value { OnOk result (work compilation.new ≡ value_with name judged looked (work compilation.old)) }
+    ensures finding { IfOk result (λ f. f ≡ value_with_finding name judged looked (work compilation.old)) }
+{
+    match least_of_both(judged, place_finding(compilation, name, looked)) {
+        Some(_) => placed(compilation, name, looked, judged),
+        None => place_settled(compilation, name),
+    }
+}
+
+/// A value that is the unit's expression.
+fn place_expression(
+    compilation: &mut Compilation,
+    name: Option<usize>,
+) -> Result<Option<Finding>, AllocError>
+    ensures value { OnOk result (work compilation.new ≡ expression_placed name (work compilation.old)) }
+    ensures finding { IfOk result (λ f. f ≡ expression_finding name (work compilation.old)) }
+{
+    let operands = compilation.operands()?;
+    let judged = compilation.finding(0, Wanted::Constant, operands.as_slice())?;
+    let looked = looked_value(compilation, operands.as_slice())?;
+    place_with(compilation, name, judged, looked)
+}
+
+/// A value goes to the property whose name stands before it, or to the one that was given last. Answers what is wrong.
+fn place_value(
+    compilation: &mut Compilation,
+    name: Option<usize>,
+) -> Result<Option<Finding>, AllocError>
+    ensures value { OnOk result (work compilation.new ≡ value_placed name (work compilation.old)) }
+    ensures finding { IfOk result (λ f. f ≡ value_finding name (work compilation.old)) }
+{
+    match word_text(compilation, takes_words(compilation, name))? {
+        Some(text) => place_text(compilation, name, &text),
+        None => place_expression(compilation, name),
+    }
+}
+
+/// A value of a property: its first, with the property's name before it, or a further one.
+pub fn value_of_body(
+    compilation: &mut Compilation,
+    files: &Stack,
+    place: Place,
+) -> Result<(), AllocError>
+    ensures { OnOk result (work compilation.new ≡ value_read files.now.names place (work compilation.old)) }
+{
+    let first = compilation.unit.first_place(place);
+    let name = name_place(compilation.unit.outer);
+    let found = place_value(compilation, name)?;
+    tell_entry(compilation, files, first, found)
+}
+
+// Routines
+
+/// The next routine, as a value.
+fn next_routine(compilation: &Compilation) -> Value
+    ensures { result ≡ next_routine (work compilation.now) }
+{
+    Value::Later(Target::Place(AreaName::Code, compilation.output.code.next_place()))
+}
+
+/// The next routine goes where it is to go, unless something is wrong with it.
+fn place_routine(
+    compilation: &mut Compilation,
+    name: Option<usize>,
+    is_lost: bool,
+) -> Result<(), AllocError>
+    ensures { OnOk result (work compilation.new ≡ routine_placed name is_lost (work compilation.old)) }
+{
+    let routine = next_routine(compilation);
+    placed(compilation, name, routine, wrong_if(is_lost))?;
+    Ok(())
+}
+
+/// Opens the code of a routine that is a value.
+fn open_embedded(
+    compilation: &mut Compilation,
+    files: &Stack,
+    first: Place,
+    headed: Headed,
+    is_lost: bool,
+) -> Result<(), AllocError>
+    ensures { OnOk result (work compilation.new
+        ≡ embedded_opened files.now.names first (as_headed headed) is_lost (work compilation.old)) }
+{
+    compilation.is_embedded = true;
+    compilation.is_replaced = false;
+    compilation.open_code(files, first, headed, is_lost)
+}
+
+/// A routine goes where it is to go as a value, unless something is wrong with it, and its code opens.
+fn begin_embedded(
+    compilation: &mut Compilation,
+    files: &Stack,
+    first: Place,
+    name: Option<usize>,
+    headed: Headed,
+    is_lost: bool,
+) -> Result<(), AllocError>
+    ensures { OnOk result (work compilation.new
+        ≡ embedded_begun files.now.names first name (as_headed headed) is_lost (work compilation.old)) }
+{
+    place_routine(compilation, name, is_lost)?;
+    open_embedded(compilation, files, first, headed, is_lost)
+}
+
+/// What is wrong with where a routine goes as a value.
+fn embedding_finding(compilation: &Compilation, name: Option<usize>) -> Option<Finding>
+    ensures { result ≡ place_finding name (next_routine (work compilation.now)) (work compilation.now) }
+{
+    place_finding(compilation, name, next_routine(compilation))
+}
+
+/// A routine that is a value, with these locals.
+#[tactic(auto, unfolding(crate::specs::Values::embedded))]
+fn embed(
+    compilation: &mut Compilation,
+    files: &Stack,
+    first: Place,
+    name: Option<usize>,
+    headed: Headed,
+) -> Result<(), AllocError>
+    ensures { OnOk result (work compilation.new ≡ embedded files.now.names first name (as_headed headed) (work compilation.old)) }
+{
+    let own = embedding_finding(compilation, name);
+    let blame = embedded_blame(&compilation.unit.tokens, files, first, &headed, own);
+    let is_lost = is_told(&blame);
+    compilation.report.fault(files, first, blame)?;
+    begin_embedded(compilation, files, first, name, headed, is_lost)
+}
+
+/// The header of a routine that is a value: its first, with the property's name before its bracket, or a further one.
+pub fn routine_of_body(
+    compilation: &mut Compilation,
+    files: &Stack,
+    place: Place,
+) -> Result<(), AllocError>
+    ensures { OnOk result (work compilation.new ≡ embedded_read files.now.names place (work compilation.old)) }
+{
+    let first = compilation.unit.first_place(place);
+    let name = place_before(bracket_in(&compilation.unit.tokens));
+    let headed = compilation.take_headed();
+    embed(compilation, files, first, name, headed)
+}

@@ -1,0 +1,509 @@
+-- What the actions of the grammar do. While a unit is read they gather what it has, and at its end it acts, as a whole.
+use Rattle.std.specs.Prelude.{ℕ, ◌+◌, ◌-◌, ◌==◌, max, List, [], ◌∷◌, length, map, nat_lt, Bool, true, false, ◌&&◌, if◌then◌else◌, Option, Some, None, is_some, unwrap_or}
+use Rattle.inf_characters.specs.declared.characters.CharSet.{CharSet}
+use Rattle.inf_scanner.specs.declared.tokens.Mark.{Mark}
+use Rattle.inf_scanner.specs.declared.tokens.Mark.TheVariants as mark
+use Rattle.inf_scanner.specs.declared.tokens.Place.{Place}
+use Rattle.inf_scanner.specs.declared.tokens.TokenKind.{TokenKind}
+use Rattle.inf_scanner.specs.declared.tokens.TokenKind.TheVariants as kind
+use Rattle.inf_assembler.specs.declared.routines.RoutineKind.{RoutineKind}
+use Rattle.inf_assembler.specs.declared.routines.RoutineKind.TheVariants as routine_kind
+use Rattle.inf_assembler.specs.declared.routines.CloseFault.{CloseFault}
+use Rattle.inf_assembler.specs.declared.routines.CloseFault.TheVariants as close_fault
+use Rattle.inf_settings.specs.Settings.{number_of as setting_number}
+use Rattle.inf_settings.specs.declared.setting.Setting.TheVariants as setting
+use Rattle.inf_settings.specs.declared.settings.Settings.{Settings}
+use Rattle.inf_expressions.specs.declared.findings.Finding.{Finding}
+use Rattle.inf_expressions.specs.declared.operators.Operand.{Operand}
+use Rattle.inf_expressions.specs.declared.operators.Operand.TheVariants as operand
+use Rattle.inf_expressions.specs.declared.units.Wanted.{Wanted}
+use Rattle.inf_expressions.specs.declared.units.Wanted.TheVariants as wanted
+use Rattle.inf_expressions.specs.Findings.{least_of_both, no_constant}
+use Rattle.inf_expressions.specs.Rooted.{Rooted}
+use Rattle.inf_expressions.specs.Trees.{Tree, Leaf}
+use Rattle.inf_expressions.specs.Units.{judged, trees_of}
+use Rattle.inf_gathering.specs.declared.gathering.Leaf.{Leaf as UnitLeaf}
+use Rattle.inf_gathering.specs.declared.gathering.Leaf.TheVariants as leaf
+use Rattle.inf_cells.specs.declared.scale.Scale.TheVariants as scale
+use Rattle.inf_code.specs.declared.code.CodeLimits.{CodeLimits}
+use Rattle.inf_code.specs.Code.{fault_closed, labels as labels_of, no_routines, place_behind, with_none_open}
+use Rattle.inf_names.specs.Symbols.{Table, declare_fault, found_in, no_names, refer_fault, with_used}
+use Rattle.inf_names.specs.declared.symbols.DeclareFault.{DeclareFault}
+use Rattle.inf_names.specs.declared.symbols.Found.{Found}
+use Rattle.inf_names.specs.declared.symbols.Found.TheVariants as found
+use Rattle.inf_names.specs.declared.meanings.Meaning.{Meaning}
+use Rattle.inf_names.specs.declared.meanings.Meaning.TheVariants as meaning
+use Rattle.inf_report.specs.Messages.{BranchTooFar, ConstantOutOfRange, DeepNesting, Exceeded, LabelMissing, UnusedLocal}
+use Rattle.inf_report.specs.OwnWords.{Words}
+use Rattle.inf_sinks.specs.Spellings.{Name}
+use Rattle.inf_sinks.specs.Locals.{Local, Headed}
+use Rattle.inf_unit.specs.Directives.{Request, Nothing}
+use Rattle.inf_unit.specs.Messages.{FileNames, Diagnostic, Reported, location, nothing_reported, with_error, with_fatal, with_fault, with_full, with_warning}
+use Rattle.inf_unit.specs.Names.{no_symbols}
+use Rattle.inf_unit.specs.Tokens.{SourceToken, number_of}
+use Rattle.inf_unit.specs.Units.{Unit, bytes_at, first_place, kind_at, long_at, name_order, names_in, no_unit, outer_tokens, over, quoted_in, short_name_of, taken as unit_taken}
+use Rattle.inf_output.specs.Strings.{no_strings}
+use Rattle.inf_tables.specs.Tables.{no_tables}
+use Rattle.inf_output.specs.Output.{Code, Out, begun, closed, declared, full, opened, referred}
+use Rattle.inf_compilation.specs.Findings.{blame_of, header_fault, name_fault}
+use Rattle.inf_arrays.specs.Arrays.{AllArrays, no_arrays}
+use Rattle.inf_compilation.specs.declared.compilation.Listing.{Listing}
+use Rattle.inf_compilation.specs.declared.compilation.Extending.{Extending}
+use Rattle.inf_compilation.specs.Words.{nowhere}
+use Rattle.inf_verbs.specs.declared.verbs.Place.TheVariants as line_place
+use Rattle.inf_statements.specs.Constructs.{depth, ended}
+use Rattle.inf_statements.specs.declared.constructs.Construct.{Construct}
+use Rattle.inf_statements.specs.Labels.{NamedLabel, missing}
+use Rattle.inf_statements.specs.Operands.{Settled, all_looked, leaf_added, leaves_named, settled, stores_named}
+use Rattle.inf_statements.specs.Statements.{tree_in}
+use Rattle.inf_world.specs.declared.faults.AddFault.{AddFault}
+use Rattle.inf_world.specs.World.{WorldOf, no_body_fault, with_end}
+
+-- what code may hold, as the settings say: the labels, branches and jumps of a routine, bytes, and references
+abbrev pub limits_of : Settings → CodeLimits
+limits_of settings = record {
+  labels = setting_number setting.Labels settings;
+  code = setting_number setting.Code settings;
+  refs = setting_number setting.References settings;
+}
+
+abbrev pub no_output : Settings → Out
+no_output settings = record {
+  code = no_routines (limits_of settings) scale.Four;
+  strings = no_strings (setting_number setting.Strings settings) scale.Four;
+  tables = no_tables settings;
+  names = no_symbols settings;
+  seen = no_names 4294967295 false;
+  first = nowhere;
+  next = 0;
+  past = None;
+  kept = None;
+}
+
+-- What was compiled so far: the character set of the sources; how many tokens an expression may have, and how many one had; how many labels
+-- a routine had, where
+-- units were finished; the unit at hand; the statements that are open, the innermost first, and how many that are over were closed ahead of
+-- a conditional;
+-- where the last token is, if it is the word of a compound statement where a case may stand, too; the labels with names and the locals of
+-- the open routine; the code and the names of the source; the messages; what a directive asks of the reading; the names of
+-- routines that are to be replaced, whether those of the file at hand may be, and those of the files that wait, the inner files first;
+-- whether the
+-- routine at hand is passed over for that; the array whose entries are read, and where they go if its header had an error; whether the
+-- values that are read are those of the property `name`, and whether the open routine is a value of a property.
+pub record Compilation : Type 0 where
+  pub set : CharSet
+  pub longest : ℕ
+  pub most_tokens : ℕ
+  pub most_labels : ℕ
+  pub unit : Unit
+  pub constructs : List Construct
+  pub closed : ℕ
+  pub opening : Option Place
+  pub labels : List NamedLabel
+  pub locals : List Local
+  pub output : Out
+  pub report : Reported
+  pub asked : Request
+  pub replaced : Table Place
+  pub is_system : Bool
+  pub waiting : List Bool
+  pub is_replaced : Bool
+  pub listing : Listing
+  pub lost : AllArrays
+  pub is_name : Bool
+  pub is_embedded : Bool
+  pub extending : Extending
+
+-- before the first unit of sources in a character set
+abbrev pub no_work : CharSet → Settings → Compilation
+no_work set settings = record {
+  set = set;
+  longest = setting_number setting.ExpressionNodes settings;
+  most_tokens = 0;
+  most_labels = 0;
+  unit = no_unit;
+  constructs = [];
+  closed = 0;
+  opening = None;
+  labels = [];
+  locals = [];
+  output = no_output settings;
+  report = nothing_reported;
+  asked = Nothing;
+  replaced = no_symbols settings;
+  is_system = false;
+  waiting = [];
+  is_replaced = false;
+  listing = record { is_lost = false; has_entries = false };
+  lost = no_arrays 18446744073709551615;
+  is_name = false;
+  is_embedded = false;
+  extending = record { verb = None; place = line_place.Last };
+}
+
+-- Units
+
+-- A piece begins. No locals of a routine before it are known in it.
+abbrev pub piece_begun : Compilation → Compilation
+piece_begun w = record w { unit = no_unit; constructs = []; closed = 0; opening = None; locals = [] }
+
+-- the labels, branches and jumps of the open routine are counted
+abbrev pub labels_counted : Compilation → Compilation
+labels_counted w = record w { most_labels = max w.most_labels (labels_of w.output.code) }
+
+-- The end of a unit, which begins at a place: its error is told, if it has one, and then the first limit that was passed.
+abbrev pub unit_ended : FileNames → Place → Bool → Option Diagnostic → Compilation → Compilation
+unit_ended files first has_last blame w = record w {
+  unit = over has_last w.unit;
+  most_labels = max w.most_labels (labels_of w.output.code);
+  report = with_full files first (full w.output) (with_fault files first blame w.report);
+}
+
+-- Something is laid for a unit that begins at a place.
+abbrev pub laid : Place → Code → Compilation → Compilation
+laid first code w = record w { output = code (record w.output { first = first }) }
+
+-- Code begins with the first unit that is finished.
+abbrev pub begun_at : FileNames → Place → Compilation → Compilation
+begun_at files first w =
+    let o = begun w.output in record w {
+      output = o;
+      most_labels = max w.most_labels (labels_of o.code);
+      report = with_full files first
+          (full o) w.report;
+    }
+
+-- a message at a place ends the compilation, if there is a place; and else the tokens of the expression are counted
+abbrev pub stopped : FileNames → Option Place → Compilation → Compilation
+stopped files None w = record w { most_tokens = max w.most_tokens (outer_tokens w.unit) }
+stopped files (Some place) w = record w { report = with_fatal (location files place) (Exceeded setting.ExpressionNodes) w.report }
+
+-- An expression of more tokens than it may have ends the compilation, at the first token too many.
+abbrev pub sized : FileNames → Compilation → Compilation
+sized files w = stopped files (long_at w.longest w.unit) w
+
+-- Brackets, braces and compound statements that stand in one another are at most so many.
+abbrev pub most_nested : ℕ
+most_nested = 64
+
+abbrev pub is_deep : Compilation → ℕ → Bool
+is_deep w more = nat_lt most_nested (w.unit.depth + depth w.constructs + more)
+
+abbrev pub nested : FileNames → Place → Bool → Compilation → Compilation
+nested files place is_deep w = if is_deep then record w { report = with_fatal (location files place) DeepNesting w.report } else w
+
+abbrev pub opens : TokenKind → Bool
+opens (kind.Mark mark.OpenParenthesis) = true
+opens (kind.Mark mark.OpenBrace) = true
+opens _ = false
+
+-- a token is taken
+abbrev pub token_checked : FileNames → SourceToken → Compilation → Compilation
+token_checked files t w = nested files t.place (opens t.kind && is_deep w 0) w
+
+abbrev pub took : FileNames → SourceToken → Compilation → Compilation
+took files t w = token_checked files t (sized files (record w { unit = unit_taken t w.unit }))
+
+-- The body of an object or a class ends, if one is open.
+abbrev pub world_ended_by : Option AddFault → WorldOf → WorldOf
+world_ended_by None world = with_end world
+world_ended_by (Some f) world = world
+
+abbrev pub world_ended : Code
+world_ended o = record o { tables = record o.tables { world = world_ended_by (no_body_fault o.tables.world) o.tables.world } }
+
+abbrev pub body_ended : Compilation → Compilation
+body_ended w = record w { output = world_ended w.output }
+
+-- the routine that is open is given up
+abbrev pub given_up : Compilation → Compilation
+given_up w = record w { output = record w.output { code = with_none_open w.output.code } }
+
+-- The word of a compound statement opens its level with a bad token behind it, too, where a case of that name might have stood.
+abbrev pub opening_checked_at : Option Place → FileNames → Compilation → Compilation
+opening_checked_at None files w = w
+opening_checked_at (Some place) files w = nested files place (is_deep w 1) w
+
+abbrev pub opening_checked : FileNames → Compilation → Compilation
+opening_checked files w = opening_checked_at w.opening files w
+
+-- a bad token cuts the unit at hand, which surely was an expression, and the body and the routine in which it stands
+abbrev pub cut : FileNames → Compilation → Compilation
+cut files w = opening_checked files (sized files (given_up (body_ended (record w { unit = record w.unit { is_sure = true } }))))
+
+-- whether a token is the name of a class
+abbrev pub names_class_of : Meaning → Bool
+names_class_of (meaning.Class number) = true
+names_class_of _ = false
+
+abbrev pub names_class : Found Place → Bool
+names_class (found.Declared m first) = names_class_of m
+names_class (found.System m) = false
+names_class found.Used = false
+names_class found.Unknown = false
+
+abbrev pub is_class_name : Option Name → Table Place → Bool
+is_class_name None names = false
+is_class_name (Some n) names = names_class (found_in n.bytes names)
+
+abbrev pub is_class : SourceToken → Compilation → Bool
+is_class t w = is_class_name (short_name_of t) w.output.names
+
+-- Expressions of the unit at hand
+
+abbrev pub operands_of : Compilation → List Operand
+operands_of w = all_looked w.locals w.output w.unit.tokens w.unit.gathering.leaves
+
+-- the least of what is wrong with them, in a unit whose first token has an order
+abbrev pub finding_at : ℕ → Wanted → Compilation → Option Finding
+finding_at first wanted w = judged wanted first (operands_of w) w.unit.gathering.symbols
+
+-- They, and where it stores, name its locals.
+abbrev pub named : Compilation → Compilation
+named w = record w { locals = stores_named w.unit.tokens w.unit.items (leaves_named w.unit.tokens w.unit.gathering.leaves w.locals) }
+
+-- their trees, when their names were used
+abbrev pub settled_of : Compilation → Settled
+settled_of w = settled w.set w.locals w.unit.tokens w.unit.gathering.leaves (record { out = w.output; operands = [] })
+
+abbrev pub trees_at : ℕ → Wanted → List Operand → Compilation → List Rooted
+trees_at first wanted operands w = trees_of wanted first operands w.unit.gathering.symbols
+
+-- in a routine that is passed over nothing has an effect
+abbrev pub passed : Bool → Compilation → Compilation
+passed has_last w = record w { unit = over has_last w.unit }
+
+-- A routine
+
+-- A header, which begins at a place, opens a routine with its locals. With an error it still declares its name, where that
+-- is free, and its locals. Z-Machine Standard 1.1, section 5.2.
+abbrev pub opened_with : FileNames → Place → Headed → Bool → Compilation → Compilation
+opened_with files first h is_lost w =
+    unit_ended files first true None (record w {
+      output = opened (length h.locals) is_lost w.output;
+      locals = h.locals;
+      constructs = [];
+      labels = [];
+    })
+
+abbrev pub routine_declared : Name → Compilation → Compilation
+routine_declared name w =
+    record w { output = declared name.bytes name.place (meaning.Routine (place_behind w.output.code.finished)) w.output }
+
+abbrev pub told : FileNames → Place → Option Diagnostic → Compilation → Compilation
+told files first blame w = record w { report = with_fault files first blame w.report }
+
+abbrev pub header_with : FileNames → Place → Name → Headed → Compilation → Compilation
+header_with files first name h w =
+    let blame = header_fault files first (name_fault files name (declare_fault name.bytes w.output.names)) h in
+    opened_with files first h (is_some blame) (told files first blame (routine_declared name w))
+
+-- a name that is kept among those of routines that are to be replaced
+abbrev pub is_kept : Found Place → Bool
+is_kept found.Used = true
+is_kept _ = false
+
+-- In a file that is marked a routine gives nothing which is to be replaced: it is passed over.
+abbrev pub is_to_be_replaced : Name → Compilation → Bool
+is_to_be_replaced n w = w.is_system && is_kept (found_in n.bytes w.replaced)
+
+-- behind its bracket a header has the name of its routine; its locals are kept apart
+abbrev pub header_of : FileNames → Place → List Name → Compilation → Compilation
+header_of files first [] w = passed true w
+header_of files first (name ∷ names) w =
+    if is_to_be_replaced name w then passed true (record w { is_replaced = true; is_embedded = false; constructs = [] })
+    else header_with files first name w.unit.headed (record w { is_replaced = false; is_embedded = false })
+
+abbrev pub header_end : FileNames → Place → Compilation → Compilation
+header_end files place w = header_of files (first_place w.unit.tokens place) (names_in w.unit.tokens) w
+
+-- a warning, at a place, for each local that no statement named
+abbrev pub with_unused : FileNames → Place → Local → Reported → Reported
+with_unused files place l r = if l.is_named then r else with_warning (location files place) (UnusedLocal l.name) r
+
+abbrev pub with_all_unused : FileNames → Place → List Local → Reported → Reported
+with_all_unused files place [] r = r
+with_all_unused files place (l ∷ locals) r = with_all_unused files place locals (with_unused files place l r)
+
+-- What is wrong with the labels or offsets of a routine: a label that is used and not given, or a branch that goes too far. A label without
+-- a name is missing
+-- only where a limit was passed before its place was laid, which is told by itself.
+abbrev pub with_branch_fault : FileNames → Place → Option CloseFault → Reported → Reported
+with_branch_fault files place (Some (close_fault.LabelTwice label)) r =
+    with_error (location files place) (location files place) BranchTooFar r
+with_branch_fault files place (Some close_fault.TooFar) r = with_error (location files place) (location files place) BranchTooFar r
+with_branch_fault files place _ r = r
+
+abbrev pub with_fault_or : Option (List ℕ) → FileNames → Place → Option CloseFault → Reported → Reported
+with_fault_or (Some name) files place fault r = with_error (location files place) (location files place) (LabelMissing name) r
+with_fault_or None files place fault r = with_branch_fault files place fault r
+
+abbrev pub with_routine_fault : FileNames → Place → List NamedLabel → Option CloseFault → Reported → Reported
+with_routine_fault files place labels fault r = with_fault_or (missing labels) files place fault r
+
+-- A routine that stands in a list of values is embedded.
+abbrev pub kind_ended : Bool → RoutineKind
+kind_ended is_embedded = if is_embedded then routine_kind.Embedded else routine_kind.Plain
+
+-- The end of a routine of a kind, at a place: what is wrong with it is told, and its unused locals, which are not known behind it.
+abbrev pub close_as : RoutineKind → FileNames → Place → Compilation → Compilation
+close_as how files place w =
+    let fault = fault_closed how w.output.code in
+    unit_ended files place true None (record w {
+      most_labels = max w.most_labels (labels_of w.output.code);
+      output = closed how w.output;
+      report = with_all_unused files place w.locals (with_routine_fault files place w.labels fault w.report);
+      locals = [];
+      is_embedded = false;
+    })
+
+abbrev pub code_closed : FileNames → Place → Compilation → Compilation
+code_closed files place w = close_as (kind_ended w.is_embedded) files place w
+
+-- Before that its own cases end, if it has such. Of one that is passed over nothing ends.
+abbrev pub cases_ended : Compilation → Compilation
+cases_ended w = let laid = ended w.constructs w.output in record w { constructs = laid.0; output = laid.1 }
+
+abbrev pub close_open : FileNames → Place → Compilation → Compilation
+close_open files place w = code_closed files place (cases_ended w)
+
+abbrev pub close : FileNames → Place → Compilation → Compilation
+close files place w = if w.is_replaced then passed true w else close_open files place w
+
+-- Directives, which begin at a place
+
+-- the text of the unit, in the character set of the sources
+abbrev pub words_of : CharSet → Unit → Words
+words_of set u = record { bytes = quoted_in u.tokens; set = set }
+
+-- What a constant stands for, by its expression: a known number, or what a name stands for that was declared before.
+-- a constant that is a routine is none itself
+abbrev pub as_constant : Meaning → Meaning
+as_constant (meaning.Routine place) = meaning.PackedAddress place
+as_constant m = m
+
+abbrev pub declared_meaning : Found Place → Option Meaning
+declared_meaning (found.Declared m place) = Some (as_constant m)
+declared_meaning (found.System m) = None
+declared_meaning found.Used = None
+declared_meaning found.Unknown = None
+
+abbrev pub named_leaf : List SourceToken → List UnitLeaf → List ℕ
+named_leaf tokens ((leaf.Name at) ∷ leaves) = bytes_at tokens at
+named_leaf tokens _ = []
+
+-- a text is the next string, and a word of the dictionary stands for itself
+abbrev pub leaf_meaning : List UnitLeaf → Compilation → Option Meaning
+leaf_meaning ((leaf.Text at) ∷ leaves) w = Some (meaning.Text (length w.output.strings.bytes))
+leaf_meaning ((leaf.Word word) ∷ leaves) w = Some (meaning.Word word.text)
+leaf_meaning leaves w = declared_meaning (found_in (named_leaf w.unit.tokens leaves) w.output.names)
+
+abbrev pub constant_of : List Tree → Compilation → Option Meaning
+constant_of [] w = Some (meaning.Number 0)
+constant_of ((Leaf (operand.Known number)) ∷ trees) w = Some (meaning.Number number)
+constant_of ((Leaf (operand.Later target)) ∷ trees) w = leaf_meaning w.unit.gathering.leaves w
+constant_of (_ ∷ trees) w = None
+
+-- what is wrong with its expression, and what it stands for
+abbrev pub constant_finding : Option Meaning → Option Finding → Option Finding
+constant_finding None None = Some (no_constant 0)
+constant_finding _ found = found
+
+abbrev pub constant_meaning : Option Meaning → Option Finding → Meaning
+constant_meaning (Some m) None = m
+constant_meaning _ found = meaning.Number 0
+
+-- the name's own error, of which the number is that of a name that stands already, at the order of its token
+abbrev pub name_finding : ℕ → Option Diagnostic → Option Finding
+name_finding order None = None
+name_finding order (Some blame) = Some (record { order = order; number = 8 })
+
+abbrev pub constant_blame : List SourceToken → Option Diagnostic → Option Finding → Option Diagnostic
+constant_blame tokens of_name None = None
+constant_blame tokens of_name (Some f) = if f.number == 8 then of_name else Some (blame_of tokens f)
+
+-- Without an error its text or word is added.
+abbrev pub constant_added : Option Finding → Compilation → Compilation
+constant_added None w = record w { output = leaf_added w.set w.unit.tokens w.unit.gathering.leaves w.output }
+constant_added (Some f) w = w
+
+-- the end of its directive, where the name was refused or not
+abbrev pub constant_ended : FileNames → Place → Name → Option (DeclareFault Place) → Option Finding → Compilation → Compilation
+constant_ended files first name refused finding w =
+    let of_name = name_fault files name refused in
+    let least = least_of_both (name_finding (name_order w.unit.tokens) of_name) finding in
+    unit_ended files first true (constant_blame w.unit.tokens of_name least) (constant_added least w)
+
+abbrev pub constant_declared : FileNames → Place → Name → Option Meaning → Option Finding → Compilation → Compilation
+constant_declared files first name m finding w =
+    constant_ended files first name (declare_fault name.bytes w.output.names) finding
+    (record w { output = declared name.bytes name.place (constant_meaning m finding) w.output })
+
+abbrev pub constant_with : FileNames → Place → Name → Option Meaning → Option Finding → Compilation → Compilation
+constant_with files first name m found w = constant_declared files first name m (constant_finding m found) w
+
+abbrev pub constant : FileNames → Place → List Name → Compilation → Compilation
+constant files first [] w = passed true w
+constant files first (name ∷ names) w =
+    constant_with files first name (constant_of (map tree_in (trees_at 0 wanted.Constant (operands_of w) w)) w)
+    (finding_at 0 wanted.Constant w) w
+
+-- The routine of a name is to be replaced where it stands in a file that is marked. That is a use of the name.
+abbrev pub used_name : Name → Table Place → Table Place
+used_name n names = if is_some (refer_fault n.bytes names) then names else with_used n.bytes n.place names
+
+abbrev pub replace : FileNames → Place → List Name → Compilation → Compilation
+replace files first [] w = passed true w
+replace files first (name ∷ names) w =
+    unit_ended files first true None (record w { output = referred name.bytes name.place w.output; replaced = used_name name w.replaced })
+
+-- A stub is a routine of so many locals, four at most, that returns 0. It is one where the name is not declared.
+abbrev pub stub_locals_by : Option TokenKind → ℕ
+stub_locals_by None = 0
+stub_locals_by (Some k) = unwrap_or (number_of k) 0
+
+abbrev pub stub_locals : List SourceToken → ℕ
+stub_locals tokens = stub_locals_by (kind_at tokens (length tokens - 1))
+
+abbrev pub stub_code : ℕ → Code
+stub_code locals o = closed routine_kind.Embedded (opened locals false o)
+
+abbrev pub stubbed : FileNames → Place → Compilation → Compilation
+stubbed files first w =
+    let locals = stub_locals w.unit.tokens in
+    if nat_lt 4 locals then unit_ended files first true (Some (record { place = first; message = ConstantOutOfRange })) w
+    else unit_ended files first true None (record w { output = stub_code locals w.output })
+
+-- whether a name is declared, by what looking for it found
+abbrev pub is_declared : Found Place → Bool
+is_declared (found.System m) = true
+is_declared (found.Declared m place) = true
+is_declared found.Used = false
+is_declared found.Unknown = false
+
+-- whether the first of some names is declared
+abbrev pub is_first_declared : List Name → Table Place → Bool
+is_first_declared [] names = false
+is_first_declared (name ∷ others) names = is_declared (found_in name.bytes names)
+
+abbrev pub new_stub : FileNames → Place → List Name → Compilation → Compilation
+new_stub files first [] w = passed true w
+new_stub files first (name ∷ names) w = stubbed files first (routine_declared name w)
+
+abbrev pub stub : FileNames → Place → List Name → Compilation → Compilation
+stub files first names w =
+    if is_first_declared names w.output.names then unit_ended files first true None w else new_stub files first names w
+
+-- Files
+
+-- a file is entered, which is not marked
+abbrev pub entered : Compilation → Compilation
+entered w = record w { is_system = false; waiting = w.is_system ∷ w.waiting }
+
+-- it is left, and the file that waits is as it was
+abbrev pub left_to : List Bool → Compilation → Compilation
+left_to [] w = w
+left_to (is_system ∷ waiting) w = record w { is_system = is_system; waiting = waiting }
+
+abbrev pub left : Compilation → Compilation
+left w = left_to w.waiting w

@@ -1,0 +1,5 @@
+pub mod Words
+pub mod Findings
+pub mod Actions
+pub mod Parts
+pub mod Works

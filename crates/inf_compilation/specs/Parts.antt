@@ -1,0 +1,148 @@
+-- The units of a routine that have expressions, and the statements that hold others.
+use Rattle.std.specs.Prelude.{ℕ, ◌-◌, nat_lt, max, List, [], ◌∷◌, map, Bool, true, false, if◌then◌else◌, Option, Some, None}
+use Rattle.inf_scanner.specs.declared.tokens.Place.{Place}
+use Rattle.inf_expressions.specs.declared.findings.Finding.{Finding}
+use Rattle.inf_expressions.specs.declared.units.Wanted.{Wanted}
+use Rattle.inf_expressions.specs.declared.units.Wanted.TheVariants as wanted
+use Rattle.inf_expressions.specs.Findings.{least_of_both}
+use Rattle.inf_expressions.specs.Rooted.{Rooted}
+use Rattle.inf_gathering.specs.Gatherings.{with_actions}
+use Rattle.inf_output.specs.Output.{apart, ◌▸◌}
+use Rattle.inf_unit.specs.Messages.{FileNames}
+use Rattle.inf_unit.specs.Units.{first_place, last_place, order, own_place, prepared as unit_prepared}
+use Rattle.inf_unit.specs.declared.items.Item.{Item}
+use Rattle.inf_unit.specs.declared.items.Item.TheVariants as item
+use Rattle.inf_statements.specs.Cases.{case_code}
+use Rattle.inf_statements.specs.Constructs.{Laying, all_ended, are_own, begun, between, cases_begun, changed, condition_label, ended, entered, is_late, looped_over, next_case, stepped}
+use Rattle.inf_statements.specs.Effects.{Site, misplaced_default, only_if, site_finding, statement_finding, statement_laid, wanted_by}
+use Rattle.inf_statements.specs.Statements.{alone, statement_in, switched, tested, tree_in}
+use Rattle.inf_statements.specs.declared.constructs.Construct.{Construct}
+use Rattle.inf_statements.specs.declared.constructs.Kind.{Kind}
+use Rattle.inf_statements.specs.declared.statements.Statement.{Statement}
+use Rattle.inf_statements.specs.declared.statements.Statement.TheVariants as statement
+use Rattle.inf_compilation.specs.Actions.{Compilation, finding_at, is_deep, named, nested, operands_of, passed, settled_of, trees_at, unit_ended}
+use Rattle.inf_compilation.specs.Findings.{blame_of}
+use Rattle.inf_compilation.specs.declared.parts.Part.{Part}
+use Rattle.inf_compilation.specs.declared.parts.Part.TheVariants as part
+
+-- whether its last token is still to come when it ends
+abbrev pub has_last : Part → Bool
+has_last (part.Statement s) = true
+has_last _ = false
+
+-- what it wants of its expressions
+abbrev pub wanted_of : Part → Wanted
+wanted_of (part.Statement s) = wanted_by s
+wanted_of part.Loop = wanted.Loop
+wanted_of part.Case = wanted.Case
+wanted_of _ = wanted.Value
+
+-- Where it begins: a case with the first token behind the unit before, and every other one with its own.
+abbrev pub order_of : Part → Compilation → ℕ
+order_of part.Case w = 0
+order_of _ w = order w.unit.begun
+
+abbrev pub place_of : Part → Place → Compilation → Place
+place_of part.Case place w = first_place w.unit.tokens place
+place_of _ place w = own_place w.unit place
+
+-- what a statement goes by beside its trees, and what it is
+abbrev pub site_of : Compilation → Site
+site_of w =
+    record { set = w.set; tokens = w.unit.tokens; begun = w.unit.begun; items = w.unit.items; locals = w.locals; constructs = w.constructs }
+
+abbrev pub statement_at : Compilation → Statement
+statement_at w = statement_in w.unit.tokens w.unit.begun w.unit.items
+
+-- What is wrong with it: the least of what is found of its expressions and beside them.
+abbrev pub line_finding_of : Compilation → Option Finding
+line_finding_of w =
+    site_finding (site_of w) w.output.names (map tree_in (trees_at (order w.unit.begun) wanted.Operand (operands_of w) w))
+
+abbrev pub own_finding : Part → Compilation → Option Finding
+own_finding (part.Statement statement.Assembly) w = line_finding_of w
+own_finding (part.Statement s) w = statement_finding (site_of w) w.labels s
+own_finding part.Case w = only_if (is_late w.constructs) misplaced_default
+own_finding _ w = None
+
+abbrev pub found_in : Part → Compilation → Option Finding
+found_in p w = least_of_both (finding_at (order_of p w) (wanted_of p) w) (own_finding p w)
+
+-- Open statements
+
+abbrev pub constructs_laid : Laying (List Construct) → Compilation → Compilation
+constructs_laid laying w = let laid = laying w.output in record w { constructs = laid.0; output = laid.1 }
+
+-- A case begins, also one with an error: what stands before it goes to the end of its `switch`.
+abbrev pub is_default : List Item → Bool
+is_default (item.Default ∷ items) = true
+is_default _ = false
+
+abbrev pub part_begun : Part → Compilation → Compilation
+part_begun part.Case w = constructs_laid (changed (entered (is_default w.unit.items)) w.constructs) w
+part_begun _ w = w
+
+-- What it does, with its trees
+abbrev pub statement_laid_in : Statement → List Rooted → Compilation → Compilation
+statement_laid_in s trees w =
+    let laid = statement_laid (site_of w) s (map tree_in trees) w.labels w.output in record w { labels = laid.0; output = laid.1 }
+
+unfoldable pub part_effect : Part → List Rooted → Compilation → Compilation
+part_effect (part.Statement s) trees w = statement_laid_in s trees w
+part_effect part.Condition trees w = record w { output = tested (condition_label w.constructs) (map tree_in trees) w.output }
+part_effect part.Start trees w = record w { output = alone (map tree_in trees) w.output }
+part_effect part.Step trees w = constructs_laid (λ o. stepped w.constructs ((apart ▸ alone (map tree_in trees)) o)) w
+part_effect part.Loop trees w = constructs_laid (looped_over trees w.constructs) w
+part_effect part.Switched trees w = record w { output = switched (map tree_in trees) w.output }
+part_effect part.Case trees w = record w { output = case_code (next_case w.constructs) (map tree_in trees) w.output }
+
+-- It ends, which begins at a place. With an error it has no effect but that its locals are named, and that a case begins.
+abbrev pub part_carried : FileNames → Place → Part → Option Finding → Compilation → Compilation
+part_carried files first p (Some f) w = unit_ended files first (has_last p) (Some (blame_of w.unit.tokens f)) w
+part_carried files first p None w =
+    let s = settled_of w in
+    unit_ended files first (has_last p) None
+    (part_effect p (trees_at (order_of p w) (wanted_of p) s.operands w) (record w { output = record s.out { first = first } }))
+
+abbrev pub part_finished : FileNames → Place → Part → Compilation → Compilation
+part_finished files first p w = part_carried files first p (found_in p w) (named (part_begun p w))
+
+abbrev pub part_prepared : Compilation → Compilation
+part_prepared w = record w { unit = unit_prepared w.unit }
+
+-- Before a case: one outside of any statement is one of the routine's own, whose values are actions.
+abbrev pub actions_named : Bool → Compilation → Compilation
+actions_named true w = record w { unit = record w.unit { gathering = with_actions w.unit.gathering } }
+actions_named false w = w
+
+abbrev pub own_case_prepared : Compilation → Compilation
+own_case_prepared w = let begun = constructs_laid (cases_begun w.constructs) w in actions_named (are_own begun.constructs) begun
+
+abbrev pub case_prepared : Part → Compilation → Compilation
+case_prepared part.Case w = own_case_prepared w
+case_prepared _ w = w
+
+-- before a token at a place; in a routine that is passed over nothing has an effect
+abbrev pub part_ended : FileNames → Place → Part → Compilation → Compilation
+part_ended files place p w =
+    if w.is_replaced then passed (has_last p) w
+    else let ready = case_prepared p (part_prepared w) in part_finished files (place_of p place ready) p ready
+
+-- Statements that hold others: where the word was read that is told where it stands too deep, between their parts, and where they end.
+abbrev pub construct_opened : FileNames → Place → Kind → Compilation → Compilation
+construct_opened files place kind w =
+    let told = nested files (last_place w.unit.tokens place) (is_deep w 1) w in constructs_laid (begun kind told.constructs) told
+
+abbrev pub construct_joined : Compilation → Compilation
+construct_joined w = constructs_laid (changed between w.constructs) w
+
+abbrev pub construct_ended : Compilation → Compilation
+construct_ended w = constructs_laid (ended w.constructs) w
+
+-- The innermost is over. It may have been closed ahead of a conditional.
+abbrev pub construct_closed : Compilation → Compilation
+construct_closed w = if nat_lt 0 w.closed then record w { closed = w.closed - 1 } else construct_ended w
+
+-- Where a conditional stands next, so many of the innermost are closed that the next token ends, whatever it is.
+abbrev pub closed_ahead : ℕ → Compilation → Compilation
+closed_ahead count w = record (constructs_laid (all_ended (count - w.closed) w.constructs) w) { closed = max w.closed count }

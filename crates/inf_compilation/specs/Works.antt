@@ -1,0 +1,33 @@
+-- What the code's work stands for.
+use Rattle.std.specs.Prelude.{reverse}
+use Rattle.inf_sinks.specs.LocalList.{listed}
+use Rattle.inf_unit.specs.AtHand.{unit}
+use Rattle.inf_unit.specs.Directives.{asked}
+use Rattle.inf_compilation.specs.Actions.{Compilation}
+use Rattle.inf_compilation.specs.declared.compilation.Compilation.{Compilation as CodeCompilation}
+
+abbrev pub work : CodeCompilation → Compilation
+work w = record {
+  set = w.set;
+  longest = w.longest;
+  most_tokens = w.most_tokens;
+  most_labels = w.most_labels;
+  unit = unit w.unit;
+  constructs = w.constructs;
+  closed = w.closed;
+  opening = w.opening;
+  labels = w.labels;
+  locals = listed w.locals;
+  output = w.output;
+  report = w.report;
+  asked = asked w.asked;
+  replaced = w.replaced;
+  is_system = w.is_system;
+  waiting = reverse w.waiting.items;
+  is_replaced = w.is_replaced;
+  listing = w.listing;
+  lost = w.lost;
+  is_name = w.is_name;
+  is_embedded = w.is_embedded;
+  extending = w.extending;
+}

@@ -1,0 +1,7 @@
+//! What was compiled so far, and what routines and their statements add to it.
+#![tactic(auto)]
+
+pub mod compilation;
+pub mod findings;
+pub mod parts;
+pub mod routines;

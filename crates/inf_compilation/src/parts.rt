@@ -1,0 +1,364 @@
+//! The units of a routine that have expressions, and the statements that hold others.
+ghost use Rattle.std.specs.Prelude.{IfOk, OnOk, ◌≡◌};
+ghost use Rattle.inf_expressions.specs.Forests.{trees_in as rooted_in};
+ghost use Rattle.inf_statements.specs.Sites.{site};
+ghost use Rattle.inf_compilation.specs.Parts.{has_last, is_default, line_finding_of, site_of, wanted_of};
+
+use crate::compilation::Compilation;
+use crate::findings::blame_of;
+use inf_expressions::{Finding, Forest, Operand, Wanted, build, judge, least_of_both};
+use inf_lexer::{Place, Stack};
+use inf_statements::constructs::Kind;
+use inf_statements::effects::{MISPLACED_DEFAULT, Site, wanted_by};
+use inf_statements::lay_case;
+use inf_statements::operands::{all_looked, name_locals, name_stores, settled};
+use inf_statements::statements::{Statement, lay_expression, lay_switched, lay_test};
+use inf_unit::items::Item;
+use inf_unit::unit::order;
+use std::alloc::AllocError;
+
+/// What a unit of a routine is that has expressions.
+#[derive(Clone, Copy, Debug, PartialEq, Eq)]
+pub enum Part {
+    Statement(Statement),
+    /// The condition of an `if` or of a loop.
+    Condition,
+    /// What a `for` begins with.
+    Start,
+    /// What a `for` does behind each turn.
+    Step,
+    /// What a loop over objects goes over.
+    Loop,
+    /// What is switched on.
+    Switched,
+    /// The values of a case, or a default.
+    Case,
+}
+
+impl Part {
+    /// Whether its last token is still to come when it ends.
+    fn has_last(self) -> bool
+        ensures { result ≡ has_last self }
+    {
+        matches!(self, Part::Statement(_))
+    }
+
+    /// What it wants of its expressions.
+    fn wanted(self) -> Wanted
+        ensures { result ≡ wanted_of self }
+    {
+        match self {
+            Part::Statement(statement) => wanted_by(statement),
+            Part::Loop => Wanted::Loop,
+            Part::Case => Wanted::Case,
+            Part::Condition | Part::Start | Part::Step | Part::Switched => Wanted::Value,
+        }
+    }
+}
+
+/// Whether a case is the default.
+fn is_default(items: &[Item]) -> bool
+    ensures { result ≡ is_default items.now }
+{
+    matches!(items, [Item::Default, ..])
+}
+
+impl Compilation {
+    ghost use Rattle.inf_statements.specs.Constructs.{are_own};
+    ghost use Rattle.inf_compilation.specs.Actions.{finding_at, named, operands_of, settled_of, trees_at};
+    ghost use Rattle.inf_compilation.specs.Parts.{actions_named, case_prepared, construct_opened, found_in, order_of, own_case_prepared, own_finding, part_begun, part_carried, part_effect, part_ended, place_of, statement_at, statement_laid_in};
+    ghost use Rattle.inf_compilation.specs.Works.{work};
+
+    /// What the leaves of the unit's expressions stand for, where their names are only looked up.
+    pub fn operands(&self) -> Result<Vec<Operand>, AllocError>
+        ensures { IfOk result (λ operands. operands.items ≡ operands_of (work self.now)) }
+    {
+        all_looked(
+            self.alloc,
+            &self.locals,
+            &self.output,
+            &self.unit.tokens,
+            self.unit.gathering.leaves(),
+        )
+    }
+
+    /// The least of what is wrong with the unit's expressions, where its first token has an order.
+    pub fn finding(
+        &self,
+        first: u32,
+        wanted: Wanted,
+        operands: &[Operand],
+    ) -> Result<Option<Finding>, AllocError>
+        requires { operands.now ≡ operands_of (work self.now) }
+        ensures { IfOk result (λ finding. finding ≡ finding_at first wanted (work self.now)) }
+    {
+        judge(
+            self.alloc,
+            wanted,
+            first,
+            self.unit.gathering.symbols(),
+            operands,
+        )
+    }
+
+    /// The unit's expressions, and where it stores, name its locals.
+    fn name(&mut self)
+        ensures { work self.new ≡ named (work self.old) }
+    {
+        let tokens = &self.unit.tokens;
+        name_locals(&mut self.locals, tokens, self.unit.gathering.leaves());
+        name_stores(&mut self.locals, tokens, self.unit.items.as_slice());
+    }
+
+    /// The names of the unit's expressions are used. Answers their trees.
+    fn settle(&mut self, first: Place, part: Part) -> Result<Forest, AllocError>
+        ensures { IfOk result (λ forest. let s = settled_of (work self.old) in
+            (rooted_in forest ≡ trees_at (order_of part (work self.old)) (wanted_of part) s.operands (work self.old))
+            × (work self.new ≡ record (work self.old) { output = record s.out { first = first } })) }
+    {
+        let order = self.order(part);
+        let operands = settled(
+            self.alloc,
+            self.set,
+            &self.locals,
+            &self.unit.tokens,
+            self.unit.gathering.leaves(),
+            &mut self.output,
+        )?;
+        self.output.first = first;
+        build(
+            self.alloc,
+            part.wanted(),
+            order,
+            self.unit.gathering.symbols(),
+            operands.as_slice(),
+        )
+    }
+
+    /// What a statement goes by beside its trees.
+    fn site(&self) -> Site<'_>
+        ensures { site result ≡ site_of (work self.now) }
+    {
+        Site {
+            alloc: self.alloc,
+            set: self.set,
+            tokens: &self.unit.tokens,
+            begun: self.unit.begun,
+            items: &self.unit.items,
+            locals: &self.locals,
+            constructs: &self.constructs,
+        }
+    }
+
+    /// The order of the first token of the unit: of a case, of the one behind the unit before.
+    fn order(&self, part: Part) -> u32
+        ensures { result ≡ order_of part (work self.now) }
+    {
+        match part {
+            Part::Case => 0,
+            _ => order(self.unit.begun),
+        }
+    }
+
+    /// Where the unit begins, before a token at a place.
+    fn part_place(&self, part: Part, place: Place) -> Place
+        ensures { result ≡ place_of part place (work self.now) }
+    {
+        match part {
+            Part::Case => self.unit.first_place(place),
+            _ => self.unit.own_place(place),
+        }
+    }
+
+    /// What is wrong with an assembly line beside its expressions.
+    fn line_finding(&self, operands: &[Operand]) -> Result<Option<Finding>, AllocError>
+        requires { operands.now ≡ operands_of (work self.now) }
+        ensures { IfOk result (λ finding. finding ≡ line_finding_of (work self.now)) }
+    {
+        let forest = build(
+            self.alloc,
+            Wanted::Operand,
+            order(self.unit.begun),
+            self.unit.gathering.symbols(),
+            operands,
+        )?;
+        Ok(
+            self.site()
+                .line_finding(&self.output.names, &forest.nodes, &forest.roots),
+        )
+    }
+
+    /// What is wrong with the unit beside its expressions.
+    fn own_finding(&self, part: Part, operands: &[Operand]) -> Result<Option<Finding>, AllocError>
+        requires { operands.now ≡ operands_of (work self.now) }
+        ensures { IfOk result (λ finding. finding ≡ own_finding part (work self.now)) }
+    {
+        match part {
+            Part::Statement(Statement::Assembly) => self.line_finding(operands),
+            Part::Statement(statement) => Ok(self.site().finding(statement, &self.labels)),
+            Part::Case if self.constructs.is_late() => Ok(Some(Finding {
+                order: 0,
+                number: MISPLACED_DEFAULT,
+            })),
+            _ => Ok(None),
+        }
+    }
+
+    /// The least of what is wrong with the unit.
+    fn found_in(&self, part: Part) -> Result<Option<Finding>, AllocError>
+        ensures { IfOk result (λ finding. finding ≡ found_in part (work self.now)) }
+    {
+        let operands = self.operands()?;
+        let finding = self.finding(self.order(part), part.wanted(), operands.as_slice())?;
+        let own = self.own_finding(part, operands.as_slice())?;
+        Ok(least_of_both(finding, own))
+    }
+
+    /// A case begins, also one with an error.
+    fn begin_part(&mut self, part: Part) -> Result<(), AllocError>
+        ensures { OnOk result (work self.new ≡ part_begun part (work self.old)) }
+    {
+        match part {
+            Part::Case => {
+                let is_default = is_default(&self.unit.items);
+                self.constructs.enter(is_default, &mut self.output)
+            }
+            _ => Ok(()),
+        }
+    }
+
+    /// What a statement with these trees does.
+    fn lay_statement(&mut self, statement: Statement, forest: &Forest) -> Result<(), AllocError>
+        ensures { OnOk result (work self.new ≡ statement_laid_in statement (rooted_in forest.now) (work self.old)) }
+    {
+        let site = Site {
+            alloc: self.alloc,
+            set: self.set,
+            tokens: &self.unit.tokens,
+            begun: self.unit.begun,
+            items: &self.unit.items,
+            locals: &self.locals,
+            constructs: &self.constructs,
+        };
+        site.lay(
+            statement,
+            forest,
+            &mut self.labels,
+            &mut self.tasks,
+            &mut self.output,
+        )
+    }
+
+    /// What a unit with these trees does.
+    #[tactic(auto, unfolding(crate::specs::Parts::part_effect))]
+    fn take_effect(&mut self, part: Part, forest: &Forest) -> Result<(), AllocError>
+        ensures { OnOk result (work self.new ≡ part_effect part (rooted_in forest.now) (work self.old)) }
+    {
+        let (tasks, out) = (&mut self.tasks, &mut self.output);
+        match part {
+            Part::Statement(statement) => self.lay_statement(statement, forest),
+            Part::Condition => lay_test(self.constructs.condition_label(), forest, tasks, out),
+            Part::Start => lay_expression(forest, tasks, out),
+            Part::Step => {
+                out.set_apart(self.alloc);
+                lay_expression(forest, tasks, out)?;
+                self.constructs.keep_step(self.alloc, out)
+            }
+            Part::Loop => self.constructs.go_over(forest, tasks, out),
+            Part::Switched => lay_switched(forest, tasks, out),
+            Part::Case => lay_case(self.constructs.next_case(), forest, out),
+        }
+    }
+
+    /// A unit ends, which begins at a place, with the least of what is wrong with it: with an error it has no effect.
+    fn carry_out_part(
+        &mut self,
+        files: &Stack,
+        first: Place,
+        part: Part,
+        finding: Option<Finding>,
+    ) -> Result<(), AllocError>
+        ensures { OnOk result (work self.new ≡ part_carried files.now.names first part finding (work self.old)) }
+    {
+        match finding {
+            Some(finding) => {
+                let blame = blame_of(&self.unit.tokens, finding);
+                self.report.fault(files, first, Some(blame))?;
+            }
+            None => {
+                let forest = self.settle(first, part)?;
+                self.take_effect(part, &forest)?;
+            }
+        }
+        self.end_unit(files, first, part.has_last())
+    }
+
+    /// The names of the unit's expressions are those of actions, where its case is one of the routine's own.
+    fn name_actions(&mut self)
+        ensures { let before = work self.old in work self.new ≡ actions_named (are_own before.constructs) before }
+    {
+        if self.constructs.are_own() {
+            self.unit.gathering.name_actions();
+        }
+    }
+
+    /// Before a case: one outside of any statement is one of the routine's own.
+    fn begin_cases(&mut self) -> Result<(), AllocError>
+        ensures { OnOk result (work self.new ≡ own_case_prepared (work self.old)) }
+    {
+        self.constructs.begin_cases(&mut self.output)?;
+        self.name_actions();
+        Ok(())
+    }
+
+    /// Before a unit that may be a case.
+    fn prepare_case(&mut self, part: Part) -> Result<(), AllocError>
+        ensures { OnOk result (work self.new ≡ case_prepared part (work self.old)) }
+    {
+        match part {
+            Part::Case => self.begin_cases(),
+            _ => Ok(()),
+        }
+    }
+
+    /// A unit of a routine ends, before a token at a place. In a routine that is passed over nothing has an effect.
+    pub fn end_part(&mut self, files: &Stack, place: Place, part: Part) -> Result<(), AllocError>
+        ensures { OnOk result (work self.new ≡ part_ended files.now.names place part (work self.old)) }
+    {
+        if self.is_replaced {
+            self.pass(part.has_last());
+            return Ok(());
+        }
+        self.unit.prepare()?;
+        self.prepare_case(part)?;
+        let first = self.part_place(part, place);
+        let finding = self.found_in(part)?;
+        self.begin_part(part)?;
+        self.name();
+        self.carry_out_part(files, first, part, finding)
+    }
+
+    /// A statement ends, before a token at a place.
+    pub fn end_statement(&mut self, files: &Stack, place: Place) -> Result<(), AllocError>
+        ensures { let before = work self.old in
+            OnOk result (work self.new ≡ part_ended files.now.names place (Part.Statement (statement_at before)) before) }
+    {
+        let statement = self.site().statement();
+        self.end_part(files, place, Part::Statement(statement))
+    }
+
+    /// A statement of a kind that holds others begins, before a token at a place.
+    pub fn open_construct(
+        &mut self,
+        files: &Stack,
+        place: Place,
+        kind: Kind,
+    ) -> Result<(), AllocError>
+        ensures { OnOk result (work self.new ≡ construct_opened files.now.names place kind (work self.old)) }
+    {
+        let word = self.unit.tokens.last_place(place);
+        let is_deep = self.is_deep(1);
+        self.nest(files, word, is_deep)?;
+        self.constructs.begin(kind, &mut self.output)
+    }
+}

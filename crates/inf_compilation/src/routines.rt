@@ -1,0 +1,221 @@
+//! Where routines begin and end.
+ghost use Rattle.std.specs.Prelude.{IfOk, None, OnOk, is_some, option_map, ◌≡◌};
+ghost use Rattle.inf_names.specs.Symbols.{declare_fault};
+ghost use Rattle.inf_sinks.specs.LocalList.{headed as as_headed, listed};
+ghost use Rattle.inf_sinks.specs.Locals.{no_locals};
+ghost use Rattle.inf_sinks.specs.Spellings.{as_name};
+ghost use Rattle.inf_unit.specs.Diagnostics.{blamed};
+ghost use Rattle.inf_compilation.specs.Actions.{kind_ended, with_all_unused, with_routine_fault};
+ghost use Rattle.inf_compilation.specs.Findings.{header_fault, name_fault};
+
+use crate::compilation::Compilation;
+use crate::findings::{header_fault, name_fault};
+use inf_assembler::{CloseFault, RoutineKind};
+use inf_lexer::{Place, Stack};
+use inf_names::meanings::Meaning;
+use inf_names::symbols::{DeclareFault, Found};
+use inf_report::messages::Message;
+use inf_sinks::locals::{Headed, Locals};
+use inf_sinks::spellings::Name;
+use inf_statements::labels::Labels;
+use inf_unit::messages::{Diagnostic, Diagnostics, location};
+use std::alloc::AllocError;
+use std::mem;
+
+/// The kind of a routine, which is a value of a property or not.
+fn kind_ended(is_embedded: bool) -> RoutineKind
+    ensures { result ≡ kind_ended is_embedded }
+{
+    if is_embedded {
+        RoutineKind::Embedded
+    } else {
+        RoutineKind::Plain
+    }
+}
+
+/// The first error of a header, by what the names refuse.
+fn header_blame<'a>(
+    files: &'a Stack,
+    first: Place,
+    name: &'a Name,
+    refused: Option<DeclareFault<Place>>,
+    headed: &'a Headed,
+) -> Option<Diagnostic<'a>>
+    ensures { option_map blamed result
+        ≡ header_fault files.now.names first (name_fault files.now.names (as_name name.now) refused) (as_headed headed.now) }
+{
+    let of_name = name_fault(files, name, refused);
+    header_fault(files, first, of_name, headed)
+}
+
+/// Whether there is anything to tell.
+pub fn is_told(blame: &Option<Diagnostic<'_>>) -> bool
+    ensures { result ≡ is_some (option_map blamed blame.now) }
+{
+    match blame {
+        Some(_) => true,
+        None => false,
+    }
+}
+
+/// Tells, at a place, what is wrong with the labels or offsets of a routine, if anything is. A label without a name is missing only where a
+/// limit
+/// was passed before its place was laid.
+fn tell_fault(
+    fault: Option<CloseFault>,
+    labels: &Labels,
+    files: &Stack,
+    place: Place,
+    report: &mut Diagnostics,
+) -> Result<(), AllocError>
+    ensures { OnOk result (report.new ≡ with_routine_fault files.now.names place labels.now fault report.old) }
+{
+    let at = location(files, place);
+    if let Some(name) = labels.missing() {
+        return report.error(at, at, &Message::LabelMissing(name));
+    }
+    match fault {
+        Some(CloseFault::LabelTwice(_) | CloseFault::TooFar) => {
+            report.error(at, at, &Message::BranchTooFar)
+        }
+        Some(CloseFault::LabelMissing(_) | CloseFault::Full(_) | CloseFault::Memory) | None => {
+            Ok(())
+        }
+    }
+}
+
+/// Warns, at a place, of each local that no statement named.
+fn tell_unused(
+    locals: &Locals,
+    files: &Stack,
+    place: Place,
+    report: &mut Diagnostics,
+) -> Result<(), AllocError>
+    ensures { OnOk result (report.new ≡ with_all_unused files.now.names place (listed locals.now) report.old) }
+{
+    for local in locals.list.as_slice() {
+        if !local.is_named {
+            report.warning(
+                location(files, place),
+                &Message::UnusedLocal(local.name.as_slice()),
+            )?;
+        }
+    }
+    Ok(())
+}
+
+impl Compilation {
+    ghost use Rattle.inf_compilation.specs.Actions.{close, code_closed, header_end, header_with, is_to_be_replaced, opened_with, routine_declared};
+    ghost use Rattle.inf_compilation.specs.Works.{work};
+
+    /// The header of a routine ends, before a token at a place.
+    pub fn end_header(&mut self, files: &Stack, place: Place) -> Result<(), AllocError>
+        ensures { OnOk result (work self.new ≡ header_end files.now.names place (work self.old)) }
+    {
+        let names = self.unit.tokens.names(self.alloc)?;
+        let Some(name) = names.first() else {
+            self.pass(true);
+            return Ok(());
+        };
+        self.is_embedded = false;
+        self.is_replaced = self.is_to_be_replaced(name);
+        if self.is_replaced {
+            self.constructs.clear();
+            self.pass(true);
+            return Ok(());
+        }
+        let headed = self.take_headed();
+        let first = self.unit.first_place(place);
+        self.open(files, first, name, headed)
+    }
+
+    /// Takes away the locals that the header of a routine named.
+    pub fn take_headed(&mut self) -> Headed
+        ensures headed { as_headed result ≡ (work self.old).unit.headed }
+        ensures none { let before = work self.old in
+            work self.new ≡ record before { unit = record before.unit { headed = no_locals } } }
+    {
+        mem::replace(&mut self.unit.headed, Headed::new())
+    }
+
+    /// Whether the routine of a name is to be replaced, which it may be in a file that is marked.
+    fn is_to_be_replaced(&self, name: &Name) -> bool
+        ensures { result ≡ is_to_be_replaced (as_name name.now) (work self.now) }
+    {
+        self.is_system && matches!(self.replaced.look(name.bytes()), Found::Used)
+    }
+
+    /// Opens the routine of a header that begins at a place. Its code begins with the number of its
+    /// locals (Z-Machine Standard 1.1, section 5.2).
+    fn open(
+        &mut self,
+        files: &Stack,
+        first: Place,
+        name: &Name,
+        headed: Headed,
+    ) -> Result<(), AllocError>
+        ensures { OnOk result (work self.new
+            ≡ header_with files.now.names first (as_name name.now) (as_headed headed) (work self.old)) }
+    {
+        let refused = self.declare_routine(name)?;
+        let blame = header_blame(files, first, name, refused, &headed);
+        let is_lost = is_told(&blame);
+        self.report.fault(files, first, blame)?;
+        self.open_code(files, first, headed, is_lost)
+    }
+
+    /// A routine of this name begins behind those that are finished. Answers what is wrong with the name, if anything is.
+    pub fn declare_routine(
+        &mut self,
+        name: &Name,
+    ) -> Result<Option<DeclareFault<Place>>, AllocError>
+        ensures value { OnOk result (work self.new ≡ routine_declared (as_name name.now) (work self.old)) }
+        ensures fault { IfOk result (λ refused. refused ≡ declare_fault (as_name name.now).bytes (work self.old).output.names) }
+    {
+        let routine = Meaning::Routine(self.output.code.next_place());
+        self.output.declare(name.bytes(), name.place, routine)
+    }
+
+    /// Opens the code of a routine with the locals of a header that begins at a place, and had an error or not.
+    pub fn open_code(
+        &mut self,
+        files: &Stack,
+        first: Place,
+        headed: Headed,
+        is_lost: bool,
+    ) -> Result<(), AllocError>
+        ensures { OnOk result (work self.new ≡ opened_with files.now.names first (as_headed headed) is_lost (work self.old)) }
+    {
+        let locals = headed.locals.count();
+        self.output.open(self.alloc, locals, is_lost)?;
+        self.locals = headed.locals;
+        self.constructs.clear();
+        self.labels.clear();
+        self.end_unit(files, first, true)
+    }
+
+    /// Ends the open routine at a place: tells its unused locals, and finishes its code.
+    pub fn close(&mut self, files: &Stack, place: Place) -> Result<(), AllocError>
+        ensures { OnOk result (work self.new ≡ close files.now.names place (work self.old)) }
+    {
+        if self.is_replaced {
+            self.pass(true);
+            return Ok(());
+        }
+        self.constructs.end(&mut self.output)?;
+        self.close_code(files, place)
+    }
+
+    /// The code of the open routine ends, at a place.
+    fn close_code(&mut self, files: &Stack, place: Place) -> Result<(), AllocError>
+        ensures { OnOk result (work self.new ≡ code_closed files.now.names place (work self.old)) }
+    {
+        self.count_labels();
+        let fault = self.output.close(kind_ended(self.is_embedded))?;
+        tell_fault(fault, &self.labels, files, place, &mut self.report)?;
+        tell_unused(&self.locals, files, place, &mut self.report)?;
+        self.is_embedded = false;
+        self.locals = Locals::new();
+        self.end_unit(files, place, true)
+    }
+}

@@ -1,0 +1,504 @@
+//! Directives that declare attributes, and what all declarations share.
+ghost use Rattle.std.specs.Prelude.{IfOk, OnOk, map, option_map, ◌≡◌};
+ghost use Rattle.inf_expressions.specs.Forests.{trees_in as rooted_in};
+ghost use Rattle.inf_statements.specs.Statements.{tree_in};
+ghost use Rattle.inf_sinks.specs.Spellings.{as_name};
+ghost use Rattle.inf_unit.specs.Diagnostics.{blamed};
+ghost use Rattle.inf_declarations.specs.Declarations.{alias_finding, alias_meaning, alias_told, aliased, attribute, attribute_added, attribute_ended, attribute_number, attribute_with, declaration_blame, declaration_ended, declared_ended, declared_finding, has_most_attributes, is_alias, is_late, is_name_at, last_meaning, late_finding, many_finding, name_known, names_itself, new_attribute, nothing_of, plainly_known, standing_fault, value_in, valued};
+ghost use Rattle.inf_compilation.specs.Actions.{settled_of, trees_at};
+ghost use Rattle.inf_compilation.specs.Works.{work};
+
+use crate::directives::name_finding;
+use crate::globals::FIRST_GLOBAL;
+use inf_area::Value;
+use inf_compilation::compilation::Compilation;
+use inf_compilation::findings::{DECLARED, TOO_MANY, USED_BEFORE, blame_of, name_fault};
+use inf_expressions::{Finding, Forest, Wanted, build, constant, least_of_both};
+use inf_gathering::gathering::Leaf;
+use inf_lexer::{Place, Stack};
+use inf_names::meanings::Meaning;
+use inf_names::symbols::{DeclareFault, Found};
+use inf_report::messages::{FixedLimit, Message};
+use inf_sinks::spellings::Name;
+use inf_statements::operands::settled;
+use inf_tables::WorldFault;
+use inf_unit::messages::Diagnostic;
+use inf_unit::unit::order;
+use inf_unit::unit_tokens::UnitTokens;
+use std::alloc::AllocError;
+
+/// What is known of a declaration: what looking for its name found, and the least of what is wrong with it.
+#[derive(Clone, Copy)]
+pub struct Declared {
+    pub found: Found<Place>,
+    pub finding: Option<Finding>,
+}
+
+/// The most attributes, declared properties and global variables (Z-Machine Standard 1.1, sections 12.3, 12.2 and 6.2).
+const MOST_ATTRIBUTES: usize = 48;
+
+/// Why a name that stands already cannot be declared, by what looking for it found.
+fn standing_fault(found: Found<Place>) -> Option<DeclareFault<Place>>
+    ensures { result ≡ standing_fault found }
+{
+    match found {
+        Found::System(_) => Some(DeclareFault::Present(None)),
+        Found::Declared(_, first) => Some(DeclareFault::Present(Some(first))),
+        Found::Used | Found::Unknown => None,
+    }
+}
+
+/// Whether a leaf is this name.
+fn is_name_at(tokens: &UnitTokens, name: &[u8], leaf: Leaf) -> bool
+    ensures { result ≡ is_name_at tokens.now name.now leaf }
+{
+    match leaf {
+        Leaf::Name(at) => tokens.bytes_at(at).eq_ignore_ascii_case(name),
+        _ => false,
+    }
+}
+
+/// Whether an expression names what its unit declares.
+fn names_itself(tokens: &UnitTokens, name: &[u8], leaves: &[Leaf]) -> bool
+    ensures { result ≡ names_itself tokens.now name.now leaves.now }
+{
+    let mut found = false;
+    for leaf in leaves {
+        found = found | is_name_at(tokens, name, *leaf);
+    }
+    found
+}
+
+/// Whether a name was used before its declaration, by what looking for it found, or is used by it.
+pub fn is_late(found: Found<Place>, names_itself: bool) -> bool
+    ensures { result ≡ is_late found names_itself }
+{
+    match found {
+        Found::Used => true,
+        Found::Unknown => names_itself,
+        Found::System(_) | Found::Declared(..) => false,
+    }
+}
+
+/// That the name with an order is used before its declaration.
+fn late_finding(order: u32, is_late: bool) -> Option<Finding>
+    ensures { result ≡ late_finding order is_late }
+{
+    if is_late {
+        Some(Finding {
+            order,
+            number: USED_BEFORE,
+        })
+    } else {
+        None
+    }
+}
+
+/// That there is one more than there may be, which is told of the first token.
+pub fn many_finding(are_many: bool) -> Option<Finding>
+    ensures { result ≡ many_finding are_many }
+{
+    if are_many {
+        Some(Finding {
+            order: 0,
+            number: TOO_MANY,
+        })
+    } else {
+        None
+    }
+}
+
+/// What is wrong with a declaration beside its expression.
+fn declared_finding(
+    order: u32,
+    of_name: &Option<Diagnostic<'_>>,
+    is_late: bool,
+    are_many: bool,
+) -> Option<Finding>
+    ensures { result ≡ declared_finding order (option_map blamed of_name.now) is_late are_many }
+{
+    least_of_both(
+        name_finding(order, of_name),
+        least_of_both(late_finding(order, is_late), many_finding(are_many)),
+    )
+}
+
+/// What is told of a declaration that begins at a place, by the least that was found.
+fn declaration_blame<'t>(
+    tokens: &'t UnitTokens,
+    first: Place,
+    kind: FixedLimit,
+    of_name: Option<Diagnostic<'t>>,
+    found: Option<Finding>,
+) -> Option<Diagnostic<'t>>
+    ensures { option_map blamed result ≡ declaration_blame tokens.now first kind (option_map blamed of_name.entry) found }
+{
+    let finding = found?;
+    match finding.number {
+        DECLARED => of_name,
+        TOO_MANY => Some(Diagnostic {
+            place: first,
+            message: Message::TooMany(kind),
+        }),
+        _ => Some(blame_of(tokens, finding)),
+    }
+}
+
+/// Whether behind its name a declaration has the name of another one, and no expression.
+pub(crate) fn is_alias(names: &[Name], leaves: &[Leaf]) -> bool
+    ensures { result ≡ is_alias (map as_name names.now) leaves.now }
+{
+    !names.is_empty() && leaves.is_empty()
+}
+
+/// What a name stands for that is another one of its kind.
+fn alias_meaning(kind: FixedLimit, found: Found<Place>) -> Option<Meaning>
+    ensures { result ≡ alias_meaning kind found }
+{
+    match (kind, found) {
+        (FixedLimit::Attributes, Found::Declared(Meaning::Attribute(number), _)) => {
+            Some(Meaning::Attribute(number))
+        }
+        (FixedLimit::Attributes, _) => None,
+        (
+            _,
+            Found::Declared(
+                Meaning::Property {
+                    number,
+                    is_additive,
+                },
+                _,
+            ),
+        ) => Some(Meaning::Property {
+            number,
+            is_additive,
+        }),
+        (
+            _,
+            Found::System(
+                Meaning::Property {
+                    number,
+                    is_additive,
+                },
+            ),
+        ) => Some(Meaning::Property {
+            number,
+            is_additive,
+        }),
+        _ => None,
+    }
+}
+
+/// What a name of this kind stands for whose declaration has an error.
+pub(crate) fn nothing_of(kind: FixedLimit) -> Meaning
+    ensures { result ≡ nothing_of kind }
+{
+    match kind {
+        FixedLimit::Attributes => Meaning::Attribute(0),
+        FixedLimit::Globals => Meaning::Variable(FIRST_GLOBAL),
+        _ => Meaning::Property {
+            number: 0,
+            is_additive: false,
+        },
+    }
+}
+
+/// That the last of these tokens names no attribute or property, unless it stands for something.
+fn alias_finding(tokens: &UnitTokens, meaning: Option<Meaning>) -> Option<Finding>
+    ensures { result ≡ alias_finding tokens.now meaning }
+{
+    match meaning {
+        Some(_) => None,
+        None => Some(Finding::wrong_kind(order(tokens.len().saturating_sub(1)))),
+    }
+}
+
+/// What an alias stands for: nothing of its kind, where something is wrong with it.
+fn aliased(kind: FixedLimit, meaning: Option<Meaning>, found: Option<Finding>) -> Meaning
+    ensures { result ≡ aliased kind meaning found }
+{
+    match (meaning, found) {
+        (Some(meaning), None) => meaning,
+        _ => nothing_of(kind),
+    }
+}
+
+/// The value of an expression, which is 0 where there is none.
+pub fn value_in(forest: &Forest) -> Value
+    ensures { result ≡ value_in (map tree_in (rooted_in forest.now)) }
+{
+    match forest.roots.first() {
+        Some(root) => constant(&forest.nodes, root.place).unwrap_or(Value::Known(0)),
+        None => Value::Known(0),
+    }
+}
+
+/// What is known of a name that has an order and is declared, whether it was used before or not.
+pub fn plainly_known(compilation: &Compilation, files: &Stack, name: &Name, order: u32) -> Declared
+    ensures { result ≡ plainly_known files.now.names (as_name name.now) order (work compilation.now) }
+{
+    let found = compilation.output.names.look(name.bytes());
+    let of_name = name_fault(files, name, standing_fault(found));
+    Declared {
+        found,
+        finding: name_finding(order, &of_name),
+    }
+}
+
+/// The end of the header of a declaration, or of a whole one, that begins at a place: what is wrong with it is told.
+pub fn end_declared(
+    compilation: &mut Compilation,
+    files: &Stack,
+    first: Place,
+    has_last: bool,
+    name: &Name,
+    kind: FixedLimit,
+    declared: Declared,
+) -> Result<(), AllocError>
+    ensures { OnOk result (work compilation.new
+        ≡ declared_ended files.now.names first has_last (as_name name.now) kind declared (work compilation.old)) }
+{
+    let of_name = name_fault(files, name, standing_fault(declared.found));
+    let blame = declaration_blame(
+        &compilation.unit.tokens,
+        first,
+        kind,
+        of_name,
+        declared.finding,
+    );
+    compilation.report.fault(files, first, blame)?;
+    compilation.end_unit(files, first, has_last)
+}
+
+/// The end of a declaration that begins at a place: what is wrong with it is told.
+pub(crate) fn end_declaration(
+    compilation: &mut Compilation,
+    files: &Stack,
+    first: Place,
+    name: &Name,
+    kind: FixedLimit,
+    declared: Declared,
+) -> Result<(), AllocError>
+    ensures { OnOk result (work compilation.new
+        ≡ declaration_ended files.now.names first (as_name name.now) kind declared (work compilation.old)) }
+{
+    end_declared(compilation, files, first, true, name, kind, declared)
+}
+
+/// What is wrong with a declaration of a name that has an order, beside its expression, where there are so many of its kind or not.
+pub(crate) fn name_known(
+    compilation: &Compilation,
+    files: &Stack,
+    name: &Name,
+    order: u32,
+    are_many: bool,
+) -> Declared
+    ensures { result ≡ name_known files.now.names (as_name name.now) order are_many (work compilation.now) }
+{
+    let found = compilation.output.names.look(name.bytes());
+    let of_name = name_fault(files, name, standing_fault(found));
+    let leaves = compilation.unit.gathering.leaves();
+    let is_late = is_late(
+        found,
+        names_itself(&compilation.unit.tokens, name.bytes(), leaves),
+    );
+    Declared {
+        found,
+        finding: declared_finding(order, &of_name, is_late, are_many),
+    }
+}
+
+/// Declares the first of these names as an attribute, or as another name of one.
+pub fn attribute(
+    compilation: &mut Compilation,
+    files: &Stack,
+    first: Place,
+    names: &[Name],
+) -> Result<(), AllocError>
+    ensures { OnOk result (work compilation.new ≡ attribute files.now.names first (map as_name names.now) (work compilation.old)) }
+{
+    let Some((name, names)) = names.split_first() else {
+        compilation.pass(true);
+        return Ok(());
+    };
+    if is_alias(names, compilation.unit.gathering.leaves()) {
+        let order = compilation.unit.tokens.name_order();
+        return alias(
+            compilation,
+            files,
+            first,
+            name,
+            order,
+            FixedLimit::Attributes,
+        );
+    }
+    one_attribute(compilation, files, first, name)
+}
+
+/// Whether there are as many attributes as there may be.
+fn has_most_attributes(compilation: &Compilation) -> bool
+    ensures { result ≡ has_most_attributes (work compilation.now).output }
+{
+    compilation.output.tables.world.attribute_count() >= MOST_ATTRIBUTES
+}
+
+/// Declares a name as an attribute.
+fn one_attribute(
+    compilation: &mut Compilation,
+    files: &Stack,
+    first: Place,
+    name: &Name,
+) -> Result<(), AllocError>
+    ensures { OnOk result (work compilation.new ≡ attribute_with files.now.names first (as_name name.now) (work compilation.old)) }
+{
+    let order = compilation.unit.tokens.name_order();
+    let declared = name_known(
+        compilation,
+        files,
+        name,
+        order,
+        has_most_attributes(compilation),
+    );
+    end_attribute(compilation, files, first, name, declared)
+}
+
+/// The end of the declaration of an attribute, of which so much is known.
+fn end_attribute(
+    compilation: &mut Compilation,
+    files: &Stack,
+    first: Place,
+    name: &Name,
+    declared: Declared,
+) -> Result<(), AllocError>
+    ensures { OnOk result (work compilation.new ≡ attribute_ended files.now.names first (as_name name.now) declared (work compilation.old)) }
+{
+    add_attribute(compilation, name, declared.finding)?;
+    end_declaration(
+        compilation,
+        files,
+        first,
+        name,
+        FixedLimit::Attributes,
+        declared,
+    )
+}
+
+/// The number of the next attribute.
+fn attribute_number(compilation: &Compilation) -> u8
+    ensures { result ≡ attribute_number (work compilation.now).output }
+{
+    (compilation.output.tables.world.attribute_count() % 256) as u8
+}
+
+/// Declares the name of an attribute, which is a new one where nothing is wrong with it.
+fn add_attribute(
+    compilation: &mut Compilation,
+    name: &Name,
+    found: Option<Finding>,
+) -> Result<(), AllocError>
+    ensures { let before = work compilation.old in
+        OnOk result (work compilation.new ≡ record before { output = attribute_added found (as_name name.now) before.output }) }
+{
+    if found.is_some() {
+        compilation
+            .output
+            .declare(name.bytes(), name.place, Meaning::Attribute(0))?;
+        return Ok(());
+    }
+    let meaning = Meaning::Attribute(attribute_number(compilation));
+    compilation
+        .output
+        .declare(name.bytes(), name.place, meaning)?;
+    new_attribute(compilation)
+}
+
+/// One attribute more.
+fn new_attribute(compilation: &mut Compilation) -> Result<(), AllocError>
+    ensures { let before = work compilation.old in OnOk result
+        (work compilation.new ≡ record before { output = new_attribute before.output }) }
+{
+    match compilation.output.tables.world.declare_attribute() {
+        Ok(_) | Err(WorldFault::Limit(_) | WorldFault::Misfit(_) | WorldFault::Full(_)) => Ok(()),
+        Err(WorldFault::Memory) => Err(AllocError),
+    }
+}
+
+/// What is wrong with a declaration of a name that has an order, and with its expression.
+pub(crate) fn valued(
+    compilation: &Compilation,
+    files: &Stack,
+    name: &Name,
+    order: u32,
+    are_many: bool,
+) -> Result<Declared, AllocError>
+    ensures { IfOk result (λ d. d ≡ valued files.now.names (as_name name.now) order are_many (work compilation.now)) }
+{
+    let operands = compilation.operands()?;
+    let finding = compilation.finding(0, Wanted::Constant, operands.as_slice())?;
+    let declared = name_known(compilation, files, name, order, are_many);
+    Ok(Declared {
+        found: declared.found,
+        finding: least_of_both(declared.finding, finding),
+    })
+}
+
+/// The value of the unit's expression, whose names are used.
+pub fn value(compilation: &mut Compilation) -> Result<Value, AllocError>
+    ensures { IfOk result (λ value. let s = settled_of (work compilation.old) in
+        (value ≡ value_in (map tree_in (trees_at 0 Wanted.Constant s.operands (work compilation.old))))
+        × (work compilation.new ≡ record (work compilation.old) { output = s.out })) }
+{
+    let operands = settled(
+        compilation.alloc,
+        compilation.set,
+        &compilation.locals,
+        &compilation.unit.tokens,
+        compilation.unit.gathering.leaves(),
+        &mut compilation.output,
+    )?;
+    let forest = build(
+        compilation.alloc,
+        Wanted::Constant,
+        0,
+        compilation.unit.gathering.symbols(),
+        operands.as_slice(),
+    )?;
+    Ok(value_in(&forest))
+}
+
+/// What the last name of the unit stands for, where that is one of this kind.
+fn last_meaning(compilation: &Compilation, kind: FixedLimit) -> Option<Meaning>
+    ensures { result ≡ last_meaning kind (work compilation.now) }
+{
+    let tokens = &compilation.unit.tokens;
+    let other = tokens.bytes_at(tokens.len().saturating_sub(1));
+    alias_meaning(kind, compilation.output.names.look(other))
+}
+
+/// Declares a name as another one for what the last name of the unit stands for.
+pub(crate) fn alias(
+    compilation: &mut Compilation,
+    files: &Stack,
+    first: Place,
+    name: &Name,
+    order: u32,
+    kind: FixedLimit,
+) -> Result<(), AllocError>
+    ensures { OnOk result (work compilation.new ≡ alias_told files.now.names first (as_name name.now) order kind (work compilation.old)) }
+{
+    let meaning = last_meaning(compilation, kind);
+    let own = name_known(compilation, files, name, order, false);
+    let finding = least_of_both(
+        own.finding,
+        alias_finding(&compilation.unit.tokens, meaning),
+    );
+    let stands = aliased(kind, meaning, finding);
+    compilation
+        .output
+        .declare(name.bytes(), name.place, stands)?;
+    let declared = Declared {
+        found: own.found,
+        finding,
+    };
+    end_declaration(compilation, files, first, name, kind, declared)
+}

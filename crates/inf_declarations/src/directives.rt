@@ -1,0 +1,395 @@
+//! The directives that are one unit.
+ghost use Rattle.std.specs.Prelude.{IfOk, OnOk, length, map, option_map, ◌≡◌, ◌≤◌};
+ghost use Rattle.inf_expressions.specs.Forests.{trees_in as rooted_in};
+ghost use Rattle.inf_names.specs.Symbols.{found_in};
+ghost use Rattle.inf_statements.specs.Statements.{tree_in};
+ghost use Rattle.inf_sinks.specs.Spellings.{as_name};
+ghost use Rattle.inf_unit.specs.Diagnostics.{blamed};
+ghost use Rattle.inf_unit.specs.Messages.{location, with_words};
+ghost use Rattle.inf_unit.specs.Units.{quoted_in};
+ghost use Rattle.inf_compilation.specs.Actions.{as_constant, constant, constant_blame, constant_ended, constant_finding, constant_meaning, constant_of, constant_with, declared_meaning, is_declared, is_first_declared, leaf_meaning, name_finding, named_leaf, new_stub, replace, stub, stub_locals, stubbed, used_name, words_of};
+ghost use Rattle.inf_statements.specs.Operands.{leaf_added};
+ghost use Rattle.inf_unit.specs.Directives.{Include, asked, weight_of};
+ghost use Rattle.inf_declarations.specs.Defaults.{default};
+ghost use Rattle.inf_compilation.specs.Works.{work};
+
+use inf_area::Value;
+use inf_assembler::RoutineKind;
+use inf_compilation::compilation::Compilation;
+use inf_compilation::findings::{blame_of, name_fault};
+use inf_expressions::{Finding, Forest, Wanted, build, constant as constant_in, least_of_both};
+use inf_gathering::gathering::Leaf;
+use inf_lexer::{Place, Stack};
+use inf_names::meanings::Meaning;
+use inf_names::symbols::{DeclareFault, Found, ReferFault, Symbols};
+use inf_report::messages::Message;
+use inf_report::own_words::OwnWords;
+use inf_sinks::spellings::Name;
+use inf_statements::operands::add_leaf as add_operand;
+use inf_unit::directives::{Request, weight_of};
+use inf_unit::messages::{Diagnostic, location};
+use inf_unit::tokens::number_of;
+use inf_unit::unit_tokens::UnitTokens;
+use std::alloc::AllocError;
+
+/// The most locals of a routine that `Stub` makes (Designer's Manual, fourth edition, section 25).
+const MOST_STUB_LOCALS: u16 = 4;
+
+/// Keeps the first of these names as that of a routine that is to be replaced, and uses it.
+pub fn replace(
+    compilation: &mut Compilation,
+    files: &Stack,
+    first: Place,
+    names: &[Name],
+) -> Result<(), AllocError>
+    ensures { OnOk result (work compilation.new
+        ≡ replace files.now.names first (map as_name names.now) (work compilation.old)) }
+{
+    let Some(name) = names.first() else {
+        compilation.pass(true);
+        return Ok(());
+    };
+    compilation.output.refer(name.bytes(), name.place)?;
+    use_name(&mut compilation.replaced, name)?;
+    compilation.end_unit(files, first, true)
+}
+
+/// Declares the first of these names as a routine of so many locals as the number behind it says, which returns 0, unless the name is
+/// declared.
+pub fn stub(
+    compilation: &mut Compilation,
+    files: &Stack,
+    first: Place,
+    names: &[Name],
+) -> Result<(), AllocError>
+    ensures { OnOk result (work compilation.new
+        ≡ stub files.now.names first (map as_name names.now) (work compilation.old)) }
+{
+    if is_first_declared(compilation, names) {
+        compilation.end_unit(files, first, true)
+    } else {
+        new_stub(compilation, files, first, names)
+    }
+}
+
+/// Declares the first of these names as that of the routine of a `Stub`.
+fn new_stub(
+    compilation: &mut Compilation,
+    files: &Stack,
+    first: Place,
+    names: &[Name],
+) -> Result<(), AllocError>
+    ensures { OnOk result (work compilation.new ≡ new_stub files.now.names first (map as_name names.now) (work compilation.old)) }
+{
+    let Some(name) = names.first() else {
+        compilation.pass(true);
+        return Ok(());
+    };
+    compilation.declare_routine(name)?;
+    stub_routine(compilation, files, first)
+}
+
+/// The routine of a `Stub`, whose name is declared.
+fn stub_routine(
+    compilation: &mut Compilation,
+    files: &Stack,
+    first: Place,
+) -> Result<(), AllocError>
+    ensures { OnOk result (work compilation.new ≡ stubbed files.now.names first (work compilation.old)) }
+{
+    let locals = stub_locals(&compilation.unit.tokens);
+    if locals > MOST_STUB_LOCALS {
+        let blame = Diagnostic {
+            place: first,
+            message: Message::ConstantOutOfRange,
+        };
+        compilation.report.fault(files, first, Some(blame))?;
+        return compilation.end_unit(files, first, true);
+    }
+    compilation
+        .output
+        .open(compilation.alloc, locals as u8, false)?;
+    compilation.output.close(RoutineKind::Embedded)?;
+    compilation.end_unit(files, first, true)
+}
+
+/// Declares the first of these names as a constant, as `Constant` does, unless it is declared.
+pub fn default(
+    compilation: &mut Compilation,
+    files: &Stack,
+    first: Place,
+    names: &[Name],
+) -> Result<(), AllocError>
+    ensures { OnOk result (work compilation.new
+        ≡ default files.now.names first (map as_name names.now) (work compilation.old)) }
+{
+    if is_first_declared(compilation, names) {
+        compilation.end_unit(files, first, true)
+    } else {
+        constant(compilation, files, first, names)
+    }
+}
+
+/// Whether the first of these names is declared.
+fn is_first_declared(compilation: &Compilation, names: &[Name]) -> bool
+    ensures { result ≡ is_first_declared (map as_name names.now) (work compilation.now).output.names }
+{
+    match names.first() {
+        Some(name) => is_declared(compilation.output.names.look(name.bytes())),
+        None => false,
+    }
+}
+
+/// Declares the first of these names as a constant, with what its expression is, or 0.
+pub fn constant(
+    compilation: &mut Compilation,
+    files: &Stack,
+    first: Place,
+    names: &[Name],
+) -> Result<(), AllocError>
+    ensures { OnOk result (work compilation.new
+        ≡ constant files.now.names first (map as_name names.now) (work compilation.old)) }
+{
+    let Some(name) = names.first() else {
+        compilation.pass(true);
+        return Ok(());
+    };
+    let operands = compilation.operands()?;
+    let found = compilation.finding(0, Wanted::Constant, operands.as_slice())?;
+    let forest = build(
+        compilation.alloc,
+        Wanted::Constant,
+        0,
+        compilation.unit.gathering.symbols(),
+        operands.as_slice(),
+    )?;
+    let meaning = constant_of(compilation, &forest);
+    declare_constant(compilation, files, first, name, meaning, found)
+}
+
+/// That the file is read whose name is the text of the unit.
+pub fn inclusion(compilation: &Compilation, unit: Place) -> Result<Request, AllocError>
+    ensures { IfOk result (λ a. asked a ≡ Include (quoted_in (work compilation.now).unit.tokens) unit) }
+{
+    let mut text = Vec::new(compilation.alloc);
+    text.extend_from_slice(compilation.unit.tokens.quoted())?;
+    Ok(Request::Include { text, unit })
+}
+
+/// Tells the text of the unit, by the weight that its names say.
+pub fn message(
+    compilation: &mut Compilation,
+    files: &Stack,
+    first: Place,
+    names: &[Name],
+) -> Result<(), AllocError>
+    ensures { let before = work compilation.old in OnOk result (work compilation.new ≡ record before {
+      report = with_words (location files.now.names first) (weight_of (map as_name names.now)) (words_of before.set before.unit)
+          before.report;
+    }) }
+{
+    let words = OwnWords {
+        bytes: compilation.unit.tokens.quoted(),
+        set: compilation.set,
+    };
+    compilation
+        .report
+        .words(location(files, first), weight_of(names), words)
+}
+
+/// What a constant stands for, by the tree of its expression: a known number, 0 where it has none, a string, a word, or what a name
+/// stands for
+/// that was declared before.
+fn constant_of(compilation: &Compilation, forest: &Forest) -> Option<Meaning>
+    ensures { result ≡ constant_of (map tree_in (rooted_in forest.now)) (work compilation.now) }
+{
+    let Some(root) = forest.roots.first() else {
+        return Some(Meaning::Number(0));
+    };
+    match constant_in(&forest.nodes, root.place)? {
+        Value::Known(number) => Some(Meaning::Number(number)),
+        Value::Later(_) => leaf_constant(compilation),
+    }
+}
+
+/// What the leaf stands for that a constant's expression is: a text is the next string, and a word of the dictionary stands for itself.
+fn leaf_constant(compilation: &Compilation) -> Option<Meaning>
+    ensures { let w = work compilation.now in result ≡ leaf_meaning w.unit.gathering.leaves w }
+{
+    match compilation.unit.gathering.leaves().first() {
+        Some(Leaf::Text(_)) => Some(Meaning::Text(compilation.output.strings.len())),
+        Some(Leaf::Word(word)) => Some(Meaning::Word(word.text)),
+        _ => named_constant(compilation),
+    }
+}
+
+/// What the name stands for that a constant's expression is, where it was declared before.
+fn named_constant(compilation: &Compilation) -> Option<Meaning>
+    ensures { let w = work compilation.now in
+        result ≡ declared_meaning (found_in (named_leaf w.unit.tokens w.unit.gathering.leaves) w.output.names) }
+{
+    let name = named_leaf(
+        &compilation.unit.tokens,
+        compilation.unit.gathering.leaves(),
+    );
+    match compilation.output.names.look(name) {
+        Found::Declared(meaning, _) => Some(as_constant(meaning)),
+        Found::System(_) | Found::Used | Found::Unknown => None,
+    }
+}
+
+/// Declares a name as a constant with what it stands for, if that is known, and tells the first error of its directive.
+fn declare_constant(
+    compilation: &mut Compilation,
+    files: &Stack,
+    first: Place,
+    name: &Name,
+    meaning: Option<Meaning>,
+    found: Option<Finding>,
+) -> Result<(), AllocError>
+    ensures { OnOk result (work compilation.new
+        ≡ constant_with files.now.names first (as_name name.now) meaning found (work compilation.old)) }
+{
+    let finding = constant_finding(meaning, found);
+    let stands = constant_meaning(meaning, finding);
+    let refused = compilation
+        .output
+        .declare(name.bytes(), name.place, stands)?;
+    end_constant(compilation, files, first, name, refused, finding)
+}
+
+/// The end of the directive of a constant, whose name was refused or not.
+fn end_constant(
+    compilation: &mut Compilation,
+    files: &Stack,
+    first: Place,
+    name: &Name,
+    refused: Option<DeclareFault<Place>>,
+    finding: Option<Finding>,
+) -> Result<(), AllocError>
+    ensures { OnOk result (work compilation.new
+        ≡ constant_ended files.now.names first (as_name name.now) refused finding (work compilation.old)) }
+{
+    let of_name = name_fault(files, name, refused);
+    let order = compilation.unit.tokens.name_order();
+    let least = least_of_both(name_finding(order, &of_name), finding);
+    let blame = constant_blame(&compilation.unit.tokens, of_name, least);
+    compilation.report.fault(files, first, blame)?;
+    if least.is_none() {
+        add_leaf(compilation)?;
+    }
+    compilation.end_unit(files, first, true)
+}
+
+/// Adds the text or the word that a constant's expression is.
+fn add_leaf(compilation: &mut Compilation) -> Result<(), AllocError>
+    ensures { let before = work compilation.old in OnOk result (work compilation.new ≡ record before {
+      output = leaf_added before.set before.unit.tokens before.unit.gathering.leaves before.output;
+    }) }
+{
+    let leaves = compilation.unit.gathering.leaves();
+    add_operand(
+        compilation.alloc,
+        compilation.set,
+        &compilation.unit.tokens,
+        leaves,
+        &mut compilation.output,
+    )
+}
+
+/// Whether a name is declared, by what looking for it found.
+fn is_declared(found: Found<Place>) -> bool
+    ensures { result ≡ is_declared found }
+{
+    match found {
+        Found::System(_) | Found::Declared(..) => true,
+        Found::Used | Found::Unknown => false,
+    }
+}
+
+/// Uses a name, unless it would be one too many.
+fn use_name(names: &mut Symbols<Place>, name: &Name) -> Result<(), AllocError>
+    ensures { OnOk result (names.new ≡ used_name (as_name name.now) names.old) }
+{
+    match names.refer(name.bytes(), name.place) {
+        Ok(_) | Err(ReferFault::Full) => Ok(()),
+        Err(ReferFault::Memory) => Err(AllocError),
+    }
+}
+
+/// The name that is the first leaf of a unit with these tokens; an empty one where it is none.
+fn named_leaf<'t>(tokens: &'t UnitTokens, leaves: &[Leaf]) -> &'t [u8]
+    ensures value { result.now ≡ named_leaf tokens.now leaves.now }
+    ensures few { length result.now ≤ 32 }
+{
+    match leaves.first() {
+        Some(Leaf::Name(at)) => tokens.bytes_at(*at),
+        _ => b"",
+    }
+}
+
+/// What a constant stands for that is what something else stands for: one that is a routine is none itself.
+fn as_constant(meaning: Meaning) -> Meaning
+    ensures { result ≡ as_constant meaning }
+{
+    match meaning {
+        Meaning::Routine(place) => Meaning::PackedAddress(place),
+        _ => meaning,
+    }
+}
+
+/// What is wrong with a constant's expression: also that it stands for nothing.
+fn constant_finding(meaning: Option<Meaning>, found: Option<Finding>) -> Option<Finding>
+    ensures { result ≡ constant_finding meaning found }
+{
+    match (meaning, found) {
+        (None, None) => Some(Finding::no_constant(0)),
+        _ => found,
+    }
+}
+
+/// What a constant stands for: 0, where something is wrong with it.
+fn constant_meaning(meaning: Option<Meaning>, found: Option<Finding>) -> Meaning
+    ensures { result ≡ constant_meaning meaning found }
+{
+    match (meaning, found) {
+        (Some(meaning), None) => meaning,
+        _ => Meaning::Number(0),
+    }
+}
+
+/// What is wrong with a name that has this order, as a finding. Its number is that of a name that stands already.
+pub(crate) fn name_finding(order: u32, of_name: &Option<Diagnostic<'_>>) -> Option<Finding>
+    ensures { result ≡ name_finding order (option_map blamed of_name.now) }
+{
+    match of_name {
+        Some(_) => Some(Finding { order, number: 8 }),
+        None => None,
+    }
+}
+
+/// What is told of a constant, by the least that was found.
+fn constant_blame<'t>(
+    tokens: &'t UnitTokens,
+    of_name: Option<Diagnostic<'t>>,
+    found: Option<Finding>,
+) -> Option<Diagnostic<'t>>
+    ensures { option_map blamed result ≡ constant_blame tokens.now (option_map blamed of_name.entry) found }
+{
+    let finding = found?;
+    if finding.number == 8 {
+        of_name
+    } else {
+        Some(blame_of(tokens, finding))
+    }
+}
+
+/// How many locals a `Stub` gives its routine: the number that is its last token.
+fn stub_locals(tokens: &UnitTokens) -> u16
+    ensures { result ≡ stub_locals tokens.now }
+{
+    match tokens.kind(tokens.len().saturating_sub(1)) {
+        Some(kind) => number_of(kind).unwrap_or(0),
+        None => 0,
+    }
+}

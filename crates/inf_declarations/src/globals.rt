@@ -1,0 +1,123 @@
+//! The directive `Global`.
+ghost use Rattle.std.specs.Prelude.{OnOk, map, ◌≡◌};
+ghost use Rattle.inf_sinks.specs.Spellings.{as_name};
+ghost use Rattle.inf_declarations.specs.Declarations.{global_added, global_ended, global_variable, global_with, has_most_globals, new_global, nothing_of, valued};
+ghost use Rattle.inf_compilation.specs.Works.{work};
+
+use crate::declarations::{Declared, end_declaration, nothing_of, value, valued};
+use inf_area::Value;
+use inf_compilation::compilation::Compilation;
+use inf_expressions::Finding;
+use inf_lexer::{Place, Stack};
+use inf_names::meanings::Meaning;
+use inf_report::messages::FixedLimit;
+use inf_sinks::spellings::Name;
+use inf_unit::unit::order;
+use std::alloc::AllocError;
+
+const MOST_GLOBALS: usize = 235;
+
+pub(crate) const FIRST_GLOBAL: u8 = 16;
+
+/// Declares the first of these names as a global variable, with the value of the unit's expression, or 0.
+pub fn global_variable(
+    compilation: &mut Compilation,
+    files: &Stack,
+    first: Place,
+    names: &[Name],
+) -> Result<(), AllocError>
+    ensures { OnOk result (work compilation.new ≡ global_variable files.now.names first (map as_name names.now) (work compilation.old)) }
+{
+    match names.first() {
+        Some(name) => one_global(compilation, files, first, name),
+        None => {
+            compilation.pass(true);
+            Ok(())
+        }
+    }
+}
+
+/// Whether there are as many global variables as there may be.
+fn has_most_globals(compilation: &Compilation) -> bool
+    ensures { result ≡ has_most_globals (work compilation.now).output }
+{
+    compilation.output.tables.globals.len() >= MOST_GLOBALS
+}
+
+/// Declares a name as a global variable, with the value of the unit's expression, or 0.
+fn one_global(
+    compilation: &mut Compilation,
+    files: &Stack,
+    first: Place,
+    name: &Name,
+) -> Result<(), AllocError>
+    ensures { OnOk result (work compilation.new ≡ global_with files.now.names first (as_name name.now) (work compilation.old)) }
+{
+    let order = compilation.unit.tokens.name_order();
+    let declared = valued(
+        compilation,
+        files,
+        name,
+        order,
+        has_most_globals(compilation),
+    )?;
+    end_global(compilation, files, first, name, declared)
+}
+
+/// The end of the declaration of a global variable, of which so much is known.
+fn end_global(
+    compilation: &mut Compilation,
+    files: &Stack,
+    first: Place,
+    name: &Name,
+    declared: Declared,
+) -> Result<(), AllocError>
+    ensures { OnOk result (work compilation.new ≡ global_ended files.now.names first (as_name name.now) declared (work compilation.old)) }
+{
+    add_global(compilation, name, declared.finding)?;
+    end_declaration(
+        compilation,
+        files,
+        first,
+        name,
+        FixedLimit::Globals,
+        declared,
+    )
+}
+
+/// Declares the name of a variable, which is a new one with the value of the unit's expression where nothing is wrong with it.
+fn add_global(
+    compilation: &mut Compilation,
+    name: &Name,
+    found: Option<Finding>,
+) -> Result<(), AllocError>
+    ensures { let before = work compilation.old in
+        OnOk result (work compilation.new ≡ record before { output = global_added found (as_name name.now) before }) }
+{
+    if found.is_some() {
+        compilation
+            .output
+            .declare(name.bytes(), name.place, nothing_of(FixedLimit::Globals))?;
+        return Ok(());
+    }
+    let value = value(compilation)?;
+    let meaning = Meaning::Variable(FIRST_GLOBAL + compilation.output.tables.globals.len() as u8);
+    compilation
+        .output
+        .declare(name.bytes(), name.place, meaning)?;
+    new_global(compilation, value)
+}
+
+/// One variable more.
+fn new_global(compilation: &mut Compilation, value: Value) -> Result<(), AllocError>
+    ensures { let before = work compilation.old in OnOk result
+        (work compilation.new ≡ record before { output = new_global value before.output }) }
+{
+    if compilation.output.tables.globals.len() >= MOST_GLOBALS {
+        return Ok(());
+    }
+    match compilation.output.tables.globals.add(value) {
+        Ok(_) => Ok(()),
+        Err(_) => Err(AllocError),
+    }
+}

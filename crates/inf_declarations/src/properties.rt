@@ -1,0 +1,212 @@
+//! The directive `Property`.
+ghost use Rattle.std.specs.Prelude.{IfOk, OnOk, map, ◌≡◌};
+ghost use Rattle.inf_sinks.specs.Spellings.{as_name};
+ghost use Rattle.inf_declarations.specs.Declarations.{has_most_properties, is_additive, is_additive_word, is_alias, name_known, new_property, nothing_of, property, property_added, property_ended, property_named, property_names, property_number, property_order, property_with, valued};
+ghost use Rattle.inf_compilation.specs.Works.{work};
+
+use crate::declarations::{Declared, alias, end_declaration, is_alias, nothing_of, value, valued};
+use inf_area::Value;
+use inf_compilation::compilation::Compilation;
+use inf_expressions::{Finding, Wanted, least_of_both};
+use inf_lexer::{Place, Stack};
+use inf_names::meanings::Meaning;
+use inf_report::messages::FixedLimit;
+use inf_sinks::spellings::Name;
+use inf_tables::WorldFault;
+use inf_unit::unit::order;
+use inf_unit::unit_tokens::UnitTokens;
+use std::alloc::AllocError;
+
+const MOST_PROPERTIES: usize = 60;
+
+/// The number of the first declared property, and of the first global variable.
+const FIRST_PROPERTY: usize = 4;
+
+/// Whether a name is the word `additive`.
+fn is_additive_word(word: &Name) -> bool
+    ensures { result ≡ is_additive_word (as_name word.now) }
+{
+    word.bytes().eq_ignore_ascii_case(b"additive")
+}
+
+/// Whether the first of the names of a property is the word `additive`.
+pub(crate) fn is_additive(names: &[Name]) -> bool
+    ensures { result ≡ is_additive (map as_name names.now) }
+{
+    match names.first() {
+        Some(word) => is_additive_word(word),
+        None => false,
+    }
+}
+
+/// The names of a property without the word `additive` before them.
+fn property_names(names: &[Name]) -> &[Name]
+    ensures { map as_name result.now ≡ property_names (map as_name names.now) }
+{
+    match names.split_first() {
+        Some((_, others)) => { if is_additive(names) { others } else { names } }
+        None => names,
+    }
+}
+
+/// The order of the name of a property, which stands behind `additive` or not.
+fn property_order(tokens: &UnitTokens, is_additive: bool) -> u32
+    ensures { result ≡ property_order tokens.now is_additive }
+{
+    if is_additive {
+        tokens.name_order().saturating_add(1)
+    } else {
+        tokens.name_order()
+    }
+}
+
+/// Declares the first of these names as a property, or as another name of one. The word `additive` may stand before it.
+pub fn property(
+    compilation: &mut Compilation,
+    files: &Stack,
+    first: Place,
+    names: &[Name],
+) -> Result<(), AllocError>
+    ensures { OnOk result (work compilation.new ≡ property files.now.names first (map as_name names.now) (work compilation.old)) }
+{
+    property_named(
+        compilation,
+        files,
+        first,
+        is_additive(names),
+        property_names(names),
+    )
+}
+
+/// Declares the first of these names as a property, which is additive or not.
+fn property_named(
+    compilation: &mut Compilation,
+    files: &Stack,
+    first: Place,
+    is_additive: bool,
+    names: &[Name],
+) -> Result<(), AllocError>
+    ensures { OnOk result (work compilation.new
+        ≡ property_named files.now.names first is_additive (map as_name names.now) (work compilation.old)) }
+{
+    let Some((name, names)) = names.split_first() else {
+        compilation.pass(true);
+        return Ok(());
+    };
+    if is_alias(names, compilation.unit.gathering.leaves()) {
+        let order = property_order(&compilation.unit.tokens, is_additive);
+        return alias(
+            compilation,
+            files,
+            first,
+            name,
+            order,
+            FixedLimit::Properties,
+        );
+    }
+    one_property(compilation, files, first, is_additive, name)
+}
+
+/// Whether there are as many properties as there may be.
+fn has_most_properties(compilation: &Compilation) -> bool
+    ensures { result ≡ has_most_properties (work compilation.now).output }
+{
+    compilation.output.tables.world.property_count() >= MOST_PROPERTIES
+}
+
+/// Declares a name as a property, with the value of the unit's expression, or 0.
+fn one_property(
+    compilation: &mut Compilation,
+    files: &Stack,
+    first: Place,
+    is_additive: bool,
+    name: &Name,
+) -> Result<(), AllocError>
+    ensures { OnOk result (work compilation.new
+        ≡ property_with files.now.names first is_additive (as_name name.now) (work compilation.old)) }
+{
+    let order = property_order(&compilation.unit.tokens, is_additive);
+    let declared = valued(
+        compilation,
+        files,
+        name,
+        order,
+        has_most_properties(compilation),
+    )?;
+    end_property(compilation, files, first, is_additive, name, declared)
+}
+
+/// The end of the declaration of a property, of which so much is known.
+fn end_property(
+    compilation: &mut Compilation,
+    files: &Stack,
+    first: Place,
+    is_additive: bool,
+    name: &Name,
+    declared: Declared,
+) -> Result<(), AllocError>
+    ensures { OnOk result (work compilation.new
+        ≡ property_ended files.now.names first is_additive (as_name name.now) declared (work compilation.old)) }
+{
+    add_property(compilation, name, is_additive, declared.finding)?;
+    end_declaration(
+        compilation,
+        files,
+        first,
+        name,
+        FixedLimit::Properties,
+        declared,
+    )
+}
+
+/// The number of the next property.
+fn property_number(compilation: &Compilation) -> u8
+    ensures { result ≡ property_number (work compilation.now).output }
+{
+    (FIRST_PROPERTY + compilation.output.tables.world.property_count() % 252) as u8
+}
+
+/// Declares the name of a property, which is a new one with the value of the unit's expression where nothing is wrong with it.
+fn add_property(
+    compilation: &mut Compilation,
+    name: &Name,
+    is_additive: bool,
+    found: Option<Finding>,
+) -> Result<(), AllocError>
+    ensures { let before = work compilation.old in
+        OnOk result (work compilation.new ≡ record before { output = property_added found (as_name name.now) is_additive before }) }
+{
+    if found.is_some() {
+        compilation.output.declare(name.bytes(), name.place, nothing_of(FixedLimit::Properties))?;
+        return Ok(());
+    }
+    let value = value(compilation)?;
+    let meaning = Meaning::Property {
+        number: property_number(compilation),
+        is_additive,
+    };
+    compilation
+        .output
+        .declare(name.bytes(), name.place, meaning)?;
+    new_property(compilation, is_additive, value)
+}
+
+/// One property more, with what an object without it answers.
+fn new_property(
+    compilation: &mut Compilation,
+    is_additive: bool,
+    value: Value,
+) -> Result<(), AllocError>
+    ensures { let before = work compilation.old in
+        OnOk result (work compilation.new ≡ record before { output = new_property is_additive value before.output }) }
+{
+    match compilation
+        .output
+        .tables
+        .world
+        .declare_property(is_additive, value)
+    {
+        Ok(_) | Err(WorldFault::Limit(_) | WorldFault::Misfit(_) | WorldFault::Full(_)) => Ok(()),
+        Err(WorldFault::Memory) => Err(AllocError),
+    }
+}

@@ -1,0 +1,458 @@
+//! The directive `Array`: its header, and entry by entry what stands in it.
+ghost use Rattle.std.specs.Prelude.{IfOk, OnOk, false, map, ◌≡◌};
+ghost use Rattle.inf_arrays.specs.Adding.{added as adding_of};
+ghost use Rattle.inf_arrays.specs.Arrays.{Characters, added_fault};
+ghost use Rattle.inf_sinks.specs.Spellings.{as_name};
+ghost use Rattle.inf_statements.specs.Printing.{text_at};
+ghost use Rattle.inf_listings.specs.Arrays.{added, added_finding, adding, apart, array_header, array_kind, array_named, array_opened, bare_leaf, bare_text, code_of, codes_of, entry_added, entry_ended, entry_finding, entry_judged, entry_with, header_with, is_alone, is_variable, items_finding, kind_in, kind_named, listed, looked_value, lost_added, own_finding, refused, story_added, text_added, text_finding, value_added, variables_from};
+ghost use Rattle.inf_compilation.specs.Actions.{operands_of};
+ghost use Rattle.inf_compilation.specs.Works.{work};
+
+use inf_area::Value;
+use inf_compilation::compilation::{Compilation, Listing};
+use inf_compilation::findings::blame_of;
+use inf_declarations::declarations::{Declared, end_declared, plainly_known, value, value_in};
+use inf_expressions::{Finding, Operand, Wanted, build, least_of_both};
+use inf_gathering::gathering::Leaf;
+use inf_lexer::{Place, Stack};
+use inf_names::meanings::Meaning;
+use inf_output::Output;
+use inf_report::messages::FixedLimit;
+use inf_scanner::{Mark, TokenKind};
+use inf_settings::setting::Setting;
+use inf_sinks::spellings::Name;
+use inf_tables::{ArrayFault, ArrayKind, Arrays, Entries};
+use inf_text::{Text, TextItem};
+use inf_unit::texts::text_of;
+use inf_unit::unit_tokens::UnitTokens;
+use std::alloc::{AllocError, Global};
+
+/// The kind of an array that a word tells.
+fn kind_named(bytes: &[u8]) -> ArrayKind
+    ensures { result ≡ kind_named bytes.now }
+{
+    if bytes.eq_ignore_ascii_case(b"string") {
+        ArrayKind::String
+    } else {
+        ArrayKind::Table
+    }
+}
+
+/// The kind of an array, by the token behind its name.
+fn array_kind(kind: Option<TokenKind>, bytes: &[u8]) -> ArrayKind
+    ensures { result ≡ array_kind kind bytes.now }
+{
+    match kind {
+        Some(TokenKind::Mark(Mark::Arrow)) => ArrayKind::Bytes,
+        Some(TokenKind::Mark(_)) | None => ArrayKind::Words,
+        Some(_) => kind_named(bytes),
+    }
+}
+
+/// The kind of the array whose header has these tokens.
+fn kind_in(tokens: &UnitTokens) -> ArrayKind
+    ensures { result ≡ kind_in tokens.now }
+{
+    let at = tokens.name_order() as usize + 1;
+    array_kind(tokens.kind(at), tokens.bytes_at(at))
+}
+
+/// What is wrong with an entry that its array refuses. That there are too many bytes is no error of the unit.
+pub fn refused(fault: Option<ArrayFault>) -> Option<Finding>
+    ensures { result ≡ refused fault }
+{
+    match fault? {
+        ArrayFault::TooMany | ArrayFault::NotAByte | ArrayFault::NoEntries => {
+            Some(Finding::out_of_range(0))
+        }
+        ArrayFault::Full | ArrayFault::Memory => None,
+    }
+}
+
+/// Whether an item is a string variable.
+fn is_variable(item: TextItem) -> bool
+    ensures { result ≡ is_variable item }
+{
+    matches!(item, TextItem::Variable(_))
+}
+
+/// Whether a string variable is among some items.
+pub fn has_variables(items: &[TextItem]) -> bool
+    ensures { result ≡ variables_from items.now false }
+{
+    let mut found = false;
+    for item in items {
+        found = found | is_variable(*item);
+    }
+    found
+}
+
+/// The code of a character.
+fn code_of(item: TextItem) -> u8
+    ensures { result ≡ code_of item }
+{
+    match item {
+        TextItem::Character(zscii) => zscii.code(),
+        TextItem::Variable(_) => 0,
+    }
+}
+
+/// The codes of characters.
+fn codes_of(alloc: Global, items: &[TextItem]) -> Result<Vec<u8>, AllocError>
+    ensures { IfOk result (λ codes. codes.items ≡ codes_of items.now) }
+{
+    let mut codes = Vec::with_capacity(alloc, items.len())?;
+    for item in items {
+        codes.push(code_of(*item))?;
+    }
+    Ok(codes)
+}
+
+/// What an entry with a value adds, which is alone or not.
+fn adding(is_alone: bool, value: Value) -> Entries<'static>
+    ensures { adding_of result ≡ adding is_alone value }
+{
+    match value {
+        Value::Known(count) if is_alone => Entries::Zeros(count),
+        _ => Entries::One(value),
+    }
+}
+
+/// The place of the text that an expression with these leaves is by itself, if it has no more.
+fn bare_leaf(leaves: &[Leaf]) -> Option<usize>
+    ensures { result ≡ bare_leaf leaves.now }
+{
+    match leaves {
+        [Leaf::Text(at)] => Some(*at),
+        _ => None,
+    }
+}
+
+/// No arrays but an open one, which is kept apart.
+fn apart(alloc: Global, kind: ArrayKind) -> Result<Arrays, AllocError>
+    ensures { IfOk result (λ arrays. arrays ≡ apart kind) }
+{
+    let mut arrays = Arrays::new(alloc, usize::MAX);
+    match arrays.open(kind) {
+        Ok(_) => Ok(arrays),
+        Err(ArrayFault::Memory) => Err(AllocError),
+        Err(
+            ArrayFault::TooMany | ArrayFault::NotAByte | ArrayFault::NoEntries | ArrayFault::Full,
+        ) => Ok(arrays),
+    }
+}
+
+/// One more array of a story, with its name. Where it would pass the limit there is none.
+fn open_array(kind: ArrayKind, name: &Name, out: &mut Output) -> Result<(), AllocError>
+    ensures { OnOk result (out.new ≡ array_opened kind (as_name name.now) out.old) }
+{
+    match out.tables.arrays.open(kind) {
+        Ok(place) => {
+            out.declare(name.bytes(), name.place, Meaning::Array(place))?;
+            Ok(())
+        }
+        Err(ArrayFault::Memory) => Err(AllocError),
+        Err(
+            ArrayFault::TooMany | ArrayFault::NotAByte | ArrayFault::NoEntries | ArrayFault::Full,
+        ) => {
+            out.pass_table(Setting::Arrays);
+            Ok(())
+        }
+    }
+}
+
+/// More entries of the open array of a story.
+fn add_to_story(entries: Entries<'_>, out: &mut Output) -> Result<(), AllocError>
+    ensures { let a = adding_of entries.entry in OnOk result (out.new ≡ story_added (added_fault a out.old.tables.arrays) a out.old) }
+{
+    match out.tables.arrays.add(entries) {
+        Ok(()) => Ok(()),
+        Err(ArrayFault::Memory) => Err(AllocError),
+        Err(
+            ArrayFault::TooMany | ArrayFault::NotAByte | ArrayFault::NoEntries | ArrayFault::Full,
+        ) => {
+            out.pass_table(Setting::Arrays);
+            Ok(())
+        }
+    }
+}
+
+/// More entries of an array that is kept apart.
+fn add_to_lost(entries: Entries<'_>, arrays: &mut Arrays) -> Result<(), AllocError>
+    ensures { let a = adding_of entries.entry in OnOk result (arrays.new ≡ lost_added (added_fault a arrays.old) a arrays.old) }
+{
+    match arrays.add(entries) {
+        Ok(()) => Ok(()),
+        Err(ArrayFault::Memory) => Err(AllocError),
+        Err(
+            ArrayFault::TooMany | ArrayFault::NotAByte | ArrayFault::NoEntries | ArrayFault::Full,
+        ) => Ok(()),
+    }
+}
+
+/// Opens an array of the first of these names.
+pub fn array_named(
+    compilation: &mut Compilation,
+    files: &Stack,
+    first: Place,
+    names: &[Name],
+) -> Result<(), AllocError>
+    ensures { OnOk result (work compilation.new ≡ array_named files.now.names first (map as_name names.now) (work compilation.old)) }
+{
+    match names.first() {
+        Some(name) => array_header(compilation, files, first, name),
+        None => {
+            compilation.pass(false);
+            Ok(())
+        }
+    }
+}
+
+/// Opens an array of this name.
+fn array_header(
+    compilation: &mut Compilation,
+    files: &Stack,
+    first: Place,
+    name: &Name,
+) -> Result<(), AllocError>
+    ensures { OnOk result (work compilation.new ≡ array_header files.now.names first (as_name name.now) (work compilation.old)) }
+{
+    let order = compilation.unit.tokens.name_order();
+    let declared = plainly_known(compilation, files, name, order);
+    header_with(compilation, files, first, name, declared)
+}
+
+/// The same, where so much is known of its name.
+fn header_with(
+    compilation: &mut Compilation,
+    files: &Stack,
+    first: Place,
+    name: &Name,
+    declared: Declared,
+) -> Result<(), AllocError>
+    ensures { OnOk result (work compilation.new
+        ≡ header_with files.now.names first (as_name name.now) declared (work compilation.old)) }
+{
+    let kind = kind_in(&compilation.unit.tokens);
+    list(compilation, kind, name, declared.finding)?;
+    end_declared(
+        compilation,
+        files,
+        first,
+        false,
+        name,
+        FixedLimit::Globals,
+        declared,
+    )
+}
+
+/// The array whose entries come is one of the story, or, where its header has an error, one that is kept apart.
+fn list(
+    compilation: &mut Compilation,
+    kind: ArrayKind,
+    name: &Name,
+    found: Option<Finding>,
+) -> Result<(), AllocError>
+    ensures { OnOk result (work compilation.new ≡ listed found kind (as_name name.now) (work compilation.old)) }
+{
+    compilation.listing = Listing {
+        is_lost: found.is_some(),
+        has_entries: false,
+    };
+    match found {
+        None => open_array(kind, name, &mut compilation.output),
+        Some(_) => {
+            compilation.lost = apart(compilation.alloc, kind)?;
+            Ok(())
+        }
+    }
+}
+
+/// The place of the text that an entry is by itself, which is alone or not.
+fn bare_text(compilation: &Compilation, is_alone: bool) -> Option<usize>
+    ensures { result ≡ bare_text is_alone (work compilation.now) }
+{
+    let gathering = &compilation.unit.gathering;
+    if is_alone && gathering.symbols().len() == 1 {
+        bare_leaf(gathering.leaves())
+    } else {
+        None
+    }
+}
+
+/// The characters of the text at a place of the unit.
+pub fn text_at(compilation: &Compilation, at: usize) -> Result<Option<Text>, AllocError>
+    ensures { IfOk result (λ text. text ≡ text_at compilation.now.set compilation.now.unit.tokens at) }
+{
+    match compilation.unit.tokens.get(at) {
+        Some(token) => text_of(compilation.alloc, compilation.set, &token),
+        None => Ok(None),
+    }
+}
+
+/// What is wrong with what an entry adds.
+fn added_finding(compilation: &Compilation, entries: Entries<'_>) -> Option<Finding>
+    ensures { result ≡ added_finding (adding_of entries.entry) (work compilation.now) }
+{
+    refused(if compilation.listing.is_lost {
+        compilation.lost.add_fault(entries)
+    } else {
+        compilation.output.tables.arrays.add_fault(entries)
+    })
+}
+
+/// What is wrong with the characters of an entry that is a text alone.
+fn items_finding(
+    compilation: &Compilation,
+    items: &[TextItem],
+) -> Result<Option<Finding>, AllocError>
+    ensures { IfOk result (λ f. f ≡ items_finding (variables_from items.now false) items.now (work compilation.now)) }
+{
+    if has_variables(items) {
+        return Ok(Some(Finding::out_of_range(0)));
+    }
+    let codes = codes_of(compilation.alloc, items)?;
+    Ok(added_finding(compilation, Entries::Characters(codes.as_slice())))
+}
+
+/// What is wrong with an entry that is the text at a place alone.
+fn text_finding(compilation: &Compilation, at: usize) -> Result<Option<Finding>, AllocError>
+    ensures { let w = work compilation.now in IfOk result (λ f. f ≡ text_finding (text_at w.set w.unit.tokens at) w) }
+{
+    match text_at(compilation, at)? {
+        Some(text) => items_finding(compilation, text.as_slice()),
+        None => Ok(Some(Finding::out_of_range(0))),
+    }
+}
+
+/// The value of the unit's expression, where its names are only looked up.
+pub fn looked_value(compilation: &Compilation, operands: &[Operand]) -> Result<Value, AllocError>
+    requires { operands.now ≡ operands_of (work compilation.now) }
+    ensures { IfOk result (λ value. value ≡ looked_value (work compilation.now)) }
+{
+    let forest = build(
+        compilation.alloc,
+        Wanted::Constant,
+        0,
+        compilation.unit.gathering.symbols(),
+        operands,
+    )?;
+    Ok(value_in(&forest))
+}
+
+/// What is wrong with an entry, beside its expression, which is alone or not.
+fn own_entry_finding(
+    compilation: &Compilation,
+    is_alone: bool,
+    operands: &[Operand],
+) -> Result<Option<Finding>, AllocError>
+    requires { operands.now ≡ operands_of (work compilation.now) }
+    ensures { let w = work compilation.now in IfOk result (λ f. f ≡ own_finding (bare_text is_alone w) is_alone w) }
+{
+    match bare_text(compilation, is_alone) {
+        Some(at) => text_finding(compilation, at),
+        None => {
+            let value = looked_value(compilation, operands)?;
+            Ok(added_finding(compilation, adding(is_alone, value)))
+        }
+    }
+}
+
+/// What is wrong with an entry, which is alone or not.
+fn entry_finding(compilation: &Compilation, is_alone: bool) -> Result<Option<Finding>, AllocError>
+    ensures { IfOk result (λ f. f ≡ entry_finding is_alone (work compilation.now)) }
+{
+    let operands = compilation.operands()?;
+    let judged = compilation.finding(0, Wanted::Constant, operands.as_slice())?;
+    let own = own_entry_finding(compilation, is_alone, operands.as_slice())?;
+    Ok(least_of_both(judged, own))
+}
+
+/// More entries of the array that is read.
+fn add(compilation: &mut Compilation, entries: Entries<'_>) -> Result<(), AllocError>
+    ensures { OnOk result (work compilation.new ≡ added (adding_of entries.entry) (work compilation.old)) }
+{
+    if compilation.listing.is_lost {
+        add_to_lost(entries, &mut compilation.lost)
+    } else {
+        add_to_story(entries, &mut compilation.output)
+    }
+}
+
+/// Adds the characters of the text at a place.
+fn add_text(compilation: &mut Compilation, at: usize) -> Result<(), AllocError>
+    ensures { let before = work compilation.old in
+        OnOk result (work compilation.new ≡ text_added (text_at before.set before.unit.tokens at) before) }
+{
+    let Some(text) = text_at(compilation, at)? else {
+        return Ok(());
+    };
+    let codes = codes_of(compilation.alloc, text.as_slice())?;
+    add(compilation, Entries::Characters(codes.as_slice()))
+}
+
+/// Adds an entry with a value, which is alone or not.
+fn add_value(compilation: &mut Compilation, is_alone: bool) -> Result<(), AllocError>
+    ensures { OnOk result (work compilation.new ≡ value_added is_alone (work compilation.old)) }
+{
+    let value = value(compilation)?;
+    add(compilation, adding(is_alone, value))
+}
+
+/// Adds an entry with which nothing is wrong, and which is alone or not.
+fn add_entry(compilation: &mut Compilation, is_alone: bool) -> Result<(), AllocError>
+    ensures { OnOk result (work compilation.new ≡ entry_added is_alone (work compilation.old)) }
+{
+    match bare_text(compilation, is_alone) {
+        Some(at) => add_text(compilation, at),
+        None => add_value(compilation, is_alone),
+    }
+}
+
+/// The end of an entry that begins at a place, in which this was found.
+fn entry_with(
+    compilation: &mut Compilation,
+    files: &Stack,
+    first: Place,
+    is_alone: bool,
+    found: Option<Finding>,
+) -> Result<(), AllocError>
+    ensures { OnOk result (work compilation.new ≡ entry_with files.now.names first is_alone found (work compilation.old)) }
+{
+    match found {
+        Some(finding) => {
+            let blame = blame_of(&compilation.unit.tokens, finding);
+            compilation.report.fault(files, first, Some(blame))?;
+        }
+        None => add_entry(compilation, is_alone)?,
+    }
+    compilation.end_unit(files, first, false)
+}
+
+/// The end of an entry that begins at a place, and is alone or not.
+fn judge_entry(
+    compilation: &mut Compilation,
+    files: &Stack,
+    first: Place,
+    is_alone: bool,
+) -> Result<(), AllocError>
+    ensures { OnOk result (work compilation.new ≡ entry_judged files.now.names first is_alone (work compilation.old)) }
+{
+    let found = entry_finding(compilation, is_alone)?;
+    compilation.listing.has_entries = true;
+    entry_with(compilation, files, first, is_alone, found)
+}
+
+/// An entry ends, before a token at a place, behind which more stands or nothing.
+pub fn end_entry(
+    compilation: &mut Compilation,
+    files: &Stack,
+    place: Place,
+    is_last: bool,
+) -> Result<(), AllocError>
+    ensures { OnOk result (work compilation.new ≡ entry_ended files.now.names place is_last (work compilation.old)) }
+{
+    let first = compilation.unit.first_place(place);
+    let is_alone = is_last && !compilation.listing.has_entries;
+    judge_entry(compilation, files, first, is_alone)
+}

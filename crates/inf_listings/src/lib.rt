@@ -1,0 +1,4 @@
+//! The directive `Array`: its header and its entries.
+#![tactic(auto)]
+
+pub mod arrays;

@@ -1,0 +1,444 @@
+-- The directives `Verb`, `Extend` and `Fake_action`, and line by line what stands in the first two. Designer's Manual, fourth edition,
+-- section 30.
+use Rattle.std.specs.Prelude.{ℕ, zero, suc, ◌+◌, ◌-◌, ◌==◌, min, nat_le, nat_lt, List, [], ◌∷◌, ◌++◌, length, codes, Bool, true, false, not, ◌||◌, if◌then◌else◌, Option, Some, None, is_some, option_map}
+use Rattle.std.specs.Str.{str_eq_ignore_ascii_case}
+use Rattle.inf_dictionary.specs.Texts.{Text}
+use Rattle.inf_dictionary.specs.Words.{first_misfit, verb_of}
+use Rattle.inf_dictionary.specs.declared.uses.WordUse.{WordUse}
+use Rattle.inf_dictionary.specs.declared.uses.WordUse.TheVariants as word_use
+use Rattle.inf_expressions.specs.declared.findings.Finding.{Finding}
+use Rattle.inf_expressions.specs.Findings.{least_of_both, wrong_kind}
+use Rattle.inf_names.specs.Symbols.{Table, found_in}
+use Rattle.inf_names.specs.declared.meanings.Meaning.{Meaning}
+use Rattle.inf_names.specs.declared.meanings.Meaning.TheVariants as meaning
+use Rattle.inf_names.specs.declared.symbols.DeclareFault.{DeclareFault}
+use Rattle.inf_names.specs.declared.symbols.Found.{Found}
+use Rattle.inf_names.specs.declared.symbols.Found.TheVariants as found
+use Rattle.inf_output.specs.Actions.{action_of, faked, routine_referred}
+use Rattle.inf_output.specs.Output.{Code, Out, passed_table, with_word}
+use Rattle.inf_report.specs.Messages.{TooMany}
+use Rattle.inf_report.specs.declared.messages.FixedLimit.TheVariants as countable
+use Rattle.inf_scanner.specs.declared.tokens.DictionaryWord.{DictionaryWord}
+use Rattle.inf_scanner.specs.declared.tokens.Mark.{Mark}
+use Rattle.inf_scanner.specs.declared.tokens.Mark.TheVariants as mark
+use Rattle.inf_scanner.specs.declared.tokens.Place.{Place}
+use Rattle.inf_scanner.specs.declared.tokens.TokenKind.{TokenKind}
+use Rattle.inf_scanner.specs.declared.tokens.TokenKind.TheVariants as kind
+use Rattle.inf_settings.specs.declared.setting.Setting.{Setting}
+use Rattle.inf_settings.specs.declared.setting.Setting.TheVariants as setting
+use Rattle.inf_sinks.specs.Spellings.{Name}
+use Rattle.inf_unit.specs.Messages.{Diagnostic, FileNames}
+use Rattle.inf_unit.specs.Tokens.{SourceToken}
+use Rattle.inf_unit.specs.Units.{bytes_at, first_place, is_some_mark, kind_at, name_at, name_order, next_place, order}
+use Rattle.inf_verbs.specs.Lines.{LineOf}
+use Rattle.inf_verbs.specs.Routines.{number_of, with_routine}
+use Rattle.inf_verbs.specs.Verbs.{AllVerbs, add_fault, line_fault_of, with_extended, with_line_of, with_verb}
+use Rattle.inf_verbs.specs.declared.lines.LineToken.{LineToken}
+use Rattle.inf_verbs.specs.declared.lines.LineToken.TheVariants as line_token_of
+use Rattle.inf_verbs.specs.declared.lines.Noun.{Noun}
+use Rattle.inf_verbs.specs.declared.lines.Noun.TheVariants as noun
+use Rattle.inf_verbs.specs.declared.verbs.LineFault.{LineFault}
+use Rattle.inf_verbs.specs.declared.verbs.Place.{Place as LinePlace}
+use Rattle.inf_verbs.specs.declared.verbs.Place.TheVariants as line_place
+use Rattle.inf_verbs.specs.declared.verbs.VerbFault.{VerbFault}
+use Rattle.inf_verbs.specs.declared.verbs.VerbFault.TheVariants as refused
+use Rattle.inf_compilation.specs.Actions.{Compilation, passed, unit_ended}
+use Rattle.inf_declarations.specs.Declarations.{many_finding}
+use Rattle.inf_compilation.specs.Findings.{blame_of, name_fault}
+use Rattle.inf_compilation.specs.declared.compilation.Extending.{Extending}
+use Rattle.inf_verb_lines.specs.declared.lines.Named.{Named}
+use Rattle.inf_verb_lines.specs.declared.lines.Named.TheVariants as named
+use Rattle.inf_verb_lines.specs.declared.verbs.Opened.{Opened}
+use Rattle.inf_verb_lines.specs.declared.verbs.VerbHead.{VerbHead}
+
+-- Tokens
+
+abbrev pub is_mark_at : List SourceToken → ℕ → Mark → Bool
+is_mark_at tokens at m = is_some_mark m (kind_at tokens at)
+
+abbrev pub is_name_in : Option TokenKind → Bool
+is_name_in (Some kind.Name) = true
+is_name_in _ = false
+
+-- the word of the dictionary that a token is
+abbrev pub word_in : Option TokenKind → Option DictionaryWord
+word_in (Some (kind.Word word)) = Some word
+word_in _ = None
+
+abbrev pub word_at : List SourceToken → ℕ → Option DictionaryWord
+word_at tokens at = word_in (kind_at tokens at)
+
+-- What is told: that there are too many verbs, of the first token, and all else of its own.
+abbrev pub verb_blame : List SourceToken → Place → Finding → Diagnostic
+verb_blame tokens first f = if f.number == 19 then record { place = first; message = TooMany countable.Verbs } else blame_of tokens f
+
+abbrev pub verb_fault : List SourceToken → Place → Option Finding → Option Diagnostic
+verb_fault tokens first None = None
+verb_fault tokens first (Some f) = Some (verb_blame tokens first f)
+
+abbrev pub verb_ended : FileNames → Place → Option Finding → Compilation → Compilation
+verb_ended files first found w = unit_ended files first false (verb_fault w.unit.tokens first found) w
+
+-- that the word at a place is one of a verb, or is none
+abbrev pub wrong_verb : ℕ → Finding
+wrong_verb at = record { order = order at; number = 22 }
+
+-- The header of `Verb`: behind its word `meta` may stand, then there are words, and at its end `=` and a word may stand, whose verb gets
+-- more words.
+abbrev pub words_from : ℕ → Bool → ℕ
+words_from order is_meta = if is_meta then order + 1 else order
+
+abbrev pub words_end : Bool → ℕ → ℕ
+words_end has_sign count = if has_sign then count - 2 else count
+
+abbrev pub like_at : Bool → ℕ → Option ℕ
+like_at has_sign count = if has_sign then Some (count - 1) else None
+
+abbrev pub head_with : Bool → Bool → ℕ → ℕ → VerbHead
+head_with is_meta has_sign order count = record {
+  is_meta = is_meta;
+  first = words_from order is_meta;
+  end = words_end has_sign count;
+  like = like_at has_sign count;
+}
+
+abbrev pub verb_head : List SourceToken → VerbHead
+verb_head tokens =
+    head_with (is_name_in (kind_at tokens (name_order tokens))) (is_mark_at tokens (length tokens - 2) mark.Assign) (name_order tokens)
+    (length tokens)
+
+-- What is wrong with it: the verb behind `=` is none, or there are 255 verbs; or a word is one of a verb's already, or stands there twice.
+abbrev pub verb_by : Option DictionaryWord → Out → Option ℕ
+verb_by None o = None
+verb_by (Some word) o = verb_of word.text o.tables.dictionary.list
+
+abbrev pub verb_named : List SourceToken → ℕ → Out → Option ℕ
+verb_named tokens at o = verb_by (word_at tokens at) o
+
+abbrev pub no_verb_finding : ℕ → Option ℕ → Option Finding
+no_verb_finding at None = Some (wrong_verb at)
+no_verb_finding at (Some number) = None
+
+abbrev pub has_most_verbs : Out → Bool
+has_most_verbs o = nat_le 255 (length o.tables.verbs.list)
+
+abbrev pub has_verb : ℕ → Out → Bool
+has_verb number o = nat_lt number (length o.tables.verbs.list)
+
+abbrev pub like_finding : Option ℕ → List SourceToken → Out → Option Finding
+like_finding None tokens o = many_finding (has_most_verbs o)
+like_finding (Some at) tokens o = no_verb_finding at (verb_named tokens at o)
+
+abbrev pub with_text : Option DictionaryWord → List Text → List Text
+with_text None texts = texts
+with_text (Some word) texts = texts ++ word.text ∷ []
+
+abbrev pub texts_before : ℕ → List SourceToken → List Text
+texts_before zero tokens = []
+texts_before (suc at) tokens = with_text (word_at tokens at) (texts_before at tokens)
+
+unfoldable pub place_behind : ℕ → ℕ → ℕ
+place_behind first place = min (first + place) 18446744073709551615
+
+abbrev pub misfit_finding : ℕ → Option ℕ → Option Finding
+misfit_finding first None = None
+misfit_finding first (Some place) = Some (wrong_verb (place_behind first place))
+
+abbrev pub words_finding : VerbHead → List SourceToken → Out → Option Finding
+words_finding head tokens o = misfit_finding head.first (first_misfit o.tables.dictionary.list 0 [] (texts_before head.end tokens))
+
+abbrev pub head_finding : VerbHead → List SourceToken → Out → Option Finding
+head_finding head tokens o = least_of_both (like_finding head.like tokens o) (words_finding head tokens o)
+
+-- A new verb, whose lines are those that follow. Where there would be too many, that limit is passed.
+abbrev pub with_verbs : AllVerbs → Code
+with_verbs verbs o = record o { tables = record o.tables { verbs = verbs } }
+
+abbrev pub verb_passed : Setting → Out → Out × Opened
+verb_passed limit o = (passed_table limit o, record { words = Some 0; lines = None })
+
+abbrev pub new_verb_by : Option VerbFault → Out → Out × Opened
+new_verb_by None o =
+    let number =
+    length o.tables.verbs.list in (with_verbs (with_verb o.tables.verbs) o, record { words = Some number; lines = Some number })
+new_verb_by (Some refused.TooMany) o = (o, record { words = None; lines = None })
+new_verb_by (Some refused.Full) o = verb_passed setting.Verbs o
+new_verb_by (Some refused.NoSpace) o = verb_passed setting.GrammarLines o
+new_verb_by (Some refused.Memory) o = (o, record { words = None; lines = None })
+
+abbrev pub new_verb : Out → Out × Opened
+new_verb o = new_verb_by (add_fault o.tables.verbs) o
+
+abbrev pub verb_begun : Option ℕ → List SourceToken → Out → Out × Opened
+verb_begun None tokens o = new_verb o
+verb_begun (Some at) tokens o = (o, record { words = verb_named tokens at o; lines = None })
+
+-- its words are used
+abbrev pub verb_use : ℕ → Bool → WordUse
+verb_use number is_meta = if is_meta then word_use.MetaVerb number else word_use.Verb number
+
+abbrev pub word_used : Option DictionaryWord → WordUse → Code
+word_used None how o = o
+word_used (Some word) how o = with_word word.text how word.is_plural o
+
+abbrev pub words_used : ℕ → List SourceToken → WordUse → Code
+words_used zero tokens how o = o
+words_used (suc at) tokens how o = word_used (word_at tokens at) how (words_used at tokens how o)
+
+abbrev pub like_used : Option ℕ → List SourceToken → ℕ → Code
+like_used None tokens number o = o
+like_used (Some at) tokens number o = word_used (word_at tokens at) (word_use.Verb number) o
+
+abbrev pub words_given : Option ℕ → VerbHead → List SourceToken → Code
+words_given None head tokens o = o
+words_given (Some number) head tokens o = like_used head.like tokens number (words_used head.end tokens (verb_use number head.is_meta) o)
+
+abbrev pub verb_opened : VerbHead → List SourceToken → Out → Out × Option ℕ
+verb_opened head tokens o = let b = verb_begun head.like tokens o in (words_given b.1.words head tokens b.0, b.1.lines)
+
+abbrev pub lines_of : Option ℕ → LinePlace → Extending
+lines_of verb place = record { verb = verb; place = place }
+
+abbrev pub header_opened : Option Finding → VerbHead → Compilation → Compilation
+header_opened (Some f) head w = record w { extending = lines_of None line_place.Last }
+header_opened None head w =
+    let v = verb_opened head w.unit.tokens w.output in record w { output = v.0; extending = lines_of v.1 line_place.Last }
+
+abbrev pub verb_header_with : FileNames → Place → VerbHead → Compilation → Compilation
+verb_header_with files first head w =
+    let found = head_finding head w.unit.tokens w.output in verb_ended files first found (header_opened found head w)
+
+abbrev pub verb_header : FileNames → Place → Compilation → Compilation
+verb_header files first w = verb_header_with files first (verb_head w.unit.tokens) w
+
+-- The header of `Extend`: where further lines go is told by the word behind that of the verb.
+abbrev pub place_named : List ℕ → LinePlace
+place_named name =
+    if str_eq_ignore_ascii_case name (codes "first") then line_place.First else
+    if str_eq_ignore_ascii_case name (codes "replace") then line_place.Replace else line_place.Last
+
+abbrev pub lines_extended : ℕ → LinePlace → Code
+lines_extended number place o =
+    if has_verb number o then with_verbs (with_extended number place o.tables.verbs) o else o
+
+abbrev pub verb_extended : Option ℕ → LinePlace → Option DictionaryWord → Code
+verb_extended None place word o = o
+verb_extended (Some number) place word o = lines_extended number place (word_used word (word_use.Verb number) o)
+
+abbrev pub extend_with : FileNames → Place → ℕ → Option ℕ → LinePlace → Compilation → Compilation
+extend_with files first at number place w =
+    verb_ended files first (no_verb_finding at number)
+    (record w { extending = lines_of number place; output = verb_extended number place (word_at w.unit.tokens at) w.output })
+
+abbrev pub extend_header : FileNames → Place → Compilation → Compilation
+extend_header files first w =
+    let at = name_order w.unit.tokens in
+    extend_with files first at (verb_named w.unit.tokens at w.output) (place_named (bytes_at w.unit.tokens (at + 1))) w
+
+-- What is wrong with a line
+
+abbrev pub noun_named : List ℕ → Option Noun
+noun_named name =
+    if str_eq_ignore_ascii_case name (codes "noun") then Some noun.Noun else
+    if str_eq_ignore_ascii_case name (codes "held") then Some noun.Held else
+    if str_eq_ignore_ascii_case name (codes "multi") then Some noun.Multi else
+    if str_eq_ignore_ascii_case name (codes "multiheld") then Some noun.MultiHeld else
+    if str_eq_ignore_ascii_case name (codes "multiexcept") then Some noun.MultiExcept else
+    if str_eq_ignore_ascii_case name (codes "multiinside") then Some noun.MultiInside else
+    if str_eq_ignore_ascii_case name (codes "creature") then Some noun.Creature else
+    if str_eq_ignore_ascii_case name (codes "special") then Some noun.Special else
+    if str_eq_ignore_ascii_case name (codes "number") then Some noun.Number else
+    if str_eq_ignore_ascii_case name (codes "topic") then Some noun.Topic else None
+
+-- what looking for a name found that may be a routine, or is an attribute
+abbrev pub is_routine : Meaning → Bool
+is_routine (meaning.Routine place) = true
+is_routine _ = false
+
+abbrev pub can_be_routine : Found Place → Bool
+can_be_routine (found.Declared m first) = is_routine m
+can_be_routine (found.System m) = false
+can_be_routine found.Used = true
+can_be_routine found.Unknown = true
+
+abbrev pub attribute_of : Meaning → Option ℕ
+attribute_of (meaning.Attribute number) = Some number
+attribute_of _ = None
+
+abbrev pub attribute_in : Found Place → Option ℕ
+attribute_in (found.Declared m first) = attribute_of m
+attribute_in _ = None
+
+-- A name by itself is a noun, an attribute or a routine; one before `=` is `noun` or `scope`, and one behind it a routine.
+abbrev pub is_filter_word : List ℕ → Bool
+is_filter_word name = str_eq_ignore_ascii_case name (codes "noun")
+
+abbrev pub is_sign_word : List ℕ → Bool
+is_sign_word name = is_filter_word name || str_eq_ignore_ascii_case name (codes "scope")
+
+abbrev pub named_behind : List ℕ → Named
+named_behind word = if is_filter_word word then named.Filter else named.Scope
+
+abbrev pub named_at : List SourceToken → ℕ → Named
+named_at tokens at =
+    if is_mark_at tokens (next_place at) mark.Assign then named.Sign else
+    if is_mark_at tokens (at - 1) mark.Assign then named_behind (bytes_at tokens (at - 2)) else named.Alone
+
+abbrev pub is_lone_name : Option Noun → Found Place → Bool
+is_lone_name n f = is_some n || (is_some (attribute_in f) || can_be_routine f)
+
+abbrev pub is_right : Named → List ℕ → Table Place → Bool
+is_right named.Sign name names = is_sign_word name
+is_right named.Filter name names = can_be_routine (found_in name names)
+is_right named.Scope name names = can_be_routine (found_in name names)
+is_right named.Alone name names = is_lone_name (noun_named name) (found_in name names)
+
+abbrev pub wrong_unless : Bool → ℕ → Option Finding
+wrong_unless is_right at = if is_right then None else Some (wrong_kind (order at))
+
+abbrev pub named_finding : Option Name → List SourceToken → ℕ → Table Place → Option Finding
+named_finding None tokens at names = None
+named_finding (Some n) tokens at names = wrong_unless (is_right (named_at tokens at) n.bytes names) at
+
+abbrev pub token_finding : List SourceToken → ℕ → Table Place → Option Finding
+token_finding tokens at names = named_finding (name_at tokens at) tokens at names
+
+-- the least of what is wrong with those before a place
+abbrev pub tokens_finding : ℕ → List SourceToken → Table Place → Option Finding
+tokens_finding zero tokens names = None
+tokens_finding (suc at) tokens names = least_of_both (tokens_finding at tokens names) (token_finding tokens at names)
+
+-- The tokens of a line
+
+-- words, of which a mark tells that they are alternatives
+abbrev pub preposition : List SourceToken → ℕ → DictionaryWord → LineToken
+preposition tokens at word =
+    line_token_of.Preposition word.text (not (is_mark_at tokens (at - 1) mark.Divide)) (not (is_mark_at tokens (next_place at) mark.Divide))
+
+-- Routines that parse are used, and have numbers of their own.
+abbrev pub with_parsing : List ℕ → Code
+with_parsing routines o = record o { tables = record o.tables { parsing = routines } }
+
+abbrev pub parsing_as : Option ℕ → Out → Out × ℕ
+parsing_as None o = (o, 0)
+parsing_as (Some routine) o = (with_parsing (with_routine routine o.tables.parsing) o, number_of routine o.tables.parsing)
+
+abbrev pub parsing_of : Out × Option ℕ → Out × ℕ
+parsing_of r = parsing_as r.1 r.0
+
+abbrev pub parsing_routine : Option Name → Out → Out × ℕ
+parsing_routine None o = (o, 0)
+parsing_routine (Some n) o = parsing_of (routine_referred n.bytes n.place o)
+
+abbrev pub filter_token : Out × ℕ → Out × Option LineToken
+filter_token r = (r.0, Some (line_token_of.Filter r.1))
+
+abbrev pub scope_token : Out × ℕ → Out × Option LineToken
+scope_token r = (r.0, Some (line_token_of.Scope r.1))
+
+abbrev pub routine_token : Out × ℕ → Out × Option LineToken
+routine_token r = (r.0, Some (line_token_of.Routine r.1))
+
+abbrev pub lone_by : Option Noun → Option ℕ → Option Name → Out → Out × Option LineToken
+lone_by (Some n) attribute name o = (o, Some (line_token_of.Noun n))
+lone_by None (Some number) name o = (o, Some (line_token_of.Attribute number))
+lone_by None None name o = routine_token (parsing_routine name o)
+
+abbrev pub lone_token : List SourceToken → ℕ → Out → Out × Option LineToken
+lone_token tokens at o =
+    lone_by (noun_named (bytes_at tokens at)) (attribute_in (found_in (bytes_at tokens at) o.names)) (name_at tokens at) o
+
+abbrev pub name_token : Named → List SourceToken → ℕ → Out → Out × Option LineToken
+name_token named.Sign tokens at o = (o, None)
+name_token named.Filter tokens at o = filter_token (parsing_routine (name_at tokens at) o)
+name_token named.Scope tokens at o = scope_token (parsing_routine (name_at tokens at) o)
+name_token named.Alone tokens at o = lone_token tokens at o
+
+abbrev pub line_token_by : Option TokenKind → List SourceToken → ℕ → Out → Out × Option LineToken
+line_token_by (Some (kind.Word word)) tokens at o =
+    (with_word word.text word_use.Preposition word.is_plural o, Some (preposition tokens at word))
+line_token_by (Some kind.Name) tokens at o = name_token (named_at tokens at) tokens at o
+line_token_by _ tokens at o = (o, None)
+
+abbrev pub line_token : List SourceToken → ℕ → Out → Out × Option LineToken
+line_token tokens at o = line_token_by (kind_at tokens at) tokens at o
+
+abbrev pub with_token : Option LineToken → List LineToken → List LineToken
+with_token None line = line
+with_token (Some t) line = line ++ t ∷ []
+
+abbrev pub with_next : Out × Option LineToken → List LineToken → Out × List LineToken
+with_next t line = (t.0, with_token t.1 line)
+
+-- those before a place
+abbrev pub line_tokens : ℕ → List SourceToken → Out → Out × List LineToken
+line_tokens zero tokens o = (o, [])
+line_tokens (suc at) tokens o = let line = line_tokens at tokens o in with_next (line_token tokens at line.0) line.1
+
+-- A line
+
+-- the last arrow stands before its action
+abbrev pub arrow_or : List SourceToken → ℕ → ℕ → ℕ
+arrow_or tokens at other = if is_mark_at tokens at mark.Arrow then at else other
+
+abbrev pub arrow_before : ℕ → List SourceToken → ℕ
+arrow_before zero tokens = 0
+arrow_before (suc at) tokens = arrow_or tokens at (arrow_before at tokens)
+
+abbrev pub arrow_in : List SourceToken → ℕ
+arrow_in tokens = arrow_before (length tokens) tokens
+
+abbrev pub action_by : Option Name → Out → Out × ℕ
+action_by None o = (o, 0)
+action_by (Some n) o = action_of n.bytes n.place o
+
+-- behind its action `reverse` may stand
+abbrev pub is_reverse : List SourceToken → ℕ → Bool
+is_reverse tokens arrow = nat_lt 2 (length tokens - arrow)
+
+-- It is one of the verb whose lines are read. Where there would be too many lines, that limit is passed.
+abbrev pub one_line_by : Option LineFault → ℕ → LinePlace → LineOf → Code
+one_line_by None number place line o = with_verbs (with_line_of number place line o.tables.verbs) o
+one_line_by (Some f) number place line o = passed_table setting.GrammarLines o
+
+abbrev pub one_line : ℕ → LinePlace → LineOf → Code
+one_line number place line o =
+    if has_verb number o then one_line_by (line_fault_of (length line.tokens) o.tables.verbs) number place line o else o
+
+abbrev pub line_kept_by : Option ℕ → LinePlace → LineOf → Code
+line_kept_by None place line o = o
+line_kept_by (Some number) place line o = one_line number place line o
+
+abbrev pub line_kept : Extending → LineOf → Code
+line_kept e line o = line_kept_by e.verb e.place line o
+
+abbrev pub line_with : Extending → List LineToken → Bool → Out × ℕ → Out
+line_with e taken is_reverse action = line_kept e (record { action = action.1; is_reverse = is_reverse; tokens = taken }) action.0
+
+abbrev pub line_behind : Extending → List SourceToken → ℕ → Out × List LineToken → Out
+line_behind e tokens arrow line = line_with e line.1 (is_reverse tokens arrow) (action_by (name_at tokens (next_place arrow)) line.0)
+
+abbrev pub line_added : Extending → List SourceToken → ℕ → Code
+line_added e tokens arrow o = line_behind e tokens arrow (line_tokens arrow tokens o)
+
+abbrev pub line_laid : Option Finding → ℕ → Compilation → Compilation
+line_laid (Some f) arrow w = w
+line_laid None arrow w = record w { output = line_added w.extending w.unit.tokens arrow w.output }
+
+abbrev pub line_found : FileNames → Place → Option Finding → ℕ → Compilation → Compilation
+line_found files first found arrow w = verb_ended files first found (line_laid found arrow w)
+
+abbrev pub line_judged : FileNames → Place → ℕ → Compilation → Compilation
+line_judged files first arrow w = line_found files first (tokens_finding arrow w.unit.tokens w.output.names) arrow w
+
+abbrev pub line_ended : FileNames → Place → Compilation → Compilation
+line_ended files place w = line_judged files (first_place w.unit.tokens place) (arrow_in w.unit.tokens) w
+
+-- A fake action
+
+abbrev pub fake_with : FileNames → Place → Name → Out × Option (DeclareFault Place) → Compilation → Compilation
+fake_with files first name f w = unit_ended files first true (name_fault files name f.1) (record w { output = f.0 })
+
+abbrev pub fake_action : FileNames → Place → List Name → Compilation → Compilation
+fake_action files first [] w = passed true w
+fake_action files first (name ∷ names) w = fake_with files first name (faked name.bytes name.place w.output) w

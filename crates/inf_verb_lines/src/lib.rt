@@ -1,0 +1,5 @@
+//! The directives `Verb` and `Extend`, and the lines of verbs.
+#![tactic(auto)]
+
+pub mod lines;
+pub mod verbs;

@@ -1,0 +1,482 @@
+//! The lines of grammar of the verb at hand, each of which is a unit.
+ghost use Rattle.std.specs.Prelude.{IfOk, IfSome, OnOk, length, option_map, true, ◌<◌, ◌≡◌, ◌≤◌};
+ghost use Rattle.inf_unit.specs.NameTokens.{named as named_token};
+ghost use Rattle.inf_verbs.specs.Lines.{LineOf};
+ghost use Rattle.inf_verb_lines.specs.Verbs.{action_by, arrow_in, arrow_or, attribute_in, can_be_routine, has_verb, is_filter_word, is_lone_name, is_mark_at, is_reverse, is_right, is_sign_word, line_added, line_behind, line_ended, line_found, line_judged, line_kept, line_laid, line_token, line_tokens, lone_by, lone_token, name_token, named_at, named_behind, noun_named, one_line, parsing_routine, preposition, token_finding, tokens_finding, with_next, with_token, wrong_unless};
+ghost use Rattle.inf_compilation.specs.Works.{work};
+
+use crate::verbs::{end_of_verb, has_verb, is_mark_at};
+use inf_compilation::compilation::{Compilation, Extending};
+use inf_expressions::{Finding, least_of_both};
+use inf_lexer::{Place, Stack};
+use inf_names::meanings::Meaning;
+use inf_names::symbols::{Found, Symbols};
+use inf_output::Output;
+use inf_scanner::{DictionaryWord, Mark, TokenKind};
+use inf_settings::setting::Setting;
+use inf_sinks::spellings::Name;
+use inf_tables::{LineFault, LineToken, Noun, WordUse};
+use inf_unit::unit::{next_place, order};
+use inf_unit::unit_tokens::{NameToken, UnitTokens};
+use inf_verbs::Place as LinePlace;
+use std::alloc::{AllocError, Global};
+
+/// What a name in a line is.
+#[derive(Clone, Copy, Debug, PartialEq, Eq)]
+pub enum Named {
+    /// The word before the sign of a filter.
+    Sign,
+    /// The routine of a filter or a scope.
+    Filter,
+    Scope,
+    /// A token by itself.
+    Alone,
+}
+
+/// The noun that a name is in a line.
+fn noun_named(name: &[u8]) -> Option<Noun>
+    ensures { result ≡ noun_named name.now }
+{
+    if name.eq_ignore_ascii_case(b"noun") {
+        Some(Noun::Noun)
+    } else if name.eq_ignore_ascii_case(b"held") {
+        Some(Noun::Held)
+    } else if name.eq_ignore_ascii_case(b"multi") {
+        Some(Noun::Multi)
+    } else if name.eq_ignore_ascii_case(b"multiheld") {
+        Some(Noun::MultiHeld)
+    } else if name.eq_ignore_ascii_case(b"multiexcept") {
+        Some(Noun::MultiExcept)
+    } else if name.eq_ignore_ascii_case(b"multiinside") {
+        Some(Noun::MultiInside)
+    } else if name.eq_ignore_ascii_case(b"creature") {
+        Some(Noun::Creature)
+    } else if name.eq_ignore_ascii_case(b"special") {
+        Some(Noun::Special)
+    } else if name.eq_ignore_ascii_case(b"number") {
+        Some(Noun::Number)
+    } else if name.eq_ignore_ascii_case(b"topic") {
+        Some(Noun::Topic)
+    } else {
+        None
+    }
+}
+
+/// Whether a name can be that of a routine, by what looking for it found.
+fn can_be_routine(found: Found<Place>) -> bool
+    ensures { result ≡ can_be_routine found }
+{
+    match found {
+        Found::Declared(Meaning::Routine(_), _) | Found::Used | Found::Unknown => true,
+        Found::Declared(..) | Found::System(_) => false,
+    }
+}
+
+/// The attribute that a name stands for, by what looking for it found.
+fn attribute_in(found: Found<Place>) -> Option<u8>
+    ensures { result ≡ attribute_in found }
+{
+    match found {
+        Found::Declared(Meaning::Attribute(number), _) => Some(number),
+        _ => None,
+    }
+}
+
+/// Whether a word stands before the sign of a filter.
+fn is_filter_word(name: &[u8]) -> bool
+    ensures { result ≡ is_filter_word name.now }
+{
+    name.eq_ignore_ascii_case(b"noun")
+}
+
+/// Whether a word can stand before a sign.
+fn is_sign_word(name: &[u8]) -> bool
+    ensures { result ≡ is_sign_word name.now }
+{
+    is_filter_word(name) | name.eq_ignore_ascii_case(b"scope")
+}
+
+/// What the name behind a sign is, by the word before that.
+fn named_behind(word: &[u8]) -> Named
+    ensures { result ≡ named_behind word.now }
+{
+    if is_filter_word(word) {
+        Named::Filter
+    } else {
+        Named::Scope
+    }
+}
+
+/// What the name at a place of a line is.
+pub fn named_at(tokens: &UnitTokens, at: usize) -> Named
+    ensures { result ≡ named_at tokens.now at }
+{
+    if is_mark_at(tokens, next_place(at), Mark::Assign) {
+        Named::Sign
+    } else if is_mark_at(tokens, at.saturating_sub(1), Mark::Assign) {
+        named_behind(tokens.bytes_at(at.saturating_sub(2)))
+    } else {
+        Named::Alone
+    }
+}
+
+/// Whether a name by itself can be a token of a line: a noun, or what looking for it found.
+fn is_lone_name(noun: Option<Noun>, found: Found<Place>) -> bool
+    ensures { result ≡ is_lone_name noun found }
+{
+    noun.is_some() | (attribute_in(found).is_some() | can_be_routine(found))
+}
+
+/// Whether a name can stand where it does in a line.
+fn is_right(named: Named, name: &[u8], names: &Symbols<Place>) -> bool
+    requires { length name.now ≤ 32 }
+    ensures { result ≡ is_right named name.now names.now }
+{
+    match named {
+        Named::Sign => is_sign_word(name),
+        Named::Filter | Named::Scope => can_be_routine(names.look(name)),
+        Named::Alone => is_lone_name(noun_named(name), names.look(name)),
+    }
+}
+
+/// That the token at a place is of another kind, unless it is right.
+fn wrong_unless(is_right: bool, at: usize) -> Option<Finding>
+    ensures { result ≡ wrong_unless is_right at }
+{
+    if is_right {
+        None
+    } else {
+        Some(Finding::wrong_kind(order(at)))
+    }
+}
+
+/// What is wrong with the token at a place of a line.
+fn token_finding(tokens: &UnitTokens, at: usize, names: &Symbols<Place>) -> Option<Finding>
+    ensures { result ≡ token_finding tokens.now at names.now }
+{
+    match tokens.name_at(at) {
+        Some(name) => wrong_unless(is_right(named_at(tokens, at), name.bytes, names), at),
+        None => None,
+    }
+}
+
+/// The least of what is wrong with the tokens of a line before a place.
+fn tokens_finding(end: usize, tokens: &UnitTokens, names: &Symbols<Place>) -> Option<Finding>
+    ensures { result ≡ tokens_finding end tokens.now names.now }
+{
+    let mut found = None;
+    for at in 0..end {
+        found = least_of_both(found, token_finding(tokens, at, names));
+    }
+    found
+}
+
+/// The word at a place of a line, which may be one of some alternatives.
+fn preposition(tokens: &UnitTokens, at: usize, word: DictionaryWord) -> LineToken
+    ensures { result ≡ preposition tokens.now at word }
+{
+    let text = word.text;
+    LineToken::Preposition {
+        text,
+        is_first: !is_mark_at(tokens, at.saturating_sub(1), Mark::Divide),
+        is_last: !is_mark_at(tokens, next_place(at), Mark::Divide),
+    }
+}
+
+/// The number of the parsing routine of a name, which is used.
+fn parsing_routine(name: Option<NameToken<'_>>, out: &mut Output) -> Result<u16, AllocError>
+    requires { IfSome name (λ n. length n.bytes.now ≤ 32) }
+    ensures { IfOk result (λ number. (out.new, number) ≡ parsing_routine (option_map named_token name.entry) out.old) }
+{
+    let Some(name) = name else {
+        return Ok(0);
+    };
+    match out.refer_routine(name.bytes, name.place)? {
+        Some(routine) => out.tables.parsing.add(routine),
+        None => Ok(0),
+    }
+}
+
+/// The token that a name is by itself: a noun, an attribute or a routine, which is used.
+fn lone_by(
+    noun: Option<Noun>,
+    attribute: Option<u8>,
+    name: Option<NameToken<'_>>,
+    out: &mut Output,
+) -> Result<Option<LineToken>, AllocError>
+    requires { IfSome name (λ n. length n.bytes.now ≤ 32) }
+    ensures { IfOk result (λ token. (out.new, token) ≡ lone_by noun attribute (option_map named_token name.entry) out.old) }
+{
+    match (noun, attribute) {
+        (Some(noun), _) => Ok(Some(LineToken::Noun(noun))),
+        (None, Some(number)) => Ok(Some(LineToken::Attribute(number))),
+        (None, None) => Ok(Some(LineToken::Routine(parsing_routine(name, out)?))),
+    }
+}
+
+/// The token that the name at a place of a line is by itself.
+fn lone_token(
+    tokens: &UnitTokens,
+    at: usize,
+    out: &mut Output,
+) -> Result<Option<LineToken>, AllocError>
+    ensures { IfOk result (λ token. (out.new, token) ≡ lone_token tokens.now at out.old) }
+{
+    let name = tokens.bytes_at(at);
+    let attribute = attribute_in(out.names.look(name));
+    lone_by(noun_named(name), attribute, tokens.name_at(at), out)
+}
+
+/// The token that the name at a place of a line is; one before a sign is none.
+fn name_token(
+    named: Named,
+    tokens: &UnitTokens,
+    at: usize,
+    out: &mut Output,
+) -> Result<Option<LineToken>, AllocError>
+    ensures { IfOk result (λ token. (out.new, token) ≡ name_token named tokens.now at out.old) }
+{
+    match named {
+        Named::Sign => Ok(None),
+        Named::Filter => {
+            let number = parsing_routine(tokens.name_at(at), out)?;
+            Ok(Some(LineToken::Filter(number)))
+        }
+        Named::Scope => {
+            let number = parsing_routine(tokens.name_at(at), out)?;
+            Ok(Some(LineToken::Scope(number)))
+        }
+        Named::Alone => lone_token(tokens, at, out),
+    }
+}
+
+/// The token that stands at a place of a line, which is used; signs are none.
+fn line_token(
+    tokens: &UnitTokens,
+    at: usize,
+    out: &mut Output,
+) -> Result<Option<LineToken>, AllocError>
+    ensures { IfOk result (λ token. (out.new, token) ≡ line_token tokens.now at out.old) }
+{
+    match tokens.kind(at) {
+        Some(TokenKind::Word(word)) => {
+            out.word(word.text, WordUse::Preposition, word.is_plural)?;
+            Ok(Some(preposition(tokens, at, word)))
+        }
+        Some(TokenKind::Name) => name_token(named_at(tokens, at), tokens, at, out),
+        _ => Ok(None),
+    }
+}
+
+/// A token more, if there is one.
+fn add_token(token: Option<LineToken>, line: &mut Vec<LineToken>) -> Result<(), AllocError>
+    ensures { OnOk result (line.new.items ≡ with_token token line.old.items) }
+{
+    if let Some(token) = token {
+        line.push(token)?;
+    }
+    Ok(())
+}
+
+/// The token at a place of a line is the next one of it, and is used.
+fn add_next(
+    tokens: &UnitTokens,
+    at: usize,
+    out: &mut Output,
+    line: &mut Vec<LineToken>,
+) -> Result<(), AllocError>
+    ensures { OnOk result ((out.new, line.new.items) ≡ with_next (line_token tokens.now at out.old) line.old.items) }
+{
+    let token = line_token(tokens, at, out)?;
+    add_token(token, line)
+}
+
+/// The tokens that stand before a place of a line, which are used.
+fn line_tokens(
+    alloc: Global,
+    end: usize,
+    tokens: &UnitTokens,
+    out: &mut Output,
+) -> Result<Vec<LineToken>, AllocError>
+    ensures { IfOk result (λ line. (out.new, line.items) ≡ line_tokens end tokens.now out.old) }
+{
+    let mut line = Vec::new(alloc);
+    for at in 0..end {
+        add_next(tokens, at, out, &mut line)?;
+    }
+    Ok(line)
+}
+
+/// A place where an arrow stands, or another one.
+fn arrow_or(tokens: &UnitTokens, at: usize, other: usize) -> usize
+    ensures { result ≡ arrow_or tokens.now at other }
+{
+    if is_mark_at(tokens, at, Mark::Arrow) {
+        at
+    } else {
+        other
+    }
+}
+
+/// The place of the arrow before the action of a line: the last one.
+fn arrow_in(tokens: &UnitTokens) -> usize
+    ensures { result ≡ arrow_in tokens.now }
+{
+    let mut arrow = 0;
+    for at in 0..tokens.len() {
+        arrow = arrow_or(tokens, at, arrow);
+    }
+    arrow
+}
+
+/// The number of the action of a name, which appears there.
+fn action_by(name: Option<NameToken<'_>>, out: &mut Output) -> Result<u16, AllocError>
+    requires { IfSome name (λ n. length n.bytes.now ≤ 32) }
+    ensures { IfOk result (λ number. (out.new, number) ≡ action_by (option_map named_token name.entry) out.old) }
+{
+    match name {
+        Some(name) => out.action(name.bytes, name.place),
+        None => Ok(0),
+    }
+}
+
+/// Whether more stands behind the action behind an arrow.
+fn is_reverse(tokens: &UnitTokens, arrow: usize) -> bool
+    ensures { result ≡ is_reverse tokens.now arrow }
+{
+    tokens.len().saturating_sub(arrow) > 2
+}
+
+/// A line of the verb of a number, if there is one.
+fn one_line(
+    number: u8,
+    place: LinePlace,
+    action: u16,
+    is_reverse: bool,
+    line: &[LineToken],
+    out: &mut Output,
+) -> Result<(), AllocError>
+    ensures { let l : LineOf = record { action = action; is_reverse = is_reverse; tokens = line.now } in
+        OnOk result (out.new ≡ one_line number place l out.old) }
+{
+    if !has_verb(number, out) {
+        return Ok(());
+    }
+    match out
+        .tables
+        .verbs
+        .add_line(number, place, action, is_reverse, line)
+    {
+        Ok(()) => Ok(()),
+        Err(LineFault::Memory) => Err(AllocError),
+        Err(LineFault::NoSpace) => {
+            out.pass_table(Setting::GrammarLines);
+            Ok(())
+        }
+    }
+}
+
+/// A line of the verb whose lines are read, if its header had no error.
+fn keep_line(
+    extending: Extending,
+    action: u16,
+    is_reverse: bool,
+    line: &[LineToken],
+    out: &mut Output,
+) -> Result<(), AllocError>
+    ensures { let l : LineOf = record { action = action; is_reverse = is_reverse; tokens = line.now } in
+        OnOk result (out.new ≡ line_kept extending l out.old) }
+{
+    match extending.verb {
+        Some(number) => one_line(number, extending.place, action, is_reverse, line, out),
+        None => Ok(()),
+    }
+}
+
+/// What stands behind the tokens of a line: an arrow and an action, which appears there. The line is one of the verb whose lines are read.
+fn add_behind(
+    extending: Extending,
+    tokens: &UnitTokens,
+    arrow: usize,
+    line: &[LineToken],
+    out: &mut Output,
+) -> Result<(), AllocError>
+    ensures { OnOk result (out.new ≡ line_behind extending tokens.now arrow (out.old, line.now)) }
+{
+    let action = action_by(tokens.name_at(next_place(arrow)), out)?;
+    keep_line(extending, action, is_reverse(tokens, arrow), line, out)
+}
+
+/// A line with which nothing is wrong: what it names is used, and where its verb has no error it is one of its lines.
+fn add_line(
+    alloc: Global,
+    extending: Extending,
+    tokens: &UnitTokens,
+    arrow: usize,
+    out: &mut Output,
+) -> Result<(), AllocError>
+    ensures { OnOk result (out.new ≡ line_added extending tokens.now arrow out.old) }
+{
+    let line = line_tokens(alloc, arrow, tokens, out)?;
+    add_behind(extending, tokens, arrow, line.as_slice(), out)
+}
+
+/// What a line does with which nothing is wrong, whose action stands behind an arrow.
+fn lay_line(
+    compilation: &mut Compilation,
+    found: Option<Finding>,
+    arrow: usize,
+) -> Result<(), AllocError>
+    ensures { OnOk result (work compilation.new ≡ line_laid found arrow (work compilation.old)) }
+{
+    match found {
+        Some(_) => Ok(()),
+        None => add_line(
+            compilation.alloc,
+            compilation.extending,
+            &compilation.unit.tokens,
+            arrow,
+            &mut compilation.output,
+        ),
+    }
+}
+
+/// The same at the end of a line that begins at a place, of which this was found.
+fn end_found(
+    compilation: &mut Compilation,
+    files: &Stack,
+    first: Place,
+    found: Option<Finding>,
+    arrow: usize,
+) -> Result<(), AllocError>
+    ensures { OnOk result (work compilation.new ≡ line_found files.now.names first found arrow (work compilation.old)) }
+{
+    lay_line(compilation, found, arrow)?;
+    end_of_verb(compilation, files, first, found)
+}
+
+/// A line that begins at a place, and whose action stands behind an arrow.
+fn judge_line(
+    compilation: &mut Compilation,
+    files: &Stack,
+    first: Place,
+    arrow: usize,
+) -> Result<(), AllocError>
+    ensures { OnOk result (work compilation.new ≡ line_judged files.now.names first arrow (work compilation.old)) }
+{
+    let found = tokens_finding(arrow, &compilation.unit.tokens, &compilation.output.names);
+    end_found(compilation, files, first, found, arrow)
+}
+
+/// A line ends, before a token at a place.
+pub fn end_line(
+    compilation: &mut Compilation,
+    files: &Stack,
+    place: Place,
+) -> Result<(), AllocError>
+    ensures { OnOk result (work compilation.new ≡ line_ended files.now.names place (work compilation.old)) }
+{
+    let first = compilation.unit.first_place(place);
+    let arrow = arrow_in(&compilation.unit.tokens);
+    judge_line(compilation, files, first, arrow)
+}

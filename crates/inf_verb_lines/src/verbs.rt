@@ -1,0 +1,583 @@
+//! The directives `Verb`, `Extend` and `Fake_action`: their headers.
+ghost use Rattle.std.specs.Prelude.{IfOk, OnOk, length, map, option_map, true, ◌<◌, ◌≡◌};
+ghost use Rattle.inf_sinks.specs.Spellings.{as_name};
+ghost use Rattle.inf_unit.specs.Diagnostics.{blamed};
+ghost use Rattle.inf_verb_lines.specs.Verbs.{extend_header, extend_with, fake_action, fake_with, has_most_verbs, has_verb, head_finding, header_opened, is_mark_at, is_name_in, like_at, like_finding, like_used, lines_extended, lines_of, misfit_finding, new_verb, no_verb_finding, place_behind, place_named, texts_before, verb_begun, verb_blame, verb_ended, verb_extended, verb_fault, verb_head, verb_header, verb_header_with, verb_named, verb_opened, verb_passed, verb_use, with_text, word_at, word_in, word_used, words_end, words_finding, words_from, words_given, words_used, wrong_verb};
+ghost use Rattle.inf_output.specs.Actions.{faked};
+ghost use Rattle.inf_compilation.specs.Works.{work};
+
+use inf_compilation::compilation::{Compilation, Extending};
+use inf_compilation::findings::{TOO_MANY, WRONG_VERB, blame_of, name_fault};
+use inf_declarations::declarations::many_finding;
+use inf_expressions::{Finding, least_of_both};
+use inf_lexer::{Place, Stack};
+use inf_output::Output;
+use inf_report::messages::{FixedLimit, Message};
+use inf_scanner::{DictionaryWord, Mark, TokenKind};
+use inf_settings::setting::Setting;
+use inf_sinks::spellings::Name;
+use inf_tables::{VerbFault, WordUse};
+use inf_unit::messages::Diagnostic;
+use inf_unit::tokens::is_mark;
+use inf_unit::unit::order;
+use inf_unit::unit_tokens::UnitTokens;
+use inf_verbs::Place as LinePlace;
+use std::alloc::{AllocError, Global};
+
+/// The most verbs (Inform Technical Manual, section 8.5).
+const MOST_VERBS: usize = 255;
+
+/// What stands in the header of `Verb`.
+#[derive(Clone, Copy)]
+pub struct VerbHead {
+    pub is_meta: bool,
+    /// The place of its first word among the tokens, and the place behind its last one.
+    pub first: usize,
+    pub end: usize,
+    /// The place of the word behind `=`, whose verb gets more words.
+    pub like: Option<usize>,
+}
+
+/// The verb that a header gives its words, and the one whose lines follow.
+#[derive(Clone, Copy)]
+pub struct Opened {
+    pub words: Option<u8>,
+    pub lines: Option<u8>,
+}
+
+/// Whether the token at a place is this mark.
+pub(crate) fn is_mark_at(tokens: &UnitTokens, at: usize, mark: Mark) -> bool
+    ensures { result ≡ is_mark_at tokens.now at mark }
+{
+    match tokens.kind(at) {
+        Some(kind) => is_mark(kind, mark),
+        None => false,
+    }
+}
+
+/// Whether a token is a name, if there is one.
+fn is_name_in(kind: Option<TokenKind>) -> bool
+    ensures { result ≡ is_name_in kind }
+{
+    matches!(kind, Some(TokenKind::Name))
+}
+
+/// The word of the dictionary that a token is, if there is one.
+fn word_in(kind: Option<TokenKind>) -> Option<DictionaryWord>
+    ensures { result ≡ word_in kind }
+{
+    match kind {
+        Some(TokenKind::Word(word)) => Some(word),
+        _ => None,
+    }
+}
+
+/// The word of the dictionary that the token at a place is.
+fn word_at(tokens: &UnitTokens, at: usize) -> Option<DictionaryWord>
+    ensures { result ≡ word_at tokens.now at }
+{
+    word_in(tokens.kind(at))
+}
+
+/// What is told of a finding in a unit of a verb that begins at a place.
+fn verb_blame<'t>(tokens: &'t UnitTokens, first: Place, finding: Finding) -> Diagnostic<'t>
+    ensures { blamed result ≡ verb_blame tokens.now first finding }
+{
+    match finding.number {
+        TOO_MANY => Diagnostic {
+            place: first,
+            message: Message::TooMany(FixedLimit::Verbs),
+        },
+        _ => blame_of(tokens, finding),
+    }
+}
+
+/// What is told of what is wrong with a unit of a verb that begins at a place.
+fn verb_fault<'t>(
+    tokens: &'t UnitTokens,
+    first: Place,
+    found: Option<Finding>,
+) -> Option<Diagnostic<'t>>
+    ensures { option_map blamed result ≡ verb_fault tokens.now first found }
+{
+    match found {
+        Some(finding) => Some(verb_blame(tokens, first, finding)),
+        None => None,
+    }
+}
+
+/// That the word at a place is, or is not, one of a verb.
+fn wrong_verb(at: usize) -> Finding
+    ensures { result ≡ wrong_verb at }
+{
+    Finding {
+        order: order(at),
+        number: WRONG_VERB,
+    }
+}
+
+/// The place of the first word of a verb, behind `meta` or not.
+fn words_from(order: u32, is_meta: bool) -> usize
+    ensures { result ≡ words_from order is_meta }
+{
+    if is_meta {
+        order as usize + 1
+    } else {
+        order as usize
+    }
+}
+
+/// The place behind the words of a verb, before a sign or not.
+fn words_end(has_sign: bool, count: usize) -> usize
+    ensures { result ≡ words_end has_sign count }
+{
+    if has_sign {
+        count.saturating_sub(2)
+    } else {
+        count
+    }
+}
+
+/// The place of the word behind a sign, if there is one.
+fn like_at(has_sign: bool, count: usize) -> Option<usize>
+    ensures { result ≡ like_at has_sign count }
+{
+    if has_sign {
+        Some(count.saturating_sub(1))
+    } else {
+        None
+    }
+}
+
+/// What stands in the header of a unit with these tokens.
+fn verb_head(tokens: &UnitTokens) -> VerbHead
+    ensures { result ≡ verb_head tokens.now }
+{
+    let order = tokens.name_order();
+    let is_meta = is_name_in(tokens.kind(order as usize));
+    let count = tokens.len();
+    let has_sign = is_mark_at(tokens, count.saturating_sub(2), Mark::Assign);
+    VerbHead {
+        is_meta,
+        first: words_from(order, is_meta),
+        end: words_end(has_sign, count),
+        like: like_at(has_sign, count),
+    }
+}
+
+/// The number of the verb whose word stands at a place.
+fn verb_named(tokens: &UnitTokens, at: usize, out: &Output) -> Option<u8>
+    ensures { result ≡ verb_named tokens.now at out.now }
+{
+    match word_at(tokens, at) {
+        Some(word) => out.tables.dictionary.verb_of(&word.text),
+        None => None,
+    }
+}
+
+/// That the word at a place is none of a verb, unless it is one.
+fn no_verb_finding(at: usize, verb: Option<u8>) -> Option<Finding>
+    ensures { result ≡ no_verb_finding at verb }
+{
+    match verb {
+        Some(_) => None,
+        None => Some(wrong_verb(at)),
+    }
+}
+
+/// Whether there are as many verbs as there may be.
+fn has_most_verbs(out: &Output) -> bool
+    ensures { result ≡ has_most_verbs out.now }
+{
+    out.tables.verbs.len() >= MOST_VERBS
+}
+
+/// Whether a verb has this number.
+pub(crate) fn has_verb(number: u8, out: &Output) -> bool
+    ensures value { result ≡ has_verb number out.now }
+    ensures there { result ≡ true → number < length out.now.tables.verbs.list }
+{
+    (number as usize) < out.tables.verbs.len()
+}
+
+/// What is wrong with the verb that gets words: behind a sign none is named, or there are too many for another one.
+fn like_finding(like: Option<usize>, tokens: &UnitTokens, out: &Output) -> Option<Finding>
+    ensures { result ≡ like_finding like tokens.now out.now }
+{
+    match like {
+        Some(at) => no_verb_finding(at, verb_named(tokens, at, out)),
+        None => many_finding(has_most_verbs(out)),
+    }
+}
+
+/// The text of a word more, if there is one.
+pub fn add_text(word: Option<DictionaryWord>, texts: &mut Vec<[u8; 6]>) -> Result<(), AllocError>
+    ensures { OnOk result (texts.new.items ≡ with_text word texts.old.items) }
+{
+    if let Some(word) = word {
+        texts.push(word.text)?;
+    }
+    Ok(())
+}
+
+/// The texts of the words before a place.
+fn texts_before(alloc: Global, tokens: &UnitTokens, end: usize) -> Result<Vec<[u8; 6]>, AllocError>
+    ensures { IfOk result (λ texts. texts.items ≡ texts_before end tokens.now) }
+{
+    let mut texts = Vec::new(alloc);
+    for at in 0..end {
+        add_text(word_at(tokens, at), &mut texts)?;
+    }
+    Ok(texts)
+}
+
+/// The place so far behind another one.
+#[tactic(auto, unfolding(crate::specs::Verbs::place_behind))]
+fn place_behind(first: usize, place: usize) -> usize
+    ensures { result ≡ place_behind first place }
+{
+    first.saturating_add(place)
+}
+
+/// That a word is one of a verb's, by its place among words of which the first has a place.
+fn misfit_finding(first: usize, place: Option<usize>) -> Option<Finding>
+    ensures { result ≡ misfit_finding first place }
+{
+    match place {
+        Some(place) => Some(wrong_verb(place_behind(first, place))),
+        None => None,
+    }
+}
+
+/// What is wrong with the words of a header.
+fn words_finding(
+    alloc: Global,
+    head: VerbHead,
+    tokens: &UnitTokens,
+    out: &Output,
+) -> Result<Option<Finding>, AllocError>
+    ensures { IfOk result (λ f. f ≡ words_finding head tokens.now out.now) }
+{
+    let texts = texts_before(alloc, tokens, head.end)?;
+    let misfit = out.tables.dictionary.first_misfit(alloc, texts.as_slice())?;
+    Ok(misfit_finding(head.first, misfit))
+}
+
+/// What is wrong with the header of `Verb`.
+fn head_finding(
+    alloc: Global,
+    head: VerbHead,
+    tokens: &UnitTokens,
+    out: &Output,
+) -> Result<Option<Finding>, AllocError>
+    ensures { IfOk result (λ f. f ≡ head_finding head tokens.now out.now) }
+{
+    let of_words = words_finding(alloc, head, tokens, out)?;
+    Ok(least_of_both(like_finding(head.like, tokens, out), of_words))
+}
+
+/// There would be more verbs, or lines, than this limit allows. Nobody asks any more which verb words are of.
+fn pass_verb(limit: Setting, out: &mut Output) -> Opened
+    ensures { (out.new, result) ≡ verb_passed limit out.old }
+{
+    out.pass_table(limit);
+    Opened {
+        words: Some(0),
+        lines: None,
+    }
+}
+
+/// A new verb, whose lines follow. Where there would be too many that limit is passed.
+fn new_verb(out: &mut Output) -> Result<Opened, AllocError>
+    ensures { IfOk result (λ opened. (out.new, opened) ≡ new_verb out.old) }
+{
+    match out.tables.verbs.add() {
+        Ok(number) => Ok(Opened {
+            words: Some(number),
+            lines: Some(number),
+        }),
+        Err(VerbFault::Memory) => Err(AllocError),
+        Err(VerbFault::TooMany) => Ok(Opened {
+            words: None,
+            lines: None,
+        }),
+        Err(VerbFault::Full) => Ok(pass_verb(Setting::Verbs, out)),
+        Err(VerbFault::NoSpace) => Ok(pass_verb(Setting::GrammarLines, out)),
+    }
+}
+
+/// The verb that gets the words of a header: one that is named behind a sign, or a new one.
+fn begin_verb(
+    like: Option<usize>,
+    tokens: &UnitTokens,
+    out: &mut Output,
+) -> Result<Opened, AllocError>
+    ensures { IfOk result (λ opened. (out.new, opened) ≡ verb_begun like tokens.now out.old) }
+{
+    match like {
+        Some(at) => Ok(Opened {
+            words: verb_named(tokens, at, out),
+            lines: None,
+        }),
+        None => new_verb(out),
+    }
+}
+
+/// The use of a word of a verb.
+fn verb_use(number: u8, is_meta: bool) -> WordUse
+    ensures { result ≡ verb_use number is_meta }
+{
+    if is_meta {
+        WordUse::MetaVerb(number)
+    } else {
+        WordUse::Verb(number)
+    }
+}
+
+/// A word is used, if there is one.
+pub fn use_word(
+    word: Option<DictionaryWord>,
+    word_use: WordUse,
+    out: &mut Output,
+) -> Result<(), AllocError>
+    ensures { OnOk result (out.new ≡ word_used word word_use out.old) }
+{
+    match word {
+        Some(word) => out.word(word.text, word_use, word.is_plural),
+        None => Ok(()),
+    }
+}
+
+/// The words before a place are used.
+fn use_words(
+    end: usize,
+    tokens: &UnitTokens,
+    word_use: WordUse,
+    out: &mut Output,
+) -> Result<(), AllocError>
+    ensures { OnOk result (out.new ≡ words_used end tokens.now word_use out.old) }
+{
+    for at in 0..end {
+        use_word(word_at(tokens, at), word_use, out)?;
+    }
+    Ok(())
+}
+
+/// The word at a place is used as one of a verb, if there is a place.
+fn use_like(
+    like: Option<usize>,
+    tokens: &UnitTokens,
+    number: u8,
+    out: &mut Output,
+) -> Result<(), AllocError>
+    ensures { OnOk result (out.new ≡ like_used like tokens.now number out.old) }
+{
+    match like {
+        Some(at) => use_word(word_at(tokens, at), WordUse::Verb(number), out),
+        None => Ok(()),
+    }
+}
+
+/// A verb gets the words of a header, if there is one.
+fn give_words(
+    verb: Option<u8>,
+    head: VerbHead,
+    tokens: &UnitTokens,
+    out: &mut Output,
+) -> Result<(), AllocError>
+    ensures { OnOk result (out.new ≡ words_given verb head tokens.now out.old) }
+{
+    let Some(number) = verb else {
+        return Ok(());
+    };
+    use_words(head.end, tokens, verb_use(number, head.is_meta), out)?;
+    use_like(head.like, tokens, number, out)
+}
+
+/// A verb gets the words of a header with which nothing is wrong. Answers the verb whose lines follow.
+fn open_verb(
+    head: VerbHead,
+    tokens: &UnitTokens,
+    out: &mut Output,
+) -> Result<Option<u8>, AllocError>
+    ensures { IfOk result (λ lines. (out.new, lines) ≡ verb_opened head tokens.now out.old) }
+{
+    let opened = begin_verb(head.like, tokens, out)?;
+    give_words(opened.words, head, tokens, out)?;
+    Ok(opened.lines)
+}
+
+/// Where further lines go, by the word behind that of `Extend`.
+fn place_named(name: &[u8]) -> LinePlace
+    ensures { result ≡ place_named name.now }
+{
+    if name.eq_ignore_ascii_case(b"first") {
+        LinePlace::First
+    } else if name.eq_ignore_ascii_case(b"replace") {
+        LinePlace::Replace
+    } else {
+        LinePlace::Last
+    }
+}
+
+/// Further lines of the verb of a number go to a place, if there is one.
+fn extend_lines(number: u8, place: LinePlace, out: &mut Output) -> Result<(), AllocError>
+    ensures { OnOk result (out.new ≡ lines_extended number place out.old) }
+{
+    if has_verb(number, out) {
+        out.tables.verbs.extend(number, place)
+    } else {
+        Ok(())
+    }
+}
+
+/// Further lines of a verb go to a place, and the word by which it is named is used.
+fn extend_verb(
+    verb: Option<u8>,
+    place: LinePlace,
+    word: Option<DictionaryWord>,
+    out: &mut Output,
+) -> Result<(), AllocError>
+    ensures { OnOk result (out.new ≡ verb_extended verb place word out.old) }
+{
+    let Some(number) = verb else {
+        return Ok(());
+    };
+    use_word(word, WordUse::Verb(number), out)?;
+    extend_lines(number, place, out)
+}
+
+/// A verb whose lines are read.
+fn lines_of(verb: Option<u8>, place: LinePlace) -> Extending
+    ensures { result ≡ lines_of verb place }
+{
+    Extending { verb, place }
+}
+
+/// The end of a unit of a verb that begins at a place.
+pub(crate) fn end_of_verb(
+    compilation: &mut Compilation,
+    files: &Stack,
+    first: Place,
+    found: Option<Finding>,
+) -> Result<(), AllocError>
+    ensures { OnOk result (work compilation.new ≡ verb_ended files.now.names first found (work compilation.old)) }
+{
+    let blame = verb_fault(&compilation.unit.tokens, first, found);
+    compilation.report.fault(files, first, blame)?;
+    compilation.end_unit(files, first, false)
+}
+
+/// Opens the verb of a header, unless something is wrong with it.
+fn open_header(
+    compilation: &mut Compilation,
+    found: Option<Finding>,
+    head: VerbHead,
+) -> Result<(), AllocError>
+    ensures { OnOk result (work compilation.new ≡ header_opened found head (work compilation.old)) }
+{
+    match found {
+        Some(_) => compilation.extending = lines_of(None, LinePlace::Last),
+        None => {
+            let lines = open_verb(head, &compilation.unit.tokens, &mut compilation.output)?;
+            compilation.extending = lines_of(lines, LinePlace::Last);
+        }
+    }
+    Ok(())
+}
+
+/// The header of `Verb`, in which this stands.
+fn verb_header_with(
+    compilation: &mut Compilation,
+    files: &Stack,
+    first: Place,
+    head: VerbHead,
+) -> Result<(), AllocError>
+    ensures { OnOk result (work compilation.new ≡ verb_header_with files.now.names first head (work compilation.old)) }
+{
+    let found = head_finding(
+        compilation.alloc,
+        head,
+        &compilation.unit.tokens,
+        &compilation.output,
+    )?;
+    open_header(compilation, found, head)?;
+    end_of_verb(compilation, files, first, found)
+}
+
+/// The header of `Verb`.
+pub fn verb_header(
+    compilation: &mut Compilation,
+    files: &Stack,
+    first: Place,
+) -> Result<(), AllocError>
+    ensures { OnOk result (work compilation.new ≡ verb_header files.now.names first (work compilation.old)) }
+{
+    let head = verb_head(&compilation.unit.tokens);
+    verb_header_with(compilation, files, first, head)
+}
+
+/// The header of `Extend`, which names a verb at a place among its tokens, or none.
+fn extend_with(
+    compilation: &mut Compilation,
+    files: &Stack,
+    first: Place,
+    at: usize,
+    verb: Option<u8>,
+    place: LinePlace,
+) -> Result<(), AllocError>
+    ensures { OnOk result (work compilation.new ≡ extend_with files.now.names first at verb place (work compilation.old)) }
+{
+    compilation.extending = lines_of(verb, place);
+    let word = word_at(&compilation.unit.tokens, at);
+    extend_verb(verb, place, word, &mut compilation.output)?;
+    end_of_verb(compilation, files, first, no_verb_finding(at, verb))
+}
+
+/// The header of `Extend`.
+pub fn extend_header(
+    compilation: &mut Compilation,
+    files: &Stack,
+    first: Place,
+) -> Result<(), AllocError>
+    ensures { OnOk result (work compilation.new ≡ extend_header files.now.names first (work compilation.old)) }
+{
+    let at = compilation.unit.tokens.name_order() as usize;
+    let place = place_named(compilation.unit.tokens.bytes_at(at + 1));
+    let verb = verb_named(&compilation.unit.tokens, at, &compilation.output);
+    extend_with(compilation, files, first, at, verb, place)
+}
+
+/// Declares a name as a fake action.
+fn one_fake(
+    compilation: &mut Compilation,
+    files: &Stack,
+    first: Place,
+    name: &Name,
+) -> Result<(), AllocError>
+    ensures { let before = work compilation.old in let n = as_name name.now in
+        OnOk result (work compilation.new ≡ fake_with files.now.names first n (faked n.bytes n.place before.output) before) }
+{
+    let refused = compilation.output.fake_action(name.bytes(), name.place)?;
+    let blame = name_fault(files, name, refused);
+    compilation.report.fault(files, first, blame)?;
+    compilation.end_unit(files, first, true)
+}
+
+/// Declares the first of these names as a fake action.
+pub fn fake_action(
+    compilation: &mut Compilation,
+    files: &Stack,
+    first: Place,
+    names: &[Name],
+) -> Result<(), AllocError>
+    ensures { OnOk result (work compilation.new ≡ fake_action files.now.names first (map as_name names.now) (work compilation.old)) }
+{
+    match names.first() {
+        Some(name) => one_fake(compilation, files, first, name),
+        None => {
+            compilation.pass(true);
+            Ok(())
+        }
+    }
+}

@@ -1,7 +1,0 @@
-use Rattle.std.proofs.Common.{◌≡◌}
-use Rattle.inf_work.specs.Verbs.{tokens_finding}
-use Rattle.inf_work.proofs.verbs.tokens_finding.Given as goal
-
--- what was found is the least of what is wrong before this place
-abbrev pub invariant-loop-at : goal.invariant-loop-at
-invariant-loop-at l = l.found ≡ tokens_finding l.at l.tokens l.names

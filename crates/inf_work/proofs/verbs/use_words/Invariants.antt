@@ -1,7 +1,0 @@
-use Rattle.std.proofs.Common.{◌≡◌}
-use Rattle.inf_work.specs.Verbs.{words_used}
-use Rattle.inf_work.proofs.verbs.use_words.Given as goal
-
--- the words before this place are used
-abbrev pub invariant-loop-at : goal.invariant-loop-at
-invariant-loop-at l = l.out ≡ words_used l.at l.tokens l.word_use l.fn.out

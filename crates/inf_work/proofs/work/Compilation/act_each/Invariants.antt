@@ -1,9 +1,0 @@
-use Rattle.std.proofs.Common.{◌≡◌, drop}
-use Rattle.inf_work.specs.Acting.{acted}
-use Rattle.inf_work.specs.Works.{work}
-use Rattle.inf_work.proofs.work.Compilation.act_each.Given as goal
-
--- the actions that are left lead from here to where all lead
-abbrev pub invariant-loop-action : goal.invariant-loop-action
-invariant-loop-action l =
-    acted l.files.names l.place (drop l.action-index l.actions) (work l.self) ≡ acted l.files.names l.place l.actions (work l.fn.self)
