@@ -38,7 +38,7 @@ use Rattle.inf_world.specs.Objects.{parent_of}
 use Rattle.inf_world.specs.World.{class_header_fault, class_of_fault, lost_header_fault, object_header_fault, with_class_header, with_class_of, with_lost_header, with_object_header}
 use Rattle.inf_compilation.specs.Actions.{Compilation, unit_ended}
 use Rattle.inf_declarations.specs.Declarations.{declared_ended, plainly_known, with_world}
-use Rattle.inf_compilation.specs.Findings.{blame_of}
+use Rattle.inf_compilation.specs.Findings.{found_alone}
 use Rattle.inf_declarations.specs.declared.declarations.Declared.{Declared}
 use Rattle.inf_bodies.specs.declared.headers.Header.{Header}
 
@@ -65,13 +65,8 @@ refused_finding (Some (fault.Full s)) name = None
 refused_finding (Some fault.Memory) name = None
 
 -- Units, which begin at a place: what was found is told, that there are too many values at the first token.
-abbrev pub entry_blame : List SourceToken → Place → Option Finding → Option Diagnostic
-entry_blame tokens first None = None
-entry_blame tokens first (Some f) =
-    if f.number == 19 then Some (record { place = first; message = TooMany countable.Values }) else Some (blame_of tokens f)
-
 abbrev pub entry_told : FileNames → Place → Option Finding → Compilation → Compilation
-entry_told files first f w = unit_ended files first false (entry_blame w.unit.tokens first f) w
+entry_told files first f w = unit_ended files first false (found_alone f) w
 
 -- What names stand for
 
@@ -197,7 +192,7 @@ abbrev pub class_with : FileNames → Place → Name → Declared → Compilatio
 class_with files first name d w = declared_ended files first false name countable.Globals d (class_opened d.finding name w)
 
 abbrev pub class_header : FileNames → Place → Name → Compilation → Compilation
-class_header files first name w = class_with files first name (plainly_known files name (name_order w.unit.tokens) w) w
+class_header files first name w = class_with files first name (plainly_known name (name_order w.unit.tokens) w) w
 
 -- Objects
 
@@ -290,7 +285,7 @@ object_opened (Some f) h name w = record w { output = object_lost name w.output 
 -- what is known of it: what is wrong with its name, and with where it is to stand
 abbrev pub named_known : FileNames → Header → ℕ → Name → Compilation → Declared
 named_known files h at name w =
-    let d = plainly_known files name (order at) w in
+    let d = plainly_known name (order at) w in
     record { found = d.found; finding = least_of_both d.finding (parent_finding h w) }
 
 abbrev pub object_known : FileNames → Header → Option Name → Compilation → Declared

@@ -20,18 +20,20 @@ use Rattle.inf_scanner.specs.declared.tokens.Mark.TheVariants as mark
 use Rattle.inf_scanner.specs.declared.tokens.Place.{Place}
 use Rattle.inf_scanner.specs.declared.tokens.TokenKind.{TokenKind}
 use Rattle.inf_statements.specs.Printing.{text_at}
+use Rattle.inf_report.specs.declared.messages.FixedLimit.{FixedLimit}
+use Rattle.inf_report.specs.declared.messages.FixedLimit.TheVariants as countable
 use Rattle.inf_sinks.specs.Locals.{Headed, no_locals}
 use Rattle.inf_text.specs.Packing.{dictionary_bytes}
-use Rattle.inf_unit.specs.Messages.{Diagnostic, FileNames}
+use Rattle.inf_unit.specs.Messages.{FileNames}
 use Rattle.inf_unit.specs.Texts.{fit_characters}
 use Rattle.inf_unit.specs.Tokens.{SourceToken, is_mark}
-use Rattle.inf_unit.specs.Units.{first_place}
-use Rattle.inf_compilation.specs.Actions.{Compilation, finding_at, opened_with, settled_of, told}
+use Rattle.inf_unit.specs.Units.{first_place, order}
+use Rattle.inf_compilation.specs.Actions.{Compilation, finding_at, opened_with, settled_of}
 use Rattle.inf_listings.specs.Arrays.{looked_value, variables_from}
 use Rattle.inf_bodies.specs.Bodies.{is_words, last_at, place_finding, placed, placed_finding, property_of}
 use Rattle.inf_declarations.specs.Declarations.{value_of}
-use Rattle.inf_compilation.specs.Findings.{header_fault}
-use Rattle.inf_bodies.specs.Objects.{entry_blame, entry_told, found_at}
+use Rattle.inf_compilation.specs.Findings.{Findings, header_findings}
+use Rattle.inf_bodies.specs.Objects.{entry_told, found_at}
 
 -- the place of the name of a property, which stands before its first value
 abbrev pub place_before : ℕ → Option ℕ
@@ -166,36 +168,29 @@ bracket_in tokens = bracket_from 0 tokens 0
 abbrev pub next_routine : Compilation → Value
 next_routine w = value.Later (target.Place area.Code (place_behind w.output.code.finished))
 
--- What is wrong with where it goes is told before what is wrong with its locals, but not before that there are too many of these, unless it
--- is told of
--- the first token.
-abbrev pub is_first : Finding → Headed → Bool
-is_first f h = not (f.number == 19) && h.are_too_many
+-- What is wrong with where it goes, if anything is, or with its locals. Where there are too many of both, these are told.
+abbrev pub many_by : Bool → FixedLimit
+many_by are_locals = if are_locals then countable.Locals else countable.Values
 
-abbrev pub misplaced_blame : List SourceToken → FileNames → Place → Headed → Finding → Option Diagnostic
-misplaced_blame tokens files first h f = if is_first f h then header_fault files first None h else entry_blame tokens first (Some f)
+abbrev pub embedded_findings : Option Finding → Bool → Findings → Findings
+embedded_findings own are_locals header = record header { least = least_of_both own header.least; many = many_by are_locals }
 
-abbrev pub embedded_blame : List SourceToken → FileNames → Place → Headed → Option Finding → Option Diagnostic
-embedded_blame tokens files first h None = header_fault files first None h
-embedded_blame tokens files first h (Some f) = misplaced_blame tokens files first h f
-
-abbrev pub blame_embedded : FileNames → Place → Option ℕ → Headed → Compilation → Option Diagnostic
-blame_embedded files first name h w = embedded_blame w.unit.tokens files first h (place_finding name (next_routine w) w)
+-- its locals stand behind the tokens of its unit
+abbrev pub found_embedded : Option ℕ → Headed → Compilation → Findings
+found_embedded name h w =
+    embedded_findings (place_finding name (next_routine w) w) h.are_too_many (header_findings (order (length w.unit.tokens)) None h)
 
 abbrev pub routine_placed : Option ℕ → Bool → Compilation → Compilation
 routine_placed name is_lost w = placed name (next_routine w) (wrong_if is_lost) w
 
-abbrev pub embedded_opened : FileNames → Place → Headed → Bool → Compilation → Compilation
-embedded_opened files first h is_lost w = opened_with files first h is_lost (record w { is_embedded = true; is_replaced = false })
+abbrev pub embedded_opened : FileNames → Place → Headed → Findings → Compilation → Compilation
+embedded_opened files first h found w = opened_with files first h found (record w { is_embedded = true; is_replaced = false })
 
-abbrev pub embedded_begun : FileNames → Place → Option ℕ → Headed → Bool → Compilation → Compilation
-embedded_begun files first name h is_lost w = embedded_opened files first h is_lost (routine_placed name is_lost w)
-
-abbrev pub embedded_by : Option Diagnostic → FileNames → Place → Option ℕ → Headed → Compilation → Compilation
-embedded_by b files first name h w = embedded_begun files first name h (is_some b) (told files first b w)
+abbrev pub embedded_begun : FileNames → Place → Option ℕ → Headed → Findings → Compilation → Compilation
+embedded_begun files first name h found w = embedded_opened files first h found (routine_placed name (is_some found.least) w)
 
 unfoldable pub embedded : FileNames → Place → Option ℕ → Headed → Compilation → Compilation
-embedded files first name h w = embedded_by (blame_embedded files first name h w) files first name h w
+embedded files first name h w = embedded_begun files first name h (found_embedded name h w) w
 
 abbrev pub embedded_read : FileNames → Place → Compilation → Compilation
 embedded_read files place w =

@@ -2,16 +2,15 @@
 ghost use Rattle.std.specs.Prelude.{IfOk, OnOk, option_map, ◌≡◌};
 ghost use Rattle.inf_characters.specs.Reading.{text_of as read_in};
 ghost use Rattle.inf_sinks.specs.Spellings.{as_name};
-ghost use Rattle.inf_unit.specs.Diagnostics.{blamed};
 ghost use Rattle.inf_unit.specs.Texts.{fit_characters};
-ghost use Rattle.inf_bodies.specs.Objects.{above_finding, bracketed, class_begun, class_header, class_lost, class_of, class_of_word, class_opened, class_with, entry_blame, entry_told, found_at, header_in, header_text, hung_finding, in_brackets, joined, joined_fault, joined_some, lost_begun, named_known, named_parent_finding, object_begun, object_declared, object_ended, object_header, object_in, object_known, object_lost, object_named, object_new, object_of, object_opened, object_with, own_name, packed_name, parent_finding, parent_fit, parent_in, refused_finding, setting_of, short_name, shown_name, word_place};
+ghost use Rattle.inf_bodies.specs.Objects.{above_finding, bracketed, class_begun, class_header, class_lost, class_of, class_of_word, class_opened, class_with, entry_told, found_at, header_in, header_text, hung_finding, in_brackets, joined, joined_fault, joined_some, lost_begun, named_known, named_parent_finding, object_begun, object_declared, object_ended, object_header, object_in, object_known, object_lost, object_named, object_new, object_of, object_opened, object_with, own_name, packed_name, parent_finding, parent_fit, parent_in, refused_finding, setting_of, short_name, shown_name, word_place};
 ghost use Rattle.inf_world.specs.World.{class_of_fault};
 ghost use Rattle.inf_unit.specs.Units.{name_at};
 ghost use Rattle.inf_compilation.specs.Works.{work};
 
 use crate::headers::{Header, header_in, word_place};
 use inf_compilation::compilation::Compilation;
-use inf_compilation::findings::{TOO_MANY, blame_of};
+use inf_compilation::findings::{Findings, TOO_MANY};
 use inf_declarations::declarations::{Declared, end_declared, plainly_known};
 use inf_expressions::{Finding, least_of_both};
 use inf_lexer::{Place, Stack};
@@ -19,12 +18,11 @@ use inf_listings::arrays::text_at;
 use inf_names::meanings::Meaning;
 use inf_names::symbols::Found;
 use inf_output::Output;
-use inf_report::messages::{FixedLimit, Message};
+use inf_report::messages::FixedLimit;
 use inf_settings::setting::Setting;
 use inf_sinks::spellings::Name;
 use inf_tables::{Misfit, Parent, ShortName, WorldFault};
 use inf_text::{CharSet, Mode, Text, TextFault, pack, read_text};
-use inf_unit::messages::Diagnostic;
 use inf_unit::unit::order;
 use inf_unit::unit_tokens::UnitTokens;
 use inf_world::Setting as WorldSetting;
@@ -51,24 +49,6 @@ pub(crate) fn setting_of(setting: WorldSetting) -> Setting
     match setting {
         WorldSetting::Objects => Setting::Objects,
         WorldSetting::PropertyTables => Setting::PropertyTables,
-    }
-}
-
-/// What is told of a unit of an object or a class that begins at a place, by what was found.
-pub(crate) fn entry_blame<'t>(
-    tokens: &'t UnitTokens,
-    first: Place,
-    found: Option<Finding>,
-) -> Option<Diagnostic<'t>>
-    ensures { option_map blamed result ≡ entry_blame tokens.now first found }
-{
-    let finding = found?;
-    match finding.number {
-        TOO_MANY => Some(Diagnostic {
-            place: first,
-            message: Message::TooMany(FixedLimit::Values),
-        }),
-        _ => Some(blame_of(tokens, finding)),
     }
 }
 
@@ -334,9 +314,7 @@ pub(crate) fn tell_entry(
 ) -> Result<(), AllocError>
     ensures { OnOk result (work compilation.new ≡ entry_told files.now.names first found (work compilation.old)) }
 {
-    let blame = entry_blame(&compilation.unit.tokens, first, found);
-    compilation.report.fault(files, first, blame)?;
-    compilation.end_unit(files, first, false)
+    compilation.end_unit(files, first, false, &Findings::alone(found))
 }
 
 // Classes
@@ -351,7 +329,7 @@ pub fn class_header(
     ensures { OnOk result (work compilation.new ≡ class_header files.now.names first (as_name name.now) (work compilation.old)) }
 {
     let order = compilation.unit.tokens.name_order();
-    let declared = plainly_known(compilation, files, name, order);
+    let declared = plainly_known(compilation, name, order);
     class_with(compilation, files, first, name, declared)
 }
 
@@ -499,7 +477,7 @@ fn named_known(
 ) -> Declared
     ensures { result ≡ named_known files.now.names header at (as_name name.now) (work compilation.now) }
 {
-    let declared = plainly_known(compilation, files, name, order(at));
+    let declared = plainly_known(compilation, name, order(at));
     Declared {
         found: declared.found,
         finding: least_of_both(declared.finding, parent_finding(compilation, header)),

@@ -1,28 +1,28 @@
 //! The values of properties: words of the dictionary, expressions, and routines.
 ghost use Rattle.std.specs.Prelude.{IfOk, OnOk, option_map, ◌≡◌};
 ghost use Rattle.inf_sinks.specs.LocalList.{headed as as_headed};
-ghost use Rattle.inf_unit.specs.Diagnostics.{blamed};
-ghost use Rattle.inf_bodies.specs.Values.{bracket_in, bracket_step, char_text, embedded, embedded_begun, embedded_blame, embedded_opened, embedded_read, expression_finding, expression_placed, is_first, leaf_text, misplaced_blame, name_place, next_routine, only_leaf, place_before, routine_placed, settled_finding, settled_placed, takes_words, text_finding, text_placed, text_value, value_finding, value_placed, value_read, value_with, value_with_finding, word_leaf, word_text, word_used, wrong_if};
+ghost use Rattle.inf_bodies.specs.Values.{bracket_in, bracket_step, char_text, embedded, embedded_begun, embedded_findings, embedded_opened, embedded_read, expression_finding, expression_placed, found_embedded, leaf_text, many_by, name_place, next_routine, only_leaf, place_before, routine_placed, settled_finding, settled_placed, takes_words, text_finding, text_placed, text_value, value_finding, value_placed, value_read, value_with, value_with_finding, word_leaf, word_text, word_used, wrong_if};
 ghost use Rattle.inf_bodies.specs.Bodies.{place_finding};
+ghost use Rattle.inf_compilation.specs.Meant.{found_as};
 ghost use Rattle.inf_compilation.specs.Works.{work};
 
 use crate::bodies::{is_words, last_at, place_finding, placed, property_of};
-use crate::objects::{entry_blame, found_at, tell_entry, text_in};
+use crate::objects::{found_at, tell_entry, text_in};
 use inf_area::{AreaName, Target, Value};
 use inf_compilation::compilation::Compilation;
-use inf_compilation::findings::{TOO_MANY, header_fault};
-use inf_compilation::routines::is_told;
+use inf_compilation::findings::{Findings, header_findings};
 use inf_declarations::declarations::value;
 use inf_expressions::{Finding, Wanted, least_of_both};
 use inf_gathering::gathering::Leaf;
 use inf_lexer::{Place, Stack};
 use inf_listings::arrays::{has_variables, looked_value, text_at};
+use inf_report::messages::FixedLimit;
 use inf_scanner::{Mark, TokenKind};
 use inf_sinks::locals::Headed;
 use inf_tables::WordUse;
 use inf_text::{Mode, Text, dict_word};
-use inf_unit::messages::Diagnostic;
 use inf_unit::tokens::is_mark;
+use inf_unit::unit::order;
 use inf_unit::unit_tokens::UnitTokens;
 use std::alloc::AllocError;
 
@@ -101,45 +101,25 @@ fn bracket_in(tokens: &UnitTokens) -> usize
     bracket
 }
 
-/// Whether there are too many locals, which is told before what is wrong with where a routine goes, unless that is told of the first token.
-pub fn is_first(finding: Finding, headed: &Headed) -> bool
-    ensures { result ≡ is_first finding (as_headed headed.now) }
+/// What there are too many of, where there are too many of something: the locals of a routine, or else the values of its property.
+fn many_by(are_locals: bool) -> FixedLimit
+    ensures { result ≡ many_by are_locals }
 {
-    finding.number != TOO_MANY && headed.are_too_many
-}
-
-/// What is told of the header of a routine that is a value, where this is wrong with where it goes.
-fn misplaced_blame<'a>(
-    tokens: &'a UnitTokens,
-    files: &'a Stack,
-    first: Place,
-    headed: &'a Headed,
-    finding: Finding,
-) -> Option<Diagnostic<'a>>
-    ensures { option_map blamed result
-        ≡ misplaced_blame tokens.now files.now.names first (as_headed headed.now) finding }
-{
-    if is_first(finding, headed) {
-        header_fault(files, first, None, headed)
+    if are_locals {
+        FixedLimit::Locals
     } else {
-        entry_blame(tokens, first, Some(finding))
+        FixedLimit::Values
     }
 }
 
-/// The same, where this was found of where it goes.
-fn embedded_blame<'a>(
-    tokens: &'a UnitTokens,
-    files: &'a Stack,
-    first: Place,
-    headed: &'a Headed,
-    own: Option<Finding>,
-) -> Option<Diagnostic<'a>>
-    ensures { option_map blamed result
-        ≡ embedded_blame tokens.now files.now.names first (as_headed headed.now) own }
+/// What is wrong with where a routine goes, or with its locals.
+fn embedded_findings(own: Option<Finding>, are_locals: bool, header: Findings) -> Findings
+    ensures { found_as result ≡ embedded_findings own are_locals (found_as header) }
 {
-    match own {
-        Some(finding) => misplaced_blame(tokens, files, first, headed, finding),
-        None => header_fault(files, first, None, headed),
+    Findings {
+        least: least_of_both(own, header.least),
+        many: many_by(are_locals),
+        again: header.again,
     }
 }
 
@@ -335,14 +315,14 @@ fn open_embedded(
     files: &Stack,
     first: Place,
     headed: Headed,
-    is_lost: bool,
+    found: &Findings,
 ) -> Result<(), AllocError>
     ensures { OnOk result (work compilation.new
-        ≡ embedded_opened files.now.names first (as_headed headed) is_lost (work compilation.old)) }
+        ≡ embedded_opened files.now.names first (as_headed headed) (found_as found.now) (work compilation.old)) }
 {
     compilation.is_embedded = true;
     compilation.is_replaced = false;
-    compilation.open_code(files, first, headed, is_lost)
+    compilation.open_code(files, first, headed, found)
 }
 
 /// A routine goes where it is to go as a value, unless something is wrong with it, and its code opens.
@@ -352,20 +332,23 @@ fn begin_embedded(
     first: Place,
     name: Option<usize>,
     headed: Headed,
-    is_lost: bool,
+    found: &Findings,
 ) -> Result<(), AllocError>
     ensures { OnOk result (work compilation.new
-        ≡ embedded_begun files.now.names first name (as_headed headed) is_lost (work compilation.old)) }
+        ≡ embedded_begun files.now.names first name (as_headed headed) (found_as found.now) (work compilation.old)) }
 {
-    place_routine(compilation, name, is_lost)?;
-    open_embedded(compilation, files, first, headed, is_lost)
+    place_routine(compilation, name, found.least.is_some())?;
+    open_embedded(compilation, files, first, headed, found)
 }
 
-/// What is wrong with where a routine goes as a value.
-fn embedding_finding(compilation: &Compilation, name: Option<usize>) -> Option<Finding>
-    ensures { result ≡ place_finding name (next_routine (work compilation.now)) (work compilation.now) }
+/// What is wrong with a routine as a value, of which the locals stand behind the tokens of its unit.
+fn found_embedded(compilation: &Compilation, name: Option<usize>, headed: &Headed) -> Findings
+    ensures { found_as result ≡ found_embedded name (as_headed headed.now) (work compilation.now) }
 {
-    place_finding(compilation, name, next_routine(compilation))
+    let own = place_finding(compilation, name, next_routine(compilation));
+    let behind = order(compilation.unit.tokens.len());
+    let header = header_findings(behind, None, headed);
+    embedded_findings(own, headed.are_too_many, header)
 }
 
 /// A routine that is a value, with these locals.
@@ -379,11 +362,8 @@ fn embed(
 ) -> Result<(), AllocError>
     ensures { OnOk result (work compilation.new ≡ embedded files.now.names first name (as_headed headed) (work compilation.old)) }
 {
-    let own = embedding_finding(compilation, name);
-    let blame = embedded_blame(&compilation.unit.tokens, files, first, &headed, own);
-    let is_lost = is_told(&blame);
-    compilation.report.fault(files, first, blame)?;
-    begin_embedded(compilation, files, first, name, headed, is_lost)
+    let found = found_embedded(compilation, name, &headed);
+    begin_embedded(compilation, files, first, name, headed, &found)
 }
 
 /// The header of a routine that is a value: its first, with the property's name before its bracket, or a further one.

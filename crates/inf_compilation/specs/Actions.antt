@@ -18,7 +18,7 @@ use Rattle.inf_expressions.specs.declared.operators.Operand.{Operand}
 use Rattle.inf_expressions.specs.declared.operators.Operand.TheVariants as operand
 use Rattle.inf_expressions.specs.declared.units.Wanted.{Wanted}
 use Rattle.inf_expressions.specs.declared.units.Wanted.TheVariants as wanted
-use Rattle.inf_expressions.specs.Findings.{least_of_both, no_constant}
+use Rattle.inf_expressions.specs.Findings.{least_of_both, no_constant, out_of_range}
 use Rattle.inf_expressions.specs.Rooted.{Rooted}
 use Rattle.inf_expressions.specs.Trees.{Tree, Leaf}
 use Rattle.inf_expressions.specs.Units.{judged, trees_of}
@@ -45,7 +45,7 @@ use Rattle.inf_unit.specs.Units.{Unit, bytes_at, first_place, kind_at, long_at, 
 use Rattle.inf_output.specs.Strings.{no_strings}
 use Rattle.inf_tables.specs.Tables.{no_tables}
 use Rattle.inf_output.specs.Output.{Code, Out, begun, closed, declared, full, opened, referred}
-use Rattle.inf_compilation.specs.Findings.{blame_of, header_fault, name_fault}
+use Rattle.inf_compilation.specs.Findings.{Again, Findings, again_by, again_finding, found_alone, header_findings, nothing_found, told_as}
 use Rattle.inf_arrays.specs.Arrays.{AllArrays, no_arrays}
 use Rattle.inf_compilation.specs.declared.compilation.Listing.{Listing}
 use Rattle.inf_compilation.specs.declared.compilation.Extending.{Extending}
@@ -151,12 +151,12 @@ piece_begun w = record w { unit = no_unit; constructs = []; closed = 0; opening 
 abbrev pub labels_counted : Compilation → Compilation
 labels_counted w = record w { most_labels = max w.most_labels (labels_of w.output.code) }
 
--- The end of a unit, which begins at a place: its error is told, if it has one, and then the first limit that was passed.
-abbrev pub unit_ended : FileNames → Place → Bool → Option Diagnostic → Compilation → Compilation
-unit_ended files first has_last blame w = record w {
+-- The end of a unit, which begins at a place: the least of what is wrong with it is told, and then the first limit that was passed.
+abbrev pub unit_ended : FileNames → Place → Bool → Findings → Compilation → Compilation
+unit_ended files first has_last found w = record w {
   unit = over has_last w.unit;
   most_labels = max w.most_labels (labels_of w.output.code);
-  report = with_full files first (full w.output) (with_fault files first blame w.report);
+  report = with_full files first (full w.output) (with_fault files first (told_as files w.unit.tokens first found) w.report);
 }
 
 -- Something is laid for a unit that begins at a place.
@@ -277,10 +277,10 @@ passed has_last w = record w { unit = over has_last w.unit }
 
 -- A header, which begins at a place, opens a routine with its locals. With an error it still declares its name, where that
 -- is free, and its locals. Z-Machine Standard 1.1, section 5.2.
-abbrev pub opened_with : FileNames → Place → Headed → Bool → Compilation → Compilation
-opened_with files first h is_lost w =
-    unit_ended files first true None (record w {
-      output = opened (length h.locals) is_lost w.output;
+abbrev pub opened_with : FileNames → Place → Headed → Findings → Compilation → Compilation
+opened_with files first h found w =
+    unit_ended files first true found (record w {
+      output = opened (length h.locals) (is_some found.least) w.output;
       locals = h.locals;
       constructs = [];
       labels = [];
@@ -290,13 +290,10 @@ abbrev pub routine_declared : Name → Compilation → Compilation
 routine_declared name w =
     record w { output = declared name.bytes name.place (meaning.Routine (place_behind w.output.code.finished)) w.output }
 
-abbrev pub told : FileNames → Place → Option Diagnostic → Compilation → Compilation
-told files first blame w = record w { report = with_fault files first blame w.report }
-
+-- its name stands behind its bracket
 abbrev pub header_with : FileNames → Place → Name → Headed → Compilation → Compilation
 header_with files first name h w =
-    let blame = header_fault files first (name_fault files name (declare_fault name.bytes w.output.names)) h in
-    opened_with files first h (is_some blame) (told files first blame (routine_declared name w))
+    opened_with files first h (header_findings 1 (again_by name (declare_fault name.bytes w.output.names)) h) (routine_declared name w)
 
 -- a name that is kept among those of routines that are to be replaced
 abbrev pub is_kept : Found Place → Bool
@@ -349,7 +346,7 @@ kind_ended is_embedded = if is_embedded then routine_kind.Embedded else routine_
 abbrev pub close_as : RoutineKind → FileNames → Place → Compilation → Compilation
 close_as how files place w =
     let fault = fault_closed how w.output.code in
-    unit_ended files place true None (record w {
+    unit_ended files place true nothing_found (record w {
       most_labels = max w.most_labels (labels_of w.output.code);
       output = closed how w.output;
       report = with_all_unused files place w.locals (with_routine_fault files place w.labels fault w.report);
@@ -413,14 +410,9 @@ abbrev pub constant_meaning : Option Meaning → Option Finding → Meaning
 constant_meaning (Some m) None = m
 constant_meaning _ found = meaning.Number 0
 
--- the name's own error, of which the number is that of a name that stands already, at the order of its token
-abbrev pub name_finding : ℕ → Option Diagnostic → Option Finding
-name_finding order None = None
-name_finding order (Some blame) = Some (record { order = order; number = 8 })
-
-abbrev pub constant_blame : List SourceToken → Option Diagnostic → Option Finding → Option Diagnostic
-constant_blame tokens of_name None = None
-constant_blame tokens of_name (Some f) = if f.number == 8 then of_name else Some (blame_of tokens f)
+-- what is wrong with its name, which stands at an order, or its expression
+abbrev pub constant_findings : ℕ → Option Again → Option Finding → Findings
+constant_findings order again finding = record (found_alone (least_of_both (again_finding order again) finding)) { again = again }
 
 -- Without an error its text or word is added.
 abbrev pub constant_added : Option Finding → Compilation → Compilation
@@ -430,9 +422,8 @@ constant_added (Some f) w = w
 -- the end of its directive, where the name was refused or not
 abbrev pub constant_ended : FileNames → Place → Name → Option (DeclareFault Place) → Option Finding → Compilation → Compilation
 constant_ended files first name refused finding w =
-    let of_name = name_fault files name refused in
-    let least = least_of_both (name_finding (name_order w.unit.tokens) of_name) finding in
-    unit_ended files first true (constant_blame w.unit.tokens of_name least) (constant_added least w)
+    let found = constant_findings (name_order w.unit.tokens) (again_by name refused) finding in
+    unit_ended files first true found (constant_added found.least w)
 
 abbrev pub constant_declared : FileNames → Place → Name → Option Meaning → Option Finding → Compilation → Compilation
 constant_declared files first name m finding w =
@@ -455,7 +446,7 @@ used_name n names = if is_some (refer_fault n.bytes names) then names else with_
 abbrev pub replace : FileNames → Place → List Name → Compilation → Compilation
 replace files first [] w = passed true w
 replace files first (name ∷ names) w =
-    unit_ended files first true None (record w { output = referred name.bytes name.place w.output; replaced = used_name name w.replaced })
+    unit_ended files first true nothing_found (record w { output = referred name.bytes name.place w.output; replaced = used_name name w.replaced })
 
 -- A stub is a routine of so many locals, four at most, that returns 0. It is one where the name is not declared.
 abbrev pub stub_locals_by : Option TokenKind → ℕ
@@ -471,8 +462,8 @@ stub_code locals o = closed routine_kind.Embedded (opened locals false o)
 abbrev pub stubbed : FileNames → Place → Compilation → Compilation
 stubbed files first w =
     let locals = stub_locals w.unit.tokens in
-    if nat_lt 4 locals then unit_ended files first true (Some (record { place = first; message = ConstantOutOfRange })) w
-    else unit_ended files first true None (record w { output = stub_code locals w.output })
+    if nat_lt 4 locals then unit_ended files first true (found_alone (Some (out_of_range 0))) w
+    else unit_ended files first true nothing_found (record w { output = stub_code locals w.output })
 
 -- whether a name is declared, by what looking for it found
 abbrev pub is_declared : Found Place → Bool
@@ -492,7 +483,7 @@ new_stub files first (name ∷ names) w = stubbed files first (routine_declared 
 
 abbrev pub stub : FileNames → Place → List Name → Compilation → Compilation
 stub files first names w =
-    if is_first_declared names w.output.names then unit_ended files first true None w else new_stub files first names w
+    if is_first_declared names w.output.names then unit_ended files first true nothing_found w else new_stub files first names w
 
 -- Files
 

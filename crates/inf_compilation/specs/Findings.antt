@@ -1,10 +1,12 @@
 -- What is told of what is wrong with a unit.
-use Rattle.std.specs.Prelude.{ℕ, ◌==◌, List, [], slice_get, if◌then◌else◌, Option, Some, None}
+use Rattle.std.specs.Prelude.{ℕ, ◌==◌, List, [], slice_get, Bool, if◌then◌else◌, Option, Some, None, option_map}
 use Rattle.inf_scanner.specs.declared.tokens.Place.{Place}
 use Rattle.inf_expressions.specs.declared.findings.Finding.{Finding}
+use Rattle.inf_expressions.specs.Findings.{least_of_both}
 use Rattle.inf_names.specs.declared.symbols.DeclareFault.{DeclareFault}
 use Rattle.inf_names.specs.declared.symbols.DeclareFault.TheVariants as declaring
 use Rattle.inf_report.specs.Messages.{ConstantOutOfRange, Declared, End, LabelTwice, Message, MisplacedDefault, NotConstant, NothingToLeave, SystemName, Told, TooMany, TooManyArguments, UsedBefore, WrongKind, WrongOpcode, WrongVerb}
+use Rattle.inf_report.specs.declared.messages.FixedLimit.{FixedLimit}
 use Rattle.inf_report.specs.declared.messages.FixedLimit.TheVariants as countable
 use Rattle.inf_sinks.specs.Spellings.{Name}
 use Rattle.inf_sinks.specs.Locals.{Headed, Repeated}
@@ -34,32 +36,78 @@ blame_at number (Some t) = record { place = t.place; message = message_of number
 abbrev pub blame_of : List SourceToken → Finding → Diagnostic
 blame_of tokens f = blame_at f.number (slice_get tokens f.order)
 
+-- A name that stands already, with the place of its first declaration, which one that the language has does not have.
+pub record Again : Type 0 where
+  pub name : Name
+  pub first : Option Place
+
+-- What is wrong with a unit. Of all that was found the least is told: of too many with what these are, and of a name that stands already
+-- with its first declaration.
+pub record Findings : Type 0 where
+  pub least : Option Finding
+  pub many : FixedLimit
+  pub again : Option Again
+
 -- Names
 
--- a name that was declared at a place before
-abbrev pub again : FileNames → Name → Place → Diagnostic
-again files n first = record { place = n.place; message = Declared n.bytes (location files first) }
+-- By what the names refuse: what the language has, and the first declaration, stay as they are. That there are too many names is no error
+-- of the unit.
+abbrev pub again_by : Name → Option (DeclareFault Place) → Option Again
+again_by n (Some (declaring.Present first)) = Some (record { name = n; first = first })
+again_by n _ = None
 
--- What is wrong with declaring a name, by what the names refuse: one that the language has, and the first declaration, stay as they
--- are. That there are too many names is no error of the unit.
-abbrev pub name_fault : FileNames → Name → Option (DeclareFault Place) → Option Diagnostic
-name_fault files n (Some (declaring.Present None)) = Some (record { place = n.place; message = SystemName n.bytes })
-name_fault files n (Some (declaring.Present (Some first))) = Some (again files n first)
-name_fault files n _ = None
+-- at the order of the name
+abbrev pub again_finding : ℕ → Option Again → Option Finding
+again_finding order None = None
+again_finding order (Some a) = Some (record { order = order; number = 8 })
+
+abbrev pub again_message : FileNames → List ℕ → Option Place → Message
+again_message files bytes None = SystemName bytes
+again_message files bytes (Some first) = Declared bytes (location files first)
+
+abbrev pub again_told : FileNames → Again → Diagnostic
+again_told files a = record { place = a.name.place; message = again_message files a.name.bytes a.first }
+
+-- Units
+
+-- one more than there may be, which is told of the first token
+abbrev pub many_finding : Bool → Option Finding
+many_finding are_many = if are_many then Some (record { order = 0; number = 19 }) else None
+
+-- where nothing else may be wrong
+abbrev pub found_alone : Option Finding → Findings
+found_alone f = record { least = f; many = countable.Values; again = None }
+
+abbrev pub nothing_found : Findings
+nothing_found = found_alone None
+
+-- of a unit that begins at a place and has these tokens
+abbrev pub told_by : FileNames → List SourceToken → Place → Finding → Findings → Option Diagnostic
+told_by files tokens first f all =
+    if f.number == 8 then option_map (again_told files) all.again else
+    if f.number == 19 then Some (record { place = first; message = TooMany all.many }) else Some (blame_of tokens f)
+
+abbrev pub told_of : FileNames → List SourceToken → Place → Option Finding → Findings → Option Diagnostic
+told_of files tokens first None all = None
+told_of files tokens first (Some f) all = told_by files tokens first f all
+
+abbrev pub told_as : FileNames → List SourceToken → Place → Findings → Option Diagnostic
+told_as files tokens first all = told_of files tokens first all.least all
 
 -- Headers
 
-abbrev pub first_fault : Option Diagnostic → Option Diagnostic → Option Diagnostic
-first_fault (Some b) later = Some b
-first_fault None later = later
-
 -- a local that is named again
-abbrev pub local_fault : FileNames → Option Repeated → Option Diagnostic
-local_fault files None = None
-local_fault files (Some r) = Some (again files r.name r.first)
+abbrev pub again_local : Option Repeated → Option Again
+again_local None = None
+again_local (Some r) = Some (record { name = r.name; first = Some r.first })
 
--- The first error of a header by its place: too many locals, which stands at its bracket, its name, a local named again.
-abbrev pub header_fault : FileNames → Place → Option Diagnostic → Headed → Option Diagnostic
-header_fault files unit of_name h =
-    if h.are_too_many then Some (record { place = unit; message = TooMany countable.Locals })
-    else first_fault of_name (local_fault files h.repeated)
+abbrev pub first_again : Option Again → Option Again → Option Again
+first_again (Some a) later = Some a
+first_again None later = later
+
+-- What is wrong with the header of a routine: that there are too many locals, which is told of its first token, its name, which stands at
+-- an order, or a local that is named again, behind it.
+abbrev pub header_findings : ℕ → Option Again → Headed → Findings
+header_findings order of_name h =
+    let again = first_again of_name (again_local h.repeated) in
+    record { least = least_of_both (many_finding h.are_too_many) (again_finding order again); many = countable.Locals; again = again }

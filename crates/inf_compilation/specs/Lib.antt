@@ -3,3 +3,4 @@ pub mod Findings
 pub mod Actions
 pub mod Parts
 pub mod Works
+pub mod Meant

@@ -21,7 +21,7 @@ use Rattle.inf_statements.specs.declared.constructs.Kind.{Kind}
 use Rattle.inf_statements.specs.declared.statements.Statement.{Statement}
 use Rattle.inf_statements.specs.declared.statements.Statement.TheVariants as statement
 use Rattle.inf_compilation.specs.Actions.{Compilation, finding_at, is_deep, named, nested, operands_of, passed, settled_of, trees_at, unit_ended}
-use Rattle.inf_compilation.specs.Findings.{blame_of}
+use Rattle.inf_compilation.specs.Findings.{found_alone, nothing_found}
 use Rattle.inf_compilation.specs.declared.parts.Part.{Part}
 use Rattle.inf_compilation.specs.declared.parts.Part.TheVariants as part
 
@@ -98,10 +98,10 @@ part_effect part.Case trees w = record w { output = case_code (next_case w.const
 
 -- It ends, which begins at a place. With an error it has no effect but that its locals are named, and that a case begins.
 abbrev pub part_carried : FileNames → Place → Part → Option Finding → Compilation → Compilation
-part_carried files first p (Some f) w = unit_ended files first (has_last p) (Some (blame_of w.unit.tokens f)) w
+part_carried files first p (Some f) w = unit_ended files first (has_last p) (found_alone (Some f)) w
 part_carried files first p None w =
     let s = settled_of w in
-    unit_ended files first (has_last p) None
+    unit_ended files first (has_last p) nothing_found
     (part_effect p (trees_at (order_of p w) (wanted_of p) s.operands w) (record w { output = record s.out { first = first } }))
 
 abbrev pub part_finished : FileNames → Place → Part → Compilation → Compilation

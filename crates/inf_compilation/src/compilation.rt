@@ -4,7 +4,7 @@ ghost use Rattle.inf_unit.specs.Messages.{location};
 ghost use Rattle.inf_unit.specs.Tokens.{spelled};
 ghost use Rattle.inf_compilation.specs.Actions.{names_class, no_output};
 
-use crate::findings::NOWHERE;
+use crate::findings::{Findings, NOWHERE};
 use inf_cells::Scale;
 use inf_code::code::{Code, CodeLimits};
 use inf_lexer::{Place, Stack};
@@ -131,6 +131,7 @@ pub struct Listing {
 impl Compilation {
     ghost use Rattle.inf_unit.specs.Directives.{Nothing, asked, asks};
     ghost use Rattle.inf_compilation.specs.Actions.{begun_at, entered, is_class, is_deep, labels_counted, left, nested, no_work, opening_checked, passed, piece_begun, sized, token_checked, took, unit_ended};
+    ghost use Rattle.inf_compilation.specs.Meant.{found_as};
     ghost use Rattle.inf_compilation.specs.Parts.{closed_ahead, construct_closed};
     ghost use Rattle.inf_compilation.specs.Works.{work};
 
@@ -338,15 +339,18 @@ impl Compilation {
         self.nest(files, token.place, is_deep)
     }
 
-    /// The end of a unit that begins at a place: its error is told, if it has one, and then the first limit that was passed.
+    /// The end of a unit that begins at a place: the least of what is wrong with it is told, and then the first limit that was passed.
     pub fn end_unit(
         &mut self,
         files: &Stack,
         first: Place,
         has_last: bool,
+        found: &Findings,
     ) -> Result<(), AllocError>
-        ensures { OnOk result (work self.new ≡ unit_ended files.now.names first has_last None (work self.old)) }
+        ensures { OnOk result (work self.new ≡ unit_ended files.now.names first has_last (found_as found.now) (work self.old)) }
     {
+        let blame = found.told(files, &self.unit.tokens, first);
+        self.report.fault(files, first, blame)?;
         self.unit.end(has_last);
         self.count_labels();
         self.report.full(files, first, self.output.full())

@@ -4,9 +4,10 @@ ghost use Rattle.inf_report.specs.Meant.{meant, named};
 ghost use Rattle.inf_sinks.specs.LocalList.{headed as as_headed, repeated as repeated_of};
 ghost use Rattle.inf_sinks.specs.Spellings.{as_name};
 ghost use Rattle.inf_unit.specs.Diagnostics.{blamed};
-ghost use Rattle.inf_compilation.specs.Findings.{again, blame_of, header_fault, local_fault, message_of, name_fault};
+ghost use Rattle.inf_compilation.specs.Findings.{again_by, again_finding, again_local, again_message, again_told, blame_of, found_alone, header_findings, many_finding, message_of, nothing_found, told_as};
+ghost use Rattle.inf_compilation.specs.Meant.{again_as, found_as};
 
-use inf_expressions::{Finding, NOT_CONSTANT, OUT_OF_RANGE, WRONG_KIND};
+use inf_expressions::{Finding, NOT_CONSTANT, OUT_OF_RANGE, WRONG_KIND, least_of_both};
 use inf_lexer::{Place, Stack};
 use inf_names::symbols::DeclareFault;
 use inf_report::messages::{FixedLimit, Message, Told};
@@ -65,58 +66,155 @@ pub fn blame_of<'t>(tokens: &'t UnitTokens, finding: Finding) -> Diagnostic<'t>
     }
 }
 
-/// A name that was declared at a place before.
-fn again<'a>(files: &'a Stack, name: &'a Name, first: Place) -> Diagnostic<'a>
-    ensures { blamed result ≡ again files.now.names (as_name name.now) first }
-{
-    Diagnostic {
-        place: name.place,
-        message: Message::Declared(name.bytes(), location(files, first)),
-    }
+/// A name that stands already.
+#[derive(Debug, Drop)]
+pub struct Again {
+    pub name: Name,
+    /// The place of its first declaration, which one that the language has does not have.
+    pub first: Option<Place>,
+}
+
+/// What is wrong with a unit. Of all that was found the least is told, by the order of its token and then by its number.
+#[derive(Debug, Drop)]
+pub struct Findings {
+    pub least: Option<Finding>,
+    /// What there are too many of, where that is the least.
+    pub many: FixedLimit,
+    /// The name that stands already, where that is the least.
+    pub again: Option<Again>,
 }
 
 /// What is wrong with declaring a name, by what the names refuse. That there are too many is no error of the unit.
-pub fn name_fault<'a>(
-    files: &'a Stack,
-    name: &'a Name,
-    refused: Option<DeclareFault<Place>>,
-) -> Option<Diagnostic<'a>>
-    ensures { option_map blamed result ≡ name_fault files.now.names (as_name name.now) refused }
+pub fn again_by(name: &Name, refused: Option<DeclareFault<Place>>) -> Option<Again>
+    ensures { option_map again_as result ≡ again_by (as_name name.now) refused }
 {
     match refused? {
-        DeclareFault::Present(None) => Some(Diagnostic {
-            place: name.place,
-            message: Message::SystemName(name.bytes()),
+        DeclareFault::Present(first) => Some(Again {
+            name: Name::new(name.bytes(), name.place),
+            first,
         }),
-        DeclareFault::Present(Some(first)) => Some(again(files, name, first)),
         DeclareFault::Full | DeclareFault::Memory => None,
     }
 }
 
-/// A local that is named again.
-fn local_fault<'a>(files: &'a Stack, repeated: Option<&'a Repeated>) -> Option<Diagnostic<'a>>
-    ensures { option_map blamed result ≡ local_fault files.now.names (option_map (λ r. repeated_of r.now) repeated.entry) }
+/// The same as a finding, at the order of the name.
+pub fn again_finding(order: u32, again: &Option<Again>) -> Option<Finding>
+    ensures { result ≡ again_finding order (option_map again_as again.now) }
 {
-    let repeated = repeated?;
-    Some(again(files, &repeated.name, repeated.first))
+    match again {
+        Some(_) => Some(Finding {
+            order,
+            number: DECLARED,
+        }),
+        None => None,
+    }
 }
 
-/// The first error of a header by its place: too many locals, which stands at its bracket, its
-/// name, a local named again.
-pub fn header_fault<'a>(
-    files: &'a Stack,
-    unit: Place,
-    of_name: Option<Diagnostic<'a>>,
-    headed: &'a Headed,
-) -> Option<Diagnostic<'a>>
-    ensures { option_map blamed result
-        ≡ header_fault files.now.names unit (option_map blamed of_name.entry) (as_headed headed.now) }
+/// That there is one more than there may be, which is told of the first token.
+pub fn many_finding(are_many: bool) -> Option<Finding>
+    ensures { result ≡ many_finding are_many }
 {
-    if headed.are_too_many {
-        return Some(Diagnostic {
-            place: unit,
-            message: Message::TooMany(FixedLimit::Locals),
-        });
+    if are_many {
+        Some(Finding {
+            order: 0,
+            number: TOO_MANY,
+        })
+    } else {
+        None
     }
-    of_name.or(local_fault(files, headed.repeated.as_ref()))
+}
+
+/// A local that is named again.
+fn again_local(repeated: &Option<Repeated>) -> Option<Again>
+    ensures { option_map again_as result ≡ again_local (option_map repeated_of repeated.now) }
+{
+    match repeated {
+        Some(repeated) => Some(Again {
+            name: Name::new(repeated.name.bytes(), repeated.name.place),
+            first: Some(repeated.first),
+        }),
+        None => None,
+    }
+}
+
+/// What is wrong with the header of a routine: that there are too many locals, its name, which stands at an order, or a local
+/// that is named again.
+pub fn header_findings(order: u32, of_name: Option<Again>, headed: &Headed) -> Findings
+    ensures { found_as result ≡ header_findings order (option_map again_as of_name) (as_headed headed.now) }
+{
+    let again = match of_name {
+        Some(again) => Some(again),
+        None => again_local(&headed.repeated),
+    };
+    Findings {
+        least: least_of_both(
+            many_finding(headed.are_too_many),
+            again_finding(order, &again),
+        ),
+        many: FixedLimit::Locals,
+        again,
+    }
+}
+
+impl Findings {
+    /// What is wrong with a unit in which nothing but this may be wrong.
+    pub fn alone(least: Option<Finding>) -> Findings
+        ensures { found_as result ≡ found_alone least }
+    {
+        Findings {
+            least,
+            many: FixedLimit::Values,
+            again: None,
+        }
+    }
+
+    /// Nothing is wrong.
+    pub fn none() -> Findings
+        ensures { found_as result ≡ nothing_found }
+    {
+        Findings::alone(None)
+    }
+
+    /// The message of the least, in a unit that begins at a place and has these tokens.
+    pub(crate) fn told<'t>(
+        &'t self,
+        files: &'t Stack,
+        tokens: &'t UnitTokens,
+        first: Place,
+    ) -> Option<Diagnostic<'t>>
+        ensures { option_map blamed result ≡ told_as files.now.names tokens.now first (found_as self.now) }
+    {
+        let finding = self.least?;
+        match finding.number {
+            DECLARED => again_told(files, &self.again),
+            TOO_MANY => Some(Diagnostic {
+                place: first,
+                message: Message::TooMany(self.many),
+            }),
+            _ => Some(blame_of(tokens, finding)),
+        }
+    }
+}
+
+/// The message about a name that stands already.
+fn again_told<'a>(files: &'a Stack, again: &'a Option<Again>) -> Option<Diagnostic<'a>>
+    ensures { option_map blamed result ≡ option_map (again_told files.now.names) (option_map again_as again.now) }
+{
+    match again {
+        Some(again) => Some(Diagnostic {
+            place: again.name.place,
+            message: again_message(files, again.name.bytes(), again.first),
+        }),
+        None => None,
+    }
+}
+
+/// The message about a name that stands already, with the place of its first declaration or without.
+fn again_message<'a>(files: &'a Stack, name: &'a [u8], first: Option<Place>) -> Message<'a>
+    ensures { meant result ≡ again_message files.now.names name.now first }
+{
+    match first {
+        Some(first) => Message::Declared(name, location(files, first)),
+        None => Message::SystemName(name),
+    }
 }

@@ -5,7 +5,7 @@ ghost use Rattle.inf_statements.specs.Sites.{site};
 ghost use Rattle.inf_compilation.specs.Parts.{has_last, is_default, line_finding_of, site_of, wanted_of};
 
 use crate::compilation::Compilation;
-use crate::findings::blame_of;
+use crate::findings::Findings;
 use inf_expressions::{Finding, Forest, Operand, Wanted, build, judge, least_of_both};
 use inf_lexer::{Place, Stack};
 use inf_statements::constructs::Kind;
@@ -280,17 +280,11 @@ impl Compilation {
     ) -> Result<(), AllocError>
         ensures { OnOk result (work self.new ≡ part_carried files.now.names first part finding (work self.old)) }
     {
-        match finding {
-            Some(finding) => {
-                let blame = blame_of(&self.unit.tokens, finding);
-                self.report.fault(files, first, Some(blame))?;
-            }
-            None => {
-                let forest = self.settle(first, part)?;
-                self.take_effect(part, &forest)?;
-            }
+        if finding.is_none() {
+            let forest = self.settle(first, part)?;
+            self.take_effect(part, &forest)?;
         }
-        self.end_unit(files, first, part.has_last())
+        self.end_unit(files, first, part.has_last(), &Findings::alone(finding))
     }
 
     /// The names of the unit's expressions are those of actions, where its case is one of the routine's own.

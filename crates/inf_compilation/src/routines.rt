@@ -4,12 +4,11 @@ ghost use Rattle.inf_names.specs.Symbols.{declare_fault};
 ghost use Rattle.inf_sinks.specs.LocalList.{headed as as_headed, listed};
 ghost use Rattle.inf_sinks.specs.Locals.{no_locals};
 ghost use Rattle.inf_sinks.specs.Spellings.{as_name};
-ghost use Rattle.inf_unit.specs.Diagnostics.{blamed};
 ghost use Rattle.inf_compilation.specs.Actions.{kind_ended, with_all_unused, with_routine_fault};
-ghost use Rattle.inf_compilation.specs.Findings.{header_fault, name_fault};
+ghost use Rattle.inf_compilation.specs.Meant.{found_as};
 
 use crate::compilation::Compilation;
-use crate::findings::{header_fault, name_fault};
+use crate::findings::{Findings, again_by, header_findings};
 use inf_assembler::{CloseFault, RoutineKind};
 use inf_lexer::{Place, Stack};
 use inf_names::meanings::Meaning;
@@ -18,7 +17,7 @@ use inf_report::messages::Message;
 use inf_sinks::locals::{Headed, Locals};
 use inf_sinks::spellings::Name;
 use inf_statements::labels::Labels;
-use inf_unit::messages::{Diagnostic, Diagnostics, location};
+use inf_unit::messages::{Diagnostics, location};
 use std::alloc::AllocError;
 use std::mem;
 
@@ -30,31 +29,6 @@ fn kind_ended(is_embedded: bool) -> RoutineKind
         RoutineKind::Embedded
     } else {
         RoutineKind::Plain
-    }
-}
-
-/// The first error of a header, by what the names refuse.
-fn header_blame<'a>(
-    files: &'a Stack,
-    first: Place,
-    name: &'a Name,
-    refused: Option<DeclareFault<Place>>,
-    headed: &'a Headed,
-) -> Option<Diagnostic<'a>>
-    ensures { option_map blamed result
-        ≡ header_fault files.now.names first (name_fault files.now.names (as_name name.now) refused) (as_headed headed.now) }
-{
-    let of_name = name_fault(files, name, refused);
-    header_fault(files, first, of_name, headed)
-}
-
-/// Whether there is anything to tell.
-pub fn is_told(blame: &Option<Diagnostic<'_>>) -> bool
-    ensures { result ≡ is_some (option_map blamed blame.now) }
-{
-    match blame {
-        Some(_) => true,
-        None => false,
     }
 }
 
@@ -158,10 +132,8 @@ impl Compilation {
             ≡ header_with files.now.names first (as_name name.now) (as_headed headed) (work self.old)) }
     {
         let refused = self.declare_routine(name)?;
-        let blame = header_blame(files, first, name, refused, &headed);
-        let is_lost = is_told(&blame);
-        self.report.fault(files, first, blame)?;
-        self.open_code(files, first, headed, is_lost)
+        let found = header_findings(1, again_by(name, refused), &headed);
+        self.open_code(files, first, headed, &found)
     }
 
     /// A routine of this name begins behind those that are finished. Answers what is wrong with the name, if anything is.
@@ -176,22 +148,23 @@ impl Compilation {
         self.output.declare(name.bytes(), name.place, routine)
     }
 
-    /// Opens the code of a routine with the locals of a header that begins at a place, and had an error or not.
+    /// Opens the code of a routine with the locals of a header that begins at a place, and with which this is wrong.
     pub fn open_code(
         &mut self,
         files: &Stack,
         first: Place,
         headed: Headed,
-        is_lost: bool,
+        found: &Findings,
     ) -> Result<(), AllocError>
-        ensures { OnOk result (work self.new ≡ opened_with files.now.names first (as_headed headed) is_lost (work self.old)) }
+        ensures { OnOk result (work self.new
+            ≡ opened_with files.now.names first (as_headed headed) (found_as found.now) (work self.old)) }
     {
         let locals = headed.locals.count();
-        self.output.open(self.alloc, locals, is_lost)?;
+        self.output.open(self.alloc, locals, found.least.is_some())?;
         self.locals = headed.locals;
         self.constructs.clear();
         self.labels.clear();
-        self.end_unit(files, first, true)
+        self.end_unit(files, first, true, found)
     }
 
     /// Ends the open routine at a place: tells its unused locals, and finishes its code.
@@ -216,6 +189,6 @@ impl Compilation {
         tell_unused(&self.locals, files, place, &mut self.report)?;
         self.is_embedded = false;
         self.locals = Locals::new();
-        self.end_unit(files, place, true)
+        self.end_unit(files, place, true, &Findings::none())
     }
 }

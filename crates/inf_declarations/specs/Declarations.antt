@@ -29,8 +29,8 @@ use Rattle.inf_unit.specs.Tokens.{SourceToken}
 use Rattle.inf_unit.specs.Units.{bytes_at, name_order, order}
 use Rattle.inf_world.specs.declared.faults.AddFault.{AddFault}
 use Rattle.inf_world.specs.World.{WorldOf, attribute_fault, property_fault, with_attribute, with_property}
-use Rattle.inf_compilation.specs.Actions.{Compilation, finding_at, name_finding, passed, settled_of, told, trees_at, unit_ended}
-use Rattle.inf_compilation.specs.Findings.{blame_of, name_fault}
+use Rattle.inf_compilation.specs.Actions.{Compilation, finding_at, passed, settled_of, trees_at, unit_ended}
+use Rattle.inf_compilation.specs.Findings.{Again, Findings, again_by, again_finding, many_finding}
 use Rattle.inf_declarations.specs.declared.declarations.Declared.{Declared}
 
 -- What is wrong with the name
@@ -65,49 +65,41 @@ is_late found.Unknown names_itself = names_itself
 abbrev pub late_finding : ℕ → Bool → Option Finding
 late_finding order is_late = if is_late then Some (record { order = order; number = 11 }) else None
 
--- one more than there may be, which is told of the first token
-abbrev pub many_finding : Bool → Option Finding
-many_finding are_many = if are_many then Some (record { order = 0; number = 19 }) else None
+abbrev pub declared_finding : ℕ → Option Again → Bool → Bool → Option Finding
+declared_finding order again is_late are_many =
+    least_of_both (again_finding order again) (least_of_both (late_finding order is_late) (many_finding are_many))
 
-abbrev pub declared_finding : ℕ → Option Diagnostic → Bool → Bool → Option Finding
-declared_finding order of_name is_late are_many =
-    least_of_both (name_finding order of_name) (least_of_both (late_finding order is_late) (many_finding are_many))
-
--- what is told of it
-abbrev pub declaration_blame : List SourceToken → Place → FixedLimit → Option Diagnostic → Option Finding → Option Diagnostic
-declaration_blame tokens first kind of_name None = None
-declaration_blame tokens first kind of_name (Some f) =
-    if f.number == 8 then of_name else
-    if f.number == 19 then Some (record { place = first; message = TooMany kind }) else Some (blame_of tokens f)
-
-abbrev pub name_known_by : Found Place → FileNames → Name → ℕ → Bool → Compilation → Declared
-name_known_by f files name order are_many w = record {
+abbrev pub name_known_by : Found Place → Name → ℕ → Bool → Compilation → Declared
+name_known_by f name order are_many w = record {
   found = f;
-  finding = declared_finding order (name_fault files name (standing_fault f))
+  finding = declared_finding order (again_by name (standing_fault f))
       (is_late f (names_itself w.unit.tokens name.bytes w.unit.gathering.leaves)) are_many;
 }
 
-abbrev pub name_known : FileNames → Name → ℕ → Bool → Compilation → Declared
-name_known files name order are_many w = name_known_by (found_in name.bytes w.output.names) files name order are_many w
+abbrev pub name_known : Name → ℕ → Bool → Compilation → Declared
+name_known name order are_many w = name_known_by (found_in name.bytes w.output.names) name order are_many w
 
 -- with what is wrong with its expression
-abbrev pub valued : FileNames → Name → ℕ → Bool → Compilation → Declared
-valued files name order are_many w =
-    let d = name_known files name order are_many w in
+abbrev pub valued : Name → ℕ → Bool → Compilation → Declared
+valued name order are_many w =
+    let d = name_known name order are_many w in
     record { found = d.found; finding = least_of_both d.finding (finding_at 0 wanted.Constant w) }
 
 -- what is known of a name that may have been used before
-abbrev pub plainly_known_by : Found Place → FileNames → Name → ℕ → Declared
-plainly_known_by f files name order = record { found = f; finding = name_finding order (name_fault files name (standing_fault f)) }
+abbrev pub plainly_known_by : Found Place → Name → ℕ → Declared
+plainly_known_by f name order = record { found = f; finding = again_finding order (again_by name (standing_fault f)) }
 
-abbrev pub plainly_known : FileNames → Name → ℕ → Compilation → Declared
-plainly_known files name order w = plainly_known_by (found_in name.bytes w.output.names) files name order
+abbrev pub plainly_known : Name → ℕ → Compilation → Declared
+plainly_known name order w = plainly_known_by (found_in name.bytes w.output.names) name order
+
+-- what is wrong with a declaration of a kind
+abbrev pub declared_findings : Name → FixedLimit → Declared → Findings
+declared_findings name kind d = record { least = d.finding; many = kind; again = again_by name (standing_fault d.found) }
 
 -- The end of a declaration, or of the header of one, that begins at a place
 abbrev pub declared_ended : FileNames → Place → Bool → Name → FixedLimit → Declared → Compilation → Compilation
 declared_ended files first has_last name kind d w =
-    unit_ended files first has_last (declaration_blame w.unit.tokens first kind (name_fault files name (standing_fault d.found)) d.finding)
-    w
+    unit_ended files first has_last (declared_findings name kind d) w
 
 abbrev pub declaration_ended : FileNames → Place → Name → FixedLimit → Declared → Compilation → Compilation
 declaration_ended files first name kind d w = declared_ended files first true name kind d w
@@ -164,7 +156,7 @@ alias_with files first name kind m d w =
 
 abbrev pub alias_by : Option Meaning → FileNames → Place → Name → ℕ → FixedLimit → Compilation → Compilation
 alias_by m files first name at kind w =
-    let own = name_known files name at false w in
+    let own = name_known name at false w in
     alias_with files first name kind m (record { found = own.found; finding = least_of_both own.finding (alias_finding w.unit.tokens m) }) w
 
 -- what the last name of the unit stands for, where that is one of this kind
@@ -203,7 +195,7 @@ has_most_attributes o = nat_le 48 o.tables.world.attributes
 
 abbrev pub attribute_with : FileNames → Place → Name → Compilation → Compilation
 attribute_with files first name w =
-    attribute_ended files first name (name_known files name (name_order w.unit.tokens) (has_most_attributes w.output) w) w
+    attribute_ended files first name (name_known name (name_order w.unit.tokens) (has_most_attributes w.output) w) w
 
 abbrev pub attribute : FileNames → Place → List Name → Compilation → Compilation
 attribute files first [] w = passed true w
@@ -255,7 +247,7 @@ has_most_properties o = nat_le 60 (length o.tables.world.declared)
 abbrev pub property_with : FileNames → Place → Bool → Name → Compilation → Compilation
 property_with files first is_additive name w =
     let order = property_order w.unit.tokens is_additive in
-    property_ended files first is_additive name (valued files name order (has_most_properties w.output) w) w
+    property_ended files first is_additive name (valued name order (has_most_properties w.output) w) w
 
 abbrev pub property_named : FileNames → Place → Bool → List Name → Compilation → Compilation
 property_named files first is_additive [] w = passed true w
@@ -305,7 +297,7 @@ has_most_globals o = nat_le 235 (length o.tables.globals)
 
 abbrev pub global_with : FileNames → Place → Name → Compilation → Compilation
 global_with files first name w =
-    global_ended files first name (valued files name (name_order w.unit.tokens) (has_most_globals w.output) w) w
+    global_ended files first name (valued name (name_order w.unit.tokens) (has_most_globals w.output) w) w
 
 abbrev pub global_variable : FileNames → Place → List Name → Compilation → Compilation
 global_variable files first [] w = passed true w

@@ -3,26 +3,26 @@ ghost use Rattle.std.specs.Prelude.{IfOk, OnOk, map, option_map, ◌≡◌};
 ghost use Rattle.inf_expressions.specs.Forests.{trees_in as rooted_in};
 ghost use Rattle.inf_statements.specs.Statements.{tree_in};
 ghost use Rattle.inf_sinks.specs.Spellings.{as_name};
-ghost use Rattle.inf_unit.specs.Diagnostics.{blamed};
-ghost use Rattle.inf_declarations.specs.Declarations.{alias_finding, alias_meaning, alias_told, aliased, attribute, attribute_added, attribute_ended, attribute_number, attribute_with, declaration_blame, declaration_ended, declared_ended, declared_finding, has_most_attributes, is_alias, is_late, is_name_at, last_meaning, late_finding, many_finding, name_known, names_itself, new_attribute, nothing_of, plainly_known, standing_fault, value_in, valued};
+ghost use Rattle.inf_declarations.specs.Declarations.{alias_finding, alias_meaning, alias_told, aliased, attribute, attribute_added, attribute_ended, attribute_number, attribute_with, declaration_ended, declared_ended, declared_finding, declared_findings, has_most_attributes, is_alias, is_late, is_name_at, last_meaning, late_finding, name_known, names_itself, new_attribute, nothing_of, plainly_known, standing_fault, value_in, valued};
 ghost use Rattle.inf_compilation.specs.Actions.{settled_of, trees_at};
+ghost use Rattle.inf_compilation.specs.Meant.{again_as, found_as};
 ghost use Rattle.inf_compilation.specs.Works.{work};
 
-use crate::directives::name_finding;
 use crate::globals::FIRST_GLOBAL;
 use inf_area::Value;
 use inf_compilation::compilation::Compilation;
-use inf_compilation::findings::{DECLARED, TOO_MANY, USED_BEFORE, blame_of, name_fault};
+use inf_compilation::findings::{
+    Again, Findings, USED_BEFORE, again_by, again_finding, many_finding,
+};
 use inf_expressions::{Finding, Forest, Wanted, build, constant, least_of_both};
 use inf_gathering::gathering::Leaf;
 use inf_lexer::{Place, Stack};
 use inf_names::meanings::Meaning;
 use inf_names::symbols::{DeclareFault, Found};
-use inf_report::messages::{FixedLimit, Message};
+use inf_report::messages::FixedLimit;
 use inf_sinks::spellings::Name;
 use inf_statements::operands::settled;
 use inf_tables::WorldFault;
-use inf_unit::messages::Diagnostic;
 use inf_unit::unit::order;
 use inf_unit::unit_tokens::UnitTokens;
 use std::alloc::AllocError;
@@ -94,54 +94,19 @@ fn late_finding(order: u32, is_late: bool) -> Option<Finding>
     }
 }
 
-/// That there is one more than there may be, which is told of the first token.
-pub fn many_finding(are_many: bool) -> Option<Finding>
-    ensures { result ≡ many_finding are_many }
-{
-    if are_many {
-        Some(Finding {
-            order: 0,
-            number: TOO_MANY,
-        })
-    } else {
-        None
-    }
-}
-
 /// What is wrong with a declaration beside its expression.
 fn declared_finding(
     order: u32,
-    of_name: &Option<Diagnostic<'_>>,
+    again: &Option<Again>,
     is_late: bool,
     are_many: bool,
 ) -> Option<Finding>
-    ensures { result ≡ declared_finding order (option_map blamed of_name.now) is_late are_many }
+    ensures { result ≡ declared_finding order (option_map again_as again.now) is_late are_many }
 {
     least_of_both(
-        name_finding(order, of_name),
+        again_finding(order, again),
         least_of_both(late_finding(order, is_late), many_finding(are_many)),
     )
-}
-
-/// What is told of a declaration that begins at a place, by the least that was found.
-fn declaration_blame<'t>(
-    tokens: &'t UnitTokens,
-    first: Place,
-    kind: FixedLimit,
-    of_name: Option<Diagnostic<'t>>,
-    found: Option<Finding>,
-) -> Option<Diagnostic<'t>>
-    ensures { option_map blamed result ≡ declaration_blame tokens.now first kind (option_map blamed of_name.entry) found }
-{
-    let finding = found?;
-    match finding.number {
-        DECLARED => of_name,
-        TOO_MANY => Some(Diagnostic {
-            place: first,
-            message: Message::TooMany(kind),
-        }),
-        _ => Some(blame_of(tokens, finding)),
-    }
 }
 
 /// Whether behind its name a declaration has the name of another one, and no expression.
@@ -234,14 +199,25 @@ pub fn value_in(forest: &Forest) -> Value
 }
 
 /// What is known of a name that has an order and is declared, whether it was used before or not.
-pub fn plainly_known(compilation: &Compilation, files: &Stack, name: &Name, order: u32) -> Declared
-    ensures { result ≡ plainly_known files.now.names (as_name name.now) order (work compilation.now) }
+pub fn plainly_known(compilation: &Compilation, name: &Name, order: u32) -> Declared
+    ensures { result ≡ plainly_known (as_name name.now) order (work compilation.now) }
 {
     let found = compilation.output.names.look(name.bytes());
-    let of_name = name_fault(files, name, standing_fault(found));
+    let again = again_by(name, standing_fault(found));
     Declared {
         found,
-        finding: name_finding(order, &of_name),
+        finding: again_finding(order, &again),
+    }
+}
+
+/// What is wrong with a declaration of a kind.
+fn declared_findings(name: &Name, kind: FixedLimit, declared: Declared) -> Findings
+    ensures { found_as result ≡ declared_findings (as_name name.now) kind declared }
+{
+    Findings {
+        least: declared.finding,
+        many: kind,
+        again: again_by(name, standing_fault(declared.found)),
     }
 }
 
@@ -258,16 +234,8 @@ pub fn end_declared(
     ensures { OnOk result (work compilation.new
         ≡ declared_ended files.now.names first has_last (as_name name.now) kind declared (work compilation.old)) }
 {
-    let of_name = name_fault(files, name, standing_fault(declared.found));
-    let blame = declaration_blame(
-        &compilation.unit.tokens,
-        first,
-        kind,
-        of_name,
-        declared.finding,
-    );
-    compilation.report.fault(files, first, blame)?;
-    compilation.end_unit(files, first, has_last)
+    let found = declared_findings(name, kind, declared);
+    compilation.end_unit(files, first, has_last, &found)
 }
 
 /// The end of a declaration that begins at a place: what is wrong with it is told.
@@ -288,15 +256,14 @@ pub(crate) fn end_declaration(
 /// What is wrong with a declaration of a name that has an order, beside its expression, where there are so many of its kind or not.
 pub(crate) fn name_known(
     compilation: &Compilation,
-    files: &Stack,
     name: &Name,
     order: u32,
     are_many: bool,
 ) -> Declared
-    ensures { result ≡ name_known files.now.names (as_name name.now) order are_many (work compilation.now) }
+    ensures { result ≡ name_known (as_name name.now) order are_many (work compilation.now) }
 {
     let found = compilation.output.names.look(name.bytes());
-    let of_name = name_fault(files, name, standing_fault(found));
+    let again = again_by(name, standing_fault(found));
     let leaves = compilation.unit.gathering.leaves();
     let is_late = is_late(
         found,
@@ -304,7 +271,7 @@ pub(crate) fn name_known(
     );
     Declared {
         found,
-        finding: declared_finding(order, &of_name, is_late, are_many),
+        finding: declared_finding(order, &again, is_late, are_many),
     }
 }
 
@@ -352,13 +319,7 @@ fn one_attribute(
     ensures { OnOk result (work compilation.new ≡ attribute_with files.now.names first (as_name name.now) (work compilation.old)) }
 {
     let order = compilation.unit.tokens.name_order();
-    let declared = name_known(
-        compilation,
-        files,
-        name,
-        order,
-        has_most_attributes(compilation),
-    );
+    let declared = name_known(compilation, name, order, has_most_attributes(compilation));
     end_attribute(compilation, files, first, name, declared)
 }
 
@@ -426,16 +387,15 @@ fn new_attribute(compilation: &mut Compilation) -> Result<(), AllocError>
 /// What is wrong with a declaration of a name that has an order, and with its expression.
 pub(crate) fn valued(
     compilation: &Compilation,
-    files: &Stack,
     name: &Name,
     order: u32,
     are_many: bool,
 ) -> Result<Declared, AllocError>
-    ensures { IfOk result (λ d. d ≡ valued files.now.names (as_name name.now) order are_many (work compilation.now)) }
+    ensures { IfOk result (λ d. d ≡ valued (as_name name.now) order are_many (work compilation.now)) }
 {
     let operands = compilation.operands()?;
     let finding = compilation.finding(0, Wanted::Constant, operands.as_slice())?;
-    let declared = name_known(compilation, files, name, order, are_many);
+    let declared = name_known(compilation, name, order, are_many);
     Ok(Declared {
         found: declared.found,
         finding: least_of_both(declared.finding, finding),
@@ -487,7 +447,7 @@ pub(crate) fn alias(
     ensures { OnOk result (work compilation.new ≡ alias_told files.now.names first (as_name name.now) order kind (work compilation.old)) }
 {
     let meaning = last_meaning(compilation, kind);
-    let own = name_known(compilation, files, name, order, false);
+    let own = name_known(compilation, name, order, false);
     let finding = least_of_both(
         own.finding,
         alias_finding(&compilation.unit.tokens, meaning),

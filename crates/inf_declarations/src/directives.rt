@@ -4,30 +4,30 @@ ghost use Rattle.inf_expressions.specs.Forests.{trees_in as rooted_in};
 ghost use Rattle.inf_names.specs.Symbols.{found_in};
 ghost use Rattle.inf_statements.specs.Statements.{tree_in};
 ghost use Rattle.inf_sinks.specs.Spellings.{as_name};
-ghost use Rattle.inf_unit.specs.Diagnostics.{blamed};
 ghost use Rattle.inf_unit.specs.Messages.{location, with_words};
 ghost use Rattle.inf_unit.specs.Units.{quoted_in};
-ghost use Rattle.inf_compilation.specs.Actions.{as_constant, constant, constant_blame, constant_ended, constant_finding, constant_meaning, constant_of, constant_with, declared_meaning, is_declared, is_first_declared, leaf_meaning, name_finding, named_leaf, new_stub, replace, stub, stub_locals, stubbed, used_name, words_of};
+ghost use Rattle.inf_compilation.specs.Actions.{as_constant, constant, constant_ended, constant_finding, constant_findings, constant_meaning, constant_of, constant_with, declared_meaning, is_declared, is_first_declared, leaf_meaning, named_leaf, new_stub, replace, stub, stub_locals, stubbed, used_name, words_of};
 ghost use Rattle.inf_statements.specs.Operands.{leaf_added};
 ghost use Rattle.inf_unit.specs.Directives.{Include, asked, weight_of};
 ghost use Rattle.inf_declarations.specs.Defaults.{default};
+ghost use Rattle.inf_compilation.specs.Meant.{again_as, found_as};
 ghost use Rattle.inf_compilation.specs.Works.{work};
 
 use inf_area::Value;
 use inf_assembler::RoutineKind;
 use inf_compilation::compilation::Compilation;
-use inf_compilation::findings::{blame_of, name_fault};
+use inf_compilation::findings::{Again, Findings, again_by, again_finding};
 use inf_expressions::{Finding, Forest, Wanted, build, constant as constant_in, least_of_both};
 use inf_gathering::gathering::Leaf;
 use inf_lexer::{Place, Stack};
 use inf_names::meanings::Meaning;
 use inf_names::symbols::{DeclareFault, Found, ReferFault, Symbols};
-use inf_report::messages::Message;
+use inf_report::messages::FixedLimit;
 use inf_report::own_words::OwnWords;
 use inf_sinks::spellings::Name;
 use inf_statements::operands::add_leaf as add_operand;
 use inf_unit::directives::{Request, weight_of};
-use inf_unit::messages::{Diagnostic, location};
+use inf_unit::messages::location;
 use inf_unit::tokens::number_of;
 use inf_unit::unit_tokens::UnitTokens;
 use std::alloc::AllocError;
@@ -51,7 +51,7 @@ pub fn replace(
     };
     compilation.output.refer(name.bytes(), name.place)?;
     use_name(&mut compilation.replaced, name)?;
-    compilation.end_unit(files, first, true)
+    compilation.end_unit(files, first, true, &Findings::none())
 }
 
 /// Declares the first of these names as a routine of so many locals as the number behind it says, which returns 0, unless the name is
@@ -66,7 +66,7 @@ pub fn stub(
         ≡ stub files.now.names first (map as_name names.now) (work compilation.old)) }
 {
     if is_first_declared(compilation, names) {
-        compilation.end_unit(files, first, true)
+        compilation.end_unit(files, first, true, &Findings::none())
     } else {
         new_stub(compilation, files, first, names)
     }
@@ -99,18 +99,14 @@ fn stub_routine(
 {
     let locals = stub_locals(&compilation.unit.tokens);
     if locals > MOST_STUB_LOCALS {
-        let blame = Diagnostic {
-            place: first,
-            message: Message::ConstantOutOfRange,
-        };
-        compilation.report.fault(files, first, Some(blame))?;
-        return compilation.end_unit(files, first, true);
+        let found = Findings::alone(Some(Finding::out_of_range(0)));
+        return compilation.end_unit(files, first, true, &found);
     }
     compilation
         .output
         .open(compilation.alloc, locals as u8, false)?;
     compilation.output.close(RoutineKind::Embedded)?;
-    compilation.end_unit(files, first, true)
+    compilation.end_unit(files, first, true, &Findings::none())
 }
 
 /// Declares the first of these names as a constant, as `Constant` does, unless it is declared.
@@ -124,7 +120,7 @@ pub fn default(
         ≡ default files.now.names first (map as_name names.now) (work compilation.old)) }
 {
     if is_first_declared(compilation, names) {
-        compilation.end_unit(files, first, true)
+        compilation.end_unit(files, first, true, &Findings::none())
     } else {
         constant(compilation, files, first, names)
     }
@@ -270,15 +266,23 @@ fn end_constant(
     ensures { OnOk result (work compilation.new
         ≡ constant_ended files.now.names first (as_name name.now) refused finding (work compilation.old)) }
 {
-    let of_name = name_fault(files, name, refused);
     let order = compilation.unit.tokens.name_order();
-    let least = least_of_both(name_finding(order, &of_name), finding);
-    let blame = constant_blame(&compilation.unit.tokens, of_name, least);
-    compilation.report.fault(files, first, blame)?;
-    if least.is_none() {
+    let found = constant_findings(order, again_by(name, refused), finding);
+    if found.least.is_none() {
         add_leaf(compilation)?;
     }
-    compilation.end_unit(files, first, true)
+    compilation.end_unit(files, first, true, &found)
+}
+
+/// What is wrong with a constant: its name, which stands at an order, or its expression.
+fn constant_findings(order: u32, again: Option<Again>, finding: Option<Finding>) -> Findings
+    ensures { found_as result ≡ constant_findings order (option_map again_as again) finding }
+{
+    Findings {
+        least: least_of_both(again_finding(order, &again), finding),
+        many: FixedLimit::Values,
+        again,
+    }
 }
 
 /// Adds the text or the word that a constant's expression is.
@@ -355,32 +359,6 @@ fn constant_meaning(meaning: Option<Meaning>, found: Option<Finding>) -> Meaning
     match (meaning, found) {
         (Some(meaning), None) => meaning,
         _ => Meaning::Number(0),
-    }
-}
-
-/// What is wrong with a name that has this order, as a finding. Its number is that of a name that stands already.
-pub(crate) fn name_finding(order: u32, of_name: &Option<Diagnostic<'_>>) -> Option<Finding>
-    ensures { result ≡ name_finding order (option_map blamed of_name.now) }
-{
-    match of_name {
-        Some(_) => Some(Finding { order, number: 8 }),
-        None => None,
-    }
-}
-
-/// What is told of a constant, by the least that was found.
-fn constant_blame<'t>(
-    tokens: &'t UnitTokens,
-    of_name: Option<Diagnostic<'t>>,
-    found: Option<Finding>,
-) -> Option<Diagnostic<'t>>
-    ensures { option_map blamed result ≡ constant_blame tokens.now (option_map blamed of_name.entry) found }
-{
-    let finding = found?;
-    if finding.number == 8 {
-        of_name
-    } else {
-        Some(blame_of(tokens, finding))
     }
 }
 

@@ -54,13 +54,7 @@ fn one_global(
     ensures { OnOk result (work compilation.new ≡ global_with files.now.names first (as_name name.now) (work compilation.old)) }
 {
     let order = compilation.unit.tokens.name_order();
-    let declared = valued(
-        compilation,
-        files,
-        name,
-        order,
-        has_most_globals(compilation),
-    )?;
+    let declared = valued(compilation, name, order, has_most_globals(compilation))?;
     end_global(compilation, files, first, name, declared)
 }
 

@@ -126,13 +126,7 @@ fn one_property(
         ≡ property_with files.now.names first is_additive (as_name name.now) (work compilation.old)) }
 {
     let order = property_order(&compilation.unit.tokens, is_additive);
-    let declared = valued(
-        compilation,
-        files,
-        name,
-        order,
-        has_most_properties(compilation),
-    )?;
+    let declared = valued(compilation, name, order, has_most_properties(compilation))?;
     end_property(compilation, files, first, is_additive, name, declared)
 }
 

@@ -1,20 +1,35 @@
 -- The first error of a unit.
-use Rattle.std.proofs.Common.{◌≡◌, ◌⊎◌, inl, inr, ℕ, suc, zero, ◌+◌, ◌<◌, ◌≤◌, List, [], ◌∷◌, ◌++◌, append_assoc, append-nil, length, length-append, cond, not, ◌||◌, ◌&&◌, ltb, Bool, true, false, Option, None, Some, refl, sym, ap, subst, ◌∙◌, arith}
+use Rattle.std.proofs.Common.{◌≡◌, ◌⊎◌, inl, inr, ℕ, suc, zero, ◌+◌, ◌<◌, ◌≤◌, nat_eq, List, [], ◌∷◌, ◌++◌, append_assoc, append-nil, length, length-append, cond, not, ◌||◌, ◌&&◌, ltb, Bool, true, false, Option, None, Some, refl, sym, ap, subst, ◌∙◌, arith}
 use Rattle.std.specs.Prelude.{Contains, find, is_some, option_map, slice_index_or}
 use Rattle.std.specs.Str.{bytes_eq, str_eq_ignore_ascii_case}
-use Rattle.std.proofs.lemmas.Bool.{cond_both, le-ltb, lt-ltb, ltb-false, ltb-true}
+use Rattle.std.proofs.lemmas.Bool.{and_parts, cond_both, eqb-true, false_from_ne_true, le-ltb, lt-ltb, ltb-false, ltb-true, or_cases}
 use Rattle.std.proofs.lemmas.List.Elements.{Contains-append_cases, Contains-append_left, Contains-append_right}
 use Rattle.inf_scanner.specs.declared.tokens.Place.{Place}
 use Rattle.inf_names.specs.Symbols.{Table, declare_fault, declare_fault_by, folded, found_in, is_full}
-use Rattle.inf_names.specs.declared.symbols.Found.{Found}
+use Rattle.inf_names.specs.declared.symbols.Found.{Found as FoundName}
 use Rattle.inf_names.specs.declared.symbols.Found.TheVariants as found
 use Rattle.inf_sinks.specs.Spellings.{Name}
 use Rattle.inf_sinks.specs.Locals.{Headed, Local, Repeated, earlier, local_of, most_locals, no_locals, number_from, number_of, with_local_by, with_locals}
 use Rattle.inf_unit.specs.Messages.{Diagnostic, FileNames}
-use Rattle.inf_compilation.specs.Findings.{first_fault, header_fault, local_fault, name_fault}
-use Rattle.inf_laws.specs.Findings.{Finding, HeadersTellTheFirst, IsBefore, IsLeast, IsTold, declared_before, different, first_named, many_locals, repeated_local, repeated_locals, repeated_one, taken_as, taken_name, system_routine, too_many_locals}
+use Rattle.inf_names.specs.declared.symbols.DeclareFault.{DeclareFault}
+use Rattle.inf_unit.specs.Tokens.{SourceToken}
+use Rattle.inf_compilation.specs.Findings.{Again, again_by, again_local, again_told, first_again, header_findings as found_in_header, told_as}
+use Rattle.inf_expressions.specs.declared.findings.Finding.{Finding as Found}
+use Rattle.inf_expressions.specs.Findings.{is_before, least_of_both}
+use Rattle.inf_laws.specs.Findings.{Finding, HeadersTellTheFirst, IsBefore, IsLeast, IsLeastOf, IsTold, LeastsAreFound, UnitsTellTheLeast, declared_before, different, first_named, many_locals, repeated_local, repeated_locals, repeated_one, taken_as, taken_name, system_routine, too_many_locals}
 use Rattle.inf_laws.proofs.Choices.{either, either-none}
 use Rattle.inf_laws.proofs.SameNames.{same_names}
+
+abbrev first_fault : Option Diagnostic → Option Diagnostic → Option Diagnostic
+first_fault (Some b) later = Some b
+first_fault None later = later
+
+-- what is told of a local that is named again, and of the name of a routine
+abbrev local_fault : FileNames → Option Repeated → Option Diagnostic
+local_fault files r = option_map (again_told files) (again_local r)
+
+abbrev name_fault : FileNames → Name → Option (DeclareFault Place) → Option Diagnostic
+name_fault files name f = option_map (again_told files) (again_by name f)
 
 -- Least findings
 
@@ -290,7 +305,7 @@ ends (n ∷ names) before h of fits few = go (first_named n.bytes before) refl (
 
 -- The name of a routine
 
-routine_told_by : (files : FileNames) (f : Found Place) (full : Bool) (name : Name) →
+routine_told_by : (files : FileNames) (f : FoundName Place) (full : Bool) (name : Name) →
     IsTold (name_fault files name (declare_fault_by f full)) (taken_as files f name)
 routine_told_by files (found.System meaning) full name = told_one (system_routine name)
 routine_told_by files (found.Declared meaning first) full name = told_one (declared_before files first name)
@@ -302,14 +317,34 @@ routine_told : (files : FileNames) (names : Table Place) (name : Name) →
     IsTold (name_fault files name (declare_fault name.bytes names)) (taken_name files names name)
 routine_told files names name = routine_told_by files (found_in name.bytes names) (is_full names) name
 
-among_routine : (files : FileNames) (f : Found Place) (name : Name) (g : Finding) → Contains (taken_as files f name) g → g.token ≡ 1
+among_routine : (files : FileNames) (f : FoundName Place) (name : Name) (g : Finding) → Contains (taken_as files f name) g → g.token ≡ 1
 among_routine files (found.System meaning) name g among = ap (λ f. f.token) (one_of_one (system_routine name) g among)
 among_routine files (found.Declared meaning first) name g among = ap (λ f. f.token) (one_of_one (declared_before files first name) g among)
 among_routine files found.Used name g among = absurd (one_of_none g among)
 among_routine files found.Unknown name g among = absurd (one_of_none g among)
 
+-- What is told of a header: of its findings the least.
+abbrev header_fault : FileNames → Place → Option Again → Headed → Option Diagnostic
+header_fault files unit again h =
+    cond h.are_too_many (Some (too_many_locals unit).blame)
+    (first_fault (option_map (again_told files) again) (local_fault files h.repeated))
+
+header_fault_is : (files : FileNames) (tokens : List SourceToken) (unit : Place) (again : Option Again) (h : Headed) →
+    told_as files tokens unit (found_in_header 1 again h) ≡ header_fault files unit again h
+header_fault_is files tokens unit again h = go h.are_too_many again h.repeated
+  where
+    go : (many : Bool) (again : Option Again) (repeated : Option Repeated) →
+        told_as files tokens unit (found_in_header 1 again (record { locals = h.locals; repeated = repeated; are_too_many = many }))
+        ≡ header_fault files unit again (record { locals = h.locals; repeated = repeated; are_too_many = many })
+    go true (Some a) repeated = refl
+    go true None (Some r) = refl
+    go true None None = refl
+    go false (Some a) repeated = refl
+    go false None (Some r) = refl
+    go false None None = refl
+
 header_told : (files : FileNames) (unit : Place) (names : Table Place) (name : Name) (locals : List Name) (h : Headed) → Ends [] locals
-    no_locals h → IsTold (header_fault files unit (name_fault files name (declare_fault name.bytes names)) h)
+    no_locals h → IsTold (header_fault files unit (again_by name (declare_fault name.bytes names)) h)
     (taken_name files names name ++ (repeated_locals files [] 2 locals ++ many_locals unit locals))
 header_told files unit names name locals h (Full full more) =
     let of_name = taken_name files names name in
@@ -317,7 +352,7 @@ header_told files unit names name locals h (Full full more) =
     let fault = name_fault files name (declare_fault name.bytes names) in
     let many : many_locals unit locals ≡ too_many_locals unit ∷ [] =
     ap (λ b. found_if b (too_many_locals unit)) (lt-ltb 15 (different [] locals) (omega (arith, more))) in
-    let first : header_fault files unit fault h ≡ Some (too_many_locals unit).blame =
+    let first : header_fault files unit (again_by name (declare_fault name.bytes names)) h ≡ Some (too_many_locals unit).blame =
     ap (λ b. cond b (Some (too_many_locals unit).blame) (first_fault fault (local_fault files h.repeated))) full in
     subst (λ x. IsTold x (of_name ++ (repeats ++ many_locals unit locals))) (sym first)
     (subst (λ l. IsTold (Some (too_many_locals unit).blame) (of_name ++ (repeats ++ l))) (sym many)
@@ -338,7 +373,7 @@ header_told files unit names name locals h (Fits fits few repeated) =
     let again = local_fault files (repeat_of [] locals) in
     let many : many_locals unit locals ≡ [] =
     ap (λ b. found_if b (too_many_locals unit)) (le-ltb 15 (different [] locals) (omega (arith, few))) in
-    let first : header_fault files unit fault h ≡ first_fault fault again =
+    let first : header_fault files unit (again_by name (declare_fault name.bytes names)) h ≡ first_fault fault again =
     ap (λ b. cond b (Some (too_many_locals unit).blame) (first_fault fault (local_fault files h.repeated))) fits
     ∙ ap (λ r. first_fault fault (local_fault files r)) repeated in
     subst (λ x. IsTold x (of_name ++ (repeats ++ many_locals unit locals))) (sym first)
@@ -352,5 +387,78 @@ header_told files unit names name locals h (Fits fits few repeated) =
     )))))
 
 pub headers_tell_the_first : HeadersTellTheFirst
-headers_tell_the_first files unit names name locals =
-    header_told files unit names name locals (with_locals locals no_locals) (ends locals [] no_locals (λ name. refl) refl (omega arith))
+headers_tell_the_first files tokens unit names name locals =
+    let h = with_locals locals no_locals in
+    let again = again_by name (declare_fault name.bytes names) in
+    subst (λ b. IsTold b (taken_name files names name ++ (repeated_locals files [] 2 locals ++ many_locals unit locals)))
+    (sym (header_fault_is files tokens unit again h))
+    (header_told files unit names name locals h (ends locals [] no_locals (λ name. refl) refl (omega arith)))
+
+-- Any unit
+
+earlier_than : (a b : Found) → is_before a b ≡ true → (a.order < b.order) ⊎ ((a.order ≡ b.order) × (a.number < b.number))
+earlier_than a b e =
+    go (or_cases (ltb a.order b.order) (nat_eq a.order b.order && ltb a.number b.number) e)
+  where
+    go : (ltb a.order b.order ≡ true) ⊎ ((nat_eq a.order b.order && ltb a.number b.number) ≡ true) →
+        (a.order < b.order) ⊎ ((a.order ≡ b.order) × (a.number < b.number))
+    go (inl less) = inl (ltb-true a.order b.order less)
+    go (inr same) =
+        let parts = and_parts (nat_eq a.order b.order) (ltb a.number b.number) same in
+        inr (eqb-true a.order b.order parts.0, ltb-true a.number b.number parts.1)
+
+never_both : (a b : Found) → is_before a b ≡ true → is_before b a ≡ false
+never_both a b e = false_from_ne_true (is_before b a) (λ f. go (earlier_than a b e) (earlier_than b a f))
+  where
+    go : (a.order < b.order) ⊎ ((a.order ≡ b.order) × (a.number < b.number)) →
+        (b.order < a.order) ⊎ ((b.order ≡ a.order) × (b.number < a.number)) → ⊥
+    go (inl less) (inl more) = omega (arith, less, more)
+    go (inl less) (inr same) = omega (arith, less, same.0)
+    go (inr same) (inl more) = omega (arith, same.0, more)
+    go (inr same) (inr more) = omega (arith, same.1, more.1)
+
+never_itself : (a : Found) → is_before a a ≡ false
+never_itself a = go (is_before a a) refl
+  where
+    go : (b : Bool) → is_before a a ≡ b → is_before a a ≡ false
+    go false e = e
+    go true e = never_both a a e
+
+-- where it is this one, which does not come before that
+not_earlier : (x : Option Found) (a f g : Found) → x ≡ Some a → x ≡ Some g → is_before a f ≡ false → is_before g f ≡ false
+not_earlier x a f g is is_g e = subst (λ h. is_before h f ≡ false) (some-injective (sym is ∙ is_g)) e
+  where
+    some-injective : {p q : Found} → Some p ≡ Some q → p ≡ q
+    some-injective e = cc
+
+pub leasts_are_found : LeastsAreFound
+leasts_are_found None None = (refl, refl)
+leasts_are_found (Some a) None = record {
+  is_there = inl refl;
+  none_before = λ g is. by g is;
+}
+  where
+    by : (g : Found) → (Some a ≡ Some g) ⊎ (None ≡ Some g) → is_before g a ≡ false
+    by g (inl is) = not_earlier (Some a) a a g refl is (never_itself a)
+    by g (inr is) = cc
+leasts_are_found None (Some b) = record { is_there = inr refl; none_before = λ g is. by g is }
+  where
+    by : (g : Found) → (None ≡ Some g) ⊎ (Some b ≡ Some g) → is_before g b ≡ false
+    by g (inl is) = cc
+    by g (inr is) = not_earlier (Some b) b b g refl is (never_itself b)
+leasts_are_found (Some a) (Some b) = go (is_before b a) refl
+  where
+    go : (t : Bool) → is_before b a ≡ t → IsLeastOf (Some a) (Some b) (cond t (Some b) (Some a))
+    go true e = record { is_there = inr refl; none_before = λ g is. by g is }
+      where
+        by : (g : Found) → (Some a ≡ Some g) ⊎ (Some b ≡ Some g) → is_before g b ≡ false
+        by g (inl is) = not_earlier (Some a) a b g refl is (never_both b a e)
+        by g (inr is) = not_earlier (Some b) b b g refl is (never_itself b)
+    go false e = record { is_there = inl refl; none_before = λ g is. by g is }
+      where
+        by : (g : Found) → (Some a ≡ Some g) ⊎ (Some b ≡ Some g) → is_before g a ≡ false
+        by g (inl is) = not_earlier (Some a) a a g refl is (never_itself a)
+        by g (inr is) = not_earlier (Some b) b a g refl is e
+
+pub units_tell_the_least : UnitsTellTheLeast
+units_tell_the_least files first has_last all w = refl

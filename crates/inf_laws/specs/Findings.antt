@@ -1,16 +1,21 @@
--- The error of a header: each rule finds its own errors, and the first of all, by its token and then by its number, is told.
-use Rattle.std.specs.Prelude.{◌≡◌, ◌+◌, ◌<◌, ◌⊎◌, ℕ, List, [], ◌∷◌, ◌++◌, length, find, Contains, ◌&&◌, not, nat_lt, if◌then◌else◌, Option, Some, None, is_some}
+-- What is told of a unit: of all that is found the first, by its token and then by its number. And all that the rules find of a header.
+use Rattle.std.specs.Prelude.{◌≡◌, ◌+◌, ◌<◌, ◌⊎◌, ℕ, List, [], ◌∷◌, ◌++◌, length, find, Contains, ◌&&◌, not, nat_lt, if◌then◌else◌, Bool, false, Option, Some, None, is_some}
 use Rattle.std.specs.Str.{str_eq_ignore_ascii_case}
 use Rattle.inf_scanner.specs.declared.tokens.Place.{Place}
 use Rattle.inf_names.specs.Symbols.{Table, declare_fault, found_in}
-use Rattle.inf_names.specs.declared.symbols.Found.{Found}
+use Rattle.inf_names.specs.declared.symbols.Found.{Found as FoundName}
 use Rattle.inf_names.specs.declared.symbols.Found.TheVariants as found
 use Rattle.inf_report.specs.Messages.{Declared, SystemName, TooMany}
 use Rattle.inf_report.specs.declared.messages.FixedLimit.TheVariants as countable
 use Rattle.inf_sinks.specs.Spellings.{Name}
 use Rattle.inf_sinks.specs.Locals.{with_locals, no_locals}
-use Rattle.inf_unit.specs.Messages.{FileNames, Diagnostic, location}
-use Rattle.inf_compilation.specs.Findings.{header_fault, name_fault}
+use Rattle.inf_expressions.specs.declared.findings.Finding.{Finding as Found}
+use Rattle.inf_expressions.specs.Findings.{is_before, least_of_both}
+use Rattle.inf_output.specs.Output.{full}
+use Rattle.inf_unit.specs.Messages.{FileNames, Diagnostic, location, with_fault, with_full}
+use Rattle.inf_unit.specs.Tokens.{SourceToken}
+use Rattle.inf_compilation.specs.Actions.{Compilation, unit_ended}
+use Rattle.inf_compilation.specs.Findings.{Findings, again_by, header_findings as found_in_header, told_as}
 
 -- What a rule finds: at which token of the unit, counted from 0, the unit's first; the number of the kind of its message; and
 -- the message at its place. The kinds: 8, a name that was declared before or is a system name; 19, too many locals.
@@ -77,7 +82,7 @@ abbrev pub system_routine : Name → Finding
 system_routine name = record { token = 1; number = 8; blame = record { place = name.place; message = SystemName name.bytes } }
 
 -- By what the name stands for before its header. That a new name would be one too many is no finding.
-abbrev pub taken_as : FileNames → Found Place → Name → List Finding
+abbrev pub taken_as : FileNames → FoundName Place → Name → List Finding
 taken_as files (found.System meaning) name = system_routine name ∷ []
 taken_as files (found.Declared meaning first) name = declared_before files first name ∷ []
 taken_as files found.Used name = []
@@ -93,6 +98,27 @@ header_findings files unit names name locals =
 -- What is told of a unit that begins at this place
 
 abbrev pub HeadersTellTheFirst : Type 0
-HeadersTellTheFirst = (files : FileNames) (unit : Place) (names : Table Place) (name : Name) (locals : List Name)
-    → IsTold (header_fault files unit (name_fault files name (declare_fault name.bytes names)) (with_locals locals no_locals))
+HeadersTellTheFirst = (files : FileNames) (tokens : List SourceToken) (unit : Place) (names : Table Place) (name : Name)
+    (locals : List Name)
+    → IsTold (told_as files tokens unit (found_in_header 1 (again_by name (declare_fault name.bytes names)) (with_locals locals no_locals)))
     (header_findings files unit names name locals)
+
+-- Any unit
+
+-- of two findings, each of which there may be: it is one of them, and none comes before it
+pub record IsLeastOfTwo (x y : Option Found) (f : Found) : Type 0 where
+  pub is_there : (x ≡ Some f) ⊎ (y ≡ Some f)
+  pub none_before : (g : Found) → (x ≡ Some g) ⊎ (y ≡ Some g) → is_before g f ≡ false
+
+abbrev pub IsLeastOf : Option Found → Option Found → Option Found → Type 0
+IsLeastOf x y None = (x ≡ None) × (y ≡ None)
+IsLeastOf x y (Some f) = IsLeastOfTwo x y f
+
+abbrev pub LeastsAreFound : Type 0
+LeastsAreFound = (x y : Option Found) → IsLeastOf x y (least_of_both x y)
+
+-- At its end the least is told, if anything was found, and then the first setting that was passed.
+abbrev pub UnitsTellTheLeast : Type 0
+UnitsTellTheLeast = (files : FileNames) (first : Place) (has_last : Bool) (all : Findings) (w : Compilation)
+    → (unit_ended files first has_last all w).report
+    ≡ with_full files first (full w.output) (with_fault files first (told_as files w.unit.tokens first all) w.report)

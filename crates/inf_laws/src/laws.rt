@@ -1,6 +1,6 @@
 //! What the definitions give together.
 ghost use Rattle.inf_laws.specs.Counts.{LimitsCountTheStory};
-ghost use Rattle.inf_laws.specs.Findings.{HeadersTellTheFirst};
+ghost use Rattle.inf_laws.specs.Findings.{HeadersTellTheFirst, LeastsAreFound, UnitsTellTheLeast};
 ghost use Rattle.inf_laws.specs.KeptTokens.{KeptTokensAreRead, TokensAreHandedOn};
 ghost use Rattle.inf_laws.specs.KeptTurns.{TurnsReadPieces};
 ghost use Rattle.inf_laws.specs.NameEvents.{FewHaveRoom, FirstDeclarationsCount, OperandsUse, UndeclaredAreTold, UnitsDeclare};
@@ -16,6 +16,13 @@ use inf_world::written_as_counted;
 /// message has the lower number.
 pub fn first_errors_are_told()
     ensures { HeadersTellTheFirst }
+{}
+
+/// At the end of each unit the least is told of what is wrong with it, by the order of its token and then by its number. Where two rules
+/// find something, the least of both is one of these, and none of these comes before it.
+pub fn least_findings_are_told()
+    ensures least { LeastsAreFound }
+    ensures told { UnitsTellTheLeast }
 {}
 
 /// A name that is used and never declared, and that the language does not have, is told once, at its

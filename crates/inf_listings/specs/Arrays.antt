@@ -31,7 +31,7 @@ use Rattle.inf_unit.specs.Tokens.{SourceToken}
 use Rattle.inf_unit.specs.Units.{bytes_at, first_place, kind_at, name_order}
 use Rattle.inf_compilation.specs.Actions.{Compilation, finding_at, operands_of, passed, settled_of, trees_at, unit_ended}
 use Rattle.inf_declarations.specs.Declarations.{declared_ended, plainly_known, value_in, value_of}
-use Rattle.inf_compilation.specs.Findings.{blame_of}
+use Rattle.inf_compilation.specs.Findings.{found_alone, nothing_found}
 use Rattle.inf_declarations.specs.declared.declarations.Declared.{Declared}
 
 -- The header
@@ -81,7 +81,7 @@ header_with files first name d w =
     declared_ended files first false name countable.Globals d (listed d.finding (kind_in w.unit.tokens) name w)
 
 abbrev pub array_header : FileNames → Place → Name → Compilation → Compilation
-array_header files first name w = header_with files first name (plainly_known files name (name_order w.unit.tokens) w) w
+array_header files first name w = header_with files first name (plainly_known name (name_order w.unit.tokens) w) w
 
 abbrev pub array_named : FileNames → Place → List Name → Compilation → Compilation
 array_named files first [] w = passed false w
@@ -185,8 +185,8 @@ abbrev pub entry_added : Bool → Compilation → Compilation
 entry_added alone w = entry_added_by (bare_text alone w) alone w
 
 abbrev pub entry_with : FileNames → Place → Bool → Option Finding → Compilation → Compilation
-entry_with files first alone None w = unit_ended files first false None (entry_added alone w)
-entry_with files first alone (Some f) w = unit_ended files first false (Some (blame_of w.unit.tokens f)) w
+entry_with files first alone None w = unit_ended files first false nothing_found (entry_added alone w)
+entry_with files first alone (Some f) w = unit_ended files first false (found_alone (Some f)) w
 
 -- an array has an entry, with an error or without
 abbrev pub one_more : Compilation → Compilation

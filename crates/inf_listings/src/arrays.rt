@@ -10,7 +10,7 @@ ghost use Rattle.inf_compilation.specs.Works.{work};
 
 use inf_area::Value;
 use inf_compilation::compilation::{Compilation, Listing};
-use inf_compilation::findings::blame_of;
+use inf_compilation::findings::Findings;
 use inf_declarations::declarations::{Declared, end_declared, plainly_known, value, value_in};
 use inf_expressions::{Finding, Operand, Wanted, build, least_of_both};
 use inf_gathering::gathering::Leaf;
@@ -218,7 +218,7 @@ fn array_header(
     ensures { OnOk result (work compilation.new ≡ array_header files.now.names first (as_name name.now) (work compilation.old)) }
 {
     let order = compilation.unit.tokens.name_order();
-    let declared = plainly_known(compilation, files, name, order);
+    let declared = plainly_known(compilation, name, order);
     header_with(compilation, files, first, name, declared)
 }
 
@@ -419,14 +419,10 @@ fn entry_with(
 ) -> Result<(), AllocError>
     ensures { OnOk result (work compilation.new ≡ entry_with files.now.names first is_alone found (work compilation.old)) }
 {
-    match found {
-        Some(finding) => {
-            let blame = blame_of(&compilation.unit.tokens, finding);
-            compilation.report.fault(files, first, Some(blame))?;
-        }
-        None => add_entry(compilation, is_alone)?,
+    if found.is_none() {
+        add_entry(compilation, is_alone)?;
     }
-    compilation.end_unit(files, first, false)
+    compilation.end_unit(files, first, false, &Findings::alone(found))
 }
 
 /// The end of an entry that begins at a place, and is alone or not.

@@ -43,8 +43,7 @@ use Rattle.inf_verbs.specs.declared.verbs.Place.TheVariants as line_place
 use Rattle.inf_verbs.specs.declared.verbs.VerbFault.{VerbFault}
 use Rattle.inf_verbs.specs.declared.verbs.VerbFault.TheVariants as refused
 use Rattle.inf_compilation.specs.Actions.{Compilation, passed, unit_ended}
-use Rattle.inf_declarations.specs.Declarations.{many_finding}
-use Rattle.inf_compilation.specs.Findings.{blame_of, name_fault}
+use Rattle.inf_compilation.specs.Findings.{Again, Findings, again_by, again_finding, found_alone, many_finding}
 use Rattle.inf_compilation.specs.declared.compilation.Extending.{Extending}
 use Rattle.inf_verb_lines.specs.declared.lines.Named.{Named}
 use Rattle.inf_verb_lines.specs.declared.lines.Named.TheVariants as named
@@ -68,16 +67,12 @@ word_in _ = None
 abbrev pub word_at : List SourceToken → ℕ → Option DictionaryWord
 word_at tokens at = word_in (kind_at tokens at)
 
--- What is told: that there are too many verbs, of the first token, and all else of its own.
-abbrev pub verb_blame : List SourceToken → Place → Finding → Diagnostic
-verb_blame tokens first f = if f.number == 19 then record { place = first; message = TooMany countable.Verbs } else blame_of tokens f
-
-abbrev pub verb_fault : List SourceToken → Place → Option Finding → Option Diagnostic
-verb_fault tokens first None = None
-verb_fault tokens first (Some f) = Some (verb_blame tokens first f)
+-- what there are too many of is verbs
+abbrev pub verb_findings : Option Finding → Findings
+verb_findings found = record (found_alone found) { many = countable.Verbs }
 
 abbrev pub verb_ended : FileNames → Place → Option Finding → Compilation → Compilation
-verb_ended files first found w = unit_ended files first false (verb_fault w.unit.tokens first found) w
+verb_ended files first found w = unit_ended files first false (verb_findings found) w
 
 -- that the word at a place is one of a verb, or is none
 abbrev pub wrong_verb : ℕ → Finding
@@ -436,8 +431,11 @@ line_ended files place w = line_judged files (first_place w.unit.tokens place) (
 
 -- A fake action
 
+abbrev pub fake_findings : Option Again → Findings
+fake_findings again = record (found_alone (again_finding 1 again)) { again = again }
+
 abbrev pub fake_with : FileNames → Place → Name → Out × Option (DeclareFault Place) → Compilation → Compilation
-fake_with files first name f w = unit_ended files first true (name_fault files name f.1) (record w { output = f.0 })
+fake_with files first name f w = unit_ended files first true (fake_findings (again_by name f.1)) (record w { output = f.0 })
 
 abbrev pub fake_action : FileNames → Place → List Name → Compilation → Compilation
 fake_action files first [] w = passed true w

@@ -1,23 +1,23 @@
 //! The directives `Verb`, `Extend` and `Fake_action`: their headers.
 ghost use Rattle.std.specs.Prelude.{IfOk, OnOk, length, map, option_map, true, ◌<◌, ◌≡◌};
 ghost use Rattle.inf_sinks.specs.Spellings.{as_name};
-ghost use Rattle.inf_unit.specs.Diagnostics.{blamed};
-ghost use Rattle.inf_verb_lines.specs.Verbs.{extend_header, extend_with, fake_action, fake_with, has_most_verbs, has_verb, head_finding, header_opened, is_mark_at, is_name_in, like_at, like_finding, like_used, lines_extended, lines_of, misfit_finding, new_verb, no_verb_finding, place_behind, place_named, texts_before, verb_begun, verb_blame, verb_ended, verb_extended, verb_fault, verb_head, verb_header, verb_header_with, verb_named, verb_opened, verb_passed, verb_use, with_text, word_at, word_in, word_used, words_end, words_finding, words_from, words_given, words_used, wrong_verb};
+ghost use Rattle.inf_verb_lines.specs.Verbs.{extend_header, extend_with, fake_action, fake_findings, fake_with, has_most_verbs, has_verb, head_finding, header_opened, is_mark_at, is_name_in, like_at, like_finding, like_used, lines_extended, lines_of, misfit_finding, new_verb, no_verb_finding, place_behind, place_named, texts_before, verb_begun, verb_ended, verb_extended, verb_findings, verb_head, verb_header, verb_header_with, verb_named, verb_opened, verb_passed, verb_use, with_text, word_at, word_in, word_used, words_end, words_finding, words_from, words_given, words_used, wrong_verb};
 ghost use Rattle.inf_output.specs.Actions.{faked};
+ghost use Rattle.inf_compilation.specs.Meant.{again_as, found_as};
 ghost use Rattle.inf_compilation.specs.Works.{work};
 
 use inf_compilation::compilation::{Compilation, Extending};
-use inf_compilation::findings::{TOO_MANY, WRONG_VERB, blame_of, name_fault};
-use inf_declarations::declarations::many_finding;
+use inf_compilation::findings::{
+    Again, Findings, TOO_MANY, WRONG_VERB, again_by, again_finding, many_finding,
+};
 use inf_expressions::{Finding, least_of_both};
 use inf_lexer::{Place, Stack};
 use inf_output::Output;
-use inf_report::messages::{FixedLimit, Message};
+use inf_report::messages::FixedLimit;
 use inf_scanner::{DictionaryWord, Mark, TokenKind};
 use inf_settings::setting::Setting;
 use inf_sinks::spellings::Name;
 use inf_tables::{VerbFault, WordUse};
-use inf_unit::messages::Diagnostic;
 use inf_unit::tokens::is_mark;
 use inf_unit::unit::order;
 use inf_unit::unit_tokens::UnitTokens;
@@ -79,30 +79,25 @@ fn word_at(tokens: &UnitTokens, at: usize) -> Option<DictionaryWord>
     word_in(tokens.kind(at))
 }
 
-/// What is told of a finding in a unit of a verb that begins at a place.
-fn verb_blame<'t>(tokens: &'t UnitTokens, first: Place, finding: Finding) -> Diagnostic<'t>
-    ensures { blamed result ≡ verb_blame tokens.now first finding }
+/// What is wrong with a unit of a verb: what there are too many of is verbs.
+fn verb_findings(found: Option<Finding>) -> Findings
+    ensures { found_as result ≡ verb_findings found }
 {
-    match finding.number {
-        TOO_MANY => Diagnostic {
-            place: first,
-            message: Message::TooMany(FixedLimit::Verbs),
-        },
-        _ => blame_of(tokens, finding),
+    Findings {
+        least: found,
+        many: FixedLimit::Verbs,
+        again: None,
     }
 }
 
-/// What is told of what is wrong with a unit of a verb that begins at a place.
-fn verb_fault<'t>(
-    tokens: &'t UnitTokens,
-    first: Place,
-    found: Option<Finding>,
-) -> Option<Diagnostic<'t>>
-    ensures { option_map blamed result ≡ verb_fault tokens.now first found }
+/// What is wrong with a fake action: its name.
+fn fake_findings(again: Option<Again>) -> Findings
+    ensures { found_as result ≡ fake_findings (option_map again_as again) }
 {
-    match found {
-        Some(finding) => Some(verb_blame(tokens, first, finding)),
-        None => None,
+    Findings {
+        least: again_finding(1, &again),
+        many: FixedLimit::Values,
+        again,
     }
 }
 
@@ -463,9 +458,7 @@ pub(crate) fn end_of_verb(
 ) -> Result<(), AllocError>
     ensures { OnOk result (work compilation.new ≡ verb_ended files.now.names first found (work compilation.old)) }
 {
-    let blame = verb_fault(&compilation.unit.tokens, first, found);
-    compilation.report.fault(files, first, blame)?;
-    compilation.end_unit(files, first, false)
+    compilation.end_unit(files, first, false, &verb_findings(found))
 }
 
 /// Opens the verb of a header, unless something is wrong with it.
@@ -559,9 +552,8 @@ fn one_fake(
         OnOk result (work compilation.new ≡ fake_with files.now.names first n (faked n.bytes n.place before.output) before) }
 {
     let refused = compilation.output.fake_action(name.bytes(), name.place)?;
-    let blame = name_fault(files, name, refused);
-    compilation.report.fault(files, first, blame)?;
-    compilation.end_unit(files, first, true)
+    let found = fake_findings(again_by(name, refused));
+    compilation.end_unit(files, first, true, &found)
 }
 
 /// Declares the first of these names as a fake action.

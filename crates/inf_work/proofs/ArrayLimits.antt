@@ -42,7 +42,7 @@ array_named_same : (files : FileNames) (first : Place) (names : List Name) (w : 
     SameLimits w (array_named files first names w)
 array_named_same files first [] w = (refl, refl)
 array_named_same files first (name ∷ names) w =
-    listed_same (plainly_known files name (name_order w.unit.tokens) w).finding (kind_in w.unit.tokens) name w
+    listed_same (plainly_known name (name_order w.unit.tokens) w).finding (kind_in w.unit.tokens) name w
 
 class_named_same : (files : FileNames) (first : Place) (names : List Name) (w : Compilation) →
     SameLimits w (class_named files first names w)

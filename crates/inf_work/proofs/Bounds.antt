@@ -26,13 +26,13 @@ use Rattle.inf_world.specs.declared.faults.Misfit.{Misfit}
 use Rattle.inf_world.specs.declared.kinds.Parent.{Parent}
 use Rattle.inf_world.specs.Objects.{arrows_of, class_at, parent_of}
 use Rattle.inf_world.specs.World.{WorldOf, class_by, class_header_fault, class_of_fault, further_value_fault, given_of, given_property_fault, individual_fault, kind_of, lost_header_fault, no_body_fault, object_header_fault, set_attribute_fault, with_class_header, with_class_of, with_end, with_further_value, with_given_property, with_hung, with_individual, with_lost_header, with_lost_property, with_object_header, with_set_attribute}
-use Rattle.inf_compilation.specs.Actions.{Compilation, body_ended, finding_at, told, world_ended_by}
+use Rattle.inf_compilation.specs.Actions.{Compilation, body_ended, finding_at, world_ended_by}
 use Rattle.inf_listings.specs.Arrays.{looked_value, variables_from}
 use Rattle.inf_bodies.specs.Bodies.{attribute_of, attribute_read, attribute_set_by, attribute_set_some, class_read, further_added_by, further_found, further_placed, given, given_finding, given_with, individual_declared, individual_given_by, individual_named, is_given, is_words, last_at, place_finding, placed, property_given, property_given_by, property_gives_by, property_lost, property_of, property_read}
 use Rattle.inf_declarations.specs.Declarations.{plainly_known, value_of, with_world}
 use Rattle.inf_work.specs.Limits.{SameLimits}
 use Rattle.inf_bodies.specs.Objects.{bracketed, class_begun_by, class_header, class_lost, class_of, class_of_word, class_opened, found_at, header_in, joined_by, joined_some, lost_begun, lost_begun_by, noted, object_begun_by, object_declared, object_ended, object_header, object_known, object_lost, object_named, object_opened, object_with, own_name, parent_in, setting_of, short_name}
-use Rattle.inf_bodies.specs.Values.{any_placed, blame_embedded, bracket_in, embedded, embedded_read, name_place, next_routine, place_before, routine_placed, settled_placed, settled_work, takes_words, text_finding_by, text_placed_by, text_value, value_by, value_read, word_text, word_used, wrong_if}
+use Rattle.inf_bodies.specs.Values.{any_placed, bracket_in, embedded, embedded_read, found_embedded, name_place, next_routine, place_before, routine_placed, settled_placed, settled_work, takes_words, text_finding_by, text_placed_by, text_value, value_by, value_read, word_text, word_used, wrong_if}
 use Rattle.inf_declarations.specs.declared.declarations.Declared.{Declared}
 use Rattle.inf_bodies.specs.declared.headers.Header.{Header}
 
@@ -107,7 +107,7 @@ class_opened_same None name w =
 class_opened_same (Some f) name w = class_lost_same name w.output
 
 pub class_header_same : (files : FileNames) (first : Place) (name : Name) (w : Compilation) → SameLimits w (class_header files first name w)
-class_header_same files first name w = class_opened_same (plainly_known files name (name_order w.unit.tokens) w).finding name w
+class_header_same files first name w = class_opened_same (plainly_known name (name_order w.unit.tokens) w).finding name w
 
 joined_by_same : (f : Option AddFault) (number : ℕ) (o : Out) → SameOutLimits o (joined_by f number o)
 joined_by_same None number o = world_same o (with_class_of number o.tables.world) (joined_limits number o.tables.world)
@@ -287,11 +287,10 @@ embedded_same : (files : FileNames) (first : Place) (name : Option ℕ) (h : Hea
     SameLimits w (embedded files first name h w)
 unfolding embedded
 embedded_same files first name h w =
-    let b = blame_embedded files first name h w in
-    let t = told files first b w in
-    let p = routine_placed name (is_some b) t in
-    out_same_then w.output p.output (opened (length h.locals) (is_some b) p.output)
-    (placed_same name (next_routine t) (wrong_if (is_some b)) t) (opened_keeps (length h.locals) (is_some b) p.output)
+    let is_lost = is_some (found_embedded name h w).least in
+    let p = routine_placed name is_lost w in
+    out_same_then w.output p.output (opened (length h.locals) is_lost p.output)
+    (placed_same name (next_routine w) (wrong_if is_lost) w) (opened_keeps (length h.locals) is_lost p.output)
 
 pub embedded_read_same : (files : FileNames) (place : Place) (w : Compilation) → SameLimits w (embedded_read files place w)
 embedded_read_same files place w =

@@ -6,7 +6,7 @@ use Rattle.inf_scanner.specs.declared.tokens.Place.{Place}
 use Rattle.inf_assembler.specs.declared.routines.RoutineKind.TheVariants as routine_kind
 use Rattle.inf_expressions.specs.declared.findings.Finding.{Finding}
 use Rattle.inf_expressions.specs.Rooted.{Rooted}
-use Rattle.inf_expressions.specs.Findings.{least_of_both}
+use Rattle.inf_expressions.specs.Findings.{least_of_both, out_of_range}
 use Rattle.inf_expressions.specs.declared.units.Wanted.TheVariants as wanted
 use Rattle.inf_names.specs.declared.meanings.Meaning.{Meaning}
 use Rattle.inf_names.specs.declared.meanings.Meaning.TheVariants as meaning_of
@@ -36,7 +36,7 @@ use Rattle.inf_statements.specs.Statements.{alone, tree_in}
 use Rattle.inf_statements.specs.declared.constructs.Construct.{Construct}
 use Rattle.inf_statements.specs.declared.constructs.Kind.{Kind}
 use Rattle.inf_statements.proofs.Keeping.{all_ended_keep, alone_keep, begun_keeps as begun_construct_keeps, case_keeps, cases_begun_keeps, cases_keep, ended_keeps, joined_keeps, leaf_added_keeps, leaves_same, looped_over_keeps, statement_keeps, stepped_keeps, switched_keeps, tested_keeps}
-use Rattle.inf_compilation.specs.Actions.{Compilation, begun_at, body_ended, cases_ended, close, close_open, constant, constant_added, constant_finding, constant_meaning, constant_of, constant_with, cut, finding_at, given_up, header_of, header_with, is_deep, is_first_declared, is_to_be_replaced, kind_ended, name_finding, named, nested, new_stub, opening_checked, opening_checked_at, opens, operands_of, passed, replace, routine_declared, settled_of, sized, stopped, stub, stub_code, stub_locals, stubbed, token_checked, told, took, trees_at, unit_ended}
+use Rattle.inf_compilation.specs.Actions.{Compilation, begun_at, body_ended, cases_ended, close, close_open, constant, constant_added, constant_finding, constant_findings, constant_meaning, constant_of, constant_with, cut, finding_at, given_up, header_of, header_with, is_deep, is_first_declared, is_to_be_replaced, kind_ended, named, nested, new_stub, opening_checked, opening_checked_at, opens, operands_of, passed, replace, routine_declared, settled_of, sized, stopped, stub, stub_code, stub_locals, stubbed, token_checked, took, trees_at, unit_ended}
 use Rattle.inf_declarations.specs.Declarations.{is_alias, alias_finding, alias_told, aliased, attribute, attribute_added, attribute_number, attribute_with, global_added, global_variable, is_additive, last_meaning, new_attribute, new_attribute_by, new_global, new_property, new_property_by, nothing_of, name_known, property, property_added, property_named, property_names, property_number, property_order, property_with, value_of, valued, with_variable}
 use Rattle.inf_work.proofs.Bounds.{attribute_read_same, body_ended_same, class_read_same, embedded_read_same, property_read_same, value_read_same}
 use Rattle.inf_work.specs.Directives.{carried_out, directive_of_names}
@@ -48,7 +48,7 @@ use Rattle.inf_unit.specs.declared.roles.Note.{Note}
 use Rattle.inf_unit.specs.declared.roles.Role.{Role}
 use Rattle.inf_unit.specs.declared.roles.Role.TheVariants as role
 use Rattle.inf_work.specs.Acting.{act, acted, all_acted, ended as ended_as, is_crowded, kind_of, noted, noted_of, played}
-use Rattle.inf_compilation.specs.Findings.{header_fault, name_fault}
+use Rattle.inf_compilation.specs.Findings.{again_by, found_alone, header_findings, nothing_found}
 use Rattle.inf_work.specs.Limits.{SameLimits}
 use Rattle.inf_work.proofs.ArrayLimits.{entry_same, header_same}
 use Rattle.inf_compilation.specs.Parts.{actions_named, case_prepared, closed_ahead, construct_closed, constructs_laid, construct_ended, construct_opened, found_in as found_in_part, has_last, is_default, order_of, part_begun, part_carried, part_effect, part_ended, part_finished, part_prepared, place_of, site_of, statement_at, wanted_of}
@@ -141,7 +141,7 @@ header_with_same : (files : FileNames) (first : Place) (name : Name) (h : Headed
     SameLimits w (header_with files first name h w)
 header_with_same files first name h w =
     let d = routine_declared name w in
-    let is_lost = is_some (header_fault files first (name_fault files name (declare_fault name.bytes w.output.names)) h) in
+    let is_lost = is_some (header_findings 1 (again_by name (declare_fault name.bytes w.output.names)) h).least in
     out_same_then w.output d.output (opened (length h.locals) is_lost d.output)
     (declared_keeps name.bytes name.place (meaning_of.Routine (place_behind w.output.code.finished)) w.output)
     (opened_keeps (length h.locals) is_lost d.output)
@@ -173,9 +173,9 @@ constant_added_same (Some f) w = (refl, refl)
 constant_with_same : (files : FileNames) (first : Place) (name : Name) (m : Option Meaning) (found : Option Finding) (w : Compilation)
     → SameLimits w (constant_with files first name m found w)
 constant_with_same files first name m found w =
-    let of_name = name_fault files name (declare_fault name.bytes w.output.names) in
     let finding = constant_finding m found in
-    let least = least_of_both (name_finding (name_order w.unit.tokens) of_name) finding in
+    let again = again_by name (declare_fault name.bytes w.output.names) in
+    let least = (constant_findings (name_order w.unit.tokens) again finding).least in
     let d = record w { output = declared name.bytes name.place (constant_meaning m finding) w.output } in
     same_then w d (constant_added least d) (declared_keeps name.bytes name.place (constant_meaning m finding) w.output)
     (constant_added_same least d)
@@ -194,8 +194,8 @@ replace_same files first (name ∷ names) w = referred_keeps name.bytes name.pla
 stubbed_same : (files : FileNames) (first : Place) (w : Compilation) → SameLimits w (stubbed files first w)
 stubbed_same files first w =
     let locals = stub_locals w.unit.tokens in
-    of_both (SameLimits w) (nat_lt 4 locals) (unit_ended files first true (Some (record { place = first; message = ConstantOutOfRange })) w)
-    (unit_ended files first true None (record w { output = stub_code locals w.output }))
+    of_both (SameLimits w) (nat_lt 4 locals) (unit_ended files first true (found_alone (Some (out_of_range 0))) w)
+    (unit_ended files first true nothing_found (record w { output = stub_code locals w.output }))
     (λ _. (refl, refl))
     (λ _. out_same_then w.output (opened locals false w.output) (stub_code locals w.output) (opened_keeps locals false w.output)
     (closed_keeps routine_kind.Embedded (opened locals false w.output)))
@@ -213,12 +213,12 @@ new_stub_same files first (name ∷ names) w = declared_stub_same files first na
 
 stub_same : (files : FileNames) (first : Place) (names : List Name) (w : Compilation) → SameLimits w (stub files first names w)
 stub_same files first names w =
-    of_both (SameLimits w) (is_first_declared names w.output.names) (unit_ended files first true None w) (new_stub files first names w)
+    of_both (SameLimits w) (is_first_declared names w.output.names) (unit_ended files first true nothing_found w) (new_stub files first names w)
     (λ _. (refl, refl)) (λ _. new_stub_same files first names w)
 
 default_same : (files : FileNames) (first : Place) (names : List Name) (w : Compilation) → SameLimits w (default files first names w)
 default_same files first names w =
-    of_both (SameLimits w) (is_first_declared names w.output.names) (unit_ended files first true None w) (constant files first names w)
+    of_both (SameLimits w) (is_first_declared names w.output.names) (unit_ended files first true nothing_found w) (constant files first names w)
     (λ _. (refl, refl)) (λ _. constant_same files first names w)
 
 -- Declarations
@@ -227,7 +227,7 @@ alias_same : (files : FileNames) (first : Place) (name : Name) (at : ℕ) (kind 
     SameLimits w (alias_told files first name at kind w)
 alias_same files first name at kind w =
     let m = last_meaning kind w in
-    let finding = least_of_both (name_known files name at false w).finding (alias_finding w.unit.tokens m) in
+    let finding = least_of_both (name_known name at false w).finding (alias_finding w.unit.tokens m) in
     declared_keeps name.bytes name.place (aliased kind m finding) w.output
 
 new_attribute_same : (fault : Option AddFault) (o : Out) → SameOutLimits o (new_attribute_by fault o)
@@ -248,7 +248,7 @@ attribute_same files first (name ∷ names) w =
     (alias_told files first name (name_order w.unit.tokens) countable.Attributes w)
     (attribute_with files first name w)
     (λ _. alias_same files first name (name_order w.unit.tokens) countable.Attributes w)
-    (λ _. attribute_added_same (name_known files name (name_order w.unit.tokens) (nat_le 48 w.output.tables.world.attributes) w).finding
+    (λ _. attribute_added_same (name_known name (name_order w.unit.tokens) (nat_le 48 w.output.tables.world.attributes) w).finding
     name w.output)
 
 settled_same : (w : Compilation) → SameOutLimits w.output (settled_of w).out
@@ -278,7 +278,7 @@ property_named_same files first is_additive (name ∷ names) w =
     of_both (SameLimits w) (is_alias names w.unit.gathering.leaves) (alias_told files first name at countable.Properties w)
     (property_with files first is_additive name w)
     (λ _. alias_same files first name at countable.Properties w)
-    (λ _. property_added_same (valued files name at (nat_le 60 (length w.output.tables.world.declared)) w).finding name is_additive w)
+    (λ _. property_added_same (valued name at (nat_le 60 (length w.output.tables.world.declared)) w).finding name is_additive w)
 
 property_same : (files : FileNames) (first : Place) (names : List Name) (w : Compilation) → SameLimits w (property files first names w)
 property_same files first names w = property_named_same files first (is_additive names) (property_names names) w
@@ -300,7 +300,7 @@ global_added_same None name w =
 global_same : (files : FileNames) (first : Place) (names : List Name) (w : Compilation) → SameLimits w (global_variable files first names w)
 global_same files first [] w = (refl, refl)
 global_same files first (name ∷ names) w =
-    global_added_same (valued files name (name_order w.unit.tokens) (nat_le 235 (length w.output.tables.globals)) w).finding name w
+    global_added_same (valued name (name_order w.unit.tokens) (nat_le 235 (length w.output.tables.globals)) w).finding name w
 
 carried_same : (d : Directive) (files : FileNames) (first : Place) (names : List Name) (w : Compilation) →
     SameLimits w (carried_out d files first names w)
