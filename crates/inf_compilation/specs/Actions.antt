@@ -51,11 +51,11 @@ use Rattle.inf_compilation.specs.declared.compilation.Listing.{Listing}
 use Rattle.inf_compilation.specs.declared.compilation.Extending.{Extending}
 use Rattle.inf_compilation.specs.Words.{nowhere}
 use Rattle.inf_verbs.specs.declared.verbs.Place.TheVariants as line_place
-use Rattle.inf_statements.specs.Constructs.{depth, ended}
-use Rattle.inf_statements.specs.declared.constructs.Construct.{Construct}
-use Rattle.inf_statements.specs.Labels.{NamedLabel, missing}
+use Rattle.inf_constructs.specs.Constructs.{depth, ended}
+use Rattle.inf_constructs.specs.declared.constructs.Construct.{Construct}
+use Rattle.inf_constructs.specs.Labels.{NamedLabel, missing}
 use Rattle.inf_statements.specs.Operands.{Settled, all_looked, leaf_added, leaves_named, settled, stores_named}
-use Rattle.inf_statements.specs.Statements.{tree_in}
+use Rattle.inf_constructs.specs.Roots.{tree_in}
 use Rattle.inf_world.specs.declared.faults.AddFault.{AddFault}
 use Rattle.inf_world.specs.World.{WorldOf, no_body_fault, with_end}
 

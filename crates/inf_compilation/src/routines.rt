@@ -16,7 +16,7 @@ use inf_names::symbols::{DeclareFault, Found};
 use inf_report::messages::Message;
 use inf_sinks::locals::{Headed, Locals};
 use inf_sinks::spellings::Name;
-use inf_statements::labels::Labels;
+use inf_constructs::labels::Labels;
 use inf_unit::messages::{Diagnostics, location};
 use std::alloc::AllocError;
 use std::mem;

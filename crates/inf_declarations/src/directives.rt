@@ -2,7 +2,7 @@
 ghost use Rattle.std.specs.Prelude.{IfOk, OnOk, length, map, option_map, ◌≡◌, ◌≤◌};
 ghost use Rattle.inf_expressions.specs.Forests.{trees_in as rooted_in};
 ghost use Rattle.inf_names.specs.Symbols.{found_in};
-ghost use Rattle.inf_statements.specs.Statements.{tree_in};
+ghost use Rattle.inf_constructs.specs.Roots.{tree_in};
 ghost use Rattle.inf_sinks.specs.Spellings.{as_name};
 ghost use Rattle.inf_unit.specs.Messages.{location, with_words};
 ghost use Rattle.inf_unit.specs.Units.{quoted_in};

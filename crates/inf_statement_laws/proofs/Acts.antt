@@ -24,11 +24,11 @@ use Rattle.inf_output.specs.Output.{Out}
 use Rattle.inf_unit.specs.Messages.{FileNames}
 use Rattle.inf_unit.specs.Tokens.{SourceToken}
 use Rattle.inf_unit.proofs.Cases.{of_both}
-use Rattle.inf_statements.specs.Constructs.{are_cases, are_own, cases_begun, changed, entered, entered_by, looped, looped_by, looped_over, opened, with_step}
-use Rattle.inf_statements.specs.declared.constructs.Case.TheVariants as case
-use Rattle.inf_statements.specs.declared.constructs.Construct.{Construct}
-use Rattle.inf_statements.specs.declared.constructs.Kind.{Kind}
-use Rattle.inf_statements.specs.declared.constructs.Kind.TheVariants as kind
+use Rattle.inf_constructs.specs.Constructs.{are_cases, are_own, cases_begun, changed, entered, entered_by, looped, looped_by, looped_over, opened, with_step}
+use Rattle.inf_constructs.specs.declared.constructs.Case.TheVariants as case
+use Rattle.inf_constructs.specs.declared.constructs.Construct.{Construct}
+use Rattle.inf_constructs.specs.declared.constructs.Kind.{Kind}
+use Rattle.inf_constructs.specs.declared.constructs.Kind.TheVariants as kind
 use Rattle.inf_work.specs.Acting.{act, ended as ended_as, is_crowded, kind_of, noted, noted_of, played}
 use Rattle.inf_compilation.specs.declared.parts.Part.{Part}
 use Rattle.inf_compilation.specs.declared.parts.Part.TheVariants as part

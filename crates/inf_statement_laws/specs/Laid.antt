@@ -7,11 +7,11 @@ use Rattle.inf_syntax.specs.declared.actions.Action.TheVariants as action
 use Rattle.inf_output.specs.Output.{Out}
 use Rattle.inf_unit.specs.Messages.{FileNames}
 use Rattle.inf_unit.specs.Units.{last_place}
-use Rattle.inf_statements.specs.Constructs.{between, closed, opened}
-use Rattle.inf_statements.specs.declared.constructs.Case.TheVariants as case
-use Rattle.inf_statements.specs.declared.constructs.Construct.{Construct}
-use Rattle.inf_statements.specs.declared.constructs.Kind.TheVariants as kind
-use Rattle.inf_statements.specs.declared.constructs.Over.TheVariants as over
+use Rattle.inf_constructs.specs.Constructs.{between, closed, opened}
+use Rattle.inf_constructs.specs.declared.constructs.Case.TheVariants as case
+use Rattle.inf_constructs.specs.declared.constructs.Construct.{Construct}
+use Rattle.inf_constructs.specs.declared.constructs.Kind.TheVariants as kind
+use Rattle.inf_constructs.specs.declared.constructs.Over.TheVariants as over
 use Rattle.inf_work.specs.Acting.{act}
 use Rattle.inf_compilation.specs.Actions.{Compilation, is_deep, nested, took}
 use Rattle.inf_statement_laws.specs.Happenings.{Acts, Between, Happening, Moment, Takes}

@@ -12,8 +12,8 @@ use Rattle.inf_syntax.specs.Parts.{directive, piece, statement}
 use Rattle.inf_grammar.specs.Language.{grammar, known}
 use Rattle.inf_unit.specs.Messages.{FileNames}
 use Rattle.inf_unit.specs.Tokens.{SourceToken}
-use Rattle.inf_statements.specs.Constructs.{depth}
-use Rattle.inf_statements.specs.declared.constructs.Construct.{Construct}
+use Rattle.inf_constructs.specs.Constructs.{depth}
+use Rattle.inf_constructs.specs.declared.constructs.Construct.{Construct}
 use Rattle.inf_work.specs.Acting.{act, all_acted}
 use Rattle.inf_compilation.specs.Actions.{Compilation, begun_at, took}
 use Rattle.inf_compilation.specs.Parts.{closed_ahead}

@@ -10,7 +10,8 @@ use Rattle.inf_output.specs.Output.{Takes, TakesVariable}
 use Rattle.inf_expressions.specs.declared.trees.Root.{Root}
 use Rattle.inf_expressions.specs.Trees.{Tree}
 use Rattle.inf_statements.specs.Assembly.{first_variable, fits, fits_jump, fits_row, has_ends, prints, same}
-use Rattle.inf_statements.specs.Statements.{PrintsText, trees_from}
+use Rattle.inf_constructs.specs.Roots.{trees_from}
+use Rattle.inf_statements.specs.Statements.{PrintsText}
 use Rattle.inf_statements.specs.declared.assembly.Ends.{Ends}
 
 same_as : (a b : Bool) → same a b ≡ true → b ≡ a

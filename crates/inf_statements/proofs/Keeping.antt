@@ -43,10 +43,10 @@ use Rattle.inf_unit.specs.declared.items.Item.TheVariants as item
 use Rattle.inf_unit.specs.declared.items.PrintRule.{PrintRule}
 use Rattle.inf_unit.specs.declared.items.PrintRule.TheVariants as rule
 use Rattle.inf_statements.specs.Assembly.{branch_to, branched, branched_to, ends_of, fits, instructed, jumped_on, labelled, line_instructed, line_laid, line_laid_as, line_laid_by, named_first, operands_in, placed, printing_of, some_printed, store_of, text_printed, variable_of}
-use Rattle.inf_statements.specs.Cases.{case_code, group_tested, grouped, is_empty, is_open, laid_before, operand_in, range_tested, value_grouped, value_laid, within}
-use Rattle.inf_statements.specs.Constructs.{all_ended, Laying, begun, between, case_closed, case_entered, cases_begun, changed, closed, ended, ending, entered, entered_by, front, joint, left_to, looped, looped_by, looped_on, looped_over, opened, over_all, stepped, tested_over, with_labels}
+use Rattle.inf_constructs.specs.Cases.{case_code, group_tested, grouped, is_empty, is_open, laid_before, operand_in, range_tested, value_grouped, value_laid, within}
+use Rattle.inf_constructs.specs.Constructs.{all_ended, Laying, begun, between, case_closed, case_entered, cases_begun, changed, closed, ended, ending, entered, entered_by, front, joint, left_to, looped, looped_by, looped_on, looped_over, opened, over_all, stepped, tested_over, with_labels}
 use Rattle.inf_statements.specs.Effects.{Site, jump_laid, name_behind, last_text, place_laid, statement_code, statement_laid}
-use Rattle.inf_statements.specs.Labels.{NamedLabel}
+use Rattle.inf_constructs.specs.Labels.{NamedLabel}
 use Rattle.inf_statements.specs.Limits.{LayingKeeps}
 use Rattle.inf_statements.specs.Operands.{Settled, is_stack, leaf_added, one_added, settled, settled_action, settled_by, settled_leaf, settled_name, settled_text, settled_word, with_settled}
 use Rattle.inf_dictionary.specs.declared.uses.WordUse.TheVariants as word_use
@@ -54,13 +54,13 @@ use Rattle.inf_scanner.specs.declared.tokens.DictionaryWord.{DictionaryWord}
 use Rattle.inf_text.specs.Packing.{packed}
 use Rattle.inf_statements.specs.Printing.{called_with, ended as items_ended, ends_behind, item_code, items_printed, rule_code, text_at, text_opcode, trees_behind, veneer_called}
 use Rattle.inf_statements.specs.Statements.{abbreviations, action_laid, action_on, alone, are_several, attribute_code, attribute_opcode, attributes_changed, attributes_given, given_by, jumped_to, moved, one_worked, plain, printed, rest, returned, returned_by, returned_number, spaced, string_changed, string_of, string_set, style_of, styled_by, switched, tested, unless}
-use Rattle.inf_statements.specs.declared.constructs.Case.{Case}
-use Rattle.inf_statements.specs.declared.constructs.Case.TheVariants as case
-use Rattle.inf_statements.specs.declared.constructs.Construct.{Construct}
-use Rattle.inf_statements.specs.declared.constructs.Kind.{Kind}
-use Rattle.inf_statements.specs.declared.constructs.Kind.TheVariants as kind
-use Rattle.inf_statements.specs.declared.constructs.Over.{Over}
-use Rattle.inf_statements.specs.declared.constructs.Over.TheVariants as over
+use Rattle.inf_constructs.specs.declared.constructs.Case.{Case}
+use Rattle.inf_constructs.specs.declared.constructs.Case.TheVariants as case
+use Rattle.inf_constructs.specs.declared.constructs.Construct.{Construct}
+use Rattle.inf_constructs.specs.declared.constructs.Kind.{Kind}
+use Rattle.inf_constructs.specs.declared.constructs.Kind.TheVariants as kind
+use Rattle.inf_constructs.specs.declared.constructs.Over.{Over}
+use Rattle.inf_constructs.specs.declared.constructs.Over.TheVariants as over
 use Rattle.inf_statements.specs.declared.assembly.Ends.{Ends}
 use Rattle.inf_statements.specs.declared.statements.Statement.{Statement}
 use Rattle.inf_statements.specs.declared.statements.Statement.TheVariants as statement

@@ -26,9 +26,9 @@ use Rattle.inf_unit.specs.Tokens.{SourceToken}
 use Rattle.inf_unit.specs.Units.{bytes_at, next_place, order}
 use Rattle.inf_unit.specs.declared.items.Item.{Item}
 use Rattle.inf_unit.specs.declared.items.Item.TheVariants as item
-use Rattle.inf_statements.specs.Cases.{operand_in}
-use Rattle.inf_statements.specs.Constructs.{Laying, giving}
-use Rattle.inf_statements.specs.Labels.{NamedLabel, given, label_of, wanted}
+use Rattle.inf_constructs.specs.Cases.{operand_in}
+use Rattle.inf_constructs.specs.Constructs.{Laying, giving}
+use Rattle.inf_constructs.specs.Labels.{NamedLabel, given, label_of, wanted}
 use Rattle.inf_statements.specs.Operands.{is_stack, looked_name}
 use Rattle.inf_statements.specs.Printing.{text_at}
 use Rattle.inf_statements.specs.Statements.{printed}

@@ -18,11 +18,11 @@ use Rattle.inf_unit.specs.Units.{bytes_at, next_place, order}
 use Rattle.inf_unit.specs.declared.items.Item.{Item}
 use Rattle.inf_unit.specs.declared.items.Item.TheVariants as item
 use Rattle.inf_statements.specs.Assembly.{ends_of, labelled, line_finding, line_laid, placed}
-use Rattle.inf_statements.specs.Constructs.{Laying, giving, left_to}
-use Rattle.inf_statements.specs.Labels.{NamedLabel, is_given}
+use Rattle.inf_constructs.specs.Constructs.{Laying, giving, left_to}
+use Rattle.inf_constructs.specs.Labels.{NamedLabel, is_given}
 use Rattle.inf_statements.specs.Printing.{items_printed, text_at}
 use Rattle.inf_statements.specs.Statements.{action_laid, alone, attributes_changed, jumped_to, moved, one_worked, plain, returned, spaced, string_changed, style_of, styled}
-use Rattle.inf_statements.specs.declared.constructs.Construct.{Construct}
+use Rattle.inf_constructs.specs.declared.constructs.Construct.{Construct}
 use Rattle.inf_statements.specs.declared.statements.Statement.{Statement}
 use Rattle.inf_statements.specs.declared.statements.Statement.TheVariants as statement
 

@@ -1,8 +1,4 @@
-pub mod Labels
-pub mod Entries
 pub mod Operands
-pub mod Constructs
-pub mod Cases
 pub mod Statements
 pub mod Printing
 pub mod Assembly

@@ -29,7 +29,7 @@ use Rattle.inf_templates.specs.Parts.{Part, SP, TEMP, call_routine, is, worked}
 use Rattle.inf_unit.specs.Tokens.{SourceToken, is_word}
 use Rattle.inf_unit.specs.declared.items.Item.{Item}
 use Rattle.inf_unit.specs.declared.items.Item.TheVariants as item
-use Rattle.inf_statements.specs.Cases.{SWITCHED}
+use Rattle.inf_constructs.specs.Cases.{SWITCHED}
 use Rattle.inf_statements.specs.declared.statements.Statement.{Statement}
 use Rattle.inf_statements.specs.declared.statements.Statement.TheVariants as statement
 
@@ -78,13 +78,6 @@ statement_by (Some t) items = statement_of_kind t.kind t items
 
 unfoldable pub statement_in : List SourceToken → ℕ → List Item → Statement
 statement_in tokens begun items = statement_by (slice_get tokens begun) items
-
--- the trees of a unit, by where they stand among its nodes
-abbrev pub tree_in : Rooted → Tree
-tree_in r = r.tree
-
-abbrev pub trees_from : List Tree → List Root → List Tree
-trees_from nodes roots = map tree_in (map (rooted_at nodes) roots)
 
 -- an instruction of an opcode alone
 abbrev pub plain : Opcode → Code

@@ -4,13 +4,14 @@ ghost use Rattle.inf_opcode.specs.Opcodes.{row_of};
 ghost use Rattle.inf_output.specs.Output.{Takes, TakesVariable};
 ghost use Rattle.inf_sinks.specs.LocalList.{listed};
 ghost use Rattle.inf_statements.specs.Assembly.{branched, branched_to, ends_from, ends_of, first_variable, fits, fits_jump, fits_row, fits_some, has_ends, instructed, jumped_on, labelled, line_finding, line_instructed, line_laid, line_laid_by, named_first, no_ends, operands_in, placed, printing_of, prints, same, some_printed, store_finding, store_of, store_variable, stored_in, variable_of, with_end, wrong_opcode};
-ghost use Rattle.inf_statements.specs.Statements.{PrintsText, trees_from};
+ghost use Rattle.inf_constructs.specs.Roots.{trees_from};
+ghost use Rattle.inf_statements.specs.Statements.{PrintsText};
 
 use crate::effects::WRONG_OPCODE;
-use crate::labels::Labels;
 use crate::operands::{is_stack, looked_name};
 use crate::printing::print_text;
 use arrayvec::ArrayVec;
+use inf_constructs::labels::Labels;
 use inf_expressions::{Finding, Nodes, Operand, Root, least_of_both};
 use inf_names::symbols::Symbols;
 use inf_opcode::{Branch, Destination, Label, MOST_OPERANDS, Opcode, OpcodeRow};

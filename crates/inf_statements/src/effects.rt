@@ -4,19 +4,20 @@ ghost use Rattle.inf_expressions.specs.Forests.{trees_in};
 ghost use Rattle.inf_expressions.specs.Findings.{wrong_kind};
 ghost use Rattle.inf_unit.specs.Units.{next_place, order};
 ghost use Rattle.inf_statements.specs.Assembly.{ends_of};
-ghost use Rattle.inf_statements.specs.Labels.{is_given};
+ghost use Rattle.inf_constructs.specs.Labels.{is_given};
 ghost use Rattle.inf_statements.specs.Effects.{given_twice, jump_laid, last_text, name_behind, only_if, place_laid, site_finding, statement_code, statement_finding, statement_laid, unless_some, wanted_by};
 ghost use Rattle.inf_statements.specs.Sites.{site};
-ghost use Rattle.inf_statements.specs.Statements.{statement_in, string_changed, style_of, tree_in, trees_from};
+ghost use Rattle.inf_constructs.specs.Roots.{tree_in, trees_from};
+ghost use Rattle.inf_statements.specs.Statements.{statement_in, string_changed, style_of};
 
 use crate::assembly::{Line, ends_of, labelled, lay_line, placed};
-use crate::constructs::Constructs;
-use crate::labels::Labels;
 use crate::printing::{Printing, print_items};
 use crate::statements::{
     Statement, lay_action, lay_expression, lay_give, lay_jump, lay_move, lay_one, lay_return,
     lay_spaces, lay_string, lay_style, plain, statement_in, style_of,
 };
+use inf_constructs::constructs::Constructs;
+use inf_constructs::labels::Labels;
 use inf_expressions::{Finding, Forest, Nodes, Root, Wanted};
 use inf_names::symbols::Symbols;
 use inf_opcode::{Label, Opcode};

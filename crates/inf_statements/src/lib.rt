@@ -8,13 +8,9 @@
 #![tactic(auto)]
 
 mod assembly;
-mod cases;
-pub mod constructs;
 pub mod effects;
-pub mod labels;
 pub mod operands;
 mod printing;
 pub mod statements;
 
 pub use assembly::Ends;
-pub use cases::lay_case;

@@ -3,7 +3,8 @@ ghost use Rattle.std.specs.Prelude.{◌≡◌, List, OnOk, false, map};
 ghost use Rattle.inf_expressions.specs.Forests.{trees_in};
 ghost use Rattle.inf_expressions.specs.Trees.{Tree};
 ghost use Rattle.inf_statements.specs.Printing.{called_with, ended, ends_behind, item_code, items_printed, rest_behind, rule_code, text_at, text_opcode, trees_behind, veneer_called};
-ghost use Rattle.inf_statements.specs.Statements.{PrintsText, printed, tree_in, trees_from};
+ghost use Rattle.inf_constructs.specs.Roots.{tree_in, trees_from};
+ghost use Rattle.inf_statements.specs.Statements.{PrintsText, printed};
 
 use crate::statements::{lay_one, plain, rest};
 use inf_expressions::{Forest, Nodes, Root};

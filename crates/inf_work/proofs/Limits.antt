@@ -30,11 +30,12 @@ use Rattle.inf_unit.specs.Messages.{FileNames}
 use Rattle.inf_unit.specs.Tokens.{SourceToken}
 use Rattle.inf_unit.specs.Units.{first_place, last_place, long_at, name_order, names_in, noted as unit_noted, taken as unit_taken, text_passed}
 use Rattle.inf_unit.proofs.Cases.{of_both}
-use Rattle.inf_statements.specs.Constructs.{Laying, are_own, cases_begun, condition_label, ended, next_case}
+use Rattle.inf_constructs.specs.Constructs.{Laying, are_own, cases_begun, condition_label, ended, next_case}
 use Rattle.inf_statements.specs.Limits.{LayingKeeps}
-use Rattle.inf_statements.specs.Statements.{alone, tree_in}
-use Rattle.inf_statements.specs.declared.constructs.Construct.{Construct}
-use Rattle.inf_statements.specs.declared.constructs.Kind.{Kind}
+use Rattle.inf_constructs.specs.Roots.{tree_in}
+use Rattle.inf_statements.specs.Statements.{alone}
+use Rattle.inf_constructs.specs.declared.constructs.Construct.{Construct}
+use Rattle.inf_constructs.specs.declared.constructs.Kind.{Kind}
 use Rattle.inf_statements.proofs.Keeping.{all_ended_keep, alone_keep, begun_keeps as begun_construct_keeps, case_keeps, cases_begun_keeps, cases_keep, ended_keeps, joined_keeps, leaf_added_keeps, leaves_same, looped_over_keeps, statement_keeps, stepped_keeps, switched_keeps, tested_keeps}
 use Rattle.inf_compilation.specs.Actions.{Compilation, begun_at, body_ended, cases_ended, close, close_open, constant, constant_added, constant_finding, constant_findings, constant_meaning, constant_of, constant_with, cut, finding_at, given_up, header_of, header_with, is_deep, is_first_declared, is_to_be_replaced, kind_ended, named, nested, new_stub, opening_checked, opening_checked_at, opens, operands_of, passed, replace, routine_declared, settled_of, sized, stopped, stub, stub_code, stub_locals, stubbed, token_checked, took, trees_at, unit_ended}
 use Rattle.inf_declarations.specs.Declarations.{is_alias, alias_finding, alias_told, aliased, attribute, attribute_added, attribute_number, attribute_with, global_added, global_variable, is_additive, last_meaning, new_attribute, new_attribute_by, new_global, new_property, new_property_by, nothing_of, name_known, property, property_added, property_named, property_names, property_number, property_order, property_with, value_of, valued, with_variable}

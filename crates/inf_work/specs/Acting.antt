@@ -12,10 +12,10 @@ use Rattle.inf_unit.specs.declared.roles.Opening.TheVariants as opening
 use Rattle.inf_unit.specs.declared.roles.Role.{Role}
 use Rattle.inf_unit.specs.declared.roles.Role.TheVariants as role
 use Rattle.inf_unit.specs.Units.{noted as unit_noted, stepped, text_passed}
-use Rattle.inf_statements.specs.declared.constructs.Case.TheVariants as case
-use Rattle.inf_statements.specs.declared.constructs.Kind.{Kind}
-use Rattle.inf_statements.specs.declared.constructs.Kind.TheVariants as kind
-use Rattle.inf_statements.specs.declared.constructs.Over.TheVariants as over
+use Rattle.inf_constructs.specs.declared.constructs.Case.TheVariants as case
+use Rattle.inf_constructs.specs.declared.constructs.Kind.{Kind}
+use Rattle.inf_constructs.specs.declared.constructs.Kind.TheVariants as kind
+use Rattle.inf_constructs.specs.declared.constructs.Over.TheVariants as over
 use Rattle.inf_compilation.specs.Actions.{Compilation, body_ended, close, header_end, is_deep, nested, sized}
 use Rattle.inf_work.specs.Directives.{directive_end}
 use Rattle.inf_listings.specs.Arrays.{entry_ended}

@@ -13,7 +13,7 @@ use inf_compilation::compilation::Compilation;
 use inf_compilation::parts::Part;
 use inf_lexer::{Place, Stack};
 use inf_listings::arrays::end_entry;
-use inf_statements::constructs::{Case, Kind, Over};
+use inf_constructs::constructs::{Case, Kind, Over};
 use inf_syntax::Action;
 use inf_unit::roles::{Ending, Note, Opening, Role, is_text, makes_sure, role_of};
 use inf_verb_lines::lines::end_line;

@@ -2,7 +2,7 @@ use Rattle.std.proofs.Common.{refl, sym, ap, ◌∙◌}
 use Rattle.std.specs.Prelude.{is_some}
 use Rattle.inf_opcode.specs.declared.opcodes.OpcodeRow.{OpcodeRow}
 use Rattle.inf_statements.specs.Assembly.{first_variable}
-use Rattle.inf_statements.specs.Statements.{trees_from}
+use Rattle.inf_constructs.specs.Roots.{trees_from}
 use Rattle.inf_statements.proofs.Fitting.{takes_named, takes_operands}
 use Rattle.inf_statements.proofs.assembly.lay_instructed.Goals as goal
 

@@ -1,6 +1,6 @@
 use Rattle.std.proofs.Common.{◌≡◌, ◌≤◌, ◌++◌, length, drop}
 use Rattle.inf_statements.specs.Assembly.{operands_in}
-use Rattle.inf_statements.specs.Statements.{trees_from}
+use Rattle.inf_constructs.specs.Roots.{trees_from}
 use Rattle.inf_statements.proofs.assembly.operands_in.Given as goal
 
 -- what is there, with what is left, is all

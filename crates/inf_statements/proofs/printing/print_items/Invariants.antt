@@ -1,7 +1,7 @@
 use Rattle.std.proofs.Common.{◌≡◌, false, length, map}
 use Rattle.inf_expressions.specs.Forests.{trees_in}
 use Rattle.inf_statements.specs.Printing.{items_printed}
-use Rattle.inf_statements.specs.Statements.{tree_in, trees_from}
+use Rattle.inf_constructs.specs.Roots.{tree_in, trees_from}
 use Rattle.inf_statements.proofs.printing.print_items.Given as goal
 
 -- what is left leads from here to where all leads

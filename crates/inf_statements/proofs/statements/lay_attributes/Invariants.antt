@@ -1,6 +1,7 @@
 use Rattle.std.proofs.Common.{◌≡◌, length}
 use Rattle.inf_templates.specs.Tasks.{part_of}
-use Rattle.inf_statements.specs.Statements.{attributes_given, trees_from}
+use Rattle.inf_constructs.specs.Roots.{trees_from}
+use Rattle.inf_statements.specs.Statements.{attributes_given}
 use Rattle.inf_statements.proofs.statements.lay_attributes.Given as goal
 
 -- what is left leads from here to where all leads

@@ -1,0 +1,244 @@
+-- The statements that hold others: what each lays where it begins, between its parts, and where it ends. Designer's Manual, fourth edition,
+-- sections
+-- 1.7 to 1.9.
+use Rattle.std.specs.Prelude.{ℕ, zero, suc, ◌-◌, Bool, true, false, if◌then◌else◌, List, [], ◌∷◌, length, Option, Some, None, unwrap_or}
+use Rattle.inf_opcode.specs.declared.instructions.Label.{Label}
+use Rattle.inf_opcode.specs.declared.opcodes.Opcode.TheVariants as opcode
+use Rattle.inf_area.specs.declared.targets.Target.TheVariants as target
+use Rattle.inf_area.specs.declared.targets.SystemConstant.TheVariants as constant
+use Rattle.inf_expressions.specs.Questions.{children_of}
+use Rattle.inf_expressions.specs.Rooted.{Rooted}
+use Rattle.inf_expressions.specs.Trees.{Tree}
+use Rattle.inf_output.specs.declared.items.Item.{Item}
+use Rattle.inf_output.specs.declared.operands.Simple.{Simple}
+use Rattle.inf_output.specs.declared.operands.Simple.TheVariants.{Known, Later, Variable}
+use Rattle.inf_output.specs.Output.{Code, Out, behind, instruction, items_of, jumped, laid_all, marked, naming, nothing, to, together, ◌▸◌}
+use Rattle.inf_templates.specs.Meaning.{Meaning, meaning, part}
+use Rattle.inf_templates.specs.Parts.{worked}
+use Rattle.inf_constructs.specs.declared.constructs.Case.{Case}
+use Rattle.inf_constructs.specs.declared.constructs.Case.TheVariants as case
+use Rattle.inf_constructs.specs.declared.constructs.Construct.{Construct}
+use Rattle.inf_constructs.specs.declared.constructs.Kind.{Kind}
+use Rattle.inf_constructs.specs.declared.constructs.Kind.TheVariants as kind
+use Rattle.inf_constructs.specs.declared.constructs.Over.{Over}
+use Rattle.inf_constructs.specs.declared.constructs.Over.TheVariants as over
+
+-- code that answers something
+abbrev pub Laying : Type 0 → Type 0
+Laying A = Out → A × Out
+
+abbrev pub giving : {A : Type 0} → A → Code → Laying A
+giving a code o = (a, code o)
+
+-- Where its word was read: its labels are handed out, and some mark the first of their places.
+abbrev pub with_labels : Kind → Laying Construct
+with_labels k o =
+    let next = behind o.next in
+    let end = behind next in (
+      record { kind = k; top = record { number = o.next }; next = record { number = next }; end = record { number = end }; step = None },
+      record o { next = behind end },
+    )
+
+abbrev pub front : Kind → Construct → Code
+front kind.While c = marked c.next
+front kind.Do c = marked c.top
+front _ c = nothing
+
+unfoldable pub opened : Kind → Laying Construct
+opened k o = let c = with_labels k o in giving c.0 (front k c.0) c.1
+
+-- where a branch goes where its condition is not true
+abbrev pub otherwise : Construct → Kind → Label
+otherwise c kind.If = c.next
+otherwise c kind.Do = c.top
+otherwise c _ = c.end
+
+-- `else`, `until`, the first `:` of a `for`; and before what a loop over objects holds, where its unit had an error
+abbrev pub kind_behind : Kind → Kind
+kind_behind kind.If = kind.Else
+kind_behind k = k
+
+abbrev pub joint : Construct → Kind → Code
+joint c kind.If = jumped c.end ▸ marked c.next
+joint c kind.Do = marked c.next
+joint c kind.For = marked c.top
+joint c (kind.Objects over.Nothing v) = marked c.top
+joint c _ = nothing
+
+unfoldable pub between : Construct → Laying Construct
+between c o = giving (record c { kind = kind_behind c.kind }) (joint c c.kind) o
+
+-- A loop over the children of an object, or over all objects but the first four, of which those that fail a test are passed over.
+abbrev pub over_children : Tree → ℕ → Construct → Code
+over_children e v c = worked opcode.GetChild (part (meaning e) ∷ []) (Some v) (to false c.end) ▸ marked c.top
+
+abbrev pub tested_over : Option Simple → Meaning → Label → Code
+tested_over (Some operand) e next = nothing
+tested_over None e next = e.branch false next
+
+abbrev pub over_all : Meaning → ℕ → Construct → Code
+over_all e v c = naming opcode.Store v (Known 5 ∷ []) None None ▸ marked c.top ▸ tested_over e.operand e c.next
+
+abbrev pub looped_by : Option Tree → Tree → ℕ → Construct → Laying Construct
+looped_by (Some parent) e v c = giving (record c { kind = kind.Objects over.Children v }) (over_children parent v c)
+looped_by None e v c = giving (record c { kind = kind.Objects over.All v }) (over_all (meaning e) v c)
+
+unfoldable pub looped : Rooted → Construct → Laying Construct
+looped r c = looped_by (children_of r.tree) r.tree (unwrap_or r.origin.lead.variable 0) c
+
+-- where it ends
+abbrev pub looped_on : Over → ℕ → Label → Code
+looped_on over.Nothing v top = nothing
+looped_on over.Children v top = instruction opcode.GetSibling (Variable v ∷ []) (Some v) (to true top)
+looped_on over.All v top = naming opcode.IncChk v (Later (target.System constant.HighestObjectNumber) ∷ []) None (to false top)
+
+abbrev pub case_closed : Case → Label → Code
+case_closed case.Nothing end = nothing
+case_closed (case.Values next) end = jumped end ▸ marked next
+case_closed case.Default end = jumped end
+
+abbrev pub ending : Construct → Kind → Code
+ending c kind.If = marked c.next
+ending c kind.Else = marked c.end
+ending c kind.While = jumped c.next ▸ marked c.end
+ending c kind.Do = marked c.end
+ending c kind.For = marked c.next ▸ laid_all (items_of c.step) ▸ jumped c.top ▸ marked c.end
+ending c (kind.Objects how v) = marked c.next ▸ looped_on how v c.top ▸ marked c.end
+ending c (kind.Switch old had_default) = case_closed old c.end ▸ marked c.end
+ending c (kind.Cases old had_default) = case_closed old c.end ▸ marked c.end
+
+unfoldable pub closed : Construct → Code
+closed c = ending c c.kind
+
+-- A case begins, of a `switch` or of a routine itself: what stands before it goes to the end of that.
+abbrev pub with_case : Bool → Case → Bool → Kind
+with_case true open_case had_default = kind.Cases open_case had_default
+with_case false open_case had_default = kind.Switch open_case had_default
+
+abbrev pub default_entered : Bool → Case → Construct → Laying Construct
+default_entered are_own old c o = (record c { kind = with_case are_own case.Default true }, case_closed old c.end o)
+
+abbrev pub values_entered : Bool → Case → Bool → Construct → Laying Construct
+values_entered are_own old had_default c o =
+    let next : Label = record { number = o.next } in
+    (record c { kind = with_case are_own (case.Values next) had_default }, case_closed old c.end (record o { next = behind o.next }))
+
+abbrev pub case_entered : Bool → Bool → Case → Bool → Construct → Laying Construct
+case_entered are_own true old had_default c o = default_entered are_own old c o
+case_entered are_own false old had_default c o = values_entered are_own old had_default c o
+
+abbrev pub entered_by : Kind → Bool → Construct → Laying Construct
+entered_by (kind.Switch old had_default) is_default c o = case_entered false is_default old had_default c o
+entered_by (kind.Cases old had_default) is_default c o = case_entered true is_default old had_default c o
+entered_by _ is_default c o = (c, o)
+
+unfoldable pub entered : Bool → Construct → Laying Construct
+entered is_default c o = entered_by c.kind is_default c o
+
+-- Nothing comes behind a default.
+abbrev pub is_late_in : Kind → Bool
+is_late_in (kind.Switch old had_default) = had_default
+is_late_in (kind.Cases old had_default) = had_default
+is_late_in _ = false
+
+abbrev pub is_late : List Construct → Bool
+is_late [] = false
+is_late (c ∷ constructs) = is_late_in c.kind
+
+-- the label behind a case of values, where one is open
+abbrev pub next_case_in : Kind → Option Label
+next_case_in (kind.Switch (case.Values next) had_default) = Some next
+next_case_in (kind.Cases (case.Values next) had_default) = Some next
+next_case_in _ = None
+
+abbrev pub next_case : List Construct → Option Label
+next_case [] = None
+next_case (c ∷ constructs) = next_case_in c.kind
+
+-- where `break` and `continue` go
+abbrev pub break_of : Construct → Kind → Option Label
+break_of c kind.If = None
+break_of c kind.Else = None
+break_of c _ = Some c.end
+
+abbrev pub continue_of : Construct → Kind → Option Label
+continue_of c kind.If = None
+continue_of c kind.Else = None
+continue_of c (kind.Switch old had_default) = None
+continue_of c (kind.Cases old had_default) = None
+continue_of c _ = Some c.next
+
+abbrev pub left_to_by : Bool → Construct → Option Label
+left_to_by true c = continue_of c c.kind
+left_to_by false c = break_of c c.kind
+
+abbrev pub found_or : Option Label → Option Label → Option Label
+found_or (Some label) others = Some label
+found_or None others = others
+
+-- of the innermost that there is
+abbrev pub left_to : Bool → List Construct → Option Label
+left_to on [] = None
+left_to on (c ∷ constructs) = found_or (left_to_by on c) (left_to on constructs)
+
+-- The statements that are open, the innermost first.
+abbrev pub begun : Kind → List Construct → Laying (List Construct)
+begun k constructs o = let c = opened k o in (c.0 ∷ constructs, c.1)
+
+abbrev pub changed : (Construct → Laying Construct) → List Construct → Laying (List Construct)
+changed change [] o = ([], o)
+changed change (c ∷ constructs) o = let laid = change c o in (laid.0 ∷ constructs, laid.1)
+
+-- A case outside of any statement is one of the routine's own, whose values are actions. Designer's Manual, fourth edition, section 1.9.
+abbrev pub cases_begun : List Construct → Laying (List Construct)
+cases_begun [] o = begun (kind.Cases case.Nothing false) [] o
+cases_begun (c ∷ constructs) o = (c ∷ constructs, o)
+
+abbrev pub are_cases : Kind → Bool
+are_cases (kind.Cases old had_default) = true
+are_cases _ = false
+
+abbrev pub are_own : List Construct → Bool
+are_own [] = false
+are_own (c ∷ constructs) = are_cases c.kind
+
+-- How many statements are open: the cases of the routine itself, which hold all others, are none.
+abbrev pub outermost_from : List Construct → Option Kind → Option Kind
+outermost_from [] last = last
+outermost_from (c ∷ constructs) last = outermost_from constructs (Some c.kind)
+
+abbrev pub outermost : List Construct → Option Kind
+outermost constructs = outermost_from constructs None
+
+abbrev pub depth_by : Option Kind → ℕ → ℕ
+depth_by None count = count
+depth_by (Some k) count = if are_cases k then count - 1 else count
+
+abbrev pub depth : List Construct → ℕ
+depth constructs = depth_by (outermost constructs) (length constructs)
+
+-- The step of a `for` was laid apart, and is kept with the innermost.
+abbrev pub with_step : Option (List Item) → List Construct → List Construct
+with_step step [] = []
+with_step step (c ∷ constructs) = record c { step = step } ∷ constructs
+
+abbrev pub stepped : List Construct → Laying (List Construct)
+stepped constructs o = (with_step (Some (items_of o.kept)) constructs, together o)
+
+abbrev pub ended : List Construct → Laying (List Construct)
+ended [] o = ([], o)
+ended (c ∷ constructs) o = (constructs, closed c o)
+
+-- so many of them, the innermost first
+abbrev pub all_ended : ℕ → List Construct → Laying (List Construct)
+all_ended zero constructs o = (constructs, o)
+all_ended (suc n) constructs o = let e = ended constructs o in all_ended n e.0 e.1
+
+-- what a condition of the innermost is, and what a loop over objects goes over
+abbrev pub condition_label : List Construct → Option Label
+condition_label [] = None
+condition_label (c ∷ constructs) = Some (otherwise c c.kind)
+
+abbrev pub looped_over : List Rooted → List Construct → Laying (List Construct)
+looped_over [] constructs o = (constructs, o)
+looped_over (r ∷ trees) constructs o = changed (looped r) constructs o

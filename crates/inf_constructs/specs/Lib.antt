@@ -1,0 +1,5 @@
+pub mod Labels
+pub mod Entries
+pub mod Roots
+pub mod Constructs
+pub mod Cases

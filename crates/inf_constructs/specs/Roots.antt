@@ -1,0 +1,13 @@
+-- The trees of a unit.
+use Rattle.std.specs.Prelude.{List, map}
+use Rattle.inf_expressions.specs.declared.trees.Root.{Root}
+use Rattle.inf_expressions.specs.Nodes.{rooted_at}
+use Rattle.inf_expressions.specs.Rooted.{Rooted}
+use Rattle.inf_expressions.specs.Trees.{Tree}
+
+-- the trees of a unit, by where they stand among its nodes
+abbrev pub tree_in : Rooted → Tree
+tree_in r = r.tree
+
+abbrev pub trees_from : List Tree → List Root → List Tree
+trees_from nodes roots = map tree_in (map (rooted_at nodes) roots)

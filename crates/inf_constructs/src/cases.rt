@@ -1,0 +1,188 @@
+//! The tests of a case.
+ghost use Rattle.std.specs.Prelude.{◌≡◌, ◌≤◌, [], List, OnOk, length, map, option_map};
+ghost use Rattle.inf_expressions.specs.Forests.{trees_in};
+ghost use Rattle.inf_expressions.specs.Nodes.{tree_at, trees_at};
+ghost use Rattle.inf_expressions.specs.Trees.{Tree};
+ghost use Rattle.inf_constructs.specs.Cases.{beside, case_code, case_tested, group_tested, grouped, is_empty, laid_before, operand_in, range_tested, value_grouped, value_laid, within};
+ghost use Rattle.inf_constructs.specs.Roots.{tree_in, trees_from};
+
+use arrayvec::ArrayVec;
+use inf_expressions::{Forest, Nodes, Root, range};
+use inf_opcode::{Branch, Destination, Label, Opcode};
+use inf_output::{Output, Simple};
+use inf_templates::simple_of;
+use std::alloc::AllocError;
+
+/// The variable that holds what is switched on.
+pub const SWITCHED: u8 = 251;
+
+/// The most values of a group.
+const MOST_VALUES: usize = 3;
+
+/// A branch to a label where a test has this truth.
+fn to(sense: bool, label: Label) -> Option<Branch>
+    ensures { result ≡ Some (record { sense = sense; target = Destination.To label }) }
+{
+    Some(Branch {
+        sense,
+        target: Destination::To(label),
+    })
+}
+
+/// The operand that the tree at a place is.
+fn operand_in(nodes: &Nodes, place: usize) -> Simple
+    ensures { result ≡ operand_in (tree_at nodes.now place) }
+{
+    match simple_of(nodes, place) {
+        Some(operand) => operand,
+        None => Simple::Variable(0),
+    }
+}
+
+/// A group of up to three values, as a branch.
+#[tactic(auto, unfolding(crate::specs::Cases::group_tested))]
+fn lay_group(
+    values: &[Simple],
+    sense: bool,
+    label: Label,
+    out: &mut Output,
+) -> Result<(), AllocError>
+    requires { length values.now ≤ 3 }
+    ensures { OnOk result (out.new ≡ group_tested values.now sense label out.old) }
+{
+    let switched = Simple::Variable(SWITCHED);
+    let branch = to(sense, label);
+    match values {
+        [] => Ok(()),
+        [a] => out.instruct(Opcode::Je, &[switched, *a], None, branch),
+        [a, b] => out.instruct(Opcode::Je, &[switched, *a, *b], None, branch),
+        [a, b, c, ..] => out.instruct(Opcode::Je, &[switched, *a, *b, *c], None, branch),
+    }
+}
+
+fn lay_beside(a: Simple, b: Simple, next: Label, out: &mut Output) -> Result<(), AllocError>
+    ensures { OnOk result (out.new ≡ beside a b next out.old) }
+{
+    let switched = Simple::Variable(SWITCHED);
+    out.instruct(Opcode::Jl, &[switched, a], None, to(true, next))?;
+    out.instruct(Opcode::Jg, &[switched, b], None, to(true, next))
+}
+
+fn lay_within(a: Simple, b: Simple, here: Label, out: &mut Output) -> Result<(), AllocError>
+    ensures { OnOk result (out.new ≡ within a b here out.old) }
+{
+    let switched = Simple::Variable(SWITCHED);
+    let beyond = out.label();
+    out.instruct(Opcode::Jl, &[switched, a], None, to(true, beyond))?;
+    out.instruct(Opcode::Jg, &[switched, b], None, to(false, here))?;
+    out.mark(beyond)
+}
+
+/// A range, which is the last value or not.
+#[tactic(auto, unfolding(crate::specs::Cases::range_tested))]
+fn lay_range(
+    is_last: bool,
+    a: Simple,
+    b: Simple,
+    here: Label,
+    next: Label,
+    out: &mut Output,
+) -> Result<(), AllocError>
+    ensures { OnOk result (out.new ≡ range_tested is_last a b here next out.old) }
+{
+    if is_last {
+        lay_beside(a, b, next, out)
+    } else {
+        lay_within(a, b, here, out)
+    }
+}
+
+/// What is laid for the tree at a place behind a group that is open: the group, where it takes no more.
+#[tactic(auto, unfolding(crate::specs::Cases::value_laid))]
+fn lay_value_of(
+    nodes: &Nodes,
+    place: usize,
+    is_last: bool,
+    group: &[Simple],
+    here: Label,
+    next: Label,
+    out: &mut Output,
+) -> Result<(), AllocError>
+    requires { length group.now ≤ 3 }
+    ensures { OnOk result (out.new ≡ value_laid (tree_at nodes.now place) is_last group.now here next out.old) }
+{
+    match range(nodes, place) {
+        Some((least, greatest)) => {
+            lay_group(group, true, here, out)?;
+            let (a, b) = (operand_in(nodes, least), operand_in(nodes, greatest));
+            lay_range(is_last, a, b, here, next, out)
+        }
+        None if group.len() < MOST_VALUES => Ok(()),
+        None => lay_group(group, true, here, out),
+    }
+}
+
+/// The group that is open behind the tree at a place.
+#[tactic(auto, unfolding(crate::specs::Cases::value_grouped))]
+fn grouped_behind(
+    nodes: &Nodes,
+    place: usize,
+    group: ArrayVec<Simple, MOST_VALUES>,
+) -> ArrayVec<Simple, MOST_VALUES>
+    ensures { result.items ≡ value_grouped (tree_at nodes.now place) group.items }
+{
+    let mut behind = group;
+    if range(nodes, place).is_some() {
+        behind.clear();
+        return behind;
+    }
+    if behind.is_full() {
+        behind.clear();
+    }
+    behind.push(operand_in(nodes, place));
+    behind
+}
+
+/// Whether no values are left.
+fn are_none(roots: &[Root]) -> bool
+    ensures { (nodes : List Tree) → result ≡ is_empty (trees_from nodes roots.now) }
+{
+    match roots {
+        [] => true,
+        [..] => false,
+    }
+}
+
+/// The tests of some values: where one holds they go to a label, and where the last fails to another one.
+fn lay_values(
+    nodes: &Nodes,
+    roots: &[Root],
+    here: Label,
+    next: Label,
+    out: &mut Output,
+) -> Result<(), AllocError>
+    ensures { OnOk result (out.new ≡ grouped [] (trees_from nodes.now roots.now) here next out.old) }
+{
+    let mut group = ArrayVec::new();
+    let mut left = roots;
+    while let Some((root, others)) = left.split_first() {
+        let is_last = are_none(others);
+        lay_value_of(nodes, root.place, is_last, &group, here, next, out)?;
+        group = grouped_behind(nodes, root.place, group);
+        left = others;
+    }
+    lay_group(&group, false, next, out)
+}
+
+/// The tests of a case with these trees as values, where it has any: the label of the next case is given.
+#[tactic(auto, unfolding(crate::specs::Cases::case_code))]
+pub fn lay_case(next: Option<Label>, forest: &Forest, out: &mut Output) -> Result<(), AllocError>
+    ensures { OnOk result (out.new ≡ case_code next (map tree_in (trees_in forest.now)) out.old) }
+{
+    let Some(next) = next else {
+        return Ok(());
+    };
+    let here = out.label();
+    lay_values(&forest.nodes, &forest.roots, here, next, out)?;
+    out.mark(here)
+}

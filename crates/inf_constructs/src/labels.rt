@@ -1,0 +1,192 @@
+//! The labels of a routine that have names.
+ghost use Rattle.std.specs.Prelude.{◌≡◌, ◌≤◌, [], IfOk, OnOk, length, option_map};
+ghost use Rattle.inf_names.specs.Symbols.{folded};
+
+use arrayvec::ArrayVec;
+use indexmap::IndexMap;
+use inf_opcode::Label;
+use inf_sinks::spellings::MOST_NAME_BYTES;
+use std::alloc::{AllocError, Global};
+use std::marker::Model;
+
+/// What is known of a label.
+#[derive(Debug, Drop)]
+pub struct Entry {
+    /// The name as it is spelled where it stands first.
+    spelling: ArrayVec<u8, MOST_NAME_BYTES>,
+    label: Label,
+    /// Whether its place was given.
+    is_given: bool,
+}
+
+/// The labels of a routine that have names, in the order in which these first stand in it, whether as the name of a place or of where a
+/// jump or a
+/// branch goes (Designer's Manual, fourth edition, section 1.12).
+#[derive(Drop)]
+pub struct Labels {
+    entries: IndexMap<ArrayVec<u8, MOST_NAME_BYTES>, Entry>,
+}
+
+impl Model for Labels {
+    ghost use Rattle.std.specs.Prelude.{List, map};
+    ghost use Rattle.inf_constructs.specs.Labels.{NamedLabel};
+    ghost use Rattle.inf_constructs.specs.Entries.{as_named};
+
+    ghost Value = { List NamedLabel };
+
+    ghost view = { λ l. map as_named l.entries.entries };
+}
+
+/// A name of at most 32 bytes, without case.
+fn folded(name: &[u8]) -> ArrayVec<u8, MOST_NAME_BYTES>
+    requires { length name.now ≤ 32 }
+    ensures { result.items ≡ folded name.now }
+{
+    let mut key = ArrayVec::new();
+    for byte in name {
+        key.push(byte.to_ascii_lowercase());
+    }
+    key
+}
+
+/// A name of at most 32 bytes, as it is spelled.
+fn spelled(name: &[u8]) -> ArrayVec<u8, MOST_NAME_BYTES>
+    requires { length name.now ≤ 32 }
+    ensures { result.items ≡ name.now }
+{
+    let mut spelling = ArrayVec::new();
+    if spelling.try_extend_from_slice(name).is_err() {
+        unreachable!()
+    }
+    spelling
+}
+
+impl Labels {
+    ghost use Rattle.inf_constructs.specs.Labels.{given, is_given, known_at, known_of, label_of, missing, missing_at, put, wanted};
+    ghost use Rattle.inf_constructs.specs.Entries.{known};
+
+    /// None. It takes no memory until the first one comes.
+    pub fn new(alloc: Global) -> Labels
+        ensures { result ≡ [] }
+    {
+        Labels {
+            entries: IndexMap::new(alloc),
+        }
+    }
+
+    /// Forgets all: another routine begins.
+    pub fn clear(&mut self)
+        ensures { self.new ≡ [] }
+    {
+        self.entries.clear();
+    }
+
+    /// What is known of the label of a name, in any case.
+    fn entry(&self, name: &[u8]) -> Option<&Entry>
+        requires { length name.now ≤ 32 }
+        ensures { option_map (λ e. known e.now) result ≡ known_of (folded name.now) self.now }
+    {
+        let key = folded(name);
+        self.entries.get(&key)
+    }
+
+    /// Whether the place of the label of a name, in any case, was given.
+    pub fn is_given(&self, name: &[u8]) -> bool
+        requires { length name.now ≤ 32 }
+        ensures { result ≡ is_given name.now self.now }
+    {
+        match self.entry(name) {
+            Some(entry) => entry.is_given,
+            None => false,
+        }
+    }
+
+    /// A jump or a branch goes to the label of a name, in any case. Answers that label: this new one, where the name has none.
+    pub fn want(&mut self, name: &[u8], new: Label) -> Result<Label, AllocError>
+        requires { length name.now ≤ 32 }
+        ensures label { IfOk result (λ label. label ≡ label_of name.now new self.old) }
+        ensures wanted { OnOk result (self.new ≡ wanted name.now new self.old) }
+    {
+        if let Some(entry) = self.entry(name) {
+            return Ok(entry.label);
+        }
+        self.add(name, spelled(name), new, false)?;
+        Ok(new)
+    }
+
+    /// The place of the label of a name, in any case, is given. Answers that label: this new one, where the name has none.
+    pub fn give(&mut self, name: &[u8], new: Label) -> Result<Label, AllocError>
+        requires { length name.now ≤ 32 }
+        ensures label { IfOk result (λ label. label ≡ label_of name.now new self.old) }
+        ensures given { OnOk result (self.new ≡ given name.now new self.old) }
+    {
+        let (spelling, label) = match self.entry(name) {
+            Some(entry) => (spelled(entry.spelling.as_slice()), entry.label),
+            None => (spelled(name), new),
+        };
+        self.add(name, spelling, label, true)?;
+        Ok(label)
+    }
+
+    /// The label of a name, as it is spelled where it stands first, in its place or behind the others.
+    fn add(
+        &mut self,
+        name: &[u8],
+        spelling: ArrayVec<u8, MOST_NAME_BYTES>,
+        label: Label,
+        is_given: bool,
+    ) -> Result<(), AllocError>
+        requires { length name.now ≤ 32 }
+        ensures { OnOk result (self.new ≡ put (folded name.now) (record { spelling = spelling.items; label = label; is_given = is_given })
+            self.old) }
+    {
+        self.entries.insert(
+            folded(name),
+            Entry {
+                spelling,
+                label,
+                is_given,
+            },
+        )?;
+        Ok(())
+    }
+
+    /// What is known of the label at a place among them.
+    fn entry_at(&self, place: usize) -> Option<&Entry>
+        ensures { option_map (λ e. known e.now) result ≡ known_at place self.now }
+    {
+        let (_, entry) = self.entries.get_index(place)?;
+        Some(entry)
+    }
+
+    /// How many there are.
+    fn len(&self) -> usize
+        ensures { result ≡ length self.now }
+    {
+        self.entries.len()
+    }
+
+    /// The name at a place among them, as it is spelled where it stands first, if its place is not given.
+    fn missing_at(&self, place: usize) -> Option<&[u8]>
+        ensures { option_map (λ name. name.now) result ≡ missing_at (known_at place self.now) }
+    {
+        let entry = self.entry_at(place)?;
+        if entry.is_given {
+            None
+        } else {
+            Some(entry.spelling.as_slice())
+        }
+    }
+
+    /// The first label that is used and whose place is not given, as it is spelled where it stands first.
+    pub fn missing(&self) -> Option<&[u8]>
+        ensures { option_map (λ name. name.now) result ≡ missing self.now }
+    {
+        for place in 0..self.len() {
+            if let Some(name) = self.missing_at(place) {
+                return Some(name);
+            }
+        }
+        None
+    }
+}

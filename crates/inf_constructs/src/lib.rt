@@ -1,0 +1,8 @@
+//! The statements of a routine that hold others: which are open, with their labels, and the tests of their cases; and the labels with names.
+#![tactic(auto)]
+
+mod cases;
+pub mod constructs;
+pub mod labels;
+
+pub use cases::{SWITCHED, lay_case};
