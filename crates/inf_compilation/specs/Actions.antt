@@ -86,8 +86,7 @@ no_output settings = record {
 -- a conditional;
 -- where the last token is, if it is the word of a compound statement where a case may stand, too; the labels with names and the locals of
 -- the open routine; the code and the names of the source; the messages; what a directive asks of the reading; the names of
--- routines that are to be replaced, whether those of the file at hand may be, and those of the files that wait, the inner files first;
--- whether the
+-- routines that are to be replaced, and whether those of the file at hand may be; whether the
 -- routine at hand is passed over for that; the array whose entries are read, and where they go if its header had an error; whether the
 -- values that are read are those of the property `name`, and whether the open routine is a value of a property.
 pub record Compilation : Type 0 where
@@ -106,7 +105,6 @@ pub record Compilation : Type 0 where
   pub asked : Request
   pub replaced : Table Place
   pub is_system : Bool
-  pub waiting : List Bool
   pub is_replaced : Bool
   pub listing : Listing
   pub lost : AllArrays
@@ -132,7 +130,6 @@ no_work set settings = record {
   asked = Nothing;
   replaced = no_symbols settings;
   is_system = false;
-  waiting = [];
   is_replaced = false;
   listing = record { is_lost = false; has_entries = false };
   lost = no_arrays 18446744073709551615;
@@ -484,17 +481,3 @@ new_stub files first (name ∷ names) w = stubbed files first (routine_declared 
 abbrev pub stub : FileNames → Place → List Name → Compilation → Compilation
 stub files first names w =
     if is_first_declared names w.output.names then unit_ended files first true nothing_found w else new_stub files first names w
-
--- Files
-
--- a file is entered, which is not marked
-abbrev pub entered : Compilation → Compilation
-entered w = record w { is_system = false; waiting = w.is_system ∷ w.waiting }
-
--- it is left, and the file that waits is as it was
-abbrev pub left_to : List Bool → Compilation → Compilation
-left_to [] w = w
-left_to (is_system ∷ waiting) w = record w { is_system = is_system; waiting = waiting }
-
-abbrev pub left : Compilation → Compilation
-left w = left_to w.waiting w

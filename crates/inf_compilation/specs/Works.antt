@@ -1,5 +1,4 @@
 -- What the code's work stands for.
-use Rattle.std.specs.Prelude.{reverse}
 use Rattle.inf_sinks.specs.LocalList.{listed}
 use Rattle.inf_unit.specs.AtHand.{unit}
 use Rattle.inf_unit.specs.Directives.{asked}
@@ -23,7 +22,6 @@ work w = record {
   asked = asked w.asked;
   replaced = w.replaced;
   is_system = w.is_system;
-  waiting = reverse w.waiting.items;
   is_replaced = w.is_replaced;
   listing = w.listing;
   lost = w.lost;

@@ -7,6 +7,8 @@ ghost use Rattle.inf_compilation.specs.Actions.{names_class, no_output};
 use crate::findings::{Findings, NOWHERE};
 use inf_cells::Scale;
 use inf_code::code::{Code, CodeLimits};
+use inf_constructs::constructs::Constructs;
+use inf_constructs::labels::Labels;
 use inf_lexer::{Place, Stack};
 use inf_names::hashing::NameHashing;
 use inf_names::meanings::Meaning;
@@ -18,8 +20,6 @@ use inf_settings::setting::Setting;
 use inf_settings::settings::Settings;
 use inf_sinks::locals::Locals;
 use inf_sinks::spellings::MOST_NAME_BYTES;
-use inf_constructs::constructs::Constructs;
-use inf_constructs::labels::Labels;
 use inf_tables::{Arrays, Tables};
 use inf_templates::Tasks;
 use inf_text::CharSet;
@@ -67,8 +67,6 @@ pub struct Compilation {
     pub replaced: Symbols<Place>,
     /// Whether routines of the file at hand may be replaced.
     pub is_system: bool,
-    /// The same of the files that wait, the inner files last.
-    waiting: Vec<bool>,
     /// Whether the routine at hand is passed over, since it is to be replaced.
     pub is_replaced: bool,
     /// The array whose entries are read, and where they go if its header had an error.
@@ -130,7 +128,7 @@ pub struct Listing {
 
 impl Compilation {
     ghost use Rattle.inf_unit.specs.Directives.{Nothing, asked, asks};
-    ghost use Rattle.inf_compilation.specs.Actions.{begun_at, entered, is_class, is_deep, labels_counted, left, nested, no_work, opening_checked, passed, piece_begun, sized, token_checked, took, unit_ended};
+    ghost use Rattle.inf_compilation.specs.Actions.{begun_at, is_class, is_deep, labels_counted, nested, no_work, opening_checked, passed, piece_begun, sized, token_checked, took, unit_ended};
     ghost use Rattle.inf_compilation.specs.Meant.{found_as};
     ghost use Rattle.inf_compilation.specs.Parts.{closed_ahead, construct_closed};
     ghost use Rattle.inf_compilation.specs.Works.{work};
@@ -162,7 +160,6 @@ impl Compilation {
             asked: Request::Nothing,
             replaced: no_symbols(alloc, settings, hashing),
             is_system: false,
-            waiting: Vec::new(alloc),
             is_replaced: false,
             listing: Listing {
                 is_lost: false,
@@ -203,24 +200,6 @@ impl Compilation {
         ensures nothing { work self.new ≡ record (work self.old) { asked = Nothing } }
     {
         mem::replace(&mut self.asked, Request::Nothing)
-    }
-
-    /// A file is entered, of which no routine may be replaced yet.
-    pub fn enter_file(&mut self) -> Result<(), AllocError>
-        ensures { OnOk result (work self.new ≡ entered (work self.old)) }
-    {
-        self.waiting.push(self.is_system)?;
-        self.is_system = false;
-        Ok(())
-    }
-
-    /// The file at hand is left for the one that waits for it, if one does.
-    pub fn leave_file(&mut self)
-        ensures { work self.new ≡ left (work self.old) }
-    {
-        if let Some(is_system) = self.waiting.pop() {
-            self.is_system = is_system;
-        }
     }
 
     /// A piece begins. No locals of a routine before it are known in it.

@@ -6,11 +6,11 @@ ghost use Rattle.inf_compilation.specs.Parts.{has_last, is_default, line_finding
 
 use crate::compilation::Compilation;
 use crate::findings::Findings;
+use inf_constructs::constructs::Kind;
+use inf_constructs::lay_case;
 use inf_expressions::{Finding, Forest, Operand, Wanted, build, judge, least_of_both};
 use inf_lexer::{Place, Stack};
-use inf_constructs::constructs::Kind;
 use inf_statements::effects::{MISPLACED_DEFAULT, Site, wanted_by};
-use inf_constructs::lay_case;
 use inf_statements::operands::{all_looked, name_locals, name_stores, settled};
 use inf_statements::statements::{Statement, lay_expression, lay_switched, lay_test};
 use inf_unit::items::Item;

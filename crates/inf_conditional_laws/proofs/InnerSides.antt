@@ -6,7 +6,7 @@ use Rattle.inf_scanner.specs.declared.tokens.Place.{Place}
 use Rattle.inf_scanner.specs.declared.tokens.TokenKind.TheVariants as kind
 use Rattle.inf_unit.specs.Tokens.{SourceToken, is_mark}
 use Rattle.inf_conditionals.specs.declared.judged.Site.{Site}
-use Rattle.inf_conditionals.specs.declared.open.Conditional.{Conditional}
+use Rattle.inf_sources.specs.declared.open_file.Conditional.{Conditional}
 use Rattle.inf_conditionals.specs.declared.open.LeftOut.{LeftOut}
 use Rattle.inf_conditionals.specs.declared.pending.Awaits.{Awaits}
 use Rattle.inf_conditionals.specs.declared.pending.Awaits.TheVariants as awaits
@@ -57,7 +57,6 @@ inner_sides_are_cut events c side left_out none few stay =
         still = ap (λ (x : Conditions). x.left_out) leads;
         among = ap (λ (x : Conditions). x.among) leads;
         inner = ap (λ (x : Conditions). x.inner) leads;
-        waiting = ap (λ (x : Conditions). x.waiting) leads;
         pending = ap (λ (x : Conditions). x.pending) leads;
       },
     )

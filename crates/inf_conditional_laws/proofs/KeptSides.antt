@@ -21,7 +21,7 @@ use Rattle.inf_conditionals.specs.declared.condition.Verdict.{Verdict}
 use Rattle.inf_unit.proofs.Cases.{of_both}
 use Rattle.inf_conditionals.specs.declared.judged.Forwarded.{Forwarded}
 use Rattle.inf_conditionals.specs.declared.judged.Forwarded.TheVariants as handed
-use Rattle.inf_conditionals.specs.declared.open.Conditional.{Conditional}
+use Rattle.inf_sources.specs.declared.open_file.Conditional.{Conditional}
 use Rattle.inf_conditionals.specs.declared.open.LeftOut.{LeftOut}
 use Rattle.inf_conditionals.specs.declared.pending.Awaits.{Awaits}
 use Rattle.inf_conditionals.specs.declared.pending.Awaits.TheVariants as awaits
@@ -652,21 +652,19 @@ last_taken : (tokens : List SourceToken) (end : At) (k : Condition) → AreTaken
 last_taken [] end k are = are
 last_taken (t ∷ tokens) end k are = last_taken tokens end (condition_took t k) are.1.1
 
--- what is open at last, how many names are declared, in how many levels of a side at most, and what is open in the files that wait
+-- what is open at last, how many names are declared, and in how many levels of a side at most
 pub record Last : Type 0 where
   pub around : Around
   pub declared : ℕ
   pub levels : ℕ
-  pub waiting : List (List Conditional)
 
-abbrev pub last_at : Around → ℕ → ℕ → List (List Conditional) → Last
-last_at s declared n w = record { around = s; declared = declared; levels = n; waiting = w }
+abbrev pub last_at : Around → ℕ → ℕ → Last
+last_at s declared n = record { around = s; declared = declared; levels = n }
 
 pub record StandsAt (r : Reader) (last : Last) (c : Conditions) : Type 0 where
   pub base : Conditions
   pub stand : Stands
   pub holds : Holds r base
-  pub waits : base.waiting ≡ last.waiting
   pub is : c ≡ stands_at base stand last.declared
   pub stack : stack_of stand ≡ last.around
   pub few : levels_of stand ≤ last.levels
@@ -730,9 +728,9 @@ joined r first second c tokens more places others between last a b = record {
 
 -- what is told of more names and levels
 pub relaxed : (r : Reader) (all : List At) (c : Conditions) (tokens : List SourceToken) (places : List Place) (s : Around)
-    (declared declared_so n m : ℕ) (w : List (List Conditional)) → declared ≡ declared_so → n ≤ m
-    → Led r all c tokens places (last_at s declared n w) → Led r all c tokens places (last_at s declared_so m w)
-relaxed r all c tokens places s declared declared_so n m w e few is =
+    (declared declared_so n m : ℕ) → declared ≡ declared_so → n ≤ m
+    → Led r all c tokens places (last_at s declared n) → Led r all c tokens places (last_at s declared_so m)
+relaxed r all c tokens places s declared declared_so n m e few is =
     let at_end = is.ends in
     record {
       hands = is.hands;
@@ -741,7 +739,6 @@ relaxed r all c tokens places s declared declared_so n m w e few is =
         base = at_end.base;
         stand = at_end.stand;
         holds = at_end.holds;
-        waits = at_end.waits;
         is = at_end.is ∙ ap (λ x. stands_at at_end.base at_end.stand x) e;
         stack = at_end.stack;
         few = let at_most = at_end.few in omega (arith, few, at_most);
@@ -871,17 +868,17 @@ takes r t c now missing last none e rest told = record {
 }
 
 -- behind the end of a directive, or where none ends
-pub ended_stands : (r : Reader) (e : Option ℕ) (st : Stands) (declared n : ℕ) (w : List (List Conditional)) (c : Conditions) → Holds r c →
-    c.waiting ≡ w → levels_of st ≤ n
-    → StandsAt r (last_at (ended_in e (stack_of st)) (unwrap_or e declared) n w) (ended_behind e (stands_at c st declared))
-ended_stands r None st declared n w c holds waits few =
-    record { base = c; stand = st; holds = holds; waits = waits; is = refl; stack = refl; few = few }
-ended_stands r (Some now) (AllStay inside between si sb) declared n w c holds waits few =
-    record { base = c; stand = AllStay [] between refl sb; holds = holds; waits = waits; is = refl; stack = refl; few = omega arith }
-ended_stands r (Some now) (InnerLeft deep x inside between left si sb) declared n w c holds waits few =
-    record { base = c; stand = AllStay [] between refl sb; holds = holds; waits = waits; is = refl; stack = refl; few = omega arith }
-ended_stands r (Some now) (OuterLeft deep x between left sb) declared n w c holds waits few =
-    record { base = c; stand = OuterLeft deep x between left sb; holds = holds; waits = waits; is = refl; stack = refl; few = few }
+pub ended_stands : (r : Reader) (e : Option ℕ) (st : Stands) (declared n : ℕ) (c : Conditions) → Holds r c →
+    levels_of st ≤ n
+    → StandsAt r (last_at (ended_in e (stack_of st)) (unwrap_or e declared) n) (ended_behind e (stands_at c st declared))
+ended_stands r None st declared n c holds few =
+    record { base = c; stand = st; holds = holds; is = refl; stack = refl; few = few }
+ended_stands r (Some now) (AllStay inside between si sb) declared n c holds few =
+    record { base = c; stand = AllStay [] between refl sb; holds = holds; is = refl; stack = refl; few = omega arith }
+ended_stands r (Some now) (InnerLeft deep x inside between left si sb) declared n c holds few =
+    record { base = c; stand = AllStay [] between refl sb; holds = holds; is = refl; stack = refl; few = omega arith }
+ended_stands r (Some now) (OuterLeft deep x between left sb) declared n c holds few =
+    record { base = c; stand = OuterLeft deep x between left sb; holds = holds; is = refl; stack = refl; few = few }
 
 -- The first tokens of a directive
 
@@ -1143,7 +1140,6 @@ pub record KeptAt (p : Pending) (others : List Pending) (ks : List Condition) (l
   pub base : Conditions
   pub inside_kept : are_kept last.around.inside ≡ true
   pub between_kept : are_kept last.around.between ≡ true
-  pub waits : base.waiting ≡ last.waiting
   pub is : c ≡ at (record base { pending = p ∷ others; conditions = ks }) (conditionals last.around.inside)
       (conditionals last.around.between) None last.declared
 
@@ -1156,7 +1152,6 @@ kept_at p others ks last c e all = go e.stand e.stack e.is
       base = e.base;
       inside_kept = ap (λ (x : Around). are_kept x.inside) (sym stack) ∙ si;
       between_kept = ap (λ (x : Around). are_kept x.between) (sym stack) ∙ sb;
-      waits = e.waits;
       is =
           is
           ∙ ap (λ ps. at (record e.base { pending = ps }) (conditionals inside) (conditionals between) None last.declared) e.holds.0
@@ -1172,37 +1167,37 @@ kept_at p others ks last c e all = go e.stand e.stack e.is
 
 -- Parts between the tokens of a directive
 
-abbrev pub last_behind : Answers → Parts → Around → ℕ → ℕ → List (List Conditional) → Last
-last_behind d parts s declared n w =
-    last_at (behind_parts d s parts) (declared_tokens (all_tokens parts) declared) (n + length (all_tokens parts)) w
+abbrev pub last_behind : Answers → Parts → Around → ℕ → ℕ → Last
+last_behind d parts s declared n =
+    last_at (behind_parts d s parts) (declared_tokens (all_tokens parts) declared) (n + length (all_tokens parts))
 
 abbrev pub Leads : Answers → Parts → Type 0
-Leads d parts = (r : Reader) (s : Around) (declared n : ℕ) (w : List (List Conditional)) (c : Conditions) → StandsAt r
-    (last_at s declared n w) c → AreParts d (within r) s declared parts → TakesAll r (kept_sides d s parts)
+Leads d parts = (r : Reader) (s : Around) (declared n : ℕ) (c : Conditions) → StandsAt r
+    (last_at s declared n) c → AreParts d (within r) s declared parts → TakesAll r (kept_sides d s parts)
     → n + length (all_tokens parts) ≤ most_levels
-    → Led r (all_tokens parts) c (kept_sides d s parts) (told_parts d s parts) (last_behind d parts s declared n w)
+    → Led r (all_tokens parts) c (kept_sides d s parts) (told_parts d s parts) (last_behind d parts s declared n)
 
 -- of one that is kept
 within_led_so : (tokens : List SourceToken) → (d : Answers) (parts : Parts) → Leads d parts → (r : Reader) (rest : List At)
     (is_inner : Bool) (place : Place) (a : Awaits) (c : Conditions) (ks after : List Condition) (s : Around) (declared n : ℕ)
-    (w : List (List Conditional)) (start : Conditions) (places : List Place) (last : Last)
-    → let p = directive is_inner place a in let l = last_behind d parts s declared n w in
-    StandsAt (Reads p c.pending ks) (last_at s declared n w) start → all_kept s ≡ true → AreParts d true s declared parts → StayAs d s parts
+    (start : Conditions) (places : List Place) (last : Last)
+    → let p = directive is_inner place a in let l = last_behind d parts s declared n in
+    StandsAt (Reads p c.pending ks) (last_at s declared n) start → all_kept s ≡ true → AreParts d true s declared parts → StayAs d s parts
     → TakesAll (Reads p c.pending ks) (kept_sides d s parts)
     → read_on (kept_sides d s parts) (Reads p c.pending ks) ≡ Reads p c.pending after → n + length (all_tokens parts) ≤ most_levels
-    → ((base : Conditions) → base.waiting ≡ w → are_kept l.around.inside ≡ true → are_kept l.around.between ≡ true
+    → ((base : Conditions) → are_kept l.around.inside ≡ true → are_kept l.around.between ≡ true
     → Led r rest (reading is_inner place a (record base { pending = c.pending; conditions = after }) (conditionals l.around.inside)
     (conditionals l.around.between) l.declared) tokens places last)
     → Led r (all_tokens parts ++ rest) start tokens (told_parts d s parts ++ places) last
-within_led_so tokens d parts leads r rest is_inner place a c ks after s declared n w start places last e all are stay taken_so read few
+within_led_so tokens d parts leads r rest is_inner place a c ks after s declared n start places last e all are stay taken_so read few
     further =
     let p = directive is_inner place a in
-    let l = last_behind d parts s declared n w in
-    let first = leads (Reads p c.pending ks) s declared n w start e are taken_so few in
+    let l = last_behind d parts s declared n in
+    let first = leads (Reads p c.pending ks) s declared n start e are taken_so few in
     let there = all_behind (all_tokens parts) start in
     let stands : StandsAt (Reads p c.pending after) l there = subst (λ (q : Reader). StandsAt q l there) read first.ends in
     let k = kept_at p c.pending after l there stands (stay ∙ all) in
-    let more = further k.base k.waits k.inside_kept k.between_kept in
+    let more = further k.base k.inside_kept k.between_kept in
     let second : Led r rest there tokens places last = subst (λ (x : Conditions). Led r rest x tokens places last) (sym k.is) more in
     record {
       hands =
@@ -1216,13 +1211,13 @@ within_led_so tokens d parts leads r rest is_inner place a c ks after s declared
     }
 
 pub within_led : (d : Answers) (parts : Parts) → Leads d parts → (r : Reader) (rest : List At) (is_inner : Bool) (place : Place)
-    (a : Awaits) (c : Conditions) (ks after : List Condition) (s : Around) (declared n : ℕ) (w : List (List Conditional))
+    (a : Awaits) (c : Conditions) (ks after : List Condition) (s : Around) (declared n : ℕ)
     (start : Conditions) (places : List Place) (last : Last)
-    → let p = directive is_inner place a in let l = last_behind d parts s declared n w in
-    StandsAt (Reads p c.pending ks) (last_at s declared n w) start → all_kept s ≡ true → AreParts d true s declared parts → StayAs d s parts
+    → let p = directive is_inner place a in let l = last_behind d parts s declared n in
+    StandsAt (Reads p c.pending ks) (last_at s declared n) start → all_kept s ≡ true → AreParts d true s declared parts → StayAs d s parts
     → TakesAll (Reads p c.pending ks) (kept_sides d s parts)
     → read_on (kept_sides d s parts) (Reads p c.pending ks) ≡ Reads p c.pending after → n + length (all_tokens parts) ≤ most_levels
-    → ((base : Conditions) → base.waiting ≡ w → are_kept l.around.inside ≡ true → are_kept l.around.between ≡ true
+    → ((base : Conditions) → are_kept l.around.inside ≡ true → are_kept l.around.between ≡ true
     → Led r rest (reading is_inner place a (record base { pending = c.pending; conditions = after }) (conditionals l.around.inside)
     (conditionals l.around.between) l.declared) [] places last)
     → Led r (all_tokens parts ++ rest) start [] (told_parts d s parts ++ places) last
@@ -1237,15 +1232,15 @@ reads_none tokens r e = ap (λ ts. read_on ts r) e
 
 -- of one that stands in a side that is left out
 left_led : (d : Answers) (parts : Parts) → Leads d parts → (r : Reader) (rest : List At) (s : Around) (declared n : ℕ)
-    (w : List (List Conditional)) (start : Conditions) (places : List Place) (last : Last)
-    → StandsAt r (last_at s declared n w) start → AreParts d (within r) s declared parts → kept_sides d s parts ≡ [] → n + length
+    (start : Conditions) (places : List Place) (last : Last)
+    → StandsAt r (last_at s declared n) start → AreParts d (within r) s declared parts → kept_sides d s parts ≡ [] → n + length
     (all_tokens parts) ≤ most_levels
-    → ((c : Conditions) → StandsAt r (last_behind d parts s declared n w) c → Led r rest c [] places last)
+    → ((c : Conditions) → StandsAt r (last_behind d parts s declared n) c → Led r rest c [] places last)
     → Led r (all_tokens parts ++ rest) start [] (told_parts d s parts ++ places) last
-left_led d parts leads r rest s declared n w start places last e are none few further =
-    let l = last_behind d parts s declared n w in
+left_led d parts leads r rest s declared n start places last e are none few further =
+    let l = last_behind d parts s declared n in
     let there = all_behind (all_tokens parts) start in
-    let first = leads r s declared n w start e are (takes_none (kept_sides d s parts) r none) few in
+    let first = leads r s declared n start e are (takes_none (kept_sides d s parts) r none) few in
     let stands : StandsAt r l there = subst (λ (q : Reader). StandsAt q l there) (reads_none (kept_sides d s parts) r none) first.ends in
     let second = further there stands in
     record {
@@ -1260,12 +1255,12 @@ left_led d parts leads r rest s declared n w start places last e are none few fu
     }
 
 -- a plain token of a side that is left out
-left_token : (r : Reader) (is_within : Bool) (t : At) (all : List At) (s : Around) (declared n : ℕ) (w : List (List Conditional))
+left_token : (r : Reader) (is_within : Bool) (t : At) (all : List At) (s : Around) (declared n : ℕ)
     (start : Conditions) (tokens : List SourceToken) (places : List Place) (last : Last)
-    → StandsAt r (last_at s declared n w) start → all_kept s ≡ false → IsPlain false is_within t → n + 1 ≤ most_levels
-    → ((c : Conditions) → StandsAt r (last_at (ended_in t.ended s) (declared_behind t declared) n w) c → Led r all c tokens places last)
+    → StandsAt r (last_at s declared n) start → all_kept s ≡ false → IsPlain false is_within t → n + 1 ≤ most_levels
+    → ((c : Conditions) → StandsAt r (last_at (ended_in t.ended s) (declared_behind t declared) n) c → Led r all c tokens places last)
     → Led r (t ∷ all) start tokens (missing_in t.ended s ++ places) last
-left_token r is_within t all s declared n w start tokens places last e left plain few further =
+left_token r is_within t all s declared n start tokens places last e left plain few further =
     subst (λ (x : Conditions). Led r (t ∷ all) x tokens (missing_in t.ended s ++ places) last) (sym e.is) (go e.stand e.stack e.few)
   where
     goes : (st : Stands) (b : Bool) (m : ℕ) → stack_of st ≡ s → left_of st ≡ left_at b m → m ≤ n → levels_of st ≤ n →
@@ -1274,12 +1269,12 @@ left_token r is_within t all s declared n w start tokens places last e left plai
         let here = stands_at e.base st declared in
         let there = at e.base (inner_of st) (among_of st) (left_at b m) declared in
         let same : there ≡ here = ap (λ x. at e.base (inner_of st) (among_of st) x declared) (sym is_left) in
-        let behind : StandsAt r (last_at (ended_in t.ended s) (declared_behind t declared) n w) (ended_behind t.ended there) =
-        subst (λ (x : Conditions). StandsAt r (last_at (ended_in t.ended s) (declared_behind t declared) n w) (ended_behind t.ended x))
+        let behind : StandsAt r (last_at (ended_in t.ended s) (declared_behind t declared) n) (ended_behind t.ended there) =
+        subst (λ (x : Conditions). StandsAt r (last_at (ended_in t.ended s) (declared_behind t declared) n) (ended_behind t.ended x))
         (sym same)
-        (subst (λ (x : Around). StandsAt r (last_at (ended_in t.ended x) (declared_behind t declared) n w) (ended_behind t.ended here))
+        (subst (λ (x : Around). StandsAt r (last_at (ended_in t.ended x) (declared_behind t declared) n) (ended_behind t.ended here))
         stack
-        (ended_stands r t.ended st declared n w e.base e.holds e.waits few_st)) in
+        (ended_stands r t.ended st declared n e.base e.holds few_st)) in
         subst (λ (x : Conditions). Led r (t ∷ all) x tokens (missing_in t.ended s ++ places) last) same
         (passes r t all there there (ended_behind t.ended there) tokens (missing_in t.ended s) places last
         (plain_left is_within t e.base (inner_of st) (among_of st) b m declared plain (omega (arith, few, few_m))) refl
@@ -1307,49 +1302,47 @@ new_open place b = record { place = place; is_second = false; stays = b }
 
 -- one is opened more
 opened_stands : (r : Reader) (is_inner b : Bool) (place : Place) (t : At) (inside between : List Open) (declared n : ℕ)
-    (w : List (List Conditional)) (c : Conditions) → Holds r c → c.waiting ≡ w
+    (c : Conditions) → Holds r c
     → are_kept inside ≡ true → are_kept between ≡ true → NoneInsideBehind true is_inner t (record { inside = inside; between = between })
     → StandsAt r (last_at (ended_in t.ended (opened_more is_inner (new_open place b) (record { inside = inside; between = between })))
-    (declared_behind t declared) n w)
+    (declared_behind t declared) n)
     (ended_behind t.ended (opened_at is_inner b place c (conditionals inside) (conditionals between) declared))
-opened_stands r true b place t inside between declared n w c holds waits si sb none =
+opened_stands r true b place t inside between declared n c holds si sb none =
     subst (λ k. StandsAt r (last_at (ended_in t.ended (cond k (record { inside = new_open place b ∷ inside; between = between })
-    (record { inside = inside; between = new_open place b ∷ between }))) (declared_behind t declared) n w)
+    (record { inside = inside; between = new_open place b ∷ between }))) (declared_behind t declared) n)
     (ended_behind t.ended (opened_at true b place c (conditionals inside) (conditionals between) declared))) (sym sb) (go b)
   where
     go : (b : Bool) → StandsAt r (last_at (ended_in t.ended (record { inside = new_open place b ∷ inside; between = between }))
-        (declared_behind t declared) n w)
+        (declared_behind t declared) n)
         (ended_behind t.ended (opened_at true b place c (conditionals inside) (conditionals between) declared))
-    go true = ended_stands r t.ended (AllStay (new_open place true ∷ inside) between si sb) declared n w c holds waits (omega arith)
+    go true = ended_stands r t.ended (AllStay (new_open place true ∷ inside) between si sb) declared n c holds (omega arith)
     go false =
-        ended_stands r t.ended (InnerLeft [] (new_open place false) inside between refl si sb) declared n w c holds waits (omega arith)
-opened_stands r false true place t inside between declared n w c holds waits si sb none =
-    ended_stands r t.ended (AllStay inside (new_open place true ∷ between) si sb) declared n w c holds waits (omega arith)
-opened_stands r false false place t inside between declared n w c holds waits si sb none = go t.ended none
+        ended_stands r t.ended (InnerLeft [] (new_open place false) inside between refl si sb) declared n c holds (omega arith)
+opened_stands r false true place t inside between declared n c holds si sb none =
+    ended_stands r t.ended (AllStay inside (new_open place true ∷ between) si sb) declared n c holds (omega arith)
+opened_stands r false false place t inside between declared n c holds si sb none = go t.ended none
   where
     x : Open
     x = new_open place false
 
     go : (e : Option ℕ) → (e ≡ None → inside ≡ []) →
-        StandsAt r (last_at (ended_in e (record { inside = inside; between = x ∷ between })) (unwrap_or e declared) n w)
+        StandsAt r (last_at (ended_in e (record { inside = inside; between = x ∷ between })) (unwrap_or e declared) n)
         (ended_behind e (opened_at false false place c (conditionals inside) (conditionals between) declared))
     go (Some now) none = record {
       base = c;
       stand = OuterLeft [] x between refl sb;
       holds = holds;
-      waits = waits;
       is = refl;
       stack = refl;
       few = omega arith;
     }
     go None none =
-        subst (λ i. StandsAt r (last_at (record { inside = i; between = x ∷ between }) declared n w)
+        subst (λ i. StandsAt r (last_at (record { inside = i; between = x ∷ between }) declared n)
         (opened_at false false place c (conditionals i) (conditionals between) declared)) (sym (none refl))
         (record {
           base = c;
           stand = OuterLeft [] x between refl sb;
           holds = holds;
-          waits = waits;
           is = refl;
           stack = refl;
           few = omega arith;
@@ -1378,12 +1371,12 @@ opened_told false b place t inside between declared c si sb = go t.ended
 -- the semicolon of an `Ifnot`
 abbrev LastLed : ConditionalWord → (Around → Around) → Effect → Type 0
 LastLed w act e = (r : Reader) (is_inner : Bool) (first : First) (t : At) (inside between : List Open) (declared n : ℕ)
-    (v : List (List Conditional)) (c : Conditions) → Holds r c → c.waiting ≡ v
+    (c : Conditions) → Holds r c
     → are_kept inside ≡ true → are_kept between ≡ true → IsSemicolon t
     → Led r (t ∷ []) (reading is_inner (begins first) (awaits.End e) c (conditionals inside) (conditionals between) declared) []
     (lone_at w first t (record { inside = inside; between = between }) ++ missing_in t.ended
     (act (record { inside = inside; between = between })))
-    (last_at (ended_in t.ended (act (record { inside = inside; between = between }))) (declared_behind t declared) n v)
+    (last_at (ended_in t.ended (act (record { inside = inside; between = between }))) (declared_behind t declared) n)
 
 abbrev unless_quiet : At → Place → Option Place
 unless_quiet t place = cond t.site.is_quiet None (Some place)
@@ -1442,34 +1435,34 @@ told_as : (r : Reader) (t : At) (c : Conditions) (alone told missing : List Plac
 told_as r t c alone told missing last e is = subst (λ ps. Led r (t ∷ []) c [] (ps ++ missing) last) e is
 
 -- where what is open now is known
-stands_told : (r : Reader) (t : At) (st : Stands) (s : Around) (declared n : ℕ) (v : List (List Conditional)) (c x : Conditions) →
-    stands_at c st declared ≡ x → stack_of st ≡ s → Holds r c → c.waiting ≡ v → levels_of st ≤ n
-    → StandsAt r (last_at (ended_in t.ended s) (declared_behind t declared) n v) (ended_behind t.ended x) ×
+stands_told : (r : Reader) (t : At) (st : Stands) (s : Around) (declared n : ℕ) (c x : Conditions) →
+    stands_at c st declared ≡ x → stack_of st ≡ s → Holds r c → levels_of st ≤ n
+    → StandsAt r (last_at (ended_in t.ended s) (declared_behind t declared) n) (ended_behind t.ended x) ×
     (ended_places t.ended x.inner ≡ missing_in t.ended s)
-stands_told r t st s declared n v c x is stack holds waits few = (
-  subst (λ (y : Around). StandsAt r (last_at (ended_in t.ended y) (declared_behind t declared) n v) (ended_behind t.ended x)) stack
-      (subst (λ (y : Conditions). StandsAt r (last_at (ended_in t.ended (stack_of st)) (declared_behind t declared) n v)
-      (ended_behind t.ended y)) is (ended_stands r t.ended st declared n v c holds waits few)),
+stands_told r t st s declared n c x is stack holds few = (
+  subst (λ (y : Around). StandsAt r (last_at (ended_in t.ended y) (declared_behind t declared) n) (ended_behind t.ended x)) stack
+      (subst (λ (y : Conditions). StandsAt r (last_at (ended_in t.ended (stack_of st)) (declared_behind t declared) n)
+      (ended_behind t.ended y)) is (ended_stands r t.ended st declared n c holds few)),
   ap (λ (y : Conditions). ended_places t.ended y.inner) (sym is) ∙ ended_told t.ended st declared c ∙ ap (missing_in t.ended) stack,
 )
 
 turns_last : LastLed word.Ifnot turned effect.Turns
-turns_last r is_inner first t [] [] declared n v c holds waits si sb is =
+turns_last r is_inner first t [] [] declared n c holds si sb is =
     let place = begins first in
     let m = reading is_inner place (awaits.End effect.Turns) c [] [] declared in
-    let last = last_at (ended_in t.ended none_around) (declared_behind t declared) n v in
+    let last = last_at (ended_in t.ended none_around) (declared_behind t declared) n in
     let missing = missing_in t.ended none_around in
     let both =
-    stands_told r t (AllStay [] [] si sb) none_around declared n v c (at c [] [] None declared) refl refl holds waits (omega arith) in
+    stands_told r t (AllStay [] [] si sb) none_around declared n c (at c [] [] None declared) refl refl holds (omega arith) in
     told_as r t m (lone_places (unless_quiet t place)) (lone_at word.Ifnot first t none_around) missing last
     (lone_is word.Ifnot first t none_around true refl refl)
     (acts r t m (at c [] [] None declared) (unless_quiet t place) (unless_quiet t place) missing last
     (end_kept effect.Turns is_inner place t c [] [] declared is) both.0 both.1)
-turns_last r is_inner first t [] (y ∷ between) declared n v c holds waits si sb is =
+turns_last r is_inner first t [] (y ∷ between) declared n c holds si sb is =
     let place = begins first in
     let s : Around = record { inside = []; between = y ∷ between } in
     let m = reading is_inner place (awaits.End effect.Turns) c [] (conditionals (y ∷ between)) declared in
-    let last = last_at (ended_in t.ended (turned s)) (declared_behind t declared) n v in
+    let last = last_at (ended_in t.ended (turned s)) (declared_behind t declared) n in
     let missing = missing_in t.ended (turned s) in
     let here = at c [] (conditionals (y ∷ between)) None declared in
     let there = at c [] (record { place = y.place; is_second = true } ∷ conditionals between) (left_at false 0) declared in
@@ -1477,27 +1470,27 @@ turns_last r is_inner first t [] (y ∷ between) declared n v c holds waits si s
     (ended_places t.ended (cond y.is_second here there).inner ≡ missing) =
     of_both (λ (x : Conditions). (StandsAt r last (ended_behind t.ended x)) × (ended_places t.ended x.inner ≡ missing)) y.is_second here
     there
-    (λ e. stands_told r t (AllStay [] (other_side y ∷ between) si (kept_still y between e sb)) (turned s) declared n v c here
-    (ap (λ cs. at c [] cs None declared) (still_is y between e)) refl holds waits (omega arith))
+    (λ e. stands_told r t (AllStay [] (other_side y ∷ between) si (kept_still y between e sb)) (turned s) declared n c here
+    (ap (λ cs. at c [] cs None declared) (still_is y between e)) refl holds (omega arith))
     (λ e. stands_told r t (OuterLeft [] (other_side y) between (left_turned y e (kept_head y between sb).0) (kept_head y between sb).1)
-    (turned s) declared n v c there
-    (ap (λ cs. at c [] cs (left_at false 0) declared) (turned_is y between e)) refl holds waits (omega arith)) in
+    (turned s) declared n c there
+    (ap (λ cs. at c [] cs (left_at false 0) declared) (turned_is y between e)) refl holds (omega arith)) in
     told_as r t m (lone_places (cond y.is_second (unless_quiet t place) None)) (lone_at word.Ifnot first t s) missing last
     (lone_is word.Ifnot first t s y.is_second sb refl)
     (acts r t m (cond y.is_second here there) (cond y.is_second (unless_quiet t place) None) (unless_quiet t place) missing last
     (turns_among is_inner place t c (conditional_of y) (conditionals between) declared is)
     (of_both (λ (x : Conditions). StandsAt r last (ended_behind t.ended (silent x))) y.is_second here there
     (λ e. subst (λ cs. StandsAt r last (ended_behind t.ended (at c [] cs None declared))) (still_is y between e)
-    (ended_stands r t.ended (AllStay [] (other_side y ∷ between) si (kept_still y between e sb)) declared n v c holds waits (omega arith)))
+    (ended_stands r t.ended (AllStay [] (other_side y ∷ between) si (kept_still y between e sb)) declared n c holds (omega arith)))
     (λ e. subst (λ cs. StandsAt r last (ended_behind t.ended (at c [] cs (left_at false 0) declared))) (turned_is y between e)
     (ended_stands r t.ended (OuterLeft [] (other_side y) between (left_turned y e (kept_head y between sb).0) (kept_head y between sb).1)
-    declared n v c holds waits (omega arith)))) both.1)
-turns_last r is_inner first t (y ∷ inside) between declared n v c holds waits si sb is =
+    declared n c holds (omega arith)))) both.1)
+turns_last r is_inner first t (y ∷ inside) between declared n c holds si sb is =
     let place = begins first in
     let s : Around = record { inside = y ∷ inside; between = between } in
     let among = conditionals between in
     let m = reading is_inner place (awaits.End effect.Turns) c (conditionals (y ∷ inside)) among declared in
-    let last = last_at (ended_in t.ended (turned s)) (declared_behind t declared) n v in
+    let last = last_at (ended_in t.ended (turned s)) (declared_behind t declared) n in
     let missing = missing_in t.ended (turned s) in
     let here = at c (conditionals (y ∷ inside)) among None declared in
     let there = at c (record { place = y.place; is_second = true } ∷ conditionals inside) among (left_at true 0) declared in
@@ -1505,56 +1498,56 @@ turns_last r is_inner first t (y ∷ inside) between declared n v c holds waits 
     (ended_places t.ended (cond y.is_second here there).inner ≡ missing) =
     of_both (λ (x : Conditions). (StandsAt r last (ended_behind t.ended x)) × (ended_places t.ended x.inner ≡ missing)) y.is_second here
     there
-    (λ e. stands_told r t (AllStay (other_side y ∷ inside) between (kept_still y inside e si) sb) (turned s) declared n v c here
-    (ap (λ cs. at c cs among None declared) (still_is y inside e)) refl holds waits (omega arith))
+    (λ e. stands_told r t (AllStay (other_side y ∷ inside) between (kept_still y inside e si) sb) (turned s) declared n c here
+    (ap (λ cs. at c cs among None declared) (still_is y inside e)) refl holds (omega arith))
     (λ e. stands_told r t (InnerLeft [] (other_side y) inside between (left_turned y e (kept_head y inside si).0) (kept_head y inside si).1
-    sb) (turned s) declared n v c there
-    (ap (λ cs. at c cs among (left_at true 0) declared) (turned_is y inside e)) refl holds waits (omega arith)) in
+    sb) (turned s) declared n c there
+    (ap (λ cs. at c cs among (left_at true 0) declared) (turned_is y inside e)) refl holds (omega arith)) in
     told_as r t m (lone_places (cond y.is_second (unless_quiet t place) None)) (lone_at word.Ifnot first t s) missing last
     (lone_is word.Ifnot first t s y.is_second (both_kept (y ∷ inside) between si sb) refl)
     (acts r t m (cond y.is_second here there) (cond y.is_second (unless_quiet t place) None) (unless_quiet t place) missing last
     (turns_inner is_inner place t c (conditional_of y) (conditionals inside) among declared is)
     (of_both (λ (x : Conditions). StandsAt r last (ended_behind t.ended (silent x))) y.is_second here there
     (λ e. subst (λ cs. StandsAt r last (ended_behind t.ended (at c cs among None declared))) (still_is y inside e)
-    (ended_stands r t.ended (AllStay (other_side y ∷ inside) between (kept_still y inside e si) sb) declared n v c holds waits
+    (ended_stands r t.ended (AllStay (other_side y ∷ inside) between (kept_still y inside e si) sb) declared n c holds
     (omega arith)))
     (λ e. subst (λ cs. StandsAt r last (ended_behind t.ended (at c cs among (left_at true 0) declared))) (turned_is y inside e)
     (ended_stands r t.ended (InnerLeft [] (other_side y) inside between (left_turned y e (kept_head y inside si).0)
-    (kept_head y inside si).1 sb) declared n v c holds waits (omega arith)))) both.1)
+    (kept_head y inside si).1 sb) declared n c holds (omega arith)))) both.1)
 
 -- and that of an `Endif`
 closes_last : LastLed word.Endif closed effect.Closes
-closes_last r is_inner first t [] [] declared n v c holds waits si sb is =
+closes_last r is_inner first t [] [] declared n c holds si sb is =
     let place = begins first in
     let m = reading is_inner place (awaits.End effect.Closes) c [] [] declared in
-    let last = last_at (ended_in t.ended none_around) (declared_behind t declared) n v in
+    let last = last_at (ended_in t.ended none_around) (declared_behind t declared) n in
     let missing = missing_in t.ended none_around in
     let both =
-    stands_told r t (AllStay [] [] si sb) none_around declared n v c (at c [] [] None declared) refl refl holds waits (omega arith) in
+    stands_told r t (AllStay [] [] si sb) none_around declared n c (at c [] [] None declared) refl refl holds (omega arith) in
     told_as r t m (lone_places (unless_quiet t place)) (lone_at word.Endif first t none_around) missing last
     (lone_is word.Endif first t none_around true refl refl)
     (acts r t m (at c [] [] None declared) (unless_quiet t place) (unless_quiet t place) missing last
     (end_kept effect.Closes is_inner place t c [] [] declared is) both.0 both.1)
-closes_last r is_inner first t [] (y ∷ between) declared n v c holds waits si sb is =
+closes_last r is_inner first t [] (y ∷ between) declared n c holds si sb is =
     let place = begins first in
     let s : Around = record { inside = []; between = y ∷ between } in
     let m = reading is_inner place (awaits.End effect.Closes) c [] (conditionals (y ∷ between)) declared in
-    let last = last_at (ended_in t.ended (closed s)) (declared_behind t declared) n v in
+    let last = last_at (ended_in t.ended (closed s)) (declared_behind t declared) n in
     let missing = missing_in t.ended (closed s) in
     let now = at c [] (conditionals between) None declared in
     let both =
-    stands_told r t (AllStay [] between si (kept_head y between sb).1) (closed s) declared n v c now refl refl holds waits (omega arith) in
+    stands_told r t (AllStay [] between si (kept_head y between sb).1) (closed s) declared n c now refl refl holds (omega arith) in
     told_as r t m [] (lone_at word.Endif first t s) missing last (lone_is word.Endif first t s false sb refl)
     (acts r t m now None (unless_quiet t place) missing last
     (end_kept effect.Closes is_inner place t c [] (conditionals (y ∷ between)) declared is) both.0 both.1)
-closes_last r is_inner first t (y ∷ inside) between declared n v c holds waits si sb is =
+closes_last r is_inner first t (y ∷ inside) between declared n c holds si sb is =
     let place = begins first in
     let s : Around = record { inside = y ∷ inside; between = between } in
     let m = reading is_inner place (awaits.End effect.Closes) c (conditionals (y ∷ inside)) (conditionals between) declared in
-    let last = last_at (ended_in t.ended (closed s)) (declared_behind t declared) n v in
+    let last = last_at (ended_in t.ended (closed s)) (declared_behind t declared) n in
     let missing = missing_in t.ended (closed s) in
     let now = at c (conditionals inside) (conditionals between) None declared in
-    let both = stands_told r t (AllStay inside between (kept_head y inside si).1 sb) (closed s) declared n v c now refl refl holds waits
+    let both = stands_told r t (AllStay inside between (kept_head y inside si).1 sb) (closed s) declared n c now refl refl holds
     (omega arith) in
     told_as r t m [] (lone_at word.Endif first t s) missing last
     (lone_is word.Endif first t s false (both_kept (y ∷ inside) between si sb) refl)
@@ -1567,18 +1560,18 @@ abbrev Further : Reader → Reader → List At → List Place → Last → Last 
 Further r q all places there last = (c : Conditions) → StandsAt r there c → Led q all c [] places last
 
 opens_left : (r q : Reader) (is_inner is_within : Bool) (w : ConditionalWord) (first : First) (all : List At) (more : Open) (st : Stands)
-    (declared n : ℕ) (v : List (List Conditional)) (c : Conditions) (places : List Place) (last : Last)
-    → Holds r c → c.waiting ≡ v → levels_of st ≤ n → n + 1 ≤ most_levels → all_kept (stack_of st) ≡ false → NoneInside is_inner
+    (declared n : ℕ) (c : Conditions) (places : List Place) (last : Last)
+    → Holds r c → levels_of st ≤ n → n + 1 ≤ most_levels → all_kept (stack_of st) ≡ false → NoneInside is_inner
     (stack_of st) → IsFirst false is_inner is_within w first
     → ((m : ℕ) (b : Bool) → ends_side b m (Some w) ≡ false) → ((m : ℕ) → level_behind (Some w) m ≡ suc m)
-    → Further r q all places (last_at (opened_more is_inner more (stack_of st)) (declared_first first declared) (n + 1) v) last
+    → Further r q all places (last_at (opened_more is_inner more (stack_of st)) (declared_first first declared) (n + 1)) last
     → Led q (first_tokens first all) (stands_at c st declared) [] places last
-opens_left r q is_inner is_within w first all more (AllStay inside between si sb) declared n v c places last holds waits few_st few left
+opens_left r q is_inner is_within w first all more (AllStay inside between si sb) declared n c places last holds few_st few left
     none is stays level further =
     absurd (let never : true ≡ false = sym (both_kept inside between si sb) ∙ left in cc)
-opens_left r q false is_within w first all more (InnerLeft deep x inside between gone si sb) declared n v c places last holds waits few_st
+opens_left r q false is_within w first all more (InnerLeft deep x inside between gone si sb) declared n c places last holds few_st
     few left none is stays level further = absurd (some_open deep x inside none)
-opens_left r q true is_within w first all more (InnerLeft deep x inside between gone si sb) declared n v c places last holds waits few_st
+opens_left r q true is_within w first all more (InnerLeft deep x inside between gone si sb) declared n c places last holds few_st
     few left none is stays level further =
     let m = length deep in
     let inner = conditionals (x ∷ inside) in
@@ -1591,13 +1584,12 @@ opens_left r q true is_within w first all more (InnerLeft deep x inside between 
       base = c;
       stand = InnerLeft (more ∷ deep) x inside between gone si sb;
       holds = holds;
-      waits = waits;
       is = refl;
       stack = sym (ap (λ k. cond k (record { inside = more ∷ deep ++ x ∷ inside; between = between })
           (record { inside = deep ++ x ∷ inside; between = more ∷ between })) sb);
       few = omega (arith, few_st);
     }))
-opens_left r q is_inner is_within w first all more (OuterLeft deep x between gone sb) declared n v c places last holds waits few_st few left
+opens_left r q is_inner is_within w first all more (OuterLeft deep x between gone sb) declared n c places last holds few_st few left
     none is stays level further =
     let m = length deep in
     let among = conditionals (x ∷ between) in
@@ -1610,7 +1602,6 @@ opens_left r q is_inner is_within w first all more (OuterLeft deep x between gon
       base = c;
       stand = OuterLeft (more ∷ deep) x between gone sb;
       holds = holds;
-      waits = waits;
       is = refl;
       stack = sym (ap (λ k. cond k (record { inside = more ∷ []; between = deep ++ x ∷ between })
           (record { inside = []; between = more ∷ deep ++ x ∷ between }))
@@ -1621,10 +1612,10 @@ opens_left r q is_inner is_within w first all more (OuterLeft deep x between gon
 -- a word that may end the side
 abbrev pub LeftLed : ConditionalWord → (Around → Around) → Type 0
 LeftLed w act = (r q : Reader) (is_inner is_within : Bool) (first : First) (all : List At) (st : Stands) (declared n : ℕ)
-    (v : List (List Conditional)) (c : Conditions) (places : List Place) (last : Last)
-    → Holds r c → c.waiting ≡ v → levels_of st ≤ n → n + 1 ≤ most_levels → all_kept (stack_of st) ≡ false → NoneInside is_inner
+    (c : Conditions) (places : List Place) (last : Last)
+    → Holds r c → levels_of st ≤ n → n + 1 ≤ most_levels → all_kept (stack_of st) ≡ false → NoneInside is_inner
     (stack_of st) → IsFirst false is_inner is_within w first
-    → (all_kept (act (stack_of st)) ≡ false → Further r q all places (last_at (act (stack_of st)) (declared_first first declared) n v) last)
+    → (all_kept (act (stack_of st)) ≡ false → Further r q all places (last_at (act (stack_of st)) (declared_first first declared) n) last)
     → ((inside between : List Open) → are_kept inside ≡ true → are_kept between ≡ true → record { inside = inside; between = between } ≡ act
     (stack_of st)
     → Led q all (reading false (begins first) (awaits.End effect.Nothing) c (conditionals inside) (conditionals between)
@@ -1632,11 +1623,11 @@ LeftLed w act = (r q : Reader) (is_inner is_within : Bool) (first : First) (all 
     → Led q (first_tokens first all) (stands_at c st declared) [] places last
 
 pub turns_left : LeftLed word.Ifnot turned
-turns_left r q is_inner is_within first all (AllStay inside between si sb) declared n v c places last holds waits few_st few left none is
+turns_left r q is_inner is_within first all (AllStay inside between si sb) declared n c places last holds few_st few left none is
     still ended = absurd (let never : true ≡ false = sym (both_kept inside between si sb) ∙ left in cc)
-turns_left r q false is_within first all (InnerLeft deep x inside between gone si sb) declared n v c places last holds waits few_st few left
+turns_left r q false is_within first all (InnerLeft deep x inside between gone si sb) declared n c places last holds few_st few left
     none is still ended = absurd (some_open deep x inside none)
-turns_left r q true is_within first all (InnerLeft [] x inside between gone si sb) declared n v c places last holds waits few_st few left
+turns_left r q true is_within first all (InnerLeft [] x inside between gone si sb) declared n c places last holds few_st few left
     none is still ended =
     let inner = conditionals (x ∷ inside) in
     let among = conditionals between in
@@ -1650,7 +1641,6 @@ turns_left r q true is_within first all (InnerLeft [] x inside between gone si s
       base = c;
       stand = InnerLeft [] (other_side x) inside between (left_still x e gone) si sb;
       holds = holds;
-      waits = waits;
       is = ap (λ cs. at c cs among (left_at true 0) now) (sym (still_is x inside e));
       stack = refl;
       few = omega arith;
@@ -1661,7 +1651,7 @@ turns_left r q true is_within first all (InnerLeft [] x inside between gone si s
     is.goes_on (λ e. absurd (no_false e)) (λ e. absurd (no_false e)) (omega (arith, few)) (ap not e) (λ sign m. refl)
     (subst (λ cs. Led q all (reading false (begins first) (awaits.End effect.Nothing) c cs among now) [] places last) (turned_is x inside e)
     (ended (other_side x ∷ inside) between (kept_turned x inside e gone si) sb refl)))
-turns_left r q true is_within first all (InnerLeft (y ∷ deep) x inside between gone si sb) declared n v c places last holds waits few_st few
+turns_left r q true is_within first all (InnerLeft (y ∷ deep) x inside between gone si sb) declared n c places last holds few_st few
     left none is still ended =
     let inner = conditionals (x ∷ inside) in
     let among = conditionals between in
@@ -1675,12 +1665,11 @@ turns_left r q true is_within first all (InnerLeft (y ∷ deep) x inside between
       base = c;
       stand = InnerLeft (other_side y ∷ deep) x inside between gone si sb;
       holds = holds;
-      waits = waits;
       is = refl;
       stack = refl;
       few = few_st;
     }))
-turns_left r q is_inner is_within first all (OuterLeft [] x between gone sb) declared n v c places last holds waits few_st few left none is
+turns_left r q is_inner is_within first all (OuterLeft [] x between gone sb) declared n c places last holds few_st few left none is
     still ended =
     let among = conditionals (x ∷ between) in
     let now = declared_first first declared in
@@ -1693,7 +1682,6 @@ turns_left r q is_inner is_within first all (OuterLeft [] x between gone sb) dec
       base = c;
       stand = OuterLeft [] (other_side x) between (left_still x e gone) sb;
       holds = holds;
-      waits = waits;
       is = ap (λ cs. at c [] cs (left_at false 0) now) (sym (still_is x between e));
       stack = refl;
       few = omega arith;
@@ -1704,7 +1692,7 @@ turns_left r q is_inner is_within first all (OuterLeft [] x between gone sb) dec
     is.goes_on (λ _. (refl, refl)) (λ _. (refl, refl)) (omega (arith, few)) (ap not e) (λ sign m. refl)
     (subst (λ cs. Led q all (reading false (begins first) (awaits.End effect.Nothing) c [] cs now) [] places last) (turned_is x between e)
     (ended [] (other_side x ∷ between) refl (kept_turned x between e gone sb) refl)))
-turns_left r q is_inner is_within first all (OuterLeft (y ∷ deep) x between gone sb) declared n v c places last holds waits few_st few left
+turns_left r q is_inner is_within first all (OuterLeft (y ∷ deep) x between gone sb) declared n c places last holds few_st few left
     none is still ended =
     let among = conditionals (x ∷ between) in
     let m = length deep in
@@ -1717,25 +1705,24 @@ turns_left r q is_inner is_within first all (OuterLeft (y ∷ deep) x between go
       base = c;
       stand = OuterLeft (other_side y ∷ deep) x between gone sb;
       holds = holds;
-      waits = waits;
       is = refl;
       stack = refl;
       few = few_st;
     }))
 
 pub closes_left : LeftLed word.Endif closed
-closes_left r q is_inner is_within first all (AllStay inside between si sb) declared n v c places last holds waits few_st few left none is
+closes_left r q is_inner is_within first all (AllStay inside between si sb) declared n c places last holds few_st few left none is
     still ended = absurd (let never : true ≡ false = sym (both_kept inside between si sb) ∙ left in cc)
-closes_left r q false is_within first all (InnerLeft deep x inside between gone si sb) declared n v c places last holds waits few_st few
+closes_left r q false is_within first all (InnerLeft deep x inside between gone si sb) declared n c places last holds few_st few
     left none is still ended = absurd (some_open deep x inside none)
-closes_left r q true is_within first all (InnerLeft [] x inside between gone si sb) declared n v c places last holds waits few_st few left
+closes_left r q true is_within first all (InnerLeft [] x inside between gone si sb) declared n c places last holds few_st few left
     none is still ended =
     let among = conditionals between in
     begins_end q true is_within word.Endif first.sign first.word all c (conditionals (x ∷ inside)) among (conditionals inside) among true
     declared places last is.begins is.is is.goes_on (λ e. absurd (no_false e)) (λ e. absurd (no_false e)) (omega (arith, few)) refl
     (λ sign m. refl)
     (ended inside between si sb refl)
-closes_left r q true is_within first all (InnerLeft (y ∷ deep) x inside between gone si sb) declared n v c places last holds waits few_st
+closes_left r q true is_within first all (InnerLeft (y ∷ deep) x inside between gone si sb) declared n c places last holds few_st
     few left none is still ended =
     let inner = conditionals (x ∷ inside) in
     let among = conditionals between in
@@ -1749,19 +1736,18 @@ closes_left r q true is_within first all (InnerLeft (y ∷ deep) x inside betwee
       base = c;
       stand = InnerLeft deep x inside between gone si sb;
       holds = holds;
-      waits = waits;
       is = refl;
       stack = refl;
       few =
           omega (arith, few_st);
     }))
-closes_left r q is_inner is_within first all (OuterLeft [] x between gone sb) declared n v c places last holds waits few_st few left none is
+closes_left r q is_inner is_within first all (OuterLeft [] x between gone sb) declared n c places last holds few_st few left none is
     still ended =
     let among = conditionals (x ∷ between) in
     begins_end q is_inner is_within word.Endif first.sign first.word all c [] among [] (conditionals between) false declared places last
     is.begins is.is is.goes_on (λ _. (refl, refl)) (λ _. (refl, refl)) (omega (arith, few)) refl (λ sign m. refl)
     (ended [] between refl sb refl)
-closes_left r q is_inner is_within first all (OuterLeft (y ∷ deep) x between gone sb) declared n v c places last holds waits few_st few left
+closes_left r q is_inner is_within first all (OuterLeft (y ∷ deep) x between gone sb) declared n c places last holds few_st few left
     none is still ended =
     let among = conditionals (x ∷ between) in
     let m = length deep in
@@ -1774,7 +1760,6 @@ closes_left r q is_inner is_within first all (OuterLeft (y ∷ deep) x between g
       base = c;
       stand = OuterLeft deep x between gone sb;
       holds = holds;
-      waits = waits;
       is = refl;
       stack = refl;
       few = omega
@@ -1783,22 +1768,22 @@ closes_left r q is_inner is_within first all (OuterLeft (y ∷ deep) x between g
 
 -- Parts
 
-abbrev last_part : Answers → Part → Around → ℕ → ℕ → List (List Conditional) → Last
-last_part d part s declared n v =
-    last_at (behind_part d part s) (declared_tokens (part_tokens part) declared) (n + length (part_tokens part)) v
+abbrev last_part : Answers → Part → Around → ℕ → ℕ → Last
+last_part d part s declared n =
+    last_at (behind_part d part s) (declared_tokens (part_tokens part) declared) (n + length (part_tokens part))
 
 abbrev StandLeads : Answers → Part → Type 0
-StandLeads d part = (r : Reader) (st : Stands) (declared n : ℕ) (v : List (List Conditional)) (c : Conditions) → Holds r c → c.waiting ≡ v →
+StandLeads d part = (r : Reader) (st : Stands) (declared n : ℕ) (c : Conditions) → Holds r c →
     levels_of st ≤ n → IsPart d (within r) (stack_of st) declared part
     → TakesAll r (kept_of part (stack_of st)) → n + length (part_tokens part) ≤ most_levels
     → Led r (part_tokens part) (stands_at c st declared) (kept_of part (stack_of st)) (told_of d part (stack_of st))
-    (last_part d part (stack_of st) declared n v)
+    (last_part d part (stack_of st) declared n)
 
 abbrev PartLeads : Answers → Part → Type 0
-PartLeads d part = (r : Reader) (s : Around) (declared n : ℕ) (v : List (List Conditional)) (c : Conditions) → StandsAt r
-    (last_at s declared n v) c → IsPart d (within r) s declared part → TakesAll r (kept_of part s)
+PartLeads d part = (r : Reader) (s : Around) (declared n : ℕ) (c : Conditions) → StandsAt r
+    (last_at s declared n) c → IsPart d (within r) s declared part → TakesAll r (kept_of part s)
     → n + length (part_tokens part) ≤ most_levels
-    → Led r (part_tokens part) c (kept_of part s) (told_of d part s) (last_part d part s declared n v)
+    → Led r (part_tokens part) c (kept_of part s) (told_of d part s) (last_part d part s declared n)
 
 -- where all is kept
 kept_only : (P : Stands → Type 0) →
@@ -1809,13 +1794,13 @@ kept_only P so (InnerLeft deep x inside between left si sb) e =
     absurd (let never : true ≡ false = sym e ∙ inner_not_kept deep x inside between left in cc)
 kept_only P so (OuterLeft deep x between left sb) e = absurd (let never : true ≡ false = sym e ∙ not_kept deep x between left in cc)
 
-abbrev stands_so : Reader → Stands → ℕ → ℕ → List (List Conditional) → Conditions → Type 0
-stands_so r st declared n v c = StandsAt r (last_at (stack_of st) declared n v) (stands_at c st declared)
+abbrev stands_so : Reader → Stands → ℕ → ℕ → Conditions → Type 0
+stands_so r st declared n c = StandsAt r (last_at (stack_of st) declared n) (stands_at c st declared)
 
-stands : (r : Reader) (st : Stands) (declared n : ℕ) (v : List (List Conditional)) (c : Conditions) → Holds r c → c.waiting ≡ v →
-    levels_of st ≤ n → stands_so r st declared n v c
-stands r st declared n v c holds waits few =
-    record { base = c; stand = st; holds = holds; waits = waits; is = refl; stack = refl; few = few }
+stands : (r : Reader) (st : Stands) (declared n : ℕ) (c : Conditions) → Holds r c →
+    levels_of st ≤ n → stands_so r st declared n c
+stands r st declared n c holds few =
+    record { base = c; stand = st; holds = holds; is = refl; stack = refl; few = few }
 
 pub told_so : (r : Reader) (all : List At) (c : Conditions) (tokens : List SourceToken) (places told : List Place) (last : Last) →
     places ≡ told → Led r all c tokens places last → Led r all c tokens told last
@@ -1825,13 +1810,13 @@ told_so r all c tokens places told last e is = subst (λ ps. Led r all c tokens 
 
 -- a condition takes one
 reads_one : (a : Awaits) (ks : List Condition) (is_inner : Bool) (place : Place) (others : List Pending) (t : At)
-    (inside between : List Open) (declared n : ℕ) (v : List (List Conditional)) (c : Conditions)
-    → c.pending ≡ directive is_inner place a ∷ others → c.conditions ≡ ks → c.waiting ≡ v → are_kept inside ≡ true → are_kept between ≡ true
+    (inside between : List Open) (declared n : ℕ) (c : Conditions)
+    → c.pending ≡ directive is_inner place a ∷ others → c.conditions ≡ ks → are_kept inside ≡ true → are_kept between ≡ true
     → TakenBy a t.token ks → IsPlain true true t
     → Led (Reads (directive is_inner place a) others ks) (t ∷ []) (at c (conditionals inside) (conditionals between) None declared)
     (t.token ∷ []) (missing_in t.ended (record { inside = inside; between = between }))
-    (last_at (ended_in t.ended (record { inside = inside; between = between })) (declared_behind t declared) n v)
-reads_one (awaits.Condition wanted) (k ∷ ks) is_inner place others t inside between declared n v c hp hk waits si sb is plain =
+    (last_at (ended_in t.ended (record { inside = inside; between = between })) (declared_behind t declared) n)
+reads_one (awaits.Condition wanted) (k ∷ ks) is_inner place others t inside between declared n c hp hk si sb is plain =
     let base = record c { pending = others; conditions = ks } in
     let inner = conditionals inside in
     let among = conditionals between in
@@ -1839,7 +1824,7 @@ reads_one (awaits.Condition wanted) (k ∷ ks) is_inner place others t inside be
     let quiet = t.site.is_quiet in
     let a = awaits.Condition wanted in
     let r = Reads (directive is_inner place a) others (k ∷ ks) in
-    let last = last_at (ended_in t.ended (record { inside = inside; between = between })) (declared_behind t declared) n v in
+    let last = last_at (ended_in t.ended (record { inside = inside; between = between })) (declared_behind t declared) n in
     let here = reading is_inner place a (with_condition k base) inner among declared in
     let now = asking_on place is_inner wanted next
     (saying quiet (too_much base.longest t.token next) (tokens_counted quiet next (at base inner among None declared))) in
@@ -1849,89 +1834,89 @@ reads_one (awaits.Condition wanted) (k ∷ ks) is_inner place others t inside be
     ∙ ap (λ ps. at (record c { pending = ps }) inner among None declared) (sym hp) in
     subst (λ (x : Conditions). Led r (t ∷ []) x (t.token ∷ []) missing last) same
     (takes r t here now missing last refl (next_goes is_inner wanted place t k base inner among declared plain.no_hash is.0 is.1)
-    (ended_stands (Reads (directive is_inner place a) others (next ∷ ks)) t.ended (AllStay inside between si sb) declared n v
-    (awaits_it is_inner place a (with_condition next (counted quiet next base))) (refl, refl) waits (omega arith))
+    (ended_stands (Reads (directive is_inner place a) others (next ∷ ks)) t.ended (AllStay inside between si sb) declared n
+    (awaits_it is_inner place a (with_condition next (counted quiet next base))) (refl, refl) (omega arith))
     (ended_told t.ended (AllStay inside between si sb) declared base))
-reads_one (awaits.Condition wanted) [] is_inner place others t inside between declared n v c hp hk waits si sb is plain = absurd is
-reads_one awaits.Word ks is_inner place others t inside between declared n v c hp hk waits si sb is plain = absurd is
-reads_one (awaits.Name if_declared) ks is_inner place others t inside between declared n v c hp hk waits si sb is plain = absurd is
-reads_one (awaits.End e) ks is_inner place others t inside between declared n v c hp hk waits si sb is plain = absurd is
+reads_one (awaits.Condition wanted) [] is_inner place others t inside between declared n c hp hk si sb is plain = absurd is
+reads_one awaits.Word ks is_inner place others t inside between declared n c hp hk si sb is plain = absurd is
+reads_one (awaits.Name if_declared) ks is_inner place others t inside between declared n c hp hk si sb is plain = absurd is
+reads_one (awaits.End e) ks is_inner place others t inside between declared n c hp hk si sb is plain = absurd is
 
-one_kept : (r : Reader) (t : At) (inside between : List Open) (declared n : ℕ) (v : List (List Conditional)) (c : Conditions) → Holds r c →
-    c.waiting ≡ v → are_kept inside ≡ true → are_kept between ≡ true
+one_kept : (r : Reader) (t : At) (inside between : List Open) (declared n : ℕ) (c : Conditions) → Holds r c →
+    are_kept inside ≡ true → are_kept between ≡ true
     → TakesAll r (t.token ∷ []) → IsPlain true (within r) t
     → Led r (t ∷ []) (at c (conditionals inside) (conditionals between) None declared) (t.token ∷ [])
     (missing_in t.ended (record { inside = inside; between = between }))
-    (last_at (ended_in t.ended (record { inside = inside; between = between })) (declared_behind t declared) n v)
-one_kept Hands t inside between declared n v c holds waits si sb takes plain =
+    (last_at (ended_in t.ended (record { inside = inside; between = between })) (declared_behind t declared) n)
+one_kept Hands t inside between declared n c holds si sb takes plain =
     keeps t (at c (conditionals inside) (conditionals between) None declared)
     (missing_in t.ended (record { inside = inside; between = between }))
-    (last_at (ended_in t.ended (record { inside = inside; between = between })) (declared_behind t declared) n v)
+    (last_at (ended_in t.ended (record { inside = inside; between = between })) (declared_behind t declared) n)
     (plain_kept t c (conditionals inside) (conditionals between) declared holds plain)
-    (ended_stands Hands t.ended (AllStay inside between si sb) declared n v c holds waits (omega arith))
+    (ended_stands Hands t.ended (AllStay inside between si sb) declared n c holds (omega arith))
     (ended_told t.ended (AllStay inside between si sb) declared c)
-one_kept (Reads p others ks) t inside between declared n v c holds waits si sb takes plain =
-    reads_one p.awaits ks p.is_inner p.place others t inside between declared n v c holds.0 holds.1 waits si sb takes.0 plain
+one_kept (Reads p others ks) t inside between declared n c holds si sb takes plain =
+    reads_one p.awaits ks p.is_inner p.place others t inside between declared n c holds.0 holds.1 si sb takes.0 plain
 
-abbrev plain_last : At → Around → ℕ → ℕ → List (List Conditional) → Last
-plain_last t s declared n v = last_at (ended_in t.ended s) (declared_behind t declared) n v
+abbrev plain_last : At → Around → ℕ → ℕ → Last
+plain_last t s declared n = last_at (ended_in t.ended s) (declared_behind t declared) n
 
-plain_gone : (d : Answers) (t : At) (r : Reader) (st : Stands) (declared n : ℕ) (v : List (List Conditional)) (c : Conditions) →
-    all_kept (stack_of st) ≡ false → Holds r c → c.waiting ≡ v → levels_of st ≤ n → IsPlain false (within r) t
+plain_gone : (d : Answers) (t : At) (r : Reader) (st : Stands) (declared n : ℕ) (c : Conditions) →
+    all_kept (stack_of st) ≡ false → Holds r c → levels_of st ≤ n → IsPlain false (within r) t
     → n + length (t ∷ []) ≤ most_levels → Led r (t ∷ []) (stands_at c st declared) (kept_of (Plain t) (stack_of st))
-    (missing_in t.ended (stack_of st)) (last_part d (Plain t) (stack_of st) declared n v)
-plain_gone d t r st declared n v c left holds waits few_st plain few =
+    (missing_in t.ended (stack_of st)) (last_part d (Plain t) (stack_of st) declared n)
+plain_gone d t r st declared n c left holds few_st plain few =
     subst (λ k. Led r (t ∷ []) (stands_at c st declared) (cond k (t.token ∷ []) []) (missing_in t.ended (stack_of st))
-    (last_part d (Plain t) (stack_of st) declared n v)) (sym left)
+    (last_part d (Plain t) (stack_of st) declared n)) (sym left)
     (relaxed r (t ∷ []) (stands_at c st declared) [] (missing_in t.ended (stack_of st)) (ended_in t.ended (stack_of st))
-    (declared_behind t declared) (declared_behind t declared) n (n + length (t ∷ [])) v refl (omega arith)
+    (declared_behind t declared) (declared_behind t declared) n (n + length (t ∷ [])) refl (omega arith)
     (told_so r (t ∷ []) (stands_at c st declared) [] (missing_in t.ended (stack_of st) ++ []) (missing_in t.ended (stack_of st))
-    (plain_last t (stack_of st) declared n v) (append-nil (missing_in t.ended (stack_of st)))
-    (left_token r (within r) t [] (stack_of st) declared n v (stands_at c st declared) [] [] (plain_last t (stack_of st) declared n v)
-    (stands r st declared n v c holds waits few_st) left plain (omega (arith, few))
-    (λ x e. rests r x (plain_last t (stack_of st) declared n v) e))))
+    (plain_last t (stack_of st) declared n) (append-nil (missing_in t.ended (stack_of st)))
+    (left_token r (within r) t [] (stack_of st) declared n (stands_at c st declared) [] [] (plain_last t (stack_of st) declared n)
+    (stands r st declared n c holds few_st) left plain (omega (arith, few))
+    (λ x e. rests r x (plain_last t (stack_of st) declared n) e))))
 
 plain_leads : (d : Answers) (t : At) → StandLeads d (Plain t)
-plain_leads d t r (AllStay inside between si sb) declared n v c holds waits few_st are takes few =
+plain_leads d t r (AllStay inside between si sb) declared n c holds few_st are takes few =
     let s : Around = record { inside = inside; between = between } in
     let here = at c (conditionals inside) (conditionals between) None declared in
     let all = both_kept inside between si sb in
     subst (λ k. TakesAll r (cond k (t.token ∷ []) []) → Led r (t ∷ []) here (cond k (t.token ∷ []) []) (missing_in t.ended s)
-    (last_part d (Plain t) s declared n v)) (sym all)
+    (last_part d (Plain t) s declared n)) (sym all)
     (λ taken_so. relaxed r (t ∷ []) here (t.token ∷ []) (missing_in t.ended s) (ended_in t.ended s) (declared_behind t declared)
-    (declared_behind t declared) n (n + length (t ∷ [])) v refl (omega arith)
-    (one_kept r t inside between declared n v c holds waits si sb taken_so (subst (λ k. IsPlain k (within r) t) all are))) takes
-plain_leads d t r (InnerLeft deep x inside between left si sb) declared n v c holds waits few_st are takes few =
-    plain_gone d t r (InnerLeft deep x inside between left si sb) declared n v c (inner_not_kept deep x inside between left) holds waits
+    (declared_behind t declared) n (n + length (t ∷ [])) refl (omega arith)
+    (one_kept r t inside between declared n c holds si sb taken_so (subst (λ k. IsPlain k (within r) t) all are))) takes
+plain_leads d t r (InnerLeft deep x inside between left si sb) declared n c holds few_st are takes few =
+    plain_gone d t r (InnerLeft deep x inside between left si sb) declared n c (inner_not_kept deep x inside between left) holds
     few_st (subst (λ k. IsPlain k (within r) t) (inner_not_kept deep x inside between left) are) few
-plain_leads d t r (OuterLeft deep x between left sb) declared n v c holds waits few_st are takes few =
-    plain_gone d t r (OuterLeft deep x between left sb) declared n v c (not_kept deep x between left) holds waits few_st
+plain_leads d t r (OuterLeft deep x between left sb) declared n c holds few_st are takes few =
+    plain_gone d t r (OuterLeft deep x between left sb) declared n c (not_kept deep x between left) holds few_st
     (subst (λ k. IsPlain k (within r) t) (not_kept deep x between left) are) few
 
 -- and those behind a `#`
 
-abbrev signed_last : At → At → Around → ℕ → ℕ → List (List Conditional) → Last
-signed_last sign t s declared n v =
-    last_at (ended_in t.ended s) (declared_behind t (declared_behind sign declared)) (n + length (sign ∷ t ∷ [])) v
+abbrev signed_last : At → At → Around → ℕ → ℕ → Last
+signed_last sign t s declared n =
+    last_at (ended_in t.ended s) (declared_behind t (declared_behind sign declared)) (n + length (sign ∷ t ∷ []))
 
 signed_left_led : (d : Answers) (is_inner : Bool) (sign t : At) (r : Reader) (st : Stands) (b : Bool) (m declared n : ℕ)
-    (v : List (List Conditional)) (c : Conditions) → left_of st ≡ left_at b m → m ≤ n → all_kept (stack_of st) ≡ false → CalmLeft is_inner
+    (c : Conditions) → left_of st ≡ left_at b m → m ≤ n → all_kept (stack_of st) ≡ false → CalmLeft is_inner
     (inner_of st) b
-    → Holds r c → c.waiting ≡ v → levels_of st ≤ n → IsSign is_inner sign → IsSignedPlain t → n + length (sign ∷ t ∷ []) ≤ most_levels
+    → Holds r c → levels_of st ≤ n → IsSign is_inner sign → IsSignedPlain t → n + length (sign ∷ t ∷ []) ≤ most_levels
     → Led r (sign ∷ t ∷ []) (stands_at c st declared) (kept_of (Signed is_inner sign t) (stack_of st)) (missing_in t.ended (stack_of st))
-    (last_part d (Signed is_inner sign t) (stack_of st) declared n v)
-signed_left_led d is_inner sign t r st b m declared n v c is_left_at few_m left calm holds waits few_st is plain few =
+    (last_part d (Signed is_inner sign t) (stack_of st) declared n)
+signed_left_led d is_inner sign t r st b m declared n c is_left_at few_m left calm holds few_st is plain few =
     let inner = inner_of st in
     let among = among_of st in
     let place = sign.token.place in
     let now = declared_behind sign declared in
     let here : ℕ → Conditions = at c inner among (left_at b m) in
     let held_back : ℕ → Conditions = state c (Some place) inner among (left_at b m) in
-    let last = last_part d (Signed is_inner sign t) (stack_of st) declared n v in
+    let last = last_part d (Signed is_inner sign t) (stack_of st) declared n in
     let same : here declared ≡ stands_at c st declared = ap (λ x. at c inner among x declared) (sym is_left_at) in
     let behind : StandsAt r last (ended_behind t.ended (here now)) =
     subst (λ x. StandsAt r last (ended_behind t.ended (at c inner among x now))) is_left_at
-    (ended_stands r t.ended st now (n + length (sign ∷ t ∷ [])) v c holds waits (omega (arith, few_st))) in
+    (ended_stands r t.ended st now (n + length (sign ∷ t ∷ [])) c holds (omega (arith, few_st))) in
     let missing = missing_in t.ended (stack_of st) in
     subst (λ k. Led r (sign ∷ t ∷ []) (stands_at c st declared) (cond k (hash place ∷ t.token ∷ []) []) missing last) (sym left)
     (subst (λ (x : Conditions). Led r (sign ∷ t ∷ []) x [] missing last) same
@@ -1944,9 +1929,9 @@ signed_left_led d is_inner sign t r st b m declared n v c is_left_at few_m left 
     (ended_told t.ended st now c) (rests r (ended_behind t.ended (here now)) last behind)))))
 
 signed_leads : (d : Answers) (is_inner : Bool) (sign t : At) → StandLeads d (Signed is_inner sign t)
-signed_leads d is_inner sign t (Reads p others ks) (AllStay inside between si sb) declared n v c holds waits few_st are takes few =
+signed_leads d is_inner sign t (Reads p others ks) (AllStay inside between si sb) declared n c holds few_st are takes few =
     absurd (let never : true ≡ false = sym (both_kept inside between si sb) ∙ are.1.1.1 refl in cc)
-signed_leads d true sign t Hands (AllStay inside between si sb) declared n v c holds waits few_st are takes few =
+signed_leads d true sign t Hands (AllStay inside between si sb) declared n c holds few_st are takes few =
     let s : Around = record { inside = inside; between = between } in
     let inner = conditionals inside in
     let among = conditionals between in
@@ -1955,7 +1940,7 @@ signed_leads d true sign t Hands (AllStay inside between si sb) declared n v c h
     let now = declared_behind sign declared in
     let all = both_kept inside between si sb in
     let is = subst (λ k. Begins k true false (Some sign) t) all are.0 in
-    let last = last_part d (Signed true sign t) s declared n v in
+    let last = last_part d (Signed true sign t) s declared n in
     let both = hash place ∷ t.token ∷ [] in
     let missing = missing_in t.ended s in
     subst (λ k. Led Hands (sign ∷ t ∷ []) here (cond k both []) missing last) (sym all)
@@ -1965,9 +1950,9 @@ signed_leads d true sign t Hands (AllStay inside between si sb) declared n v c h
     (mid true sign c (Some place) inner among None declared is.1.goes_on (λ e. absurd (no_false e)))
     (keeps_both t place (state c (Some place) inner among None now) (at (given_up_so c) inner among None now) missing last
     (inside_kept place t c inner among now holds are.1.1.0)
-    (ended_stands Hands t.ended (AllStay inside between si sb) now (n + length (sign ∷ t ∷ [])) v (given_up_so c) refl waits (omega arith))
+    (ended_stands Hands t.ended (AllStay inside between si sb) now (n + length (sign ∷ t ∷ [])) (given_up_so c) refl (omega arith))
     (ended_told t.ended (AllStay inside between si sb) now (given_up_so c))))
-signed_leads d false sign t Hands (AllStay [] between si sb) declared n v c holds waits few_st are takes few =
+signed_leads d false sign t Hands (AllStay [] between si sb) declared n c holds few_st are takes few =
     let s : Around = record { inside = []; between = between } in
     let among = conditionals between in
     let here = at c [] among None declared in
@@ -1975,7 +1960,7 @@ signed_leads d false sign t Hands (AllStay [] between si sb) declared n v c hold
     let now = declared_behind sign declared in
     let all = both_kept [] between si sb in
     let is = subst (λ k. Begins k false false (Some sign) t) all are.0 in
-    let last = last_part d (Signed false sign t) s declared n v in
+    let last = last_part d (Signed false sign t) s declared n in
     let both = hash place ∷ t.token ∷ [] in
     let missing = missing_in t.ended s in
     subst (λ k. Led Hands (sign ∷ t ∷ []) here (cond k both []) missing last) (sym all)
@@ -1985,22 +1970,22 @@ signed_leads d false sign t Hands (AllStay [] between si sb) declared n v c hold
     (mid false sign (awaits_it false place awaits.Word c) None [] among None declared tt (λ _. (refl, refl)))
     (keeps_both t place (reading false place awaits.Word c [] among now) (at c [] among None now) missing last
     (front_kept place t c [] among now are.1.1.0)
-    (ended_stands Hands t.ended (AllStay [] between si sb) now (n + length (sign ∷ t ∷ [])) v c holds waits (omega arith))
+    (ended_stands Hands t.ended (AllStay [] between si sb) now (n + length (sign ∷ t ∷ [])) c holds (omega arith))
     (ended_told t.ended (AllStay [] between si sb) now c)))
-signed_leads d false sign t Hands (AllStay (y ∷ inside) between si sb) declared n v c holds waits few_st are takes few =
+signed_leads d false sign t Hands (AllStay (y ∷ inside) between si sb) declared n c holds few_st are takes few =
     absurd (some_open [] y inside are.1.0)
-signed_leads d false sign t r (InnerLeft deep x inside between left si sb) declared n v c holds waits few_st are takes few =
+signed_leads d false sign t r (InnerLeft deep x inside between left si sb) declared n c holds few_st are takes few =
     absurd (some_open deep x inside are.1.0)
-signed_leads d true sign t r (InnerLeft deep x inside between left si sb) declared n v c holds waits few_st are takes few =
+signed_leads d true sign t r (InnerLeft deep x inside between left si sb) declared n c holds few_st are takes few =
     let gone = inner_not_kept deep x inside between left in
     let is = subst (λ k. Begins k true (within r) (Some sign) t) gone are.0 in
-    signed_left_led d true sign t r (InnerLeft deep x inside between left si sb) true (length deep) declared n v c refl few_st gone
-    (λ e. absurd (no_false e)) holds waits few_st is are.1.1.0 few
-signed_leads d is_inner sign t r (OuterLeft deep x between left sb) declared n v c holds waits few_st are takes few =
+    signed_left_led d true sign t r (InnerLeft deep x inside between left si sb) true (length deep) declared n c refl few_st gone
+    (λ e. absurd (no_false e)) holds few_st is are.1.1.0 few
+signed_leads d is_inner sign t r (OuterLeft deep x between left sb) declared n c holds few_st are takes few =
     let gone = not_kept deep x between left in
     let is = subst (λ k. Begins k is_inner (within r) (Some sign) t) gone are.0 in
-    signed_left_led d is_inner sign t r (OuterLeft deep x between left sb) false (length deep) declared n v c refl few_st gone
-    (λ _. (refl, refl)) holds waits few_st is are.1.1.0 few
+    signed_left_led d is_inner sign t r (OuterLeft deep x between left sb) false (length deep) declared n c refl few_st gone
+    (λ _. (refl, refl)) holds few_st is are.1.1.0 few
 
 -- A `#` before another one
 
@@ -2092,14 +2077,14 @@ next_of is_kept is_inner part follows = go is_kept is_inner (first_sign part) re
         let all = begins_with part next e in record { next = next; rest = all.0; is = all.1; hash = follows; inside = λ never. cc }
 
 before_left_led : (d : Answers) (is_inner : Bool) (sign : At) (part : Part) → PartLeads d part →
-    (r : Reader) (st : Stands) (b : Bool) (m declared n : ℕ) (v : List (List Conditional)) (c : Conditions) → left_of st ≡ left_at b m →
+    (r : Reader) (st : Stands) (b : Bool) (m declared n : ℕ) (c : Conditions) → left_of st ≡ left_at b m →
     m ≤ n → all_kept (stack_of st) ≡ false → CalmLeft is_inner (inner_of st) b
-    → Holds r c → c.waiting ≡ v → levels_of st ≤ n → IsSign is_inner sign → Follows false is_inner (first_sign part) → IsPart d (within r)
+    → Holds r c → levels_of st ≤ n → IsSign is_inner sign → Follows false is_inner (first_sign part) → IsPart d (within r)
     (stack_of st) (declared_behind sign declared) part
     → TakesAll r (kept_of part (stack_of st)) → n + length (sign ∷ part_tokens part) ≤ most_levels
     → Led r (sign ∷ part_tokens part) (stands_at c st declared) (kept_of (Before is_inner sign part) (stack_of st))
-    (told_of d part (stack_of st)) (last_part d (Before is_inner sign part) (stack_of st) declared n v)
-before_left_led d is_inner sign part leads r st b m declared n v c is_left_at few_m left calm holds waits few_st is follows is_part takes
+    (told_of d part (stack_of st)) (last_part d (Before is_inner sign part) (stack_of st) declared n)
+before_left_led d is_inner sign part leads r st b m declared n c is_left_at few_m left calm holds few_st is follows is_part takes
     few =
     let s = stack_of st in
     let inner = inner_of st in
@@ -2109,15 +2094,15 @@ before_left_led d is_inner sign part leads r st b m declared n v c is_left_at fe
     let all = part_tokens part in
     let here : ℕ → Conditions = at c inner among (left_at b m) in
     let held_back : ℕ → Conditions = state c (Some place) inner among (left_at b m) in
-    let last = last_part d part s now n v in
-    let last_so = last_part d (Before is_inner sign part) s declared n v in
+    let last = last_part d part s now n in
+    let last_so = last_part d (Before is_inner sign part) s declared n in
     let kept_so = kept_of part s in
     let places = told_of d part s in
     let next = next_of false is_inner part follows in
     let few_so : n + length all ≤ most_levels = omega (arith, few) in
     let rest : Led r all (here now) kept_so places last =
     subst (λ x. Led r all (at c inner among x now) kept_so places last) is_left_at
-    (leads r s now n v (stands_at c st now) (stands r st now n v c holds waits few_st) is_part takes few_so) in
+    (leads r s now n (stands_at c st now) (stands r st now n c holds few_st) is_part takes few_so) in
     let same : (declared : ℕ) → here declared ≡ stands_at c st declared =
     λ declared. ap (λ x. at c inner among x declared) (sym is_left_at) in
     let again : Led r all (held_back now) kept_so places last =
@@ -2128,7 +2113,7 @@ before_left_led d is_inner sign part leads r st b m declared n v c is_left_at fe
     (subst (λ ts. Led r ts (here now) kept_so places last) next.is rest)) in
     subst (λ k. Led r (sign ∷ all) (stands_at c st declared) (cond k (hash place ∷ []) [] ++ kept_so) places last_so) (sym left)
     (subst (λ (x : Conditions). Led r (sign ∷ all) x kept_so places last_so) (same declared)
-    (relaxed r (sign ∷ all) (here declared) kept_so places last.around last.declared last_so.declared last.levels last_so.levels v refl
+    (relaxed r (sign ∷ all) (here declared) kept_so places last.around last.declared last_so.declared last.levels last_so.levels refl
     (omega arith)
     (goes_by r sign all (here declared) (held_back declared) (held_back now) kept_so places last
     (sign_left sign None c inner among b m declared is.is (omega (arith, few, few_m)))
@@ -2136,12 +2121,12 @@ before_left_led d is_inner sign part leads r st b m declared n v c is_left_at fe
     again)))
 
 before_leads : (d : Answers) (is_inner : Bool) (sign : At) (part : Part) → PartLeads d part → StandLeads d (Before is_inner sign part)
-before_leads d is_inner sign part leads (Reads p others ks) (AllStay inside between si sb) declared n v c holds waits few_st are takes few =
+before_leads d is_inner sign part leads (Reads p others ks) (AllStay inside between si sb) declared n c holds few_st are takes few =
     absurd (let never : true ≡ false = sym (both_kept inside between si sb) ∙ are.1.1.0 refl in cc)
-before_leads d false sign part leads Hands (AllStay inside between si sb) declared n v c holds waits few_st are takes few =
+before_leads d false sign part leads Hands (AllStay inside between si sb) declared n c holds few_st are takes few =
     absurd (no_false (sym ((next_of true false part (subst (λ k. Follows k false (first_sign part)) (both_kept inside between si sb)
     are.1.1.1.0)).inside refl).0))
-before_leads d true sign part leads Hands (AllStay inside between si sb) declared n v c holds waits few_st are takes few =
+before_leads d true sign part leads Hands (AllStay inside between si sb) declared n c holds few_st are takes few =
     let s : Around = record { inside = inside; between = between } in
     let inner = conditionals inside in
     let among = conditionals between in
@@ -2152,42 +2137,42 @@ before_leads d true sign part leads Hands (AllStay inside between si sb) declare
     let is = subst (λ k. Begins k true false (Some sign) sign) stays are.0 in
     let next = next_of true true part (subst (λ k. Follows k true (first_sign part)) stays are.1.1.1.0) in
     let all = part_tokens part in
-    let last = last_part d part s now n v in
-    let last_so = last_part d (Before true sign part) s declared n v in
+    let last = last_part d part s now n in
+    let last_so = last_part d (Before true sign part) s declared n in
     let kept_so = kept_of part s in
     let places = told_of d part s in
     let few_so : n + length all ≤ most_levels = omega (arith, few) in
     let there = at (given_up_so c) inner among None now in
     let held_back = state c (Some place) inner among None now in
     let rest : Led Hands all there kept_so places last =
-    leads Hands s now n v there (stands Hands (AllStay inside between si sb) now n v (given_up_so c) refl waits few_st) are.1.1.1.1
+    leads Hands s now n there (stands Hands (AllStay inside between si sb) now n (given_up_so c) refl few_st) are.1.1.1.1
     (all_taken kept_so) few_so in
     let on : Led Hands all held_back (hash place ∷ kept_so) places last =
     subst (λ ts. Led Hands ts held_back (hash place ∷ kept_so) places last) (sym next.is)
     (kept_first place next.next next.rest c inner among now kept_so places last holds next.hash (next.inside refl).1
     (subst (λ ts. Led Hands ts there kept_so places last) next.is rest)) in
     subst (λ k. Led Hands (sign ∷ all) here (cond k (hash place ∷ []) [] ++ kept_so) places last_so) (sym stays)
-    (relaxed Hands (sign ∷ all) here (hash place ∷ kept_so) places last.around last.declared last_so.declared last.levels last_so.levels v
+    (relaxed Hands (sign ∷ all) here (hash place ∷ kept_so) places last.around last.declared last_so.declared last.levels last_so.levels
     refl (omega arith)
     (goes_by Hands sign all here (state c (Some place) inner among None declared) held_back (hash place ∷ kept_so) places last
     (sign_inner sign c inner among declared (inner_front Hands sign c holds is.0) is.1.is)
     (mid true sign c (Some place) inner among None declared is.1.goes_on (λ e. absurd (no_false e)))
     on))
-before_leads d false sign part leads r (InnerLeft deep x inside between left si sb) declared n v c holds waits few_st are takes few =
+before_leads d false sign part leads r (InnerLeft deep x inside between left si sb) declared n c holds few_st are takes few =
     absurd (some_open deep x inside are.1.0)
-before_leads d true sign part leads r (InnerLeft deep x inside between left si sb) declared n v c holds waits few_st are takes few =
+before_leads d true sign part leads r (InnerLeft deep x inside between left si sb) declared n c holds few_st are takes few =
     let gone = inner_not_kept deep x inside between left in
     let is = subst (λ k. Begins k true (within r) (Some sign) sign) gone are.0 in
-    before_left_led d true sign part leads r (InnerLeft deep x inside between left si sb) true (length deep) declared n v c refl few_st gone
-    (λ e. absurd (no_false e)) holds waits few_st is
+    before_left_led d true sign part leads r (InnerLeft deep x inside between left si sb) true (length deep) declared n c refl few_st gone
+    (λ e. absurd (no_false e)) holds few_st is
     (subst (λ k. Follows k true (first_sign part)) gone are.1.1.1.0) are.1.1.1.1
     (subst (λ k. TakesAll r (cond k (hash sign.token.place ∷ []) [] ++ kept_of part (record
     { inside = deep ++ x ∷ inside; between = between }))) gone takes) few
-before_leads d is_inner sign part leads r (OuterLeft deep x between left sb) declared n v c holds waits few_st are takes few =
+before_leads d is_inner sign part leads r (OuterLeft deep x between left sb) declared n c holds few_st are takes few =
     let gone = not_kept deep x between left in
     let is = subst (λ k. Begins k is_inner (within r) (Some sign) sign) gone are.0 in
-    before_left_led d is_inner sign part leads r (OuterLeft deep x between left sb) false (length deep) declared n v c refl few_st gone
-    (λ _. (refl, refl)) holds waits few_st is
+    before_left_led d is_inner sign part leads r (OuterLeft deep x between left sb) false (length deep) declared n c refl few_st gone
+    (λ _. (refl, refl)) holds few_st is
     (subst (λ k. Follows k is_inner (first_sign part)) gone are.1.1.1.0) are.1.1.1.1
     (subst (λ k. TakesAll r (cond k (hash sign.token.place ∷ []) [] ++ kept_of part (record
     { inside = []; between = deep ++ x ∷ between }))) gone takes) few
@@ -2195,14 +2180,14 @@ before_leads d is_inner sign part leads r (OuterLeft deep x between left sb) dec
 -- A `#` that begins a directive
 
 fronted_leads : (d : Answers) (sign : At) (parts : Parts) (t : At) → Leads d parts → StandLeads d (Fronted sign parts t)
-fronted_leads d sign parts t leads (Reads p others ks) st declared n v c holds waits few_st are takes few = absurd are.1.0
-fronted_leads d sign parts t leads Hands (AllStay (y ∷ inside) between si sb) declared n v c holds waits few_st are takes few =
+fronted_leads d sign parts t leads (Reads p others ks) st declared n c holds few_st are takes few = absurd are.1.0
+fronted_leads d sign parts t leads Hands (AllStay (y ∷ inside) between si sb) declared n c holds few_st are takes few =
     absurd (some_open [] y inside are.1.1.0)
-fronted_leads d sign parts t leads Hands (InnerLeft deep x inside between left si sb) declared n v c holds waits few_st are takes few =
+fronted_leads d sign parts t leads Hands (InnerLeft deep x inside between left si sb) declared n c holds few_st are takes few =
     absurd (some_open deep x inside are.1.1.0)
-fronted_leads d sign parts t leads Hands (OuterLeft deep x between left sb) declared n v c holds waits few_st are takes few =
+fronted_leads d sign parts t leads Hands (OuterLeft deep x between left sb) declared n c holds few_st are takes few =
     absurd (let never : true ≡ false = sym are.0 ∙ not_kept deep x between left in cc)
-fronted_leads d sign parts t leads Hands (AllStay [] between si sb) declared n v c holds waits few_st are takes few =
+fronted_leads d sign parts t leads Hands (AllStay [] between si sb) declared n c holds few_st are takes few =
     let s : Around = record { inside = []; between = between } in
     let among = conditionals between in
     let here = at c [] among None declared in
@@ -2213,38 +2198,37 @@ fronted_leads d sign parts t leads Hands (AllStay [] between si sb) declared n v
     let p = directive false place awaits.Word in
     let adds = are.1.1.1.0.1 in
     let tokens = kept_sides d s parts in
-    let l = last_behind d parts s now n v in
+    let l = last_behind d parts s now n in
     let m = n + length (sign ∷ (all_tokens parts ++ t ∷ [])) in
-    let last = last_at (ended_in t.ended l.around) (declared_behind t l.declared) m v in
+    let last = last_at (ended_in t.ended l.around) (declared_behind t l.declared) m in
     let missing = missing_in t.ended l.around in
     let sum = length_both (all_tokens parts) (t ∷ []) in
     let start = reading false place awaits.Word c [] among now in
     relaxed Hands (sign ∷ (all_tokens parts ++ t ∷ [])) here both (told_parts d s parts ++ missing) last.around last.declared
-    (declared_tokens (sign ∷ (all_tokens parts ++ t ∷ [])) declared) m m v
+    (declared_tokens (sign ∷ (all_tokens parts ++ t ∷ [])) declared) m m
     (sym (declared_both (all_tokens parts) (t ∷ []) now)) (omega arith)
     (goes_by Hands sign (all_tokens parts ++ t ∷ []) here (reading false place awaits.Word c [] among declared) start both
     (told_parts d s parts ++ missing) last
     (sign_kept sign c [] among declared (outer_front sign c holds are.1.0.0) are.1.0.1.is)
     (mid false sign (awaits_it false place awaits.Word c) None [] among None declared tt (λ _. (refl, refl)))
-    (within_led_so both d parts leads Hands (t ∷ []) false place awaits.Word c ks ks s now n v start missing last
+    (within_led_so both d parts leads Hands (t ∷ []) false place awaits.Word c ks ks s now n start missing last
     (record {
       base = awaits_it false place awaits.Word c;
       stand = AllStay [] between si sb;
       holds = (refl, refl);
-      waits = waits;
       is = refl;
       stack = refl;
       few = omega arith;
     })
     are.0 are.1.1.1.0.0 adds.0 (takes_none tokens (Reads p c.pending ks) adds.1) (reads_none tokens (Reads p c.pending ks) adds.1)
     (omega (arith, few, sum))
-    (λ base waits_so bi bb.
+    (λ base bi bb.
     let after = record base { pending = c.pending; conditions = ks } in
     let i = conditionals l.around.inside in
     let b = conditionals l.around.between in
     keeps_both t place (reading false place awaits.Word after i b l.declared) (at after i b None l.declared) missing last
     (front_kept place t after i b l.declared are.1.1.1.1)
-    (ended_stands Hands t.ended (AllStay l.around.inside l.around.between bi bb) l.declared m v after holds waits_so (omega arith))
+    (ended_stands Hands t.ended (AllStay l.around.inside l.around.between bi bb) l.declared m after holds (omega arith))
     (ended_told t.ended (AllStay l.around.inside l.around.between bi bb) l.declared after))))
 
 -- What is led behind a `#` is so from where that is held back.
@@ -2283,14 +2267,14 @@ front_led r sign all c inner among declared tokens places last none front hash g
 
 word_leads : (d : Answers) (sign : At) (parts : Parts) (part : Part) → Leads d parts → PartLeads d part →
     StandLeads d (FrontedWord sign parts part)
-word_leads d sign parts part leads leads_part (Reads p others ks) st declared n v c holds waits few_st are takes few = absurd are.1.0
-word_leads d sign parts part leads leads_part Hands (AllStay (y ∷ inside) between si sb) declared n v c holds waits few_st are takes few =
+word_leads d sign parts part leads leads_part (Reads p others ks) st declared n c holds few_st are takes few = absurd are.1.0
+word_leads d sign parts part leads leads_part Hands (AllStay (y ∷ inside) between si sb) declared n c holds few_st are takes few =
     absurd (some_open [] y inside are.1.1.0)
-word_leads d sign parts part leads leads_part Hands (InnerLeft deep x inside between left si sb) declared n v c holds waits few_st are takes
+word_leads d sign parts part leads leads_part Hands (InnerLeft deep x inside between left si sb) declared n c holds few_st are takes
     few = absurd (some_open deep x inside are.1.1.0)
-word_leads d sign parts part leads leads_part Hands (OuterLeft deep x between left sb) declared n v c holds waits few_st are takes few =
+word_leads d sign parts part leads leads_part Hands (OuterLeft deep x between left sb) declared n c holds few_st are takes few =
     absurd (let never : true ≡ false = sym are.0 ∙ not_kept deep x between left in cc)
-word_leads d sign parts part leads leads_part Hands (AllStay [] between si sb) declared n v c holds waits few_st are takes few =
+word_leads d sign parts part leads leads_part Hands (AllStay [] between si sb) declared n c holds few_st are takes few =
     let s : Around = record { inside = []; between = between } in
     let among = conditionals between in
     let here = at c [] among None declared in
@@ -2301,9 +2285,9 @@ word_leads d sign parts part leads leads_part Hands (AllStay [] between si sb) d
     let adds = are.1.1.1.0.1 in
     let goes = are.1.1.1.1.0.1 in
     let tokens = kept_sides d s parts in
-    let l = last_behind d parts s now n v in
-    let last = last_part d part l.around l.declared l.levels v in
-    let last_so = last_part d (FrontedWord sign parts part) s declared n v in
+    let l = last_behind d parts s now n in
+    let last = last_part d part l.around l.declared l.levels in
+    let last_so = last_part d (FrontedWord sign parts part) s declared n in
     let more = begins_with part sign are.1.1.1.1.0.0 in
     let rest = drop 1 (part_tokens part) in
     let is_rest : part_tokens part ≡ sign ∷ rest = more.1 ∙ ap (λ ts. sign ∷ drop 1 ts) (sym more.1) in
@@ -2316,24 +2300,23 @@ word_leads d sign parts part leads leads_part Hands (AllStay [] between si sb) d
     let declared_so : last.declared ≡ declared_tokens toks declared =
     ap (λ ts. declared_tokens ts l.declared) is_rest ∙ ap (λ e. declared_tokens rest (unwrap_or e l.declared)) goes
     ∙ sym (declared_both (all_tokens parts) rest now) in
-    relaxed Hands toks here [] places last.around last.declared (declared_tokens toks declared) last.levels (n + length toks) v declared_so
+    relaxed Hands toks here [] places last.around last.declared (declared_tokens toks declared) last.levels (n + length toks) declared_so
     (omega (arith, sum, sum_part))
     (goes_by Hands sign (all_tokens parts ++ rest) here (reading false place awaits.Word c [] among declared) start [] places last
     (sign_kept sign c [] among declared (outer_front sign c holds are.1.0.0) are.1.0.1.is)
     (mid false sign (awaits_it false place awaits.Word c) None [] among None declared tt (λ _. (refl, refl)))
-    (within_led d parts leads Hands rest false place awaits.Word c ks ks s now n v start told_part last
+    (within_led d parts leads Hands rest false place awaits.Word c ks ks s now n start told_part last
     (record {
       base = awaits_it false place awaits.Word c;
       stand = AllStay [] between si sb;
       holds = (refl, refl);
-      waits = waits;
       is = refl;
       stack = refl;
       few = omega arith;
     })
     are.0 are.1.1.1.0.0 adds.0 (takes_none tokens (Reads p c.pending ks) adds.1) (reads_none tokens (Reads p c.pending ks) adds.1)
     (omega (arith, few, sum))
-    (λ base waits_so bi bb.
+    (λ base bi bb.
     let after = record base { pending = c.pending; conditions = ks } in
     let i = conditionals l.around.inside in
     let b = conditionals l.around.between in
@@ -2341,12 +2324,11 @@ word_leads d sign parts part leads leads_part Hands (AllStay [] between si sb) d
     let kept_so = kept_of part l.around in
     let none_kept = are.1.1.1.1.1.0 in
     let is : Led Hands (part_tokens part) there kept_so told_part last =
-    leads_part Hands l.around l.declared l.levels v there
+    leads_part Hands l.around l.declared l.levels there
     (record {
       base = after;
       stand = AllStay l.around.inside l.around.between bi bb;
       holds = holds;
-      waits = waits_so;
       is = refl;
       stack =
           refl;
@@ -2424,28 +2406,28 @@ ending_places w act d first parts end s k =
     told_parts d (cond k s (act s)) parts ++ (lone_at w first end (cond k (behind_parts d s parts) s) ++ missing_in end.ended
     (cond k (act (behind_parts d s parts)) (behind_parts d (act s) parts)))
 
-abbrev ending_last : (Around → Around) → Answers → First → Parts → At → ℕ → ℕ → List (List Conditional) → Around → Bool → Last
-ending_last act d first parts end declared n v s k =
+abbrev ending_last : (Around → Around) → Answers → First → Parts → At → ℕ → ℕ → Around → Bool → Last
+ending_last act d first parts end declared n s k =
     last_at (ended_in end.ended (cond k (act (behind_parts d s parts)) (behind_parts d (act s) parts)))
     (declared_tokens (directive_tokens first (all_tokens parts) end) declared)
-    (n + length (directive_tokens first (all_tokens parts) end)) v
+    (n + length (directive_tokens first (all_tokens parts) end))
 
 abbrev EndingLed : ConditionalWord → (Around → Around) → Answers → Bool → First → Parts → At → Reader → Stands → ℕ → ℕ →
-    List (List Conditional) → Conditions → Bool → Type 0
-EndingLed w act d is_inner first parts end r st declared n v c k =
+    Conditions → Bool → Type 0
+EndingLed w act d is_inner first parts end r st declared n c k =
     EndingIs w act d (within r) is_inner first parts end declared (stack_of st) k
     → Led r (directive_tokens first (all_tokens parts) end) (stands_at c st declared) []
-    (ending_places w act d first parts end (stack_of st) k) (ending_last act d first parts end declared n v (stack_of st) k)
+    (ending_places w act d first parts end (stack_of st) k) (ending_last act d first parts end declared n (stack_of st) k)
 
 ending_kept : (w : ConditionalWord) (act : Around → Around) (e : Effect) →
     ((t : SourceToken) (place : Place) (is_inner : Bool) (c : Conditions) → begun w t place is_inner c ≡ passed
     (awaiting place is_inner (awaits.End e) c)) → LastLed w act e
     → (d : Answers) (is_inner : Bool) (first : First) (parts : Parts) (end : At) → Leads d parts → (r : Reader) (declared n : ℕ)
-    (v : List (List Conditional)) (c : Conditions) → Holds r c → c.waiting ≡ v
+    (c : Conditions) → Holds r c
     → n + length (directive_tokens first (all_tokens parts) end) ≤ most_levels
     → (inside between : List Open) (si : are_kept inside ≡ true) (sb : are_kept between ≡ true) → EndingLed w act d is_inner first parts end
-    r (AllStay inside between si sb) declared n v c true
-ending_kept w act e begins_so last_led d is_inner first parts end leads r declared n v c holds waits few inside between si sb are =
+    r (AllStay inside between si sb) declared n c true
+ending_kept w act e begins_so last_led d is_inner first parts end leads r declared n c holds few inside between si sb are =
     let s : Around = record { inside = inside; between = between } in
     let tokens = all_tokens parts in
     let all = both_kept inside between si sb in
@@ -2455,9 +2437,9 @@ ending_kept w act e begins_so last_led d is_inner first parts end leads r declar
     let inner = conditionals inside in
     let among_now = conditionals between in
     let start = reading is_inner place a c inner among_now now in
-    let l = last_behind d parts s now n v in
+    let l = last_behind d parts s now n in
     let m = n + length (directive_tokens first tokens end) in
-    let last = last_at (ended_in end.ended (act l.around)) (declared_behind end l.declared) m v in
+    let last = last_at (ended_in end.ended (act l.around)) (declared_behind end l.declared) m in
     let kept_so = kept_sides d s parts in
     let p = directive is_inner place a in
     let less = fewer first (tokens ++ end ∷ []) in
@@ -2465,12 +2447,11 @@ ending_kept w act e begins_so last_led d is_inner first parts end leads r declar
     let places_end = lone_at w first end l.around ++ missing_in end.ended (act l.around) in
     let places = told_parts d s parts ++ places_end in
     let rest : Led r (tokens ++ end ∷ []) start [] places last =
-    within_led d parts leads r (end ∷ []) is_inner place a c c.conditions c.conditions s now n v start places_end last
+    within_led d parts leads r (end ∷ []) is_inner place a c c.conditions c.conditions s now n start places_end last
     (record {
       base = awaits_it is_inner place a c;
       stand = AllStay inside between si sb;
       holds = (refl, refl);
-      waits = waits;
       is = refl;
       stack = refl;
       few = omega arith;
@@ -2478,10 +2459,10 @@ ending_kept w act e begins_so last_led d is_inner first parts end leads r declar
     all (among_kept d (within r) s now parts all are.1.1.0.0) are.1.1.0.1.0
     (takes_none kept_so (Reads p c.pending c.conditions) are.1.1.0.1.1)
     (reads_none kept_so (Reads p c.pending c.conditions) are.1.1.0.1.1) (omega (arith, few, less, sum))
-    (λ base bw bi bb. last_led r is_inner first end l.around.inside l.around.between l.declared m v
-    (record base { pending = c.pending; conditions = c.conditions }) (holds_on r c base holds) bw bi bb are.1.1.1) in
+    (λ base bi bb. last_led r is_inner first end l.around.inside l.around.between l.declared m
+    (record base { pending = c.pending; conditions = c.conditions }) (holds_on r c base holds) bi bb are.1.1.1) in
     relaxed r (directive_tokens first tokens end) (at c inner among_now None declared) [] places (ended_in end.ended (act l.around))
-    (declared_behind end l.declared) (declared_tokens (directive_tokens first tokens end) declared) m m v
+    (declared_behind end l.declared) (declared_tokens (directive_tokens first tokens end) declared) m m
     (last_declared first tokens end declared) (omega arith)
     (begins_kept r r is_inner w a first.sign first.word (tokens ++ end ∷ []) c c inner among_now declared places last holds are.0.begins
     are.0.is (mids_of is_inner (within r) w first s are.0 are.1.0)
@@ -2489,17 +2470,17 @@ ending_kept w act e begins_so last_led d is_inner first parts end leads r declar
 
 ending_left : (w : ConditionalWord) (act : Around → Around) → LeftLed w act
     → (d : Answers) (is_inner : Bool) (first : First) (parts : Parts) (end : At) → Leads d parts → (r : Reader) (st : Stands)
-    (declared n : ℕ) (v : List (List Conditional)) (c : Conditions) → Holds r c → c.waiting ≡ v → levels_of st ≤ n
+    (declared n : ℕ) (c : Conditions) → Holds r c → levels_of st ≤ n
     → n + length (directive_tokens first (all_tokens parts) end) ≤ most_levels → all_kept (stack_of st) ≡ false → EndingLed w act d is_inner
-    first parts end r st declared n v c false
-ending_left w act left_word d is_inner first parts end leads r st declared n v c holds waits few_st few left are =
+    first parts end r st declared n c false
+ending_left w act left_word d is_inner first parts end leads r st declared n c holds few_st few left are =
     let s = stack_of st in
     let x = act s in
     let tokens = all_tokens parts in
     let place = begins first in
     let now = declared_first first declared in
-    let l = last_behind d parts x now n v in
-    let last = last_at (ended_in end.ended l.around) (declared_behind end l.declared) l.levels v in
+    let l = last_behind d parts x now n in
+    let last = last_at (ended_in end.ended l.around) (declared_behind end l.declared) l.levels in
     let kept_so = kept_sides d x parts in
     let less = fewer first (tokens ++ end ∷ []) in
     let sum = length_both tokens (end ∷ []) in
@@ -2509,11 +2490,11 @@ ending_left w act left_word d is_inner first parts end leads r st declared n v c
     let places = told_parts d x parts ++ (alone ++ missing) in
     let told_end : missing ++ [] ≡ alone ++ missing = append-nil missing ∙ ap (λ ps. ps ++ missing) none_lone in
     let adds = are.1.1.0.1 in
-    let still : all_kept x ≡ false → Further r r (tokens ++ end ∷ []) places (last_at x now n v) last = λ gone m e.
-    left_led d parts leads r (end ∷ []) x now n v m (alone ++ missing) last e (among_left d (within r) x now parts gone are.1.1.0.0) adds.1
+    let still : all_kept x ≡ false → Further r r (tokens ++ end ∷ []) places (last_at x now n) last = λ gone m e.
+    left_led d parts leads r (end ∷ []) x now n m (alone ++ missing) last e (among_left d (within r) x now parts gone are.1.1.0.0) adds.1
     (omega (arith, few, less, sum))
     (λ m2 e2. told_so r (end ∷ []) m2 [] (missing ++ []) (alone ++ missing) last told_end
-    (left_token r true end [] l.around l.declared l.levels v m2 [] [] last e2 (adds.0 ∙ gone) (semicolon_plain false true end are.1.1.1)
+    (left_token r true end [] l.around l.declared l.levels m2 [] [] last e2 (adds.0 ∙ gone) (semicolon_plain false true end are.1.1.1)
     (omega (arith, few, less, sum))
     (λ m3 e3. rests r m3 last e3))) in
     let a = awaits.End effect.Nothing in
@@ -2523,56 +2504,55 @@ ending_left w act left_word d is_inner first parts end leads r st declared n v c
     → Led r (tokens ++ end ∷ []) (reading false place a c (conditionals inside) (conditionals between) now) [] places last =
     λ inside between si sb is.
     let all : all_kept x ≡ true = sym (ap all_kept is) ∙ both_kept inside between si sb in
-    within_led d parts leads r (end ∷ []) false place a c c.conditions c.conditions x now n v
+    within_led d parts leads r (end ∷ []) false place a c c.conditions c.conditions x now n
     (reading false place a c (conditionals inside) (conditionals between) now) (alone ++ missing) last
     (record {
       base = awaits_it false place a c;
       stand = AllStay inside between si sb;
       holds = (refl, refl);
-      waits = waits;
       is = refl;
       stack = is;
       few = omega arith;
     })
     all (among_kept d (within r) x now parts all are.1.1.0.0) adds.0 (takes_none kept_so (Reads p c.pending c.conditions) adds.1)
     (reads_none kept_so (Reads p c.pending c.conditions) adds.1) (omega (arith, few, less, sum))
-    (λ base bw bi bb.
+    (λ base bi bb.
     let after = record base { pending = c.pending; conditions = c.conditions } in
     let i = conditionals l.around.inside in
     let b = conditionals l.around.between in
     told_as r end (reading false place a after i b l.declared) [] alone missing last none_lone
     (acts r end (reading false place a after i b l.declared) (at after i b None l.declared) None (unless_quiet end place) missing last
     (end_kept effect.Nothing false place end after i b l.declared are.1.1.1)
-    (ended_stands r end.ended (AllStay l.around.inside l.around.between bi bb) l.declared l.levels v after (holds_on r c base holds) bw
+    (ended_stands r end.ended (AllStay l.around.inside l.around.between bi bb) l.declared l.levels after (holds_on r c base holds)
     (omega arith)) (ended_told end.ended (AllStay l.around.inside l.around.between bi bb) l.declared after))) in
     relaxed r (directive_tokens first tokens end) (stands_at c st declared) [] places (ended_in end.ended l.around)
     (declared_behind end l.declared) (declared_tokens (directive_tokens first tokens end) declared) l.levels
-    (n + length (directive_tokens first tokens end)) v
+    (n + length (directive_tokens first tokens end))
     (last_declared first tokens end declared) (omega (arith, less, sum))
-    (left_word r r is_inner (within r) first (tokens ++ end ∷ []) st declared n v c places last holds waits few_st
+    (left_word r r is_inner (within r) first (tokens ++ end ∷ []) st declared n c places last holds few_st
     (omega (arith, few, less, sum)) left are.1.0 are.0 still ended)
 
 turning_leads : (d : Answers) (is_inner : Bool) (first : First) (parts : Parts) (end : At) → Leads d parts →
     StandLeads d (Turning is_inner first parts end)
-turning_leads d is_inner first parts end leads r st declared n v c holds waits few_st are takes few = go (all_kept (stack_of st)) refl are
+turning_leads d is_inner first parts end leads r st declared n c holds few_st are takes few = go (all_kept (stack_of st)) refl are
   where
-    go : (k : Bool) → all_kept (stack_of st) ≡ k → EndingLed word.Ifnot turned d is_inner first parts end r st declared n v c k
+    go : (k : Bool) → all_kept (stack_of st) ≡ k → EndingLed word.Ifnot turned d is_inner first parts end r st declared n c k
     go true e =
-        kept_only (λ x. EndingLed word.Ifnot turned d is_inner first parts end r x declared n v c true)
-        (ending_kept word.Ifnot turned effect.Turns (λ t place inner x. refl) turns_last d is_inner first parts end leads r declared n v c
-        holds waits few) st e
-    go false e = ending_left word.Ifnot turned turns_left d is_inner first parts end leads r st declared n v c holds waits few_st few e
+        kept_only (λ x. EndingLed word.Ifnot turned d is_inner first parts end r x declared n c true)
+        (ending_kept word.Ifnot turned effect.Turns (λ t place inner x. refl) turns_last d is_inner first parts end leads r declared n c
+        holds few) st e
+    go false e = ending_left word.Ifnot turned turns_left d is_inner first parts end leads r st declared n c holds few_st few e
 
 closing_leads : (d : Answers) (is_inner : Bool) (first : First) (parts : Parts) (end : At) → Leads d parts →
     StandLeads d (Closing is_inner first parts end)
-closing_leads d is_inner first parts end leads r st declared n v c holds waits few_st are takes few = go (all_kept (stack_of st)) refl are
+closing_leads d is_inner first parts end leads r st declared n c holds few_st are takes few = go (all_kept (stack_of st)) refl are
   where
-    go : (k : Bool) → all_kept (stack_of st) ≡ k → EndingLed word.Endif closed d is_inner first parts end r st declared n v c k
+    go : (k : Bool) → all_kept (stack_of st) ≡ k → EndingLed word.Endif closed d is_inner first parts end r st declared n c k
     go true e =
-        kept_only (λ x. EndingLed word.Endif closed d is_inner first parts end r x declared n v c true)
-        (ending_kept word.Endif closed effect.Closes (λ t place inner x. refl) closes_last d is_inner first parts end leads r declared n v c
-        holds waits few) st e
-    go false e = ending_left word.Endif closed closes_left d is_inner first parts end leads r st declared n v c holds waits few_st few e
+        kept_only (λ x. EndingLed word.Endif closed d is_inner first parts end r x declared n c true)
+        (ending_kept word.Endif closed effect.Closes (λ t place inner x. refl) closes_last d is_inner first parts end leads r declared n c
+        holds few) st e
+    go false e = ending_left word.Endif closed closes_left d is_inner first parts end leads r st declared n c holds few_st few e
 
 -- what is opened more in a side that is left out is left out
 more_left : (is_inner : Bool) (x : Open) (s : Around) → all_kept s ≡ false → all_kept (opened_more is_inner x s) ≡ false
@@ -2602,9 +2582,9 @@ AskingIs d is_within is_inner wanted first parts end declared s k =
     × (IsPlain k true end × (IsAsked k d first (kept_sides d x parts) end (declared_tokens (all_tokens parts) now) × NoneInsideBehind k
     is_inner end (behind_parts d x parts)))))
 
-abbrev AskingLed : Answers → Bool → Bool → First → Parts → At → Reader → Stands → ℕ → ℕ → List (List Conditional) → Conditions → Bool →
+abbrev AskingLed : Answers → Bool → Bool → First → Parts → At → Reader → Stands → ℕ → ℕ → Conditions → Bool →
     Type 0
-AskingLed d is_inner wanted first parts end r st declared n v c k =
+AskingLed d is_inner wanted first parts end r st declared n c k =
     let s = stack_of st in
     let act : Around → Around = opened_more is_inner (asked_open d wanted first parts end s) in
     let toks = directive_tokens first (all_tokens parts) end in
@@ -2612,14 +2592,14 @@ AskingLed d is_inner wanted first parts end r st declared n v c k =
     → Led r toks (stands_at c st declared) [] (told_parts d (cond k s (act s)) parts ++ missing_in end.ended
     (cond k (act (behind_parts d s parts)) (behind_parts d (act s) parts)))
     (last_at (ended_in end.ended (cond k (act (behind_parts d s parts)) (behind_parts d (act s) parts))) (declared_tokens toks declared)
-    (n + length toks) v)
+    (n + length toks))
 
 asking_kept : (d : Answers) (is_inner wanted : Bool) (first : First) (parts : Parts) (end : At) → Leads d parts →
-    (r : Reader) (declared n : ℕ) (v : List (List Conditional)) (c : Conditions) → Holds r c → c.waiting ≡ v
+    (r : Reader) (declared n : ℕ) (c : Conditions) → Holds r c
     → n + length (directive_tokens first (all_tokens parts) end) ≤ most_levels
     → (inside between : List Open) (si : are_kept inside ≡ true) (sb : are_kept between ≡ true) → AskingLed d is_inner wanted first parts
-    end r (AllStay inside between si sb) declared n v c true
-asking_kept d is_inner wanted first parts end leads r declared n v c holds waits few inside between si sb are =
+    end r (AllStay inside between si sb) declared n c true
+asking_kept d is_inner wanted first parts end leads r declared n c holds few inside between si sb are =
     let s : Around = record { inside = inside; between = between } in
     let tokens = all_tokens parts in
     let all = both_kept inside between si sb in
@@ -2630,7 +2610,7 @@ asking_kept d is_inner wanted first parts end leads r declared n v c holds waits
     let among_now = conditionals between in
     let begun_so = condition_took (placed_word first) condition_begun in
     let start = reading is_inner place a (with_condition begun_so c) inner among_now now in
-    let l = last_behind d parts s now n v in
+    let l = last_behind d parts s now n in
     let m = n + length (directive_tokens first tokens end) in
     let kept_so = kept_sides d s parts in
     let condition = are.1.1.1.1.0 in
@@ -2640,7 +2620,7 @@ asking_kept d is_inner wanted first parts end leads r declared n v c holds waits
     let is_so = cond wanted verdict.is_true (not verdict.is_true) in
     let stays = cond wanted (d.is_true whole end) (not (d.is_true whole end)) in
     let agrees : is_so ≡ stays = ap (λ b. cond wanted b (not b)) condition.agrees in
-    let last = last_at (ended_in end.ended (opened_more is_inner (new_open place stays) l.around)) (declared_behind end l.declared) m v in
+    let last = last_at (ended_in end.ended (opened_more is_inner (new_open place stays) l.around)) (declared_behind end l.declared) m in
     let p = directive is_inner place a in
     let less = fewer first (tokens ++ end ∷ []) in
     let sum = length_both tokens (end ∷ []) in
@@ -2648,12 +2628,11 @@ asking_kept d is_inner wanted first parts end leads r declared n v c holds waits
     let places = told_parts d s parts ++ missing in
     let taken_last = last_taken kept_so end begun_so condition.are_taken in
     let rest : Led r (tokens ++ end ∷ []) start [] places last =
-    within_led d parts leads r (end ∷ []) is_inner place a c (begun_so ∷ c.conditions) (read ∷ c.conditions) s now n v start missing last
+    within_led d parts leads r (end ∷ []) is_inner place a c (begun_so ∷ c.conditions) (read ∷ c.conditions) s now n start missing last
     (record {
       base = awaits_it is_inner place a (with_condition begun_so c);
       stand = AllStay inside between si sb;
       holds = (refl, refl);
-      waits = waits;
       is = refl;
       stack = refl;
       few = omega arith;
@@ -2661,7 +2640,7 @@ asking_kept d is_inner wanted first parts end leads r declared n v c holds waits
     all (among_kept d (within r) s now parts all are.1.1.0.0) are.1.1.0.1
     (takes_condition kept_so end begun_so is_inner wanted place c.pending c.conditions condition.are_taken)
     (read_condition kept_so p c.pending begun_so c.conditions) (omega (arith, few, less, sum))
-    (λ base bw bi bb.
+    (λ base bi bb.
     let after = record base { pending = c.pending; conditions = c.conditions } in
     let i = conditionals l.around.inside in
     let b = conditionals l.around.between in
@@ -2671,11 +2650,11 @@ asking_kept d is_inner wanted first parts end leads r declared n v c holds waits
     missing last
     (next_ends is_inner wanted place end read after i b l.declared are.1.1.1.0.no_hash taken_last.0 taken_last.1
     ∙ ap (λ x. ended_so (opened_now x) None (unless_quiet end place)) agrees)
-    (opened_stands r is_inner stays place end l.around.inside l.around.between l.declared m v after (holds_on r c base holds) bw bi bb
+    (opened_stands r is_inner stays place end l.around.inside l.around.between l.declared m after (holds_on r c base holds) bi bb
     are.1.1.1.1.1)
     (opened_told is_inner stays place end l.around.inside l.around.between l.declared after bi bb)) in
     relaxed r (directive_tokens first tokens end) (at c inner among_now None declared) [] places last.around
-    (declared_behind end l.declared) (declared_tokens (directive_tokens first tokens end) declared) m m v
+    (declared_behind end l.declared) (declared_tokens (directive_tokens first tokens end) declared) m m
     (last_declared first tokens end declared) (omega arith)
     (begins_kept r r is_inner (asking wanted) a first.sign first.word (tokens ++ end ∷ []) c (with_condition begun_so c) inner among_now
     declared places last holds are.0.begins are.0.is (mids_of is_inner (within r) (asking wanted) first s are.0 are.1.0)
@@ -2683,47 +2662,47 @@ asking_kept d is_inner wanted first parts end leads r declared n v c holds waits
     rest)
 
 asking_left : (d : Answers) (is_inner wanted : Bool) (first : First) (parts : Parts) (end : At) → Leads d parts →
-    (r : Reader) (st : Stands) (declared n : ℕ) (v : List (List Conditional)) (c : Conditions) → Holds r c → c.waiting ≡ v →
+    (r : Reader) (st : Stands) (declared n : ℕ) (c : Conditions) → Holds r c →
     levels_of st ≤ n
     → n + length (directive_tokens first (all_tokens parts) end) ≤ most_levels → all_kept (stack_of st) ≡ false → AskingLed d is_inner
-    wanted first parts end r st declared n v c false
-asking_left d is_inner wanted first parts end leads r st declared n v c holds waits few_st few left are =
+    wanted first parts end r st declared n c false
+asking_left d is_inner wanted first parts end leads r st declared n c holds few_st few left are =
     let s = stack_of st in
     let more = asked_open d wanted first parts end s in
     let x = opened_more is_inner more s in
     let gone = more_left is_inner more s left in
     let tokens = all_tokens parts in
     let now = declared_first first declared in
-    let l = last_behind d parts x now (n + 1) v in
-    let last = last_at (ended_in end.ended l.around) (declared_behind end l.declared) l.levels v in
+    let l = last_behind d parts x now (n + 1) in
+    let last = last_at (ended_in end.ended l.around) (declared_behind end l.declared) l.levels in
     let less = fewer first (tokens ++ end ∷ []) in
     let sum = length_both tokens (end ∷ []) in
     let missing = missing_in end.ended l.around in
     let places = told_parts d x parts ++ missing in
     let toks = directive_tokens first tokens end in
     relaxed r toks (stands_at c st declared) [] places (ended_in end.ended l.around) (declared_behind end l.declared)
-    (declared_tokens toks declared) l.levels (n + length toks) v
+    (declared_tokens toks declared) l.levels (n + length toks)
     (last_declared first tokens end declared) (omega (arith, less, sum))
-    (opens_left r r is_inner (within r) (asking wanted) first (tokens ++ end ∷ []) more st declared n v c places last holds waits few_st
+    (opens_left r r is_inner (within r) (asking wanted) first (tokens ++ end ∷ []) more st declared n c places last holds few_st
     (omega (arith, few, less, sum)) left are.1.0 are.0 (λ m b. asking_stays wanted m b) (asking_level wanted)
     (λ m e.
-    left_led d parts leads r (end ∷ []) x now (n + 1) v m missing last e (among_left d (within r) x now parts gone are.1.1.0.0)
+    left_led d parts leads r (end ∷ []) x now (n + 1) m missing last e (among_left d (within r) x now parts gone are.1.1.0.0)
     are.1.1.1.1.0 (omega (arith, few, less, sum))
     (λ m2 e2. told_so r (end ∷ []) m2 [] (missing ++ []) missing last (append-nil missing)
-    (left_token r true end [] l.around l.declared l.levels v m2 [] [] last e2 (are.1.1.0.1 ∙ gone) are.1.1.1.0
+    (left_token r true end [] l.around l.declared l.levels m2 [] [] last e2 (are.1.1.0.1 ∙ gone) are.1.1.1.0
     (omega (arith, few, less, sum))
     (λ m3 e3. rests r m3 last e3)))))
 
 asking_leads : (d : Answers) (is_inner wanted : Bool) (first : First) (parts : Parts) (end : At) → Leads d parts →
     StandLeads d (Asking is_inner wanted first parts end)
-asking_leads d is_inner wanted first parts end leads r st declared n v c holds waits few_st are takes few =
+asking_leads d is_inner wanted first parts end leads r st declared n c holds few_st are takes few =
     go (all_kept (stack_of st)) refl are
   where
-    go : (k : Bool) → all_kept (stack_of st) ≡ k → AskingLed d is_inner wanted first parts end r st declared n v c k
+    go : (k : Bool) → all_kept (stack_of st) ≡ k → AskingLed d is_inner wanted first parts end r st declared n c k
     go true e =
-        kept_only (λ x. AskingLed d is_inner wanted first parts end r x declared n v c true)
-        (asking_kept d is_inner wanted first parts end leads r declared n v c holds waits few) st e
-    go false e = asking_left d is_inner wanted first parts end leads r st declared n v c holds waits few_st few e
+        kept_only (λ x. AskingLed d is_inner wanted first parts end r x declared n c true)
+        (asking_kept d is_inner wanted first parts end leads r declared n c holds few) st e
+    go false e = asking_left d is_inner wanted first parts end leads r st declared n c holds few_st few e
 
 -- One with a name
 
@@ -2746,9 +2725,9 @@ OpeningIs d is_within is_inner if_declared first before name behind end declared
 abbrev opening_tokens : First → Parts → At → Parts → At → List At
 opening_tokens first before name behind end = first_tokens first (all_tokens before ++ name ∷ (all_tokens behind ++ end ∷ []))
 
-abbrev OpeningLed : Answers → Bool → Bool → First → Parts → At → Parts → At → Reader → Stands → ℕ → ℕ → List (List Conditional) →
+abbrev OpeningLed : Answers → Bool → Bool → First → Parts → At → Parts → At → Reader → Stands → ℕ → ℕ →
     Conditions → Bool → Type 0
-OpeningLed d is_inner if_declared first before name behind end r st declared n v c k =
+OpeningLed d is_inner if_declared first before name behind end r st declared n c k =
     let s = stack_of st in
     let act : Around → Around = opened_more is_inner (named_open d if_declared first name) in
     let x = cond k s (act s) in
@@ -2759,7 +2738,7 @@ OpeningLed d is_inner if_declared first before name behind end r st declared n v
     ++ missing_in end.ended (cond k (act (behind_parts d (behind_name d before name s) behind))
     (behind_parts d (behind_name d before name (act s)) behind)))))
     (last_at (ended_in end.ended (cond k (act (behind_parts d (behind_name d before name s) behind))
-    (behind_parts d (behind_name d before name (act s)) behind))) (declared_tokens toks declared) (n + length toks) v)
+    (behind_parts d (behind_name d before name (act s)) behind))) (declared_tokens toks declared) (n + length toks))
 
 opening_declared : (first : First) (before : Parts) (name : At) (behind : Parts) (end : At) (declared : ℕ)
     → declared_behind end (declared_tokens (all_tokens behind) (declared_behind name
@@ -2773,12 +2752,11 @@ opening_declared first before name behind end declared =
     ∙ declared_behind_first first (all_tokens before ++ name ∷ rest) declared
 
 opening_kept : (d : Answers) (is_inner if_declared : Bool) (first : First) (before : Parts) (name : At) (behind : Parts) (end : At) →
-    Leads d before → Leads d behind → (r : Reader) (declared n : ℕ) (v : List (List Conditional)) (c : Conditions) → Holds r c →
-    c.waiting ≡ v
-    → n + length (opening_tokens first before name behind end) ≤ most_levels
+    Leads d before → Leads d behind → (r : Reader) (declared n : ℕ) (c : Conditions) → Holds r c →
+    n + length (opening_tokens first before name behind end) ≤ most_levels
     → (inside between : List Open) (si : are_kept inside ≡ true) (sb : are_kept between ≡ true) → OpeningLed d is_inner if_declared first
-    before name behind end r (AllStay inside between si sb) declared n v c true
-opening_kept d is_inner if_declared first before name behind end leads_before leads_behind r declared n v c holds waits few inside between
+    before name behind end r (AllStay inside between si sb) declared n c true
+opening_kept d is_inner if_declared first before name behind end leads_before leads_behind r declared n c holds few inside between
     si sb are =
     let s : Around = record { inside = inside; between = between } in
     let all = both_kept inside between si sb in
@@ -2788,10 +2766,10 @@ opening_kept d is_inner if_declared first before name behind end leads_before le
     let among_now = conditionals between in
     let waits_name = awaits.Name if_declared in
     let start = reading is_inner place waits_name c inner among_now now in
-    let l = last_behind d before s now n v in
+    let l = last_behind d before s now n in
     let y = behind_name d before name s in
     let later = declared_behind name l.declared in
-    let l2 = last_behind d behind y later l.levels v in
+    let l2 = last_behind d behind y later l.levels in
     let toks = opening_tokens first before name behind end in
     let rest_behind = all_tokens behind ++ end ∷ [] in
     let m = n + length toks in
@@ -2799,7 +2777,7 @@ opening_kept d is_inner if_declared first before name behind end leads_before le
     let stays = cond if_declared (d.is_declared name) (not (d.is_declared name)) in
     let agrees : is_so ≡ stays = ap (λ b. cond if_declared b (not b)) are.1.1.1.0.1.0 in
     let waits_end = awaits.End (effect.Opens is_so) in
-    let last = last_at (ended_in end.ended (opened_more is_inner (new_open place stays) l2.around)) (declared_behind end l2.declared) m v in
+    let last = last_at (ended_in end.ended (opened_more is_inner (new_open place stays) l2.around)) (declared_behind end l2.declared) m in
     let less = fewer first (all_tokens before ++ name ∷ rest_behind) in
     let sum = length_both (all_tokens before) (name ∷ rest_behind) in
     let sum_behind = length_both (all_tokens behind) (end ∷ []) in
@@ -2810,9 +2788,9 @@ opening_kept d is_inner if_declared first before name behind end leads_before le
     let adds = are.1.1.0.1 in
     let adds_behind = are.1.1.1.1.0.1 in
     let all_behind_name : all_kept y ≡ true = are.1.1.1.0.1.1 ∙ all in
-    let further : (base : Conditions) → base.waiting ≡ v → are_kept l.around.inside ≡ true → are_kept l.around.between ≡ true
+    let further : (base : Conditions) → are_kept l.around.inside ≡ true → are_kept l.around.between ≡ true
     → Led r (name ∷ rest_behind) (reading is_inner place waits_name (record base { pending = c.pending; conditions = c.conditions })
-    (conditionals l.around.inside) (conditionals l.around.between) l.declared) [] places_name last = λ base bw bi bb.
+    (conditionals l.around.inside) (conditionals l.around.between) l.declared) [] places_name last = λ base bi bb.
     let after = record base { pending = c.pending; conditions = c.conditions } in
     let i = conditionals l.around.inside in
     let b = conditionals l.around.between in
@@ -2822,15 +2800,15 @@ opening_kept d is_inner if_declared first before name behind end leads_before le
     passes r name rest_behind (reading is_inner place waits_name after i b l.declared) named_so there [] (missing_in name.ended l.around)
     places_behind last (name_kept is_inner if_declared place name after i b l.declared are.1.1.1.0.0.is) refl
     (ended_told name.ended (AllStay l.around.inside l.around.between bi bb) l.declared (awaits_it is_inner place waits_end after))
-    (within_led d behind leads_behind r (end ∷ []) is_inner place waits_end after after.conditions after.conditions y later l.levels v there
+    (within_led d behind leads_behind r (end ∷ []) is_inner place waits_end after after.conditions after.conditions y later l.levels there
     missing last
-    (ended_stands (Reads p after.pending after.conditions) name.ended (AllStay l.around.inside l.around.between bi bb) l.declared l.levels v
-    (awaits_it is_inner place waits_end after) (refl, refl) bw (omega arith))
+    (ended_stands (Reads p after.pending after.conditions) name.ended (AllStay l.around.inside l.around.between bi bb) l.declared l.levels
+    (awaits_it is_inner place waits_end after) (refl, refl) (omega arith))
     all_behind_name (among_kept d (within r) y later behind all_behind_name are.1.1.1.1.0.0) adds_behind.0
     (takes_none (kept_sides d y behind) (Reads p after.pending after.conditions) adds_behind.1)
     (reads_none (kept_sides d y behind) (Reads p after.pending after.conditions) adds_behind.1)
     (omega (arith, few, less, sum, sum_behind))
-    (λ base2 bw2 bi2 bb2.
+    (λ base2 bi2 bb2.
     let last_base = record base2 { pending = after.pending; conditions = after.conditions } in
     let i2 = conditionals l2.around.inside in
     let b2 = conditionals l2.around.between in
@@ -2838,18 +2816,17 @@ opening_kept d is_inner if_declared first before name behind end leads_before le
     None (unless_quiet end place) missing last
     (end_kept (effect.Opens is_so) is_inner place end last_base i2 b2 l2.declared are.1.1.1.1.1.0
     ∙ ap (λ x. ended_so (opened_at is_inner x place last_base i2 b2 l2.declared) None (unless_quiet end place)) agrees)
-    (opened_stands r is_inner stays place end l2.around.inside l2.around.between l2.declared m v last_base (holds_on r c base2 holds) bw2
+    (opened_stands r is_inner stays place end l2.around.inside l2.around.between l2.declared m last_base (holds_on r c base2 holds)
     bi2 bb2 are.1.1.1.1.1.1)
     (opened_told is_inner stays place end l2.around.inside l2.around.between l2.declared last_base bi2 bb2))) in
     let p_name = directive is_inner place waits_name in
     let rest : Led r (all_tokens before ++ name ∷ rest_behind) start [] places last =
-    within_led d before leads_before r (name ∷ rest_behind) is_inner place waits_name c c.conditions c.conditions s now n v start
+    within_led d before leads_before r (name ∷ rest_behind) is_inner place waits_name c c.conditions c.conditions s now n start
     places_name last
     (record {
       base = awaits_it is_inner place waits_name c;
       stand = AllStay inside between si sb;
       holds = (refl, refl);
-      waits = waits;
       is =
           refl;
       stack = refl;
@@ -2859,28 +2836,28 @@ opening_kept d is_inner if_declared first before name behind end leads_before le
     (takes_none (kept_sides d s before) (Reads p_name c.pending c.conditions) adds.1)
     (reads_none (kept_sides d s before) (Reads p_name c.pending c.conditions) adds.1) (omega (arith, few, less, sum)) further in
     relaxed r toks (at c inner among_now None declared) [] places last.around (declared_behind end l2.declared)
-    (declared_tokens toks declared) m m v
+    (declared_tokens toks declared) m m
     (opening_declared first before name behind end declared) (omega arith)
     (begins_kept r r is_inner (opening if_declared) waits_name first.sign first.word (all_tokens before ++ name ∷ rest_behind) c c inner
     among_now declared places last holds are.0.begins are.0.is (mids_of is_inner (within r) (opening if_declared) first s are.0 are.1.0)
     (λ x. begun_opening is_inner if_declared first.word.token place (at c inner among_now None x)) rest)
 
 opening_left : (d : Answers) (is_inner if_declared : Bool) (first : First) (before : Parts) (name : At) (behind : Parts) (end : At) →
-    Leads d before → Leads d behind → (r : Reader) (st : Stands) (declared n : ℕ) (v : List (List Conditional)) (c : Conditions)
-    → Holds r c → c.waiting ≡ v → levels_of st ≤ n → n + length (opening_tokens first before name behind end) ≤ most_levels → all_kept
-    (stack_of st) ≡ false → OpeningLed d is_inner if_declared first before name behind end r st declared n v c false
-opening_left d is_inner if_declared first before name behind end leads_before leads_behind r st declared n v c holds waits few_st few left
+    Leads d before → Leads d behind → (r : Reader) (st : Stands) (declared n : ℕ) (c : Conditions)
+    → Holds r c → levels_of st ≤ n → n + length (opening_tokens first before name behind end) ≤ most_levels → all_kept
+    (stack_of st) ≡ false → OpeningLed d is_inner if_declared first before name behind end r st declared n c false
+opening_left d is_inner if_declared first before name behind end leads_before leads_behind r st declared n c holds few_st few left
     are =
     let s = stack_of st in
     let more = named_open d if_declared first name in
     let x = opened_more is_inner more s in
     let gone = more_left is_inner more s left in
     let now = declared_first first declared in
-    let l = last_behind d before x now (n + 1) v in
+    let l = last_behind d before x now (n + 1) in
     let y = behind_name d before name x in
     let later = declared_behind name l.declared in
-    let l2 = last_behind d behind y later l.levels v in
-    let last = last_at (ended_in end.ended l2.around) (declared_behind end l2.declared) l2.levels v in
+    let l2 = last_behind d behind y later l.levels in
+    let last = last_at (ended_in end.ended l2.around) (declared_behind end l2.declared) l2.levels in
     let toks = opening_tokens first before name behind end in
     let rest_behind = all_tokens behind ++ end ∷ [] in
     let less = fewer first (all_tokens before ++ name ∷ rest_behind) in
@@ -2895,129 +2872,129 @@ opening_left d is_inner if_declared first before name behind end leads_before le
     let gone_behind : all_kept y ≡ false = are.1.1.1.0.1.1 ∙ gone in
     let name_is = are.1.1.1.0.0 in
     let from_name : Further r r (name ∷ rest_behind) places_name l last = λ m e.
-    left_token r true name rest_behind l.around l.declared l.levels v m [] places_behind last e (adds.0 ∙ gone)
+    left_token r true name rest_behind l.around l.declared l.levels m [] places_behind last e (adds.0 ∙ gone)
     (name_plain true name name_is.is (name_is.no_word refl)) (omega (arith, few, less, sum))
     (λ m2 e2.
-    left_led d behind leads_behind r (end ∷ []) y later l.levels v m2 missing last e2
+    left_led d behind leads_behind r (end ∷ []) y later l.levels m2 missing last e2
     (among_left d (within r) y later behind gone_behind are.1.1.1.1.0.0) adds_behind.1 (omega (arith, few, less, sum, sum_behind))
     (λ m3 e3. told_so r (end ∷ []) m3 [] (missing ++ []) missing last (append-nil missing)
-    (left_token r true end [] l2.around l2.declared l2.levels v m3 [] [] last e3 (adds_behind.0 ∙ gone_behind)
+    (left_token r true end [] l2.around l2.declared l2.levels m3 [] [] last e3 (adds_behind.0 ∙ gone_behind)
     (semicolon_plain false true end are.1.1.1.1.1.0) (omega (arith, few, less, sum, sum_behind))
     (λ m4 e4. rests r m4 last e4)))) in
     relaxed r toks (stands_at c st declared) [] places (ended_in end.ended l2.around) (declared_behind end l2.declared)
-    (declared_tokens toks declared) l2.levels (n + length toks) v
+    (declared_tokens toks declared) l2.levels (n + length toks)
     (opening_declared first before name behind end declared) (omega (arith, less, sum, sum_behind))
-    (opens_left r r is_inner (within r) (opening if_declared) first (all_tokens before ++ name ∷ rest_behind) more st declared n v c places
-    last holds waits few_st (omega (arith, few, less, sum)) left are.1.0 are.0 (λ m b. opening_stays if_declared m b)
+    (opens_left r r is_inner (within r) (opening if_declared) first (all_tokens before ++ name ∷ rest_behind) more st declared n c places
+    last holds few_st (omega (arith, few, less, sum)) left are.1.0 are.0 (λ m b. opening_stays if_declared m b)
     (opening_level if_declared)
-    (λ m e. left_led d before leads_before r (name ∷ rest_behind) x now (n + 1) v m places_name last e
+    (λ m e. left_led d before leads_before r (name ∷ rest_behind) x now (n + 1) m places_name last e
     (among_left d (within r) x now before gone are.1.1.0.0) adds.1 (omega (arith, few, less, sum)) from_name))
 
 opening_leads : (d : Answers) (is_inner if_declared : Bool) (first : First) (before : Parts) (name : At) (behind : Parts) (end : At) →
     Leads d before → Leads d behind → StandLeads d (Opening is_inner if_declared first before name behind end)
-opening_leads d is_inner if_declared first before name behind end leads_before leads_behind r st declared n v c holds waits few_st are takes
+opening_leads d is_inner if_declared first before name behind end leads_before leads_behind r st declared n c holds few_st are takes
     few = go (all_kept (stack_of st)) refl are
   where
-    go : (k : Bool) → all_kept (stack_of st) ≡ k → OpeningLed d is_inner if_declared first before name behind end r st declared n v c k
+    go : (k : Bool) → all_kept (stack_of st) ≡ k → OpeningLed d is_inner if_declared first before name behind end r st declared n c k
     go true e =
-        kept_only (λ x. OpeningLed d is_inner if_declared first before name behind end r x declared n v c true)
-        (opening_kept d is_inner if_declared first before name behind end leads_before leads_behind r declared n v c holds waits few) st e
-    go false e = opening_left d is_inner if_declared first before name behind end leads_before leads_behind r st declared n v c holds waits
+        kept_only (λ x. OpeningLed d is_inner if_declared first before name behind end r x declared n c true)
+        (opening_kept d is_inner if_declared first before name behind end leads_before leads_behind r declared n c holds few) st e
+    go false e = opening_left d is_inner if_declared first before name behind end leads_before leads_behind r st declared n c holds
         few_st few e
 
 -- A word alone in a side that is left out
 
-passes_on : (r : Reader) (first : First) (st : Stands) (s : Around) (declared n m : ℕ) (v : List (List Conditional)) (c : Conditions) →
+passes_on : (r : Reader) (first : First) (st : Stands) (s : Around) (declared n m : ℕ) (c : Conditions) →
     m ≤ n + length (first_tokens first [])
-    → (Further r r [] [] (last_at s (declared_first first declared) m v) (last_at s (declared_first first declared) m v) → Led r
-    (first_tokens first []) (stands_at c st declared) [] [] (last_at s (declared_first first declared) m v))
+    → (Further r r [] [] (last_at s (declared_first first declared) m) (last_at s (declared_first first declared) m) → Led r
+    (first_tokens first []) (stands_at c st declared) [] [] (last_at s (declared_first first declared) m))
     → Led r (first_tokens first []) (stands_at c st declared) [] []
-    (last_at s (declared_tokens (first_tokens first []) declared) (n + length (first_tokens first [])) v)
-passes_on r first st s declared n m v c few led =
-    let last = last_at s (declared_first first declared) m v in
+    (last_at s (declared_tokens (first_tokens first []) declared) (n + length (first_tokens first [])))
+passes_on r first st s declared n m c few led =
+    let last = last_at s (declared_first first declared) m in
     relaxed r (first_tokens first []) (stands_at c st declared) [] [] s (declared_first first declared)
-    (declared_tokens (first_tokens first []) declared) m (n + length (first_tokens first [])) v
+    (declared_tokens (first_tokens first []) declared) m (n + length (first_tokens first []))
     (declared_behind_first first [] declared) few (led (λ x e. rests r x last e))
 
 passed_ending : (w : ConditionalWord) (act : Around → Around) → LeftLed w act →
-    (r : Reader) (is_inner : Bool) (first : First) (st : Stands) (declared n : ℕ) (v : List (List Conditional)) (c : Conditions) →
-    Holds r c → c.waiting ≡ v → levels_of st ≤ n
+    (r : Reader) (is_inner : Bool) (first : First) (st : Stands) (declared n : ℕ) (c : Conditions) →
+    Holds r c → levels_of st ≤ n
     → IsFirst false is_inner (within r) w first ×
     (NoneInside is_inner (stack_of st) × ((all_kept (stack_of st) ≡ false) × (all_kept (act (stack_of st)) ≡ false))) → n + length
     (first_tokens first []) ≤ most_levels
     → Led r (first_tokens first []) (stands_at c st declared) [] []
-    (last_at (act (stack_of st)) (declared_tokens (first_tokens first []) declared) (n + length (first_tokens first [])) v)
-passed_ending w act left_word r is_inner first st declared n v c holds waits few_st are few =
+    (last_at (act (stack_of st)) (declared_tokens (first_tokens first []) declared) (n + length (first_tokens first [])))
+passed_ending w act left_word r is_inner first st declared n c holds few_st are few =
     let s = act (stack_of st) in
-    let last = last_at s (declared_first first declared) n v in
+    let last = last_at s (declared_first first declared) n in
     let less = fewer first [] in
-    passes_on r first st s declared n n v c (omega arith)
-    (λ further. left_word r r is_inner (within r) first [] st declared n v c [] last holds waits few_st (omega (arith, few, less)) are.1.1.0
+    passes_on r first st s declared n n c (omega arith)
+    (λ further. left_word r r is_inner (within r) first [] st declared n c [] last holds few_st (omega (arith, few, less)) are.1.1.0
     are.1.0 are.0 (λ _. further)
     (λ inside between si sb is. absurd (let never : true ≡ false = sym (both_kept inside between si sb) ∙ ap all_kept is ∙ are.1.1.1 in
     cc)))
 
 passed_opening : (w : ConditionalWord) → ((m : ℕ) (b : Bool) → ends_side b m (Some w) ≡ false) → ((m : ℕ) → level_behind (Some w) m ≡ suc m)
-    → (r : Reader) (is_inner : Bool) (first : First) (st : Stands) (declared n : ℕ) (v : List (List Conditional)) (c : Conditions) → Holds r
-    c → c.waiting ≡ v → levels_of st ≤ n
+    → (r : Reader) (is_inner : Bool) (first : First) (st : Stands) (declared n : ℕ) (c : Conditions) → Holds r
+    c → levels_of st ≤ n
     → IsFirst false is_inner (within r) w first ×
     (NoneInside is_inner (stack_of st) × ((all_kept (stack_of st) ≡ false) × (all_kept
     (opened_more is_inner (first_side first true true) (stack_of st)) ≡ false))) → n + length (first_tokens first []) ≤ most_levels
     → Led r (first_tokens first []) (stands_at c st declared) [] []
     (last_at (opened_more is_inner (first_side first true true) (stack_of st)) (declared_tokens (first_tokens first []) declared)
-    (n + length (first_tokens first [])) v)
-passed_opening w stays level r is_inner first st declared n v c holds waits few_st are few =
+    (n + length (first_tokens first [])))
+passed_opening w stays level r is_inner first st declared n c holds few_st are few =
     let more = first_side first true true in
     let s = opened_more is_inner more (stack_of st) in
-    let last = last_at s (declared_first first declared) (n + 1) v in
+    let last = last_at s (declared_first first declared) (n + 1) in
     let less = fewer first [] in
-    passes_on r first st s declared n (n + 1) v c (omega (arith, less))
-    (λ further. opens_left r r is_inner (within r) w first [] more st declared n v c [] last holds waits few_st (omega (arith, few, less))
+    passes_on r first st s declared n (n + 1) c (omega (arith, less))
+    (λ further. opens_left r r is_inner (within r) w first [] more st declared n c [] last holds few_st (omega (arith, few, less))
     are.1.1.0 are.1.0 are.0 stays level further)
 
 passed_leads : (d : Answers) (is_inner : Bool) (w : ConditionalWord) (first : First) → StandLeads d (Passed is_inner w first)
-passed_leads d is_inner word.Ifnot first r st declared n v c holds waits few_st are takes few =
-    passed_ending word.Ifnot turned turns_left r is_inner first st declared n v c holds waits few_st are few
-passed_leads d is_inner word.Endif first r st declared n v c holds waits few_st are takes few =
-    passed_ending word.Endif closed closes_left r is_inner first st declared n v c holds waits few_st are few
-passed_leads d is_inner word.Ifdef first r st declared n v c holds waits few_st are takes few = passed_opening word.Ifdef
-    (λ m b. opening_stays true m b) (opening_level true) r is_inner first st declared n v c holds waits few_st are few
-passed_leads d is_inner word.Ifndef first r st declared n v c holds waits few_st are takes few = passed_opening word.Ifndef
-    (λ m b. opening_stays false m b) (opening_level false) r is_inner first st declared n v c holds waits few_st are few
-passed_leads d is_inner word.Iftrue first r st declared n v c holds waits few_st are takes few = passed_opening word.Iftrue
-    (λ m b. asking_stays true m b) (asking_level true) r is_inner first st declared n v c holds waits few_st are few
-passed_leads d is_inner word.Iffalse first r st declared n v c holds waits few_st are takes few = passed_opening word.Iffalse
-    (λ m b. asking_stays false m b) (asking_level false) r is_inner first st declared n v c holds waits few_st are few
+passed_leads d is_inner word.Ifnot first r st declared n c holds few_st are takes few =
+    passed_ending word.Ifnot turned turns_left r is_inner first st declared n c holds few_st are few
+passed_leads d is_inner word.Endif first r st declared n c holds few_st are takes few =
+    passed_ending word.Endif closed closes_left r is_inner first st declared n c holds few_st are few
+passed_leads d is_inner word.Ifdef first r st declared n c holds few_st are takes few = passed_opening word.Ifdef
+    (λ m b. opening_stays true m b) (opening_level true) r is_inner first st declared n c holds few_st are few
+passed_leads d is_inner word.Ifndef first r st declared n c holds few_st are takes few = passed_opening word.Ifndef
+    (λ m b. opening_stays false m b) (opening_level false) r is_inner first st declared n c holds few_st are few
+passed_leads d is_inner word.Iftrue first r st declared n c holds few_st are takes few = passed_opening word.Iftrue
+    (λ m b. asking_stays true m b) (asking_level true) r is_inner first st declared n c holds few_st are few
+passed_leads d is_inner word.Iffalse first r st declared n c holds few_st are takes few = passed_opening word.Iffalse
+    (λ m b. asking_stays false m b) (asking_level false) r is_inner first st declared n c holds few_st are few
 
 -- All parts
 
 part_from : (d : Answers) (part : Part) → StandLeads d part → PartLeads d part
-part_from d part leads r s declared n v c e are takes few =
+part_from d part leads r s declared n c e are takes few =
     let P : Around → Type 0 = λ x. IsPart d (within r) x declared part → TakesAll r (kept_of part x)
-    → Led r (part_tokens part) (stands_at e.base e.stand declared) (kept_of part x) (told_of d part x) (last_part d part x declared n v) in
-    let led : P s = subst P e.stack (λ are_so takes_so. leads r e.stand declared n v e.base e.holds e.waits e.few are_so takes_so few) in
-    subst (λ (x : Conditions). Led r (part_tokens part) x (kept_of part s) (told_of d part s) (last_part d part s declared n v)) (sym e.is)
+    → Led r (part_tokens part) (stands_at e.base e.stand declared) (kept_of part x) (told_of d part x) (last_part d part x declared n) in
+    let led : P s = subst P e.stack (λ are_so takes_so. leads r e.stand declared n e.base e.holds e.few are_so takes_so few) in
+    subst (λ (x : Conditions). Led r (part_tokens part) x (kept_of part s) (told_of d part s) (last_part d part s declared n)) (sym e.is)
     (led are takes)
 
 none_leads : (d : Answers) → Leads d NoParts
-none_leads d r s declared n v c e are takes few =
-    relaxed r [] c [] [] s declared declared n (n + length (all_tokens NoParts)) v refl (omega arith) (rests r c (last_at s declared n v) e)
+none_leads d r s declared n c e are takes few =
+    relaxed r [] c [] [] s declared declared n (n + length (all_tokens NoParts)) refl (omega arith) (rests r c (last_at s declared n) e)
 
 then_leads : (d : Answers) (part : Part) (parts : Parts) → PartLeads d part → Leads d parts → Leads d (Then part parts)
-then_leads d part parts leads_part leads r s declared n v c e are takes few =
+then_leads d part parts leads_part leads r s declared n c e are takes few =
     let toks = part_tokens part in
     let kept_so = kept_of part s in
     let sum = length_both toks (all_tokens parts) in
-    let l = last_part d part s declared n v in
+    let l = last_part d part s declared n in
     let both = takes_both kept_so (kept_sides d l.around parts) r takes in
-    let first = leads_part r s declared n v c e are.0 both.0 (omega (arith, few, sum)) in
+    let first = leads_part r s declared n c e are.0 both.0 (omega (arith, few, sum)) in
     let there = all_behind toks c in
     let q = read_on kept_so r in
-    let l2 = last_behind d parts l.around l.declared l.levels v in
-    let second = leads q l.around l.declared l.levels v there first.ends
+    let l2 = last_behind d parts l.around l.declared l.levels in
+    let second = leads q l.around l.declared l.levels there first.ends
     (subst (λ b. AreParts d b l.around l.declared parts) (sym (within_same kept_so r)) are.1) both.1 (omega (arith, few, sum)) in
     relaxed r (toks ++ all_tokens parts) c (kept_so ++ kept_sides d l.around parts) (told_of d part s ++ told_parts d l.around parts)
-    l2.around l2.declared (declared_tokens (toks ++ all_tokens parts) declared) l2.levels (n + length (toks ++ all_tokens parts)) v
+    l2.around l2.declared (declared_tokens (toks ++ all_tokens parts) declared) l2.levels (n + length (toks ++ all_tokens parts))
     (sym (declared_both toks (all_tokens parts) declared)) (omega (arith, sum))
     (joined r toks (all_tokens parts) c kept_so (kept_sides d l.around parts) (told_of d part s) (told_parts d l.around parts) l l2 first
     second)
@@ -3077,19 +3054,18 @@ one_side_is_kept d parts c clear file =
     ∙ ap (λ s. record c { said = s }) (sym clear.none_said) in
     let few = file.few in
     let kept_so = kept_sides d none_around parts in
-    let all = led d parts Hands none_around c.declared 0 c.waiting c
+    let all = led d parts Hands none_around c.declared 0 c
     (record {
       base = c;
       stand = AllStay [] [] refl refl;
       holds = clear.none_pending;
-      waits = refl;
       is = sym is;
       stack = refl;
       few = omega
           arith;
     })
     file.are_parts (all_taken kept_so) (omega (arith, few)) in
-    let l = last_behind d parts none_around c.declared 0 c.waiting in
+    let l = last_behind d parts none_around c.declared 0 in
     let last = l.around in
     let behind = all_behind (all_tokens parts) c in
     let ends : StandsAt Hands l behind = subst (λ (q : Reader). StandsAt q l behind) (hands_on kept_so) all.ends in

@@ -3,7 +3,7 @@ use Rattle.std.proofs.Common.{◌≡◌, ℕ, zero, suc, ◌+◌, List, [], ◌�
 use Rattle.std.proofs.lemmas.List.{append-nil, map-append, reverse-append, reverse-reverse}
 use Rattle.inf_scanner.specs.declared.tokens.Place.{Place}
 use Rattle.inf_unit.specs.Messages.{FileNames, Reported}
-use Rattle.inf_conditionals.specs.declared.open.Conditional.{Conditional}
+use Rattle.inf_sources.specs.declared.open_file.Conditional.{Conditional}
 use Rattle.inf_conditionals.specs.Ends.{file_told, piece_told, with_all_lone, with_lone}
 use Rattle.inf_conditionals.specs.Open.{Conditions, closed, closed_by, opened, turned, turned_by, turned_first}
 use Rattle.inf_conditional_laws.specs.MissingEnds.{Change, Closes, MissingEndsAreTold, Opens, StandInside, Turns, all_changed, is_closed, never_closed, with_all_at}

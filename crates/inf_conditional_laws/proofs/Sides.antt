@@ -144,7 +144,6 @@ sides_are_cut events c side left_out at few stay =
         still = ap (λ (x : Conditions). x.left_out) leads;
         among = ap (λ (x : Conditions). x.among) leads;
         inner = ap (λ (x : Conditions). x.inner) leads;
-        waiting = ap (λ (x : Conditions). x.waiting) leads;
         pending = ap (λ (x : Conditions). x.pending) leads;
       },
     )

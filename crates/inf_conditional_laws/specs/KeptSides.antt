@@ -11,7 +11,7 @@ use Rattle.inf_unit.specs.Messages.{FileNames, Reported}
 use Rattle.inf_unit.specs.Tokens.{SourceToken, is_end, is_mark}
 use Rattle.inf_conditionals.specs.Atoms.{atom_of}
 use Rattle.inf_conditionals.specs.Condition.{Condition, condition_begun, condition_took, is_whole, verdict_of}
-use Rattle.inf_conditionals.specs.declared.open.Conditional.{Conditional}
+use Rattle.inf_sources.specs.declared.open_file.Conditional.{Conditional}
 use Rattle.inf_conditionals.specs.declared.judged.Forwarded.{Forwarded}
 use Rattle.inf_conditionals.specs.declared.judged.Forwarded.TheVariants as handed
 use Rattle.inf_conditionals.specs.declared.judged.Filtered.{Filtered}

@@ -12,7 +12,7 @@ use Rattle.inf_conditionals.specs.Atoms.{atom_of}
 use Rattle.inf_conditionals.specs.Condition.{Condition, condition_took, is_whole, verdict_of}
 use Rattle.inf_conditionals.specs.declared.judged.Filtered.{Filtered}
 use Rattle.inf_conditionals.specs.declared.judged.Site.{Site}
-use Rattle.inf_conditionals.specs.declared.open.Conditional.{Conditional}
+use Rattle.inf_sources.specs.declared.open_file.Conditional.{Conditional}
 use Rattle.inf_conditionals.specs.declared.open.LeftOut.{LeftOut}
 use Rattle.inf_conditionals.specs.declared.pending.Awaits.TheVariants as awaits
 use Rattle.inf_conditionals.specs.declared.pending.Pending.{Pending}
@@ -86,7 +86,6 @@ pub record StaysLeftOut (c now : Conditions) (side : LeftOut) (level : ℕ) : Ty
   pub still : now.left_out ≡ Some (record side { levels = level })
   pub among : now.among ≡ c.among
   pub inner : now.inner ≡ c.inner
-  pub waiting : now.waiting ≡ c.waiting
   pub pending : now.pending ≡ c.pending
 
 -- A side that is left out between directives is cut up to the token that ends it: no token is kept, whatever it is, and wherever among them

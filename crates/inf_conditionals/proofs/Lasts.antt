@@ -1,7 +1,7 @@
 -- The last of some conditionals is the first of them backwards.
 use Rattle.std.proofs.Common.{◌≡◌, ℕ, ◌-◌, ◌<◌, List, [], ◌∷◌, ◌++◌, length, reverse, get_or, refl, sym, ap, ◌∙◌, arith, slice_set}
 use Rattle.std.proofs.lemmas.List.{get_or-reverse, length-reverse, reverse-append, reverse-reverse, set-append_right}
-use Rattle.inf_conditionals.specs.declared.open.Conditional.{Conditional}
+use Rattle.inf_sources.specs.declared.open_file.Conditional.{Conditional}
 
 -- all behind the first
 abbrev pub rest_of : List Conditional → List Conditional

@@ -3,7 +3,7 @@ use Rattle.std.specs.Prelude.{ℕ, List, [], ◌∷◌, reverse, if◌then◌els
 use Rattle.inf_scanner.specs.declared.tokens.Place.{Place}
 use Rattle.inf_report.specs.Messages.{LoneConditional}
 use Rattle.inf_unit.specs.Messages.{FileNames, Reported, location, with_error}
-use Rattle.inf_conditionals.specs.declared.open.Conditional.{Conditional}
+use Rattle.inf_sources.specs.declared.open_file.Conditional.{Conditional}
 use Rattle.inf_conditionals.specs.declared.open.LeftOut.{LeftOut}
 use Rattle.inf_conditionals.specs.Open.{Conditions}
 
@@ -32,14 +32,10 @@ piece_ended declared c = record c { inner = []; left_out = side_kept c.left_out;
 abbrev pub file_told : FileNames → Conditions → Reported → Reported
 file_told files c r = with_all_lone files (reverse c.among) (piece_told files c r)
 
-abbrev pub file_left_to : List (List Conditional) → Conditions → Conditions
-file_left_to [] c = record c { among = []; inner = [] }
-file_left_to (among ∷ waiting) c = record c { among = among; inner = []; waiting = waiting }
+-- and then none is open any more
+abbrev pub file_ended : Conditions → Conditions
+file_ended c = record c { among = []; inner = [] }
 
--- the innermost file has ended
-abbrev pub file_left : Conditions → Conditions
-file_left c = file_left_to c.waiting c
-
--- a file is entered
-abbrev pub file_entered : Conditions → Conditions
-file_entered c = record c { among = []; waiting = c.among ∷ c.waiting }
+-- these are open between the directives
+abbrev pub with_among : List Conditional → Conditions → Conditions
+with_among among c = record c { among = among }

@@ -6,21 +6,20 @@ use Rattle.inf_settings.specs.declared.setting.Setting.TheVariants.{ExpressionNo
 use Rattle.inf_settings.specs.declared.settings.Settings.{Settings}
 use Rattle.inf_conditionals.specs.Condition.{Condition}
 use Rattle.inf_conditionals.specs.Said.{Said}
-use Rattle.inf_conditionals.specs.declared.open.Conditional.{Conditional}
+use Rattle.inf_sources.specs.declared.open_file.Conditional.{Conditional}
 use Rattle.inf_conditionals.specs.declared.open.LeftOut.{LeftOut}
 use Rattle.inf_conditionals.specs.declared.pending.Pending.{Pending}
 use Rattle.inf_conditionals.specs.declared.words.ConditionalWord.{ConditionalWord}
 use Rattle.inf_conditionals.specs.declared.words.ConditionalWord.TheVariants as word
 
--- The conditionals of the innermost file that were opened between its directives, and those that were opened inside the directive
--- at hand, the latest first; those of the files that wait, the inner files first; the conditional directives that are being read,
+-- The conditionals of the file that is read that were opened between its directives, and those that were opened inside the directive
+-- at hand, the latest first; the conditional directives that are being read,
 -- the inner ones first, and the conditions of those that have one; the side that is left out, if one is; a `#` that is held back; how
 -- many names were declared before the directive at hand; how many tokens a condition may have, and how many one
 -- had; and what is to be told of one.
 pub record Conditions : Type 0 where
   pub among : List Conditional
   pub inner : List Conditional
-  pub waiting : List (List Conditional)
   pub pending : List Pending
   pub conditions : List Condition
   pub left_out : Option LeftOut
@@ -34,7 +33,6 @@ abbrev pub no_conditions : Settings → Conditions
 no_conditions settings = record {
   among = [];
   inner = [];
-  waiting = [];
   pending = [];
   conditions = [];
   left_out = None;
@@ -58,7 +56,7 @@ abbrev pub is_second : List Conditional → Bool
 is_second [] = true
 is_second (c ∷ cs) = c.is_second
 
--- The latest conditional is one that was opened inside the directive at hand, or else one of the innermost file.
+-- The latest conditional is one that was opened inside the directive at hand, or else one of the file.
 abbrev pub latest_among : List Conditional → List Conditional → List Conditional
 latest_among [] among = among
 latest_among (c ∷ inner) among = c ∷ inner

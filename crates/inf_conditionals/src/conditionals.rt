@@ -1,5 +1,5 @@
-//! The conditionals of the files that are open.
-ghost use Rattle.std.specs.Prelude.{◌≡◌, ◌≤◌, length, IfOk, OnOk, IsSome, Some, false, is_none, not, option_map, reverse, true};
+//! The conditionals of the file that is read.
+ghost use Rattle.std.specs.Prelude.{◌≡◌, ◌≤◌, [], length, IfOk, OnOk, IsSome, Some, false, is_none, not, option_map, reverse, true};
 ghost use Rattle.inf_conditionals.specs.Open.{turned_first};
 ghost use Rattle.inf_conditionals.specs.Words.{word_of};
 ghost use Rattle.inf_unit.specs.Tokens.{name_of};
@@ -8,7 +8,7 @@ ghost use Rattle.inf_unit.specs.Tokens.{spelled};
 use crate::condition::Condition;
 use crate::ends::tell_all;
 use crate::judged::{Filtered, Forwarded, KEPT, NONE, Sign, Site, TAKEN};
-use crate::open::{Conditional, LeftOut};
+use crate::open::LeftOut;
 use crate::pending::{Awaits, Effect, Pending};
 use crate::said::{Said, too_much};
 use crate::words::{ConditionalWord, ends_side, levels_behind, word_of};
@@ -18,6 +18,7 @@ use inf_output::Output;
 use inf_scanner::{Mark, Place, TokenKind};
 use inf_settings::setting::Setting;
 use inf_settings::settings::Settings;
+use inf_sources::open_file::Conditional;
 use inf_unit::messages::Diagnostics;
 use inf_unit::tokens::{SourceToken, is_end, is_mark};
 use std::alloc::{AllocError, Global};
@@ -32,8 +33,6 @@ pub struct Conditionals {
     among: Vec<Conditional>,
     /// Those that were opened inside the directive at hand, the latest last.
     inner: Vec<Conditional>,
-    /// Those of the files that wait, the inner files last.
-    waiting: Vec<Vec<Conditional>>,
     /// The conditional directives that are being read, the inner ones last.
     pending: Vec<Pending>,
     /// The conditions of those that have one.
@@ -63,7 +62,6 @@ impl Model for Conditionals {
     ghost view = { λ c. record {
       among = reverse c.among.items;
       inner = reverse c.inner.items;
-      waiting = reverse (map (λ v. reverse v.items) c.waiting.items);
       pending = reverse c.pending.items;
       conditions = reverse (map condition c.conditions.items);
       left_out = c.left_out;
@@ -76,7 +74,7 @@ impl Model for Conditionals {
 }
 
 impl Conditionals {
-    ghost use Rattle.inf_conditionals.specs.Ends.{file_entered, file_left, file_told, piece_ended, piece_told};
+    ghost use Rattle.inf_conditionals.specs.Ends.{file_ended, file_told, piece_ended, piece_told, with_among};
     ghost use Rattle.inf_conditionals.specs.Judging.{asked, asked_first, asking, awaited, awaiting, begun, behind_front, behind_sign, decided, effected, held, in_side, is_behind_side, is_none_pending, judged, kept, may_part, offered, saying, tokens_counted, unfit, word_passed};
     ghost use Rattle.inf_output.specs.Output.{Out};
     ghost use Rattle.inf_conditionals.specs.Condition.{verdict_of};
@@ -92,7 +90,6 @@ impl Conditionals {
             alloc,
             among: Vec::new(alloc),
             inner: Vec::new(alloc),
-            waiting: Vec::new(alloc),
             pending: Vec::new(alloc),
             conditions: Vec::new(alloc),
             left_out: None,
@@ -192,27 +189,30 @@ impl Conditionals {
         }
     }
 
-    /// A file is entered, in which no conditional is open yet.
-    pub fn enter_file(&mut self) -> Result<(), AllocError>
-        ensures { OnOk result (self.new ≡ file_entered self.old) }
+    /// Takes away those that were opened between the directives, the latest last.
+    pub fn take_among(&mut self) -> Vec<Conditional>
+        ensures taken { reverse result.items ≡ self.old.among }
+        ensures none { self.new ≡ with_among [] self.old }
     {
-        let among = mem::replace(&mut self.among, Vec::new(self.alloc));
-        self.waiting.push(among)?;
-        Ok(())
+        mem::replace(&mut self.among, Vec::new(self.alloc))
+    }
+
+    /// Gives back what was taken away.
+    pub fn give_among(&mut self, among: Vec<Conditional>)
+        ensures { self.new ≡ with_among (reverse among.items) self.old }
+    {
+        self.among = among;
     }
 
     /// The innermost file has ended: tells the conditionals that are open in it, and forgets them.
     pub fn end_file(&mut self, files: &Stack, report: &mut Diagnostics) -> Result<(), AllocError>
         ensures told { OnOk result (report.new ≡ file_told files.now.names self.old report.old) }
-        ensures left { OnOk result (self.new ≡ file_left self.old) }
+        ensures ended { OnOk result (self.new ≡ file_ended self.old) }
     {
         tell_all(self.inner.as_slice(), files, report)?;
         tell_all(self.among.as_slice(), files, report)?;
         self.inner.clear();
-        self.among = match self.waiting.pop() {
-            Some(among) => among,
-            None => Vec::new(self.alloc),
-        };
+        self.among.clear();
         Ok(())
     }
 

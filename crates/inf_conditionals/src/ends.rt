@@ -2,10 +2,10 @@
 ghost use Rattle.std.specs.Prelude.{◌≡◌, OnOk};
 ghost use Rattle.inf_conditionals.specs.Ends.{with_all_lone, with_lone};
 
-use crate::open::Conditional;
 use inf_lexer::Stack;
 use inf_report::messages::Message;
 use inf_scanner::Place;
+use inf_sources::open_file::Conditional;
 use inf_unit::messages::{Diagnostics, location};
 use std::alloc::AllocError;
 

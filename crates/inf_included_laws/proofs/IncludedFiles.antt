@@ -4,8 +4,7 @@ use Rattle.std.proofs.lemmas.List.{append-nil, map-append}
 use Rattle.inf_scanner.specs.declared.tokens.Mark.TheVariants as mark
 use Rattle.inf_scanner.specs.declared.tokens.Place.{Place}
 use Rattle.inf_files.specs.Files.{Sources}
-use Rattle.inf_sources.specs.Cursors.{Cursor}
-use Rattle.inf_sources.specs.Inclusions.{Inclusion, Opens, OpensNone, inclusion}
+use Rattle.inf_sources.specs.Inclusions.{Inclusion, Opens, OpensNone, Waiting, inclusion}
 use Rattle.inf_sources.specs.declared.open_files.Included.{Included}
 use Rattle.inf_sources.specs.declared.open_files.Included.TheVariants as answer
 use Rattle.inf_unit.specs.Directives.{Request, End, Include, Nothing}
@@ -15,18 +14,19 @@ use Rattle.inf_conditionals.specs.declared.judged.Forwarded.{Forwarded}
 use Rattle.inf_conditionals.specs.declared.judged.Forwarded.TheVariants as handed
 use Rattle.inf_conditionals.specs.declared.judged.Filtered.{Filtered}
 use Rattle.inf_conditionals.specs.declared.judged.Sign.{Sign}
-use Rattle.inf_conditionals.specs.declared.open.Conditional.{Conditional}
+use Rattle.inf_sources.specs.declared.open_file.Conditional.{Conditional}
 use Rattle.inf_conditionals.specs.declared.open.LeftOut.{LeftOut}
 use Rattle.inf_conditionals.specs.declared.pending.Pending.{Pending}
-use Rattle.inf_conditionals.specs.Ends.{file_entered, file_left, file_left_to, file_told, with_all_lone}
+use Rattle.inf_conditionals.specs.Ends.{file_ended, file_told, with_all_lone, with_among}
 use Rattle.inf_conditionals.specs.Judging.{Behind, behind_sign, judged, judged_by, is_none_pending, kept, none_handed, offered, passed, passed_by}
 use Rattle.inf_conditionals.specs.Open.{Conditions, most_levels, silent}
 use Rattle.inf_conditionals.specs.Words.{word_of}
+use Rattle.inf_unit.proofs.Cases.{of_both}
 use Rattle.inf_reader.specs.Handing.{hash, said_told, site_of}
 use Rattle.inf_reader.specs.Reading.{is_mode_ended}
 use Rattle.inf_session.specs.Choices.{Choices}
-use Rattle.inf_session.specs.Session.{State, answered, asked_nothing, carried_out, included_by, left, left_by, file_closed, none_included, stand_of, stepped, token_of, turn}
-use Rattle.inf_included_laws.specs.IncludedFiles.{Alone, AreFiles, AreOfAFile, Breaking, Cut, CutHashLast, CutHashThen, CutHashesLeft, Enters, Files, FilesKeepSides, FilesTellUnended, HashLast, HashThen, HashesLeft, Including, Leaves, Stays, Step, TurnsKeepFiles, all_unended, around_behind, around_broken, around_included, asked_passage, behind_files, end_handed, end_sign, first_step, handed_by, handed_end, handed_files, opens, passage, passed_files, released, sign_as, standing, staying, step_at, step_behind, steps, steps_at, steps_behind, told_at, told_behind, told_by, told_files}
+use Rattle.inf_session.specs.Session.{State, answered, asked_nothing, carried_out, included_by, left, left_by, file_closed, has_ended, is_resting, none_included, piece_closed, rested, stand_of, stepped, token_of, turn}
+use Rattle.inf_included_laws.specs.IncludedFiles.{Alone, AreFiles, AreOfAFile, Breaking, Cut, CutHashLast, CutHashThen, CutHashesLeft, Enters, Files, FilesKeepSides, FilesTellUnended, HashLast, HashThen, HashesLeft, Including, Leaves, Nested, Stays, Step, TurnsKeepFiles, all_unended, around_behind, around_broken, around_included, asked_passage, behind_files, end_handed, end_sign, first_step, handed_by, handed_end, handed_files, left_to, nested, nested_in, opens, passage, behind_passage, passed_files, released, sign_as, standing, staying, step_at, step_behind, steps, steps_at, steps_behind, tokens_behind, told_at, told_behind, told_by, told_files}
 use Rattle.inf_conditional_laws.specs.KeptSides.{Answers, Around, At, Follows, Handing, IsClear, IsPlain, IsSign, NoneInside, Parts, all_behind, all_handed_on, all_kept, all_tokens, all_told, are_kept, as_kept, behind_parts, declared_behind, declared_tokens, ended_behind, ended_in, ended_places, going_on, handed_as, handed_on, handed_sign, handed_token, judged_at, kept_sides, lone_places, missing_in, none_around, places, told_parts, unended}
 use Rattle.inf_included_laws.specs.Unfinished.{AreHashes, Request as HasAsked, Bare, Closes, Fronting, FrontingWord, HasWord, Hashed, HaveBegun, IsMisfit, Misfit, Named, Turns, Unfinished, Unnamed, all_begun_tokens, as_unfit, begun_handed, begun_sign, behind_all_begun, behind_misfit, handed_misfit, misfit_tokens, told_all_begun, told_misfit}
 use Rattle.inf_laws.specs.KeptTurns.{given_by, given_in, turned}
@@ -39,50 +39,50 @@ use Rattle.inf_conditional_laws.proofs.SideTurns.{all_shown, rested_conditions}
 
 -- Steps one after the other
 
-handed_both : (first second : List Step) (c : Conditions) →
+handed_both : (first second : List Step) (c : Nested) →
     handed_by (first ++ second) c ≡ handed_by first c ++ handed_by second (steps_behind first c)
 handed_both [] second c = refl
 handed_both (x ∷ first) second c =
-    ap (λ hs. handed_on (judged_at x.at c).judged x.at.token ++ hs) (handed_both first second (step_behind x c))
-    ∙ sym (append_assoc (handed_on (judged_at x.at c).judged x.at.token) (handed_by first (step_behind x c))
+    ap (λ hs. handed_on (judged_at x.at c.now).judged x.at.token ++ hs) (handed_both first second (step_behind x c))
+    ∙ sym (append_assoc (handed_on (judged_at x.at c.now).judged x.at.token) (handed_by first (step_behind x c))
     (handed_by second (steps_behind first (step_behind x c))))
 
-tells_both : (first second : List Step) (c : Conditions) →
+tells_both : (first second : List Step) (c : Nested) →
     told_by (first ++ second) c ≡ told_by first c ++ told_by second (steps_behind first c)
 tells_both [] second c = refl
 tells_both (x ∷ first) second c =
     ap (λ ps. told_at x c ++ ps) (tells_both first second (step_behind x c))
     ∙ sym (append_assoc (told_at x c) (told_by first (step_behind x c)) (told_by second (steps_behind first (step_behind x c))))
 
-behind_both : (first second : List Step) (c : Conditions) → steps_behind (first ++ second) c ≡ steps_behind second (steps_behind first c)
+behind_both : (first second : List Step) (c : Nested) → steps_behind (first ++ second) c ≡ steps_behind second (steps_behind first c)
 behind_both [] second c = refl
 behind_both (x ∷ first) second c = behind_both first second (step_behind x c)
 
 -- Steps that stay in the file
 
-hands_staying : (tokens : List At) (c : Conditions) → handed_by (map staying tokens) c ≡ all_handed_on tokens c
+hands_staying : (tokens : List At) (c : Nested) → handed_by (map staying tokens) c ≡ all_handed_on tokens c.now
 hands_staying [] c = refl
-hands_staying (t ∷ tokens) c = ap (λ hs. handed_on (judged_at t c).judged t.token ++ hs) (hands_staying tokens (step_behind (staying t) c))
+hands_staying (t ∷ tokens) c = ap (λ hs. handed_on (judged_at t c.now).judged t.token ++ hs) (hands_staying tokens (step_behind (staying t) c))
 
-tells_staying : (tokens : List At) (c : Conditions) → told_by (map staying tokens) c ≡ all_told tokens c
+tells_staying : (tokens : List At) (c : Nested) → told_by (map staying tokens) c ≡ all_told tokens c.now
 tells_staying [] c = refl
 tells_staying (t ∷ tokens) c =
-    let b = judged_at t c in
+    let b = judged_at t c.now in
     let next = step_behind (staying t) c in
     append_assoc (lone_places b.judged.unmatched) (ended_places t.ended b.now.inner) (told_by (map staying tokens) next)
     ∙ ap (λ ps. lone_places b.judged.unmatched ++ (ended_places t.ended b.now.inner ++ ps)) (tells_staying tokens next)
 
-behind_staying : (tokens : List At) (c : Conditions) → steps_behind (map staying tokens) c ≡ all_behind tokens c
+behind_staying : (tokens : List At) (c : Nested) → steps_behind (map staying tokens) c ≡ tokens_behind tokens c
 behind_staying [] c = refl
 behind_staying (t ∷ tokens) c = behind_staying tokens (step_behind (staying t) c)
 
 -- What steps come to
 
-record StepsLed (all : List Step) (c : Conditions) (given : List Handing) (told : List Place) : Type 0 where
+record StepsLed (all : List Step) (c : Nested) (given : List Handing) (told : List Place) : Type 0 where
   hands : handed_by all c ≡ given
   tells : told_by all c ≡ told
 
-joined : (first second : List Step) (c : Conditions) (given more : List Handing) (told others : List Place)
+joined : (first second : List Step) (c : Nested) (given more : List Handing) (told others : List Place)
     → StepsLed first c given told → StepsLed second (steps_behind first c) more others → StepsLed (first ++ second) c (given ++ more)
     (told ++ others)
 joined first second c given more told others a b = record {
@@ -91,17 +91,16 @@ joined first second c given more told others a b = record {
 }
 
 -- tokens that stay in their file
-staying_led : (tokens : List At) (c : Conditions) (given : List Handing) (told : List Place) → all_handed_on tokens c ≡ given →
-    all_told tokens c ≡ told → StepsLed (map staying tokens) c given told
+staying_led : (tokens : List At) (c : Nested) (given : List Handing) (told : List Place) → all_handed_on tokens c.now ≡ given →
+    all_told tokens c.now ≡ told → StepsLed (map staying tokens) c given told
 staying_led tokens c given told hands tells = record { hands = hands_staying tokens c ∙ hands; tells = tells_staying tokens c ∙ tells }
 
 -- how a file may end: so its end is handed on there, and nothing is left out or read behind it
-record EndsAs (o : Option Sign) (h : Forwarded) (s : Around) (w : List (List Conditional)) (c : Conditions) : Type 0 where
+record EndsAs (o : Option Sign) (h : Forwarded) (s : Around) (c : Conditions) : Type 0 where
   base : Conditions
   stand : Stands
   declared : ℕ
   none_read : base.pending ≡ []
-  waits : base.waiting ≡ w
   stack : stack_of stand ≡ s
   inner : c.inner ≡ inner_of stand
   among : c.among ≡ among_of stand
@@ -112,42 +111,45 @@ record EndsAs (o : Option Sign) (h : Forwarded) (s : Around) (w : List (List Con
             { sign = o; token = Some h };
       }
 
+-- where these files wait
+record EndsIn (o : Option Sign) (h : Forwarded) (s : Around) (w : List (List Conditional)) (c : Nested) : Type 0 where
+  ends : EndsAs o h s c.now
+  waits : c.waiting ≡ w
+
 -- A stretch of a file begins where no side is left out, and nothing is half read.
-record Begun (s : Around) (w : List (List Conditional)) (c : Conditions) : Type 0 where
+record Begun (s : Around) (c : Conditions) : Type 0 where
   inside_kept : are_kept s.inside ≡ true
   between_kept : are_kept s.between ≡ true
   is : at c (conditionals s.inside) (conditionals s.between) None c.declared ≡ c
-  waits : c.waiting ≡ w
   none_read : c.pending ≡ []
 
 -- what is open behind it, with how many names and levels
-abbrev stretch_last : Answers → Around → List (List Conditional) → Conditions → Parts → Last
-stretch_last d s w c parts =
-    last_at (behind_parts d s parts) (declared_tokens (all_tokens parts) c.declared) (0 + length (all_tokens parts)) w
+abbrev stretch_last : Answers → Around → Conditions → Parts → Last
+stretch_last d s c parts =
+    last_at (behind_parts d s parts) (declared_tokens (all_tokens parts) c.declared) (0 + length (all_tokens parts))
 
-record Stretch (d : Answers) (s : Around) (w : List (List Conditional)) (c : Conditions) (parts : Parts) : Type 0 where
+record Stretch (d : Answers) (s : Around) (c : Nested) (parts : Parts) : Type 0 where
   led : StepsLed (map staying (all_tokens parts)) c (map as_kept (kept_sides d s parts)) (told_parts d s parts)
-  stands : StandsAt Hands (stretch_last d s w c parts) (all_behind (all_tokens parts) c)
+  stands : StandsAt Hands (stretch_last d s c.now parts) (all_behind (all_tokens parts) c.now)
 
-stretch : (d : Answers) (s : Around) (w : List (List Conditional)) (c : Conditions) (parts : Parts) → Begun s w c →
-    AreOfAFile d s c.declared parts → Stretch d s w c parts
-stretch d s w c parts b are =
+stretch : (d : Answers) (s : Around) (c : Nested) (parts : Parts) → Begun s c.now →
+    AreOfAFile d s c.now.declared parts → Stretch d s c parts
+stretch d s c parts b are =
     let few = are.few in
     let tokens = all_tokens parts in
     let kept_so = kept_sides d s parts in
-    let start : StandsAt Hands (last_at s c.declared 0 w) c =
+    let start : StandsAt Hands (last_at s c.now.declared 0) c.now =
     record {
-      base = c;
+      base = c.now;
       stand = AllStay s.inside s.between b.inside_kept b.between_kept;
       holds = b.none_read;
-      waits = b.waits;
       is = sym b.is;
       stack = refl;
       few = omega arith;
     } in
-    let all = led d parts Hands s c.declared 0 w c start are.are_parts (all_taken kept_so) (omega (arith, few)) in
-    let behind = all_behind tokens c in
-    let last = stretch_last d s w c parts in
+    let all = led d parts Hands s c.now.declared 0 c.now start are.are_parts (all_taken kept_so) (omega (arith, few)) in
+    let behind = all_behind tokens c.now in
+    let last = stretch_last d s c.now parts in
     record {
       led = staying_led tokens c (map as_kept kept_so) (told_parts d s parts) (all.hands ∙ all_handed kept_so) all.tells;
       stands = subst (λ (q : Reader). StandsAt q last behind) (hands_on kept_so) all.ends;
@@ -162,61 +164,57 @@ abbrev leaves : At → Step
 leaves t = record { at = t; passage = Leaves }
 
 -- where all is kept
-record StaysAt (s : Around) (w : List (List Conditional)) (c : Conditions) : Type 0 where
+record StaysAt (s : Around) (c : Conditions) : Type 0 where
   base : Conditions
   declared : ℕ
   inside_kept : are_kept s.inside ≡ true
   between_kept : are_kept s.between ≡ true
   is : c ≡ at base (conditionals s.inside) (conditionals s.between) None declared
-  waits : base.waiting ≡ w
   none_read : base.pending ≡ []
 
-kept_there : (st : Stands) (s : Around) (w : List (List Conditional)) (c base : Conditions) (declared : ℕ) → stack_of st ≡ s
-    → c ≡ stands_at base st declared → base.waiting ≡ w → base.pending ≡ [] → all_kept s ≡ true → StaysAt s w c
-kept_there (AllStay inside between si sb) s w c base declared stack is waits none all = record {
+kept_there : (st : Stands) (s : Around) (c base : Conditions) (declared : ℕ) → stack_of st ≡ s
+    → c ≡ stands_at base st declared → base.pending ≡ [] → all_kept s ≡ true → StaysAt s c
+kept_there (AllStay inside between si sb) s c base declared stack is none all = record {
   base = base;
   declared = declared;
   inside_kept = ap (λ (x : Around). are_kept x.inside) (sym stack) ∙ si;
   between_kept = ap (λ (x : Around). are_kept x.between) (sym stack) ∙ sb;
   is = is ∙ ap (λ (x : Around). at base (conditionals x.inside) (conditionals x.between) None declared) stack;
-  waits = waits;
   none_read = none;
 }
-kept_there (InnerLeft deep x inside between left si sb) s w c base declared stack is waits none all =
+kept_there (InnerLeft deep x inside between left si sb) s c base declared stack is none all =
     absurd (let never : true ≡ false = sym all ∙ ap all_kept (sym stack) ∙ inner_not_kept deep x inside between left in cc)
-kept_there (OuterLeft deep x between left sb) s w c base declared stack is waits none all =
+kept_there (OuterLeft deep x between left sb) s c base declared stack is none all =
     absurd (let never : true ≡ false = sym all ∙ ap all_kept (sym stack) ∙ not_kept deep x between left in cc)
 
-stays_at : (last : Last) (c : Conditions) → StandsAt Hands last c → all_kept last.around ≡ true → StaysAt last.around last.waiting c
-stays_at last c e all = kept_there e.stand last.around last.waiting c e.base last.declared e.stack e.is e.waits e.holds all
+stays_at : (last : Last) (c : Conditions) → StandsAt Hands last c → all_kept last.around ≡ true → StaysAt last.around c
+stays_at last c e all = kept_there e.stand last.around c e.base last.declared e.stack e.is e.holds all
 
-begun_in : (e : Option ℕ) (s : Around) (w : List (List Conditional)) (base : Conditions) (declared : ℕ) → are_kept s.inside ≡ true →
-    base.waiting ≡ w → base.pending ≡ []
-    → Begun (ended_in e (record s { between = [] })) (conditionals s.between ∷ w)
-    (ended_behind e (file_entered (at base (conditionals s.inside) (conditionals s.between) None declared)))
-begun_in None s w base declared kept_so waits none =
-    record { inside_kept = kept_so; between_kept = refl; is = refl; waits = ap (λ x. conditionals s.between ∷ x) waits; none_read = none }
-begun_in (Some now) s w base declared kept_so waits none =
-    record { inside_kept = refl; between_kept = refl; is = refl; waits = ap (λ x. conditionals s.between ∷ x) waits; none_read = none }
+begun_in : (e : Option ℕ) (s : Around) (base : Conditions) (declared : ℕ) → are_kept s.inside ≡ true → base.pending ≡ []
+    → Begun (ended_in e (record s { between = [] }))
+    (ended_behind e (with_among [] (at base (conditionals s.inside) (conditionals s.between) None declared)))
+begun_in None s base declared kept_so none = record { inside_kept = kept_so; between_kept = refl; is = refl; none_read = none }
+begun_in (Some now) s base declared kept_so none = record { inside_kept = refl; between_kept = refl; is = refl; none_read = none }
 
-record Entered (t : At) (s : Around) (w : List (List Conditional)) (c : Conditions) : Type 0 where
-  hands : handed_on (judged_at t c).judged t.token ≡ as_kept t.token ∷ []
+record Entered (t : At) (s : Around) (c : Nested) : Type 0 where
+  hands : handed_on (judged_at t c.now).judged t.token ≡ as_kept t.token ∷ []
   tells : told_at (enters t) c ≡ missing_in t.ended s
-  begun : Begun (around_included t s) (conditionals s.between ∷ w) (step_behind (enters t) c)
+  begun : Begun (around_included t s) (step_behind (enters t) c).now
+  waits : (step_behind (enters t) c).waiting ≡ conditionals s.between ∷ c.waiting
 
-entered_at : (t : At) (s : Around) (w : List (List Conditional)) (c : Conditions) → StaysAt s w c → IsPlain true false t → Entered t s w c
-entered_at t s w c st plain =
+entered_at : (t : At) (s : Around) (c : Nested) → StaysAt s c.now → IsPlain true false t → Entered t s c
+entered_at t s c st plain =
     let here = at st.base (conditionals s.inside) (conditionals s.between) None st.declared in
     let keeps =
     ap (judged_at t) st.is ∙ plain_kept t st.base (conditionals s.inside) (conditionals s.between) st.declared st.none_read plain in
     record {
       hands = ap (λ (b : Behind). handed_on b.judged t.token) keeps;
       tells =
-          ap (λ (b : Behind). lone_places b.judged.unmatched ++ ended_places t.ended (file_entered b.now).inner) keeps
+          ap (λ (b : Behind). lone_places b.judged.unmatched ++ ended_places t.ended (with_among [] b.now).inner) keeps
           ∙ ended_told t.ended (AllStay s.inside s.between st.inside_kept st.between_kept) st.declared st.base;
-      begun = subst (λ (b : Behind). Begun (around_included t s) (conditionals s.between ∷ w)
-          (ended_behind t.ended (file_entered (silent b.now)))) (sym keeps)
-          (begun_in t.ended s w st.base st.declared st.inside_kept st.waits st.none_read);
+      begun = subst (λ (b : Behind). Begun (around_included t s) (ended_behind t.ended (with_among [] (silent b.now)))) (sym keeps)
+          (begun_in t.ended s st.base st.declared st.inside_kept st.none_read);
+      waits = ap (λ (b : Behind). b.now.among ∷ c.waiting) keeps;
     }
 
 -- and left
@@ -240,13 +238,12 @@ end_is_kept t c is none no_sign = go c.left_out c.sign refl refl no_sign
         ∙ ap (λ x. kept (record c { left_out = None; sign = x })) is_sign
     go None (Some place) is_left is_sign e = cc
 
-ends_kept : (last : Last) (c : Conditions) → StandsAt Hands last c → EndsAs None handed.Kept last.around last.waiting c
+ends_kept : (last : Last) (c : Conditions) → StandsAt Hands last c → EndsAs None handed.Kept last.around c
 ends_kept last c e = record {
   base = e.base;
   stand = e.stand;
   declared = last.declared;
   none_read = e.holds;
-  waits = e.waits;
   stack = e.stack;
   inner = ap (λ (x : Conditions). x.inner) e.is;
   among = ap (λ (x : Conditions). x.among) e.is;
@@ -258,7 +255,7 @@ ends_kept last c e = record {
 -- in the midst of a directive
 ends_unfit : (d : Answers) (outer : List Unfinished) (u : Unfinished) (s : Around) (last : Last) (toks : List At) (alone : List Place)
     (c : Conditions) → HasWord u → AllBegun d outer u s last toks alone c
-    → EndsAs None handed.Unfit last.around last.waiting (all_behind toks c)
+    → EndsAs None handed.Unfit last.around (all_behind toks c)
 ends_unfit d outer u s last toks alone c so b =
     let e = b.led.ends in
     record {
@@ -266,7 +263,6 @@ ends_unfit d outer u s last toks alone c so b =
       stand = e.stand;
       declared = last.declared;
       none_read = refl;
-      waits = e.waits;
       stack = e.stack;
       inner = ap (λ (x : Conditions). x.inner) e.is;
       among = ap (λ (x : Conditions). x.among) e.is;
@@ -275,7 +271,7 @@ ends_unfit d outer u s last toks alone c so b =
 
 ends_cut : (d : Answers) (outer : List Unfinished) (u : Unfinished) (s : Around) (last : Last) (toks : List At) (alone : List Place)
     (c : Conditions) → AllBegun d outer u s last toks alone c
-    → EndsAs (begun_sign u) (begun_handed u) last.around last.waiting (all_behind toks c)
+    → EndsAs (begun_sign u) (begun_handed u) last.around (all_behind toks c)
 ends_cut d outer (Unnamed is_inner if_declared first before) s last toks alone c b =
     ends_unfit d outer (Unnamed is_inner if_declared first before) s last toks alone c tt b
 ends_cut d outer (Named is_inner if_declared first before name behind) s last toks alone c b =
@@ -295,7 +291,6 @@ ends_cut d outer (Fronting sign parts) s last toks alone c b =
       stand = e.stand;
       declared = last.declared;
       none_read = refl;
-      waits = e.waits;
       stack = e.stack;
       inner = ap (λ (x : Conditions). x.inner) e.is;
       among = ap (λ (x : Conditions). x.among) e.is;
@@ -306,27 +301,25 @@ none_ended : (e : Option ℕ) → ended_places e [] ≡ []
 none_ended None = refl
 none_ended (Some now) = refl
 
-begun_behind : (e : Option ℕ) (s : Around) (w : List (List Conditional)) (base : Conditions) (inner among : List Conditional) (declared : ℕ)
-    → are_kept s.between ≡ true
-    → base.waiting ≡ conditionals s.between ∷ w → base.pending ≡ [] → Begun (around_behind s) w
-    (ended_behind e (file_left (at base inner among None declared)))
-begun_behind e s w base inner among declared kept_so waits none =
-    subst (λ ws. Begun (around_behind s) w (ended_behind e (file_left_to ws (at base inner among None declared)))) (sym waits) (go e)
-  where
-    go : (e : Option ℕ) →
-        Begun (around_behind s) w (ended_behind e (file_left_to (conditionals s.between ∷ w) (at base inner among None declared)))
-    go None = record { inside_kept = refl; between_kept = kept_so; is = refl; waits = refl; none_read = none }
-    go (Some now) = record { inside_kept = refl; between_kept = kept_so; is = refl; waits = refl; none_read = none }
+begun_behind : (e : Option ℕ) (s : Around) (base : Conditions) (inner among : List Conditional) (declared : ℕ)
+    → are_kept s.between ≡ true → base.pending ≡ []
+    → Begun (around_behind s)
+    (ended_behind e (with_among (conditionals s.between) (file_ended (at base inner among None declared))))
+begun_behind None s base inner among declared kept_so none =
+    record { inside_kept = refl; between_kept = kept_so; is = refl; none_read = none }
+begun_behind (Some now) s base inner among declared kept_so none =
+    record { inside_kept = refl; between_kept = kept_so; is = refl; none_read = none }
 
-record LeftAt (o : Option Sign) (h : Forwarded) (t : At) (s inner : Around) (w : List (List Conditional)) (c : Conditions) : Type 0 where
-  hands : handed_on (judged_at t c).judged t.token ≡ handed_sign o ++ handed_as h t.token
+record LeftAt (o : Option Sign) (h : Forwarded) (t : At) (s inner : Around) (w : List (List Conditional)) (c : Nested) : Type 0 where
+  hands : handed_on (judged_at t c.now).judged t.token ≡ handed_sign o ++ handed_as h t.token
   tells : told_at (leaves t) c ≡ all_unended inner
-  begun : Begun (around_behind s) w (step_behind (leaves t) c)
+  begun : Begun (around_behind s) (step_behind (leaves t) c).now
+  waits : (step_behind (leaves t) c).waiting ≡ w
 
 -- the places that are told at an end
-misses_at : (t : At) (o : Option Sign) (h : Forwarded) (s : Around) (w : List (List Conditional)) (c : Conditions) → EndsAs o h s w c →
+misses_at : (t : At) (o : Option Sign) (h : Forwarded) (s : Around) (c : Conditions) → EndsAs o h s c →
     is_end t.token.kind ≡ true → told_behind Leaves (judged_at t c).now ≡ all_unended s
-misses_at t o h s w c e is_last =
+misses_at t o h s c e is_last =
     let open_so = are_open e.stand in
     let inner = inner_of e.stand in
     let among = among_of e.stand in
@@ -335,49 +328,52 @@ misses_at t o h s w c e is_last =
     ∙ ap (λ ps. unended (stack_of e.stand).inside ++ ps) (told_places (stack_of e.stand).between among open_so.between)
     ∙ ap all_unended e.stack
 
-left_at_end : (t : At) (o : Option Sign) (h : Forwarded) (s inner : Around) (w : List (List Conditional)) (c : Conditions) →
-    EndsAs o h inner (conditionals s.between ∷ w) c → are_kept s.between ≡ true
+left_at_end : (t : At) (o : Option Sign) (h : Forwarded) (s inner : Around) (w : List (List Conditional)) (c : Nested) →
+    EndsIn o h inner (conditionals s.between ∷ w) c → are_kept s.between ≡ true
     → is_end t.token.kind ≡ true → LeftAt o h t s inner w c
 left_at_end t o h s inner w c e kept_so is_last =
-    let keeps = e.at_end t is_last in
-    let at_last = at e.base (inner_of e.stand) (among_of e.stand) None e.declared in
+    let ends = e.ends in
+    let keeps = ends.at_end t is_last in
+    let at_last = at ends.base (inner_of ends.stand) (among_of ends.stand) None ends.declared in
+    let before = silent (judged_at t c.now).now in
     record {
       hands = ap (λ (b : Behind). handed_on b.judged t.token) keeps;
       tells =
-          ap (λ (b : Behind). lone_places b.judged.unmatched ++ (told_behind Leaves b.now ++ ended_places t.ended (file_left b.now).inner))
-          keeps
+          ap (λ (b : Behind). lone_places b.judged.unmatched
+          ++ (told_behind Leaves b.now ++ ended_places t.ended (left_to c.waiting (file_ended b.now)).now.inner)) keeps
           ∙ ap (λ ps. told_behind Leaves at_last ++ ps)
-          (ap (λ ws. ended_places t.ended (file_left_to ws at_last).inner) e.waits ∙ none_ended t.ended)
+          (ap (λ ws. ended_places t.ended (left_to ws (file_ended at_last)).now.inner) e.waits ∙ none_ended t.ended)
           ∙ append-nil (told_behind Leaves at_last)
           ∙ ap (λ (b : Behind). told_behind Leaves b.now) (sym keeps)
-          ∙ misses_at t o h inner (conditionals s.between ∷ w) c e is_last;
-      begun = subst (λ (b : Behind). Begun (around_behind s) w (ended_behind t.ended (file_left (silent b.now)))) (sym keeps)
-          (begun_behind t.ended s w e.base (inner_of e.stand) (among_of e.stand) e.declared kept_so e.waits e.none_read);
+          ∙ misses_at t o h inner c.now ends is_last;
+      begun = subst (λ ws. Begun (around_behind s) (ended_behind t.ended (left_to ws (file_ended before)).now)) (sym e.waits)
+          (subst (λ (b : Behind). Begun (around_behind s)
+          (ended_behind t.ended (with_among (conditionals s.between) (file_ended (silent b.now))))) (sym keeps)
+          (begun_behind t.ended s ends.base (inner_of ends.stand) (among_of ends.stand) ends.declared kept_so ends.none_read));
+      waits = ap (λ ws. (left_to ws (file_ended before)).waiting) e.waits;
     }
 
 -- A token cuts a directive
 
-begun_broken : (e : Option ℕ) (s : Around) (w : List (List Conditional)) (base : Conditions) (declared : ℕ) → are_kept s.inside ≡ true →
-    are_kept s.between ≡ true → base.waiting ≡ w → base.pending ≡ []
-    → Begun (ended_in e s) w (ended_behind e (at base (conditionals s.inside) (conditionals s.between) None declared))
-begun_broken None s w base declared si sb waits none =
-    record { inside_kept = si; between_kept = sb; is = refl; waits = waits; none_read = none }
-begun_broken (Some now) s w base declared si sb waits none =
-    record { inside_kept = refl; between_kept = sb; is = refl; waits = waits; none_read = none }
+begun_broken : (e : Option ℕ) (s : Around) (base : Conditions) (declared : ℕ) → are_kept s.inside ≡ true →
+    are_kept s.between ≡ true → base.pending ≡ []
+    → Begun (ended_in e s) (ended_behind e (at base (conditionals s.inside) (conditionals s.between) None declared))
+begun_broken None s base declared si sb none = record { inside_kept = si; between_kept = sb; is = refl; none_read = none }
+begun_broken (Some now) s base declared si sb none = record { inside_kept = refl; between_kept = sb; is = refl; none_read = none }
 
 misfit_kept : (d : Answers) (s : Around) (outer : List Unfinished) (u : Unfinished) (misfit : Misfit) → IsMisfit d s outer u misfit →
     all_kept (behind_all_begun d s outer u) ≡ true
 misfit_kept d s outer u (Bare t) is = is.0
 misfit_kept d s outer u (Hashed sign t) is = is.0
 
-record MisfitLed (misfit : Misfit) (s : Around) (w : List (List Conditional)) (c : Conditions) : Type 0 where
+record MisfitLed (misfit : Misfit) (s : Around) (c : Conditions) : Type 0 where
   hands : all_handed_on (misfit_tokens misfit) c ≡ handed_misfit misfit
   tells : all_told (misfit_tokens misfit) c ≡ told_misfit misfit s
-  begun : Begun (behind_misfit misfit s) w (all_behind (misfit_tokens misfit) c)
+  begun : Begun (behind_misfit misfit s) (all_behind (misfit_tokens misfit) c)
 
 misfit_led : (d : Answers) (outer : List Unfinished) (u : Unfinished) (s : Around) (last : Last) (toks : List At) (alone : List Place)
     (c : Conditions) (misfit : Misfit) → AllBegun d outer u s last toks alone c → IsMisfit d s outer u misfit
-    → all_kept last.around ≡ true → MisfitLed misfit last.around last.waiting (all_behind toks c)
+    → all_kept last.around ≡ true → MisfitLed misfit last.around (all_behind toks c)
 misfit_led d outer u s last toks alone c (Bare t) b is all =
     let there = all_behind toks c in
     let k = kept_at b.p b.others b.ks last there b.led.ends all in
@@ -391,8 +387,8 @@ misfit_led d outer u s last toks alone c (Bare t) b is all =
       tells =
           ap (λ (x : Behind). lone_places x.judged.unmatched ++ (ended_places t.ended x.now.inner ++ [])) cut
           ∙ append-nil (ended_places t.ended inner) ∙ told_here;
-      begun = subst (λ (x : Behind). Begun (ended_in t.ended last.around) last.waiting (ended_behind t.ended (silent x.now))) (sym cut)
-          (begun_broken t.ended last.around last.waiting (given_up_at k.base) last.declared k.inside_kept k.between_kept k.waits refl);
+      begun = subst (λ (x : Behind). Begun (ended_in t.ended last.around) (ended_behind t.ended (silent x.now))) (sym cut)
+          (begun_broken t.ended last.around (given_up_at k.base) last.declared k.inside_kept k.between_kept refl);
     }
 misfit_led d outer u s last toks alone c (Hashed sign t) b is all =
     let there = all_behind toks c in
@@ -419,8 +415,8 @@ misfit_led d outer u s last toks alone c (Hashed sign t) b is all =
           ∙ ap (λ e. ended_places e inner ++ all_told (t ∷ []) (ended_behind sign.ended (silent (judged_at sign there).now))) is.1.0.goes_on
           ∙ ap (λ (x : Behind). lone_places x.judged.unmatched ++ (ended_places t.ended x.now.inner ++ [])) cut
           ∙ append-nil (ended_places t.ended inner) ∙ told_here;
-      begun = subst (λ (x : Behind). Begun (ended_in t.ended last.around) last.waiting (ended_behind t.ended (silent x.now))) (sym cut)
-          (begun_broken t.ended last.around last.waiting (given_up_at k.base) last.declared k.inside_kept k.between_kept k.waits refl);
+      begun = subst (λ (x : Behind). Begun (ended_in t.ended last.around) (ended_behind t.ended (silent x.now))) (sym cut)
+          (begun_broken t.ended last.around (given_up_at k.base) last.declared k.inside_kept k.between_kept refl);
     }
 
 -- A `#` before another one, or before the end of the file
@@ -428,7 +424,7 @@ misfit_led d outer u s last toks alone c (Hashed sign t) b is all =
 -- it is held back, where then these are the conditionals
 record HeldBack (sign : At) (c then : Conditions) : Type 0 where
   hands : handed_on (judged_at sign c).judged sign.token ≡ []
-  tells : told_at (staying sign) c ≡ []
+  tells : lone_places (judged_at sign c).judged.unmatched ++ ended_places sign.ended (judged_at sign c).now.inner ≡ []
   next : going_on sign c ≡ then
 
 held_back : (sign : At) (c now then : Conditions) → judged_at sign c ≡ passed now →
@@ -439,60 +435,63 @@ held_back sign c now then e both = record {
   next = ap (λ (b : Behind). ended_behind sign.ended (silent b.now)) e ∙ both.0;
 }
 
-held_led : (sign : At) (more : List Step) (c then : Conditions) (given : List Handing) (told : List Place) → HeldBack sign c then →
-    StepsLed more then given told → StepsLed (staying sign ∷ more) c given told
-held_led sign more c then given told h rest = record {
-  hands = ap (λ hs. hs ++ handed_by more (going_on sign c)) h.hands ∙ ap (handed_by more) h.next ∙ rest.hands;
-  tells = ap (λ ps. ps ++ told_by more (going_on sign c)) h.tells ∙ ap (told_by more) h.next ∙ rest.tells;
+held_led : (sign : At) (more : List Step) (w : List (List Conditional)) (c then : Conditions) (given : List Handing) (told : List Place) →
+    HeldBack sign c then → StepsLed more (nested_in w then) given told → StepsLed (staying sign ∷ more) (nested_in w c) given told
+held_led sign more w c then given told h rest = record {
+  hands = ap (λ hs. hs ++ handed_by more (nested_in w (going_on sign c))) h.hands
+      ∙ ap (λ (x : Conditions). handed_by more (nested_in w x)) h.next ∙ rest.hands;
+  tells = ap (λ ps. ps ++ told_by more (nested_in w (going_on sign c))) h.tells
+      ∙ ap (λ (x : Conditions). told_by more (nested_in w x)) h.next ∙ rest.tells;
 }
 
 -- The next one hands it on.
-record LedOn (h : Forwarded) (place : Place) (more : List Step) (held free : Conditions) (given : List Handing) (told : List Place) : Type 0
+record LedOn (h : Forwarded) (place : Place) (more : List Step) (w : List (List Conditional)) (held free : Conditions)
+    (given : List Handing) (told : List Place) : Type 0
   where
-    led : StepsLed more held (handed_as h (hash place) ++ given) told
-    behind : steps_behind more held ≡ steps_behind more free
+    led : StepsLed more (nested_in w held) (handed_as h (hash place) ++ given) told
+    behind : steps_behind more (nested_in w held) ≡ steps_behind more (nested_in w free)
 
-led_on : (h : Forwarded) (place : Place) (more : List Step) (held free : Conditions) (given : List Handing) (told : List Place)
+led_on : (h : Forwarded) (place : Place) (more : List Step) (w : List (List Conditional)) (held free : Conditions) (given : List Handing)
+    (told : List Place)
     → ((next : At) → is_mark mark.Hash next.token.kind ≡ true → next.site.is_between ≡ false
     → (judged_at next held ≡ with_sign h place (judged_at next free)) × ((judged_at next free).judged ≡ none_handed))
-    → Follows true true (first_step more) → StepsLed more free given told → LedOn h place more held free given told
-led_on h place [] held free given told frees follows rest = absurd follows
-led_on h place (x ∷ more) held free given told frees follows rest =
+    → Follows true true (first_step more) → StepsLed more (nested_in w free) given told → LedOn h place more w held free given told
+led_on h place [] w held free given told frees follows rest = absurd follows
+led_on h place (x ∷ more) w held free given told frees follows rest =
     let both = frees x.at follows.0 follows.1 in
-    let same : step_behind x held ≡ step_behind x free =
-    ap (λ (b : Behind). ended_behind x.at.ended (passed_files x.passage (silent b.now))) both.0 in
+    let free_so = step_behind x (nested_in w free) in
+    let same : step_behind x (nested_in w held) ≡ free_so =
+    ap (λ (b : Behind). behind_passage x (nested_in w (silent b.now))) both.0 in
     record {
       led = record {
         hands =
-            ap (λ (b : Behind). handed_on b.judged x.at.token ++ handed_by more
-            (ended_behind x.at.ended (passed_files x.passage (silent b.now)))) both.0
-            ∙ ap (λ (j : Filtered). (handed_as h (hash place) ++ handed_token j.token x.at.token) ++ handed_by more (step_behind x free))
-            both.1
-            ∙ ap (λ hs. hs ++ handed_by more (step_behind x free)) (append-nil (handed_as h (hash place)))
+            ap (λ (b : Behind). handed_on b.judged x.at.token ++ handed_by more (behind_passage x (nested_in w (silent b.now)))) both.0
+            ∙ ap (λ (j : Filtered). (handed_as h (hash place) ++ handed_token j.token x.at.token) ++ handed_by more free_so) both.1
+            ∙ ap (λ hs. hs ++ handed_by more free_so) (append-nil (handed_as h (hash place)))
             ∙ ap (λ hs. handed_as h (hash place) ++ hs)
-            (sym (ap (λ (j : Filtered). handed_on j x.at.token ++ handed_by more (step_behind x free)) both.1) ∙ rest.hands);
+            (sym (ap (λ (j : Filtered). handed_on j x.at.token ++ handed_by more free_so) both.1) ∙ rest.hands);
         tells =
             ap (λ (b : Behind). (lone_places b.judged.unmatched ++
-            (told_behind x.passage b.now ++ ended_places x.at.ended (passed_files x.passage b.now).inner))
-            ++ told_by more (ended_behind x.at.ended (passed_files x.passage (silent b.now)))) both.0
+            (told_behind x.passage b.now ++ ended_places x.at.ended (passed_files x.passage (nested_in w b.now)).now.inner))
+            ++ told_by more (behind_passage x (nested_in w (silent b.now)))) both.0
             ∙ rest.tells;
       };
       behind = ap (steps_behind more) same;
     }
 
 -- where reading stands makes no difference to it
-standing_led : (is_between : Bool) (more : List Step) (c : Conditions) (place : Place) (inner among : List Conditional) (declared : ℕ)
+standing_led : (is_between : Bool) (more : List Step) (w : List (List Conditional)) (c : Conditions) (place : Place) (inner among : List Conditional) (declared : ℕ)
     (given : List Handing) (told : List Place)
-    → StepsLed more (state c (Some place) inner among None declared) given told → StepsLed (standing is_between more)
-    (state c (Some place) inner among None declared) given told
-standing_led is_between [] c place inner among declared given told is = is
-standing_led is_between (x ∷ more) c place inner among declared given told is = record { hands = is.hands; tells = is.tells }
+    → StepsLed more (nested_in w (state c (Some place) inner among None declared)) given told → StepsLed (standing is_between more)
+    (nested_in w (state c (Some place) inner among None declared)) given told
+standing_led is_between [] w c place inner among declared given told is = is
+standing_led is_between (x ∷ more) w c place inner among declared given told is = record { hands = is.hands; tells = is.tells }
 
-standing_same : (is_between : Bool) (more : List Step) (c : Conditions) (place : Place) (inner among : List Conditional) (declared : ℕ)
-    → steps_behind (standing is_between more) (state c (Some place) inner among None declared) ≡ steps_behind more
-    (state c (Some place) inner among None declared)
-standing_same is_between [] c place inner among declared = refl
-standing_same is_between (x ∷ more) c place inner among declared = refl
+standing_same : (is_between : Bool) (more : List Step) (w : List (List Conditional)) (c : Conditions) (place : Place) (inner among : List Conditional) (declared : ℕ)
+    → steps_behind (standing is_between more) (nested_in w (state c (Some place) inner among None declared)) ≡ steps_behind more
+    (nested_in w (state c (Some place) inner among None declared))
+standing_same is_between [] w c place inner among declared = refl
+standing_same is_between (x ∷ more) w c place inner among declared = refl
 
 -- inside a directive, and inside a conditional one
 frees_kept : (place : Place) (c : Conditions) (inner among : List Conditional) (declared : ℕ) → c.pending ≡ [] → (next : At) →
@@ -543,15 +542,15 @@ end_frees place end c ps inner among declared read is_last =
     ∙ ap (signed c.pending) (end_kept_so false end.site.is_quiet end.out end.token here is_last refl)
     ∙ ap (λ ps. signed ps (kept here)) read
 
-record HashEnds (s : Around) (w : List (List Conditional)) (o : Sign) (sign : At) (c : Conditions) : Type 0 where
+record HashEnds (s : Around) (o : Sign) (sign : At) (c : Conditions) : Type 0 where
   then : Conditions
   held : HeldBack sign c then
-  ends : EndsAs (Some o) handed.Kept s w then
+  ends : EndsAs (Some o) handed.Kept s then
 
-hash_last : (s : Around) (w : List (List Conditional)) (sign : At) (c : Conditions) → StaysAt s w c → sign.site.is_between ≡ false →
+hash_last : (s : Around) (sign : At) (c : Conditions) → StaysAt s c → sign.site.is_between ≡ false →
     IsSign true sign
-    → HashEnds s w (sign_as handed.Kept sign) sign c
-hash_last s w sign c st outside is =
+    → HashEnds s (sign_as handed.Kept sign) sign c
+hash_last s sign c st outside is =
     let inner = conditionals s.inside in
     let among = conditionals s.between in
     let place = sign.token.place in
@@ -567,7 +566,6 @@ hash_last s w sign c st outside is =
         stand = AllStay s.inside s.between st.inside_kept st.between_kept;
         declared = st.declared;
         none_read = refl;
-        waits = st.waits;
         stack = refl;
         inner = refl;
         among = refl;
@@ -577,18 +575,19 @@ hash_last s w sign c st outside is =
 
 -- In a side that is left out each is passed over, and so it is at the end of the file.
 
-record Passes (signs : List At) (c base : Conditions) (inner among : List Conditional) (b : Bool) (m : ℕ) : Type 0 where
+record Passes (signs : List At) (w : List (List Conditional)) (c base : Conditions) (inner among : List Conditional) (b : Bool) (m : ℕ) :
+    Type 0 where
   sign : Option Place
   declared : ℕ
-  led : StepsLed (map staying signs) c [] []
-  behind : steps_behind (map staying signs) c ≡ state base sign inner among (left_at b m) declared
+  led : StepsLed (map staying signs) (nested_in w c) [] []
+  behind : all_behind signs c ≡ state base sign inner among (left_at b m) declared
 
-hashes_pass : (is_inner : Bool) (signs : List At) (c base : Conditions) (sign : Option Place) (inner among : List Conditional) (b : Bool)
+hashes_pass : (is_inner : Bool) (signs : List At) (w : List (List Conditional)) (c base : Conditions) (sign : Option Place) (inner among : List Conditional) (b : Bool)
     (m declared : ℕ) → AreHashes is_inner signs → CalmLeft is_inner inner b
-    → m + length signs ≤ most_levels → c ≡ state base sign inner among (left_at b m) declared → Passes signs c base inner among b m
-hashes_pass is_inner [] c base sign inner among b m declared are calm few is =
+    → m + length signs ≤ most_levels → c ≡ state base sign inner among (left_at b m) declared → Passes signs w c base inner among b m
+hashes_pass is_inner [] w c base sign inner among b m declared are calm few is =
     record { sign = sign; declared = declared; led = record { hands = refl; tells = refl }; behind = is }
-hashes_pass is_inner (t ∷ signs) c base sign inner among b m declared are calm few is =
+hashes_pass is_inner (t ∷ signs) w c base sign inner among b m declared are calm few is =
     let place = t.token.place in
     let now = state base (Some place) inner among (left_at b m) declared in
     let then = state base (Some place) inner among (left_at b m) (declared_behind t declared) in
@@ -596,13 +595,12 @@ hashes_pass is_inner (t ∷ signs) c base sign inner among b m declared are calm
     held_back t c now then (ap (judged_at t) is ∙ sign_left t sign base inner among b m declared are.0.is (omega (arith, few)))
     (mid is_inner t base (Some place) inner among (left_at b m) declared are.0.goes_on (calm_at is_inner inner b m calm)) in
     let rest =
-    hashes_pass is_inner signs then base (Some place) inner among b m (declared_behind t declared) are.1 calm (omega (arith, few)) refl in
+    hashes_pass is_inner signs w then base (Some place) inner among b m (declared_behind t declared) are.1 calm (omega (arith, few)) refl in
     record {
       sign = rest.sign;
       declared = rest.declared;
-      led = held_led t (map staying signs) c then [] [] h rest.led;
-      behind = ap
-          (steps_behind (map staying signs)) h.next ∙ rest.behind;
+      led = held_led t (map staying signs) w c then [] [] h rest.led;
+      behind = ap (all_behind signs) h.next ∙ rest.behind;
     }
 
 end_offered : (end : At) (base : Conditions) (sign : Option Place) (inner among : List Conditional) (b : Bool) (m declared : ℕ) →
@@ -616,20 +614,20 @@ end_offered end base sign inner among b m declared is_last =
 
 record LeftEnds (o : Option Sign) (h : Forwarded) (s : Around) (w : List (List Conditional)) (signs : List At) (c : Conditions) : Type 0
   where
-    led : StepsLed (map staying signs) c [] []
-    ends : EndsAs o h s w (steps_behind (map staying signs) c)
+    led : StepsLed (map staying signs) (nested_in w c) [] []
+    ends : EndsAs o h s (all_behind signs c)
 
-left_ends : (r : Reader) (last : Last) (c : Conditions) (is_inner : Bool) (signs : List At) (o : Option Sign) (h : Forwarded)
+left_ends : (r : Reader) (last : Last) (w : List (List Conditional)) (c : Conditions) (is_inner : Bool) (signs : List At) (o : Option Sign) (h : Forwarded)
     (e : StandsAt r last c) → all_kept last.around ≡ false → NoneInside is_inner last.around → AreHashes is_inner signs
-    → last.levels + length signs ≤ most_levels → (free : Conditions) → free.pending ≡ [] → free.waiting ≡ last.waiting
+    → last.levels + length signs ≤ most_levels → (free : Conditions) → free.pending ≡ []
     → ((declared : ℕ) (end : At) → is_end end.token.kind ≡ true → offered false end.site.is_quiet end.out end.token
     (at e.base (inner_of e.stand) (among_of e.stand) None declared)
     ≡ record {
       now = at free (inner_of e.stand) (among_of e.stand) None declared;
       judged = record none_handed { sign = o; token = Some h };
     })
-    → LeftEnds o h last.around last.waiting signs c
-left_ends r last c is_inner signs o h e left none are few free none_read waits offers =
+    → LeftEnds o h last.around w signs c
+left_ends r last w c is_inner signs o h e left none are few free none_read offers =
     let st = e.stand in
     let inner = inner_of st in
     let among = among_of st in
@@ -638,7 +636,7 @@ left_ends r last c is_inner signs o h e left none are few free none_read waits o
     let few_m = l.few in
     let at_here : c ≡ state e.base None inner among (left_at l.b l.m) last.declared =
     e.is ∙ ap (λ x. at e.base inner among x last.declared) l.is in
-    let p = hashes_pass is_inner signs c e.base None inner among l.b l.m last.declared are
+    let p = hashes_pass is_inner signs w c e.base None inner among l.b l.m last.declared are
     (l.calm is_inner (subst (NoneInside is_inner) (sym e.stack) none)) (omega (arith, few, few_st, few_m)) at_here in
     record {
       led = p.led;
@@ -647,7 +645,6 @@ left_ends r last c is_inner signs o h e left none are few free none_read waits o
         stand = st;
         declared = p.declared;
         none_read = none_read;
-        waits = waits;
         stack = e.stack;
         inner = ap (λ (x : Conditions). x.inner) p.behind;
         among = ap (λ (x : Conditions). x.among) p.behind;
@@ -658,36 +655,36 @@ left_ends r last c is_inner signs o h e left none are few free none_read waits o
     }
 
 cut_left_unfit : (d : Answers) (outer : List Unfinished) (u : Unfinished) (s : Around) (last : Last) (toks : List At) (alone : List Place)
-    (c : Conditions) (is_inner : Bool) (signs : List At) → HasWord u → AllBegun d outer u s last toks alone c
+    (w : List (List Conditional)) (c : Conditions) (is_inner : Bool) (signs : List At) → HasWord u → AllBegun d outer u s last toks alone c
     → all_kept last.around ≡ false → NoneInside is_inner last.around → AreHashes is_inner signs → last.levels + length signs ≤ most_levels
-    → LeftEnds None handed.Unfit last.around last.waiting signs (all_behind toks c)
-cut_left_unfit d outer u s last toks alone c is_inner signs so b left none are few =
+    → LeftEnds None handed.Unfit last.around w signs (all_behind toks c)
+cut_left_unfit d outer u s last toks alone w c is_inner signs so b left none are few =
     let e = b.led.ends in
-    left_ends (Reads b.p b.others b.ks) last (all_behind toks c) is_inner signs None handed.Unfit e left none are few (given_up_at e.base)
-    refl e.waits
+    left_ends (Reads b.p b.others b.ks) last w (all_behind toks c) is_inner signs None handed.Unfit e left none are few (given_up_at e.base)
+    refl
     (λ declared end is_last. unfit_there d s outer u last toks alone c b declared false end (end_is_no_hash end.token.kind is_last)
     (end_cuts d s outer u end so is_last))
 
 cut_left : (d : Answers) (outer : List Unfinished) (u : Unfinished) (s : Around) (last : Last) (toks : List At) (alone : List Place)
-    (c : Conditions) (is_inner : Bool) (signs : List At) → AllBegun d outer u s last toks alone c
+    (w : List (List Conditional)) (c : Conditions) (is_inner : Bool) (signs : List At) → AllBegun d outer u s last toks alone c
     → all_kept last.around ≡ false → NoneInside is_inner last.around → AreHashes is_inner signs → last.levels + length signs ≤ most_levels
-    → LeftEnds (begun_sign u) (begun_handed u) last.around last.waiting signs (all_behind toks c)
-cut_left d outer (Unnamed i if_declared first before) s last toks alone c is_inner signs b left none are few =
-    cut_left_unfit d outer (Unnamed i if_declared first before) s last toks alone c is_inner signs tt b left none are few
-cut_left d outer (Named i if_declared first before name behind) s last toks alone c is_inner signs b left none are few =
-    cut_left_unfit d outer (Named i if_declared first before name behind) s last toks alone c is_inner signs tt b left none are few
-cut_left d outer (HasAsked i wanted first parts) s last toks alone c is_inner signs b left none are few =
-    cut_left_unfit d outer (HasAsked i wanted first parts) s last toks alone c is_inner signs tt b left none are few
-cut_left d outer (Turns i hashes first parts) s last toks alone c is_inner signs b left none are few =
-    cut_left_unfit d outer (Turns i hashes first parts) s last toks alone c is_inner signs tt b left none are few
-cut_left d outer (Closes i hashes first parts) s last toks alone c is_inner signs b left none are few =
-    cut_left_unfit d outer (Closes i hashes first parts) s last toks alone c is_inner signs tt b left none are few
-cut_left d outer (FrontingWord sign parts u) s last toks alone c is_inner signs b left none are few =
-    cut_left_unfit d outer (FrontingWord sign parts u) s last toks alone c is_inner signs b.alone b left none are few
-cut_left d outer (Fronting sign parts) s last toks alone c is_inner signs b left none are few =
+    → LeftEnds (begun_sign u) (begun_handed u) last.around w signs (all_behind toks c)
+cut_left d outer (Unnamed i if_declared first before) s last toks alone w c is_inner signs b left none are few =
+    cut_left_unfit d outer (Unnamed i if_declared first before) s last toks alone w c is_inner signs tt b left none are few
+cut_left d outer (Named i if_declared first before name behind) s last toks alone w c is_inner signs b left none are few =
+    cut_left_unfit d outer (Named i if_declared first before name behind) s last toks alone w c is_inner signs tt b left none are few
+cut_left d outer (HasAsked i wanted first parts) s last toks alone w c is_inner signs b left none are few =
+    cut_left_unfit d outer (HasAsked i wanted first parts) s last toks alone w c is_inner signs tt b left none are few
+cut_left d outer (Turns i hashes first parts) s last toks alone w c is_inner signs b left none are few =
+    cut_left_unfit d outer (Turns i hashes first parts) s last toks alone w c is_inner signs tt b left none are few
+cut_left d outer (Closes i hashes first parts) s last toks alone w c is_inner signs b left none are few =
+    cut_left_unfit d outer (Closes i hashes first parts) s last toks alone w c is_inner signs tt b left none are few
+cut_left d outer (FrontingWord sign parts u) s last toks alone w c is_inner signs b left none are few =
+    cut_left_unfit d outer (FrontingWord sign parts u) s last toks alone w c is_inner signs b.alone b left none are few
+cut_left d outer (Fronting sign parts) s last toks alone w c is_inner signs b left none are few =
     let e = b.led.ends in
-    left_ends (Reads b.p b.others b.ks) last (all_behind toks c) is_inner signs (begun_sign (Fronting sign parts)) handed.Kept e left none
-    are few (record e.base { pending = [] }) refl e.waits
+    left_ends (Reads b.p b.others b.ks) last w (all_behind toks c) is_inner signs (begun_sign (Fronting sign parts)) handed.Kept e left none
+    are few (record e.base { pending = [] }) refl
     (λ declared end is_last. front_there d s outer sign parts last toks alone c b declared false end is_last)
 
 -- All files
@@ -715,7 +712,7 @@ end_is_handed (Breaking parts outer u misfit more) end = end_is_handed more end
 end_is_handed (Including parts t f leaving more) end = end_is_handed more end
 
 -- where a `#` cuts a directive
-record CutHash (s : Around) (w : List (List Conditional)) (sign : At) (c : Conditions) : Type 0 where
+record CutHash (s : Around) (sign : At) (c : Conditions) : Type 0 where
   base : Conditions
   p : Pending
   others : List Pending
@@ -723,12 +720,11 @@ record CutHash (s : Around) (w : List (List Conditional)) (sign : At) (c : Condi
   inside_kept : are_kept s.inside ≡ true
   between_kept : are_kept s.between ≡ true
   read : base.pending ≡ p ∷ others
-  waits : base.waiting ≡ w
   held : HeldBack sign c (state base (Some sign.token.place) (conditionals s.inside) (conditionals s.between) None declared)
 
 cut_hash : (d : Answers) (outer : List Unfinished) (u : Unfinished) (s : Around) (last : Last) (toks : List At) (alone : List Place)
     (c : Conditions) (sign : At) → AllBegun d outer u s last toks alone c → IsSign true sign
-    → all_kept last.around ≡ true → CutHash last.around last.waiting sign (all_behind toks c)
+    → all_kept last.around ≡ true → CutHash last.around sign (all_behind toks c)
 cut_hash d outer u s last toks alone c sign b is all =
     let there = all_behind toks c in
     let k = kept_at b.p b.others b.ks last there b.led.ends all in
@@ -744,87 +740,89 @@ cut_hash d outer u s last toks alone c sign b is all =
       inside_kept = k.inside_kept;
       between_kept = k.between_kept;
       read = refl;
-      waits = k.waits;
       held =
           held_back sign there then then (ap (judged_at sign) k.is ∙ sign_cut sign base b.p b.others inner among last.declared refl is.is)
           (ap (λ e. ended_behind e then) is.goes_on, ap (λ e. ended_places e inner) is.goes_on);
     }
 
-free_begun : (s : Around) (w : List (List Conditional)) (base : Conditions) (declared : ℕ) → are_kept s.inside ≡ true →
-    are_kept s.between ≡ true → base.waiting ≡ w
-    → Begun s w (at (given_up_at base) (conditionals s.inside) (conditionals s.between) None declared)
-free_begun s w base declared si sb waits = record { inside_kept = si; between_kept = sb; is = refl; waits = waits; none_read = refl }
+free_begun : (s : Around) (base : Conditions) (declared : ℕ) → are_kept s.inside ≡ true → are_kept s.between ≡ true
+    → Begun s (at (given_up_at base) (conditionals s.inside) (conditionals s.between) None declared)
+free_begun s base declared si sb = record { inside_kept = si; between_kept = sb; is = refl; none_read = refl }
 
-record FilesLed (d : Answers) (f : Files) (s : Around) (w : List (List Conditional)) (c : Conditions) : Type 0 where
+record FilesLed (d : Answers) (f : Files) (s : Around) (c : Nested) : Type 0 where
   led : StepsLed (steps f) c (handed_files d s f) (told_files d s f)
-  ends : EndsAs (end_sign f) (end_handed f) (behind_files d s f) w (steps_behind (steps f) c)
+  ends : EndsIn (end_sign f) (end_handed f) (behind_files d s f) c.waiting (steps_behind (steps f) c)
 
 -- a directive that is not whole, behind parts
-record BrokenLed (d : Answers) (s : Around) (w : List (List Conditional)) (c : Conditions) (parts : Parts) (outer : List Unfinished)
+record BrokenLed (d : Answers) (s : Around) (c : Nested) (parts : Parts) (outer : List Unfinished)
     (u : Unfinished) : Type 0 where
-  led : StepsLed (map staying (all_begun_tokens outer u)) (all_behind (all_tokens parts) c) []
+  led : StepsLed (map staying (all_begun_tokens outer u)) (tokens_behind (all_tokens parts) c) []
       (told_all_begun d (behind_parts d s parts) outer u)
   last : Last
   around : last.around ≡ behind_all_begun d (behind_parts d s parts) outer u
-  waiting : last.waiting ≡ w
   levels : last.levels ≡ 0 + length (all_tokens parts) + length (all_begun_tokens outer u)
   begun : AllBegun d outer u (behind_parts d s parts) last (all_begun_tokens outer u) (told_all_begun d (behind_parts d s parts) outer u)
-      (all_behind (all_tokens parts) c)
+      (all_behind (all_tokens parts) c.now)
 
-broken_led : (d : Answers) (s : Around) (w : List (List Conditional)) (c : Conditions) (parts : Parts) (outer : List Unfinished)
-    (u : Unfinished) → Stretch d s w c parts
-    → HaveBegun d (behind_parts d s parts) (declared_tokens (all_tokens parts) c.declared) (length (all_tokens parts)) outer u → BrokenLed d
-    s w c parts outer u
-broken_led d s w c parts outer u first has =
-    let l = stretch_last d s w c parts in
-    let here = all_behind (all_tokens parts) c in
+broken_led : (d : Answers) (s : Around) (c : Nested) (parts : Parts) (outer : List Unfinished)
+    (u : Unfinished) → Stretch d s c parts
+    → HaveBegun d (behind_parts d s parts) (declared_tokens (all_tokens parts) c.now.declared) (length (all_tokens parts)) outer u
+    → BrokenLed d s c parts outer u
+broken_led d s c parts outer u first has =
+    let l = stretch_last d s c.now parts in
+    let here = all_behind (all_tokens parts) c.now in
     let toks = all_begun_tokens outer u in
     let few = has.few in
-    let b = all_begun_led d outer u Hands l.around l.declared l.levels w here first.stands has.are (omega (arith, few)) in
+    let b = all_begun_led d outer u Hands l.around l.declared l.levels here first.stands has.are (omega (arith, few)) in
     record {
-      led = staying_led toks here [] (told_all_begun d l.around outer u) b.led.hands b.led.tells;
-      last = last_at (behind_all_begun d l.around outer u) (declared_tokens toks l.declared) (l.levels + length toks) w;
+      led = staying_led toks (nested_in c.waiting here) [] (told_all_begun d l.around outer u) b.led.hands b.led.tells;
+      last = last_at (behind_all_begun d l.around outer u) (declared_tokens toks l.declared) (l.levels + length toks);
       around = refl;
-      waiting = refl;
       levels = refl;
       begun = b;
     }
 
-files_led : (d : Answers) (f : Files) (s : Around) (w : List (List Conditional)) (c : Conditions) → Begun s w c → AreFiles d s c f →
-    FilesLed d f s w c
-files_led d (Alone parts) s w c b are =
-    let first = stretch d s w c parts b are in
+files_led : (d : Answers) (f : Files) (s : Around) (c : Nested) → Begun s c.now → AreFiles d s c f → FilesLed d f s c
+files_led d (Alone parts) s c b are =
+    let w = c.waiting in
+    let first = stretch d s c parts b are in
     record {
       led = first.led;
-      ends = subst (λ (x : Conditions). EndsAs None handed.Kept (behind_parts d s parts) w x)
+      ends = subst (λ (x : Nested). EndsIn None handed.Kept (behind_parts d s parts) w x)
           (sym (behind_staying (all_tokens parts) c))
-          (ends_kept (stretch_last d s w c parts) (all_behind (all_tokens parts) c) first.stands);
+          (record {
+            ends = ends_kept (stretch_last d s c.now parts) (all_behind (all_tokens parts) c.now) first.stands;
+            waits = refl;
+          });
     }
-files_led d (HashLast parts sign) s w c b are =
-    let first = stretch d s w c parts b are.0 in
+files_led d (HashLast parts sign) s c b are =
+    let w = c.waiting in
+    let first = stretch d s c parts b are.0 in
     let tokens = all_tokens parts in
     let here = behind_parts d s parts in
-    let c_here = all_behind tokens c in
-    let h = hash_last here w sign c_here (stays_at (stretch_last d s w c parts) c_here first.stands are.1.0) are.1.1.0 are.1.1.1 in
+    let c_here = all_behind tokens c.now in
+    let h = hash_last here sign c_here (stays_at (stretch_last d s c.now parts) c_here first.stands are.1.0) are.1.1.0 are.1.1.1 in
     let to_here = behind_staying tokens c in
     let given = map as_kept (kept_sides d s parts) in
     let told = told_parts d s parts in
     let both =
     joined (map staying tokens) (staying sign ∷ []) c given [] told [] first.led
-    (subst (λ (x : Conditions). StepsLed (staying sign ∷ []) x [] []) (sym to_here)
-    (held_led sign [] c_here h.then [] [] h.held (record { hands = refl; tells = refl }))) in
+    (subst (λ (x : Nested). StepsLed (staying sign ∷ []) x [] []) (sym to_here)
+    (held_led sign [] w c_here h.then [] [] h.held (record { hands = refl; tells = refl }))) in
     record {
       led = record { hands = both.hands ∙ append-nil given; tells = both.tells ∙ append-nil told };
-      ends = subst (λ (x : Conditions). EndsAs (Some (sign_as handed.Kept sign)) handed.Kept here w x)
-          (sym (behind_both (map staying tokens) (staying sign ∷ []) c ∙ ap (steps_behind (staying sign ∷ [])) to_here ∙ h.held.next))
-          h.ends;
+      ends = subst (λ (x : Nested). EndsIn (Some (sign_as handed.Kept sign)) handed.Kept here w x)
+          (sym (behind_both (map staying tokens) (staying sign ∷ []) c ∙ ap (steps_behind (staying sign ∷ [])) to_here
+          ∙ ap (nested_in w) h.held.next))
+          (record { ends = h.ends; waits = refl });
     }
-files_led d (HashThen parts sign more) s w c b are =
-    let first = stretch d s w c parts b are.0 in
+files_led d (HashThen parts sign more) s c b are =
+    let w = c.waiting in
+    let first = stretch d s c parts b are.0 in
     let tokens = all_tokens parts in
     let here = behind_parts d s parts in
-    let c_here = all_behind tokens c in
-    let st = stays_at (stretch_last d s w c parts) c_here first.stands are.1.0.is_kept in
+    let c_here = all_behind tokens c.now in
+    let st = stays_at (stretch_last d s c.now parts) c_here first.stands are.1.0.is_kept in
     let inner = conditionals here.inside in
     let among = conditionals here.between in
     let place = sign.token.place in
@@ -837,39 +835,39 @@ files_led d (HashThen parts sign more) s w c b are =
     are.1.0.is_sign.is)
     (ap (λ e. ended_behind e then) goes, ap (λ e. ended_places e inner) goes) in
     let frees : released (going_on sign c_here) ≡ free = ap released h.next in
-    let begun = subst (λ (x : Conditions). Begun here w x) (sym frees)
-    (free_begun here w st.base st.declared st.inside_kept st.between_kept st.waits) in
-    let rest = files_led d more here w (released (going_on sign c_here)) begun are.1.1.1 in
+    let begun = subst (λ (x : Conditions). Begun here x) (sym frees) (free_begun here st.base st.declared st.inside_kept st.between_kept) in
+    let rest = files_led d more here (nested_in w (released (going_on sign c_here))) begun are.1.1.1 in
     let given = handed_files d here more in
     let others = told_files d here more in
     let on =
-    led_on handed.Kept place (steps more) then free given others (frees_kept place st.base inner among st.declared st.none_read)
+    led_on handed.Kept place (steps more) w then free given others (frees_kept place st.base inner among st.declared st.none_read)
     are.1.0.follows
-    (subst (λ (x : Conditions). StepsLed (steps more) x given others) frees rest.led) in
+    (subst (λ (x : Conditions). StepsLed (steps more) (nested_in w x) given others) frees rest.led) in
     let to_here = behind_staying tokens c in
     record {
       led = joined (map staying tokens) (staying sign ∷ steps more) c (map as_kept (kept_sides d s parts)) (as_kept (hash place) ∷ given)
           (told_parts d s parts) others first.led
-          (subst (λ (x : Conditions). StepsLed (staying sign ∷ steps more) x (as_kept (hash place) ∷ given) others) (sym to_here)
-          (held_led sign (steps more) c_here then (as_kept (hash place) ∷ given) others h on.led));
-      ends = subst (λ (x : Conditions). EndsAs (end_sign more) (end_handed more) (behind_files d here more) w x)
+          (subst (λ (x : Nested). StepsLed (staying sign ∷ steps more) x (as_kept (hash place) ∷ given) others) (sym to_here)
+          (held_led sign (steps more) w c_here then (as_kept (hash place) ∷ given) others h on.led));
+      ends = subst (λ (x : Nested). EndsIn (end_sign more) (end_handed more) (behind_files d here more) w x)
           (sym
           (behind_both (map staying tokens) (staying sign ∷ steps more) c
           ∙ ap (steps_behind (staying sign ∷ steps more)) to_here
-          ∙ ap (steps_behind (steps more)) h.next
+          ∙ ap (λ (x : Conditions). steps_behind (steps more) (nested_in w x)) h.next
           ∙ on.behind
-          ∙ ap (steps_behind (steps more)) (sym frees))) rest.ends;
+          ∙ ap (λ (x : Conditions). steps_behind (steps more) (nested_in w x)) (sym frees))) rest.ends;
     }
-files_led d (HashesLeft parts is_inner signs) s w c b are =
-    let first = stretch d s w c parts b are.0 in
+files_led d (HashesLeft parts is_inner signs) s c b are =
+    let w = c.waiting in
+    let first = stretch d s c parts b are.0 in
     let tokens = all_tokens parts in
     let here = behind_parts d s parts in
-    let c_here = all_behind tokens c in
+    let c_here = all_behind tokens c.now in
     let e = first.stands in
     let few = are.1.few in
     let h =
-    left_ends Hands (stretch_last d s w c parts) c_here is_inner signs None handed.Kept e are.1.is_left are.1.none_inside are.1.are
-    (omega (arith, few)) e.base e.holds e.waits
+    left_ends Hands (stretch_last d s c.now parts) w c_here is_inner signs None handed.Kept e are.1.is_left are.1.none_inside are.1.are
+    (omega (arith, few)) e.base e.holds
     (λ declared end is_last. end_kept_so false end.site.is_quiet end.out end.token
     (at e.base (inner_of e.stand) (among_of e.stand) None declared) is_last e.holds) in
     let to_here = behind_staying tokens c in
@@ -877,18 +875,21 @@ files_led d (HashesLeft parts is_inner signs) s w c b are =
     let told = told_parts d s parts in
     let both =
     joined (map staying tokens) (map staying signs) c given [] told [] first.led
-    (subst (λ (x : Conditions). StepsLed (map staying signs) x [] []) (sym to_here) h.led) in
+    (subst (λ (x : Nested). StepsLed (map staying signs) x [] []) (sym to_here) h.led) in
     record {
       led = record { hands = both.hands ∙ append-nil given; tells = both.tells ∙ append-nil told };
-      ends = subst (λ (x : Conditions). EndsAs None handed.Kept here w x)
-          (sym (behind_both (map staying tokens) (map staying signs) c ∙ ap (steps_behind (map staying signs)) to_here)) h.ends;
+      ends = subst (λ (x : Nested). EndsIn None handed.Kept here w x)
+          (sym (behind_both (map staying tokens) (map staying signs) c ∙ ap (steps_behind (map staying signs)) to_here
+          ∙ behind_staying signs (nested_in w c_here)))
+          (record { ends = h.ends; waits = refl });
     }
-files_led d (CutHashesLeft parts outer u is_inner signs) s w c b are =
-    let first = stretch d s w c parts b are.0 in
-    let broken = broken_led d s w c parts outer u first are.1.0 in
+files_led d (CutHashesLeft parts outer u is_inner signs) s c b are =
+    let w = c.waiting in
+    let first = stretch d s c parts b are.0 in
+    let broken = broken_led d s c parts outer u first are.1.0 in
     let tokens = all_tokens parts in
     let toks = all_begun_tokens outer u in
-    let c_here = all_behind tokens c in
+    let c_here = all_behind tokens c.now in
     let there = all_behind toks c_here in
     let last = broken.last in
     let here = behind_all_begun d (behind_parts d s parts) outer u in
@@ -896,56 +897,58 @@ files_led d (CutHashesLeft parts outer u is_inner signs) s w c b are =
     let few = are.1.1.few in
     let few_last = broken.levels in
     let h =
-    cut_left d outer u (behind_parts d s parts) last toks alone c_here is_inner signs broken.begun
+    cut_left d outer u (behind_parts d s parts) last toks alone w c_here is_inner signs broken.begun
     (ap all_kept broken.around ∙ are.1.1.is_left)
     (subst (NoneInside is_inner) (sym broken.around) are.1.1.none_inside) are.1.1.are (omega (arith, few, few_last)) in
     let given = map as_kept (kept_sides d s parts) in
     let to_here = behind_staying tokens c in
-    let to_there = behind_staying toks c_here in
-    let second : StepsLed (map staying toks ++ map staying signs) c_here [] (alone ++ []) =
-    joined (map staying toks) (map staying signs) c_here [] [] alone [] broken.led
-    (subst (λ (x : Conditions). StepsLed (map staying signs) x [] []) (sym to_there) h.led) in
+    let to_there = behind_staying toks (nested_in w c_here) in
+    let second : StepsLed (map staying toks ++ map staying signs) (nested_in w c_here) [] (alone ++ []) =
+    joined (map staying toks) (map staying signs) (nested_in w c_here) [] [] alone [] broken.led
+    (subst (λ (x : Nested). StepsLed (map staying signs) x [] []) (sym to_there) h.led) in
     let both =
     joined (map staying tokens) (map staying toks ++ map staying signs) c given [] (told_parts d s parts) (alone ++ []) first.led
-    (subst (λ (x : Conditions). StepsLed (map staying toks ++ map staying signs) x [] (alone ++ [])) (sym to_here) second) in
-    let behind = steps_behind (map staying signs) there in
+    (subst (λ (x : Nested). StepsLed (map staying toks ++ map staying signs) x [] (alone ++ [])) (sym to_here) second) in
+    let behind = all_behind signs there in
     record {
       led = record { hands = both.hands ∙ append-nil given; tells = both.tells ∙ ap (λ ps. told_parts d s parts ++ ps) (append-nil alone) };
-      ends = subst (λ (x : Conditions). EndsAs (begun_sign u) (begun_handed u) here w x)
+      ends = subst (λ (x : Nested). EndsIn (begun_sign u) (begun_handed u) here w x)
           (sym
           (behind_both (map staying tokens) (map staying toks ++ map staying signs) c
           ∙ ap (steps_behind (map staying toks ++ map staying signs)) to_here
-          ∙ behind_both (map staying toks) (map staying signs) c_here
-          ∙ ap (steps_behind (map staying signs)) to_there))
-          (subst (λ (x : Around). EndsAs (begun_sign u) (begun_handed u) x w behind) broken.around
-          (subst (λ ws. EndsAs (begun_sign u) (begun_handed u) last.around ws behind) broken.waiting h.ends));
+          ∙ behind_both (map staying toks) (map staying signs) (nested_in w c_here)
+          ∙ ap (steps_behind (map staying signs)) to_there
+          ∙ behind_staying signs (nested_in w there)))
+          (record {
+            ends = subst (λ (x : Around). EndsAs (begun_sign u) (begun_handed u) x behind) broken.around h.ends;
+            waits = refl;
+          });
     }
-files_led d (CutHashLast parts outer u sign) s w c b are =
-    let first = stretch d s w c parts b are.0 in
-    let broken = broken_led d s w c parts outer u first are.1.0 in
+files_led d (CutHashLast parts outer u sign) s c b are =
+    let w = c.waiting in
+    let first = stretch d s c parts b are.0 in
+    let broken = broken_led d s c parts outer u first are.1.0 in
     let tokens = all_tokens parts in
     let toks = all_begun_tokens outer u in
-    let c_here = all_behind tokens c in
+    let c_here = all_behind tokens c.now in
     let there = all_behind toks c_here in
     let last = broken.last in
     let here = behind_all_begun d (behind_parts d s parts) outer u in
     let alone = told_all_begun d (behind_parts d s parts) outer u in
-    let k : CutHash here w sign there =
-    subst (λ (x : Around). CutHash x w sign there) broken.around
-    (subst (λ ws. CutHash last.around ws sign there) broken.waiting
+    let k : CutHash here sign there =
+    subst (λ (x : Around). CutHash x sign there) broken.around
     (cut_hash d outer u (behind_parts d s parts) last toks alone c_here sign broken.begun are.1.1.1
-    (ap all_kept broken.around ∙ are.1.1.0))) in
+    (ap all_kept broken.around ∙ are.1.1.0)) in
     let inner = conditionals here.inside in
     let among = conditionals here.between in
     let place = sign.token.place in
     let then = state k.base (Some place) inner among None k.declared in
-    let ends : EndsAs (Some (sign_as handed.Unfit sign)) handed.Kept here w then =
+    let ends : EndsAs (Some (sign_as handed.Unfit sign)) handed.Kept here then =
     record {
       base = given_up_at k.base;
       stand = AllStay here.inside here.between k.inside_kept k.between_kept;
       declared = k.declared;
       none_read = refl;
-      waits = k.waits;
       stack = refl;
       inner = refl;
       among = refl;
@@ -953,39 +956,39 @@ files_led d (CutHashLast parts outer u sign) s w c b are =
     } in
     let given = map as_kept (kept_sides d s parts) in
     let to_here = behind_staying tokens c in
-    let to_there = behind_staying toks c_here in
-    let second : StepsLed (map staying toks ++ staying sign ∷ []) c_here [] (alone ++ []) =
-    joined (map staying toks) (staying sign ∷ []) c_here [] [] alone [] broken.led
-    (subst (λ (x : Conditions). StepsLed (staying sign ∷ []) x [] []) (sym to_there)
-    (held_led sign [] there then [] [] k.held (record { hands = refl; tells = refl }))) in
+    let to_there = behind_staying toks (nested_in w c_here) in
+    let second : StepsLed (map staying toks ++ staying sign ∷ []) (nested_in w c_here) [] (alone ++ []) =
+    joined (map staying toks) (staying sign ∷ []) (nested_in w c_here) [] [] alone [] broken.led
+    (subst (λ (x : Nested). StepsLed (staying sign ∷ []) x [] []) (sym to_there)
+    (held_led sign [] w there then [] [] k.held (record { hands = refl; tells = refl }))) in
     let both =
     joined (map staying tokens) (map staying toks ++ staying sign ∷ []) c given [] (told_parts d s parts) (alone ++ []) first.led
-    (subst (λ (x : Conditions). StepsLed (map staying toks ++ staying sign ∷ []) x [] (alone ++ [])) (sym to_here) second) in
+    (subst (λ (x : Nested). StepsLed (map staying toks ++ staying sign ∷ []) x [] (alone ++ [])) (sym to_here) second) in
     record {
       led = record { hands = both.hands ∙ append-nil given; tells = both.tells ∙ ap (λ ps. told_parts d s parts ++ ps) (append-nil alone) };
-      ends = subst (λ (x : Conditions). EndsAs (Some (sign_as handed.Unfit sign)) handed.Kept here w x)
+      ends = subst (λ (x : Nested). EndsIn (Some (sign_as handed.Unfit sign)) handed.Kept here w x)
           (sym
           (behind_both (map staying tokens) (map staying toks ++ staying sign ∷ []) c
           ∙ ap (steps_behind (map staying toks ++ staying sign ∷ [])) to_here
-          ∙ behind_both (map staying toks) (staying sign ∷ []) c_here
+          ∙ behind_both (map staying toks) (staying sign ∷ []) (nested_in w c_here)
           ∙ ap (steps_behind (staying sign ∷ [])) to_there
-          ∙ k.held.next)) ends;
+          ∙ ap (nested_in w) k.held.next)) (record { ends = ends; waits = refl });
     }
-files_led d (CutHashThen parts outer u sign is_between more) s w c b are =
-    let first = stretch d s w c parts b are.0 in
-    let broken = broken_led d s w c parts outer u first are.1.0 in
+files_led d (CutHashThen parts outer u sign is_between more) s c b are =
+    let w = c.waiting in
+    let first = stretch d s c parts b are.0 in
+    let broken = broken_led d s c parts outer u first are.1.0 in
     let tokens = all_tokens parts in
     let toks = all_begun_tokens outer u in
-    let c_here = all_behind tokens c in
+    let c_here = all_behind tokens c.now in
     let there = all_behind toks c_here in
     let last = broken.last in
     let here = behind_all_begun d (behind_parts d s parts) outer u in
     let alone = told_all_begun d (behind_parts d s parts) outer u in
-    let k : CutHash here w sign there =
-    subst (λ (x : Around). CutHash x w sign there) broken.around
-    (subst (λ ws. CutHash last.around ws sign there) broken.waiting
+    let k : CutHash here sign there =
+    subst (λ (x : Around). CutHash x sign there) broken.around
     (cut_hash d outer u (behind_parts d s parts) last toks alone c_here sign broken.begun are.1.1.0.is_sign
-    (ap all_kept broken.around ∙ are.1.1.0.is_kept))) in
+    (ap all_kept broken.around ∙ are.1.1.0.is_kept)) in
     let inner = conditionals here.inside in
     let among = conditionals here.between in
     let place = sign.token.place in
@@ -993,66 +996,71 @@ files_led d (CutHashThen parts outer u sign is_between more) s w c b are =
     let free = at (given_up_at k.base) inner among None k.declared in
     let frees : released (going_on sign there) ≡ free = ap released k.held.next in
     let begun =
-    subst (λ (x : Conditions). Begun here w x) (sym frees) (free_begun here w k.base k.declared k.inside_kept k.between_kept k.waits) in
-    let rest = files_led d more here w (released (going_on sign there)) begun are.1.1.1 in
+    subst (λ (x : Conditions). Begun here x) (sym frees) (free_begun here k.base k.declared k.inside_kept k.between_kept) in
+    let rest = files_led d more here (nested_in w (released (going_on sign there))) begun are.1.1.1 in
     let given = handed_files d here more in
     let others = told_files d here more in
     let on =
-    led_on handed.Unfit place (steps more) then free given others (frees_unfit place k.base k.p k.others inner among k.declared k.read)
+    led_on handed.Unfit place (steps more) w then free given others (frees_unfit place k.base k.p k.others inner among k.declared k.read)
     are.1.1.0.follows
-    (subst (λ (x : Conditions). StepsLed (steps more) x given others) frees rest.led) in
+    (subst (λ (x : Conditions). StepsLed (steps more) (nested_in w x) given others) frees rest.led) in
     let coming = standing is_between (steps more) in
     let to_here = behind_staying tokens c in
-    let to_there = behind_staying toks c_here in
-    let second : StepsLed (map staying toks ++ staying sign ∷ coming) c_here (as_unfit (hash place) ∷ given) (alone ++ others) =
-    joined (map staying toks) (staying sign ∷ coming) c_here [] (as_unfit (hash place) ∷ given) alone others broken.led
-    (subst (λ (x : Conditions). StepsLed (staying sign ∷ coming) x (as_unfit (hash place) ∷ given) others) (sym to_there)
-    (held_led sign coming there then (as_unfit (hash place) ∷ given) others k.held
-    (standing_led is_between (steps more) k.base place inner among k.declared (as_unfit (hash place) ∷ given) others on.led))) in
+    let to_there = behind_staying toks (nested_in w c_here) in
+    let second : StepsLed (map staying toks ++ staying sign ∷ coming) (nested_in w c_here) (as_unfit (hash place) ∷ given)
+    (alone ++ others) =
+    joined (map staying toks) (staying sign ∷ coming) (nested_in w c_here) [] (as_unfit (hash place) ∷ given) alone others broken.led
+    (subst (λ (x : Nested). StepsLed (staying sign ∷ coming) x (as_unfit (hash place) ∷ given) others) (sym to_there)
+    (held_led sign coming w there then (as_unfit (hash place) ∷ given) others k.held
+    (standing_led is_between (steps more) w k.base place inner among k.declared (as_unfit (hash place) ∷ given) others on.led))) in
     record {
       led = joined (map staying tokens) (map staying toks ++ staying sign ∷ coming) c (map as_kept (kept_sides d s parts))
           (as_unfit (hash place) ∷ given) (told_parts d s parts) (alone ++ others) first.led
-          (subst (λ (x : Conditions). StepsLed (map staying toks ++ staying sign ∷ coming) x (as_unfit (hash place) ∷ given)
+          (subst (λ (x : Nested). StepsLed (map staying toks ++ staying sign ∷ coming) x (as_unfit (hash place) ∷ given)
           (alone ++ others)) (sym to_here) second);
-      ends = subst (λ (x : Conditions). EndsAs (end_sign more) (end_handed more) (behind_files d here more) w x)
+      ends = subst (λ (x : Nested). EndsIn (end_sign more) (end_handed more) (behind_files d here more) w x)
           (sym
           (behind_both (map staying tokens) (map staying toks ++ staying sign ∷ coming) c
           ∙ ap (steps_behind (map staying toks ++ staying sign ∷ coming)) to_here
-          ∙ behind_both (map staying toks) (staying sign ∷ coming) c_here
+          ∙ behind_both (map staying toks) (staying sign ∷ coming) (nested_in w c_here)
           ∙ ap (steps_behind (staying sign ∷ coming)) to_there
-          ∙ ap (steps_behind coming) k.held.next
-          ∙ standing_same is_between (steps more) k.base place inner among k.declared
+          ∙ ap (λ (x : Conditions). steps_behind coming (nested_in w x)) k.held.next
+          ∙ standing_same is_between (steps more) w k.base place inner among k.declared
           ∙ on.behind
-          ∙ ap (steps_behind (steps more)) (sym frees))) rest.ends;
+          ∙ ap (λ (x : Conditions). steps_behind (steps more) (nested_in w x)) (sym frees))) rest.ends;
     }
-files_led d (Cut parts outer u) s w c b are =
-    let first = stretch d s w c parts b are.0 in
-    let broken = broken_led d s w c parts outer u first are.1 in
+files_led d (Cut parts outer u) s c b are =
+    let w = c.waiting in
+    let first = stretch d s c parts b are.0 in
+    let broken = broken_led d s c parts outer u first are.1 in
     let toks = all_begun_tokens outer u in
-    let here = all_behind (all_tokens parts) c in
+    let here = all_behind (all_tokens parts) c.now in
     let last = broken.last in
     let to_here = behind_staying (all_tokens parts) c in
     let given = map as_kept (kept_sides d s parts) in
     let alone = told_all_begun d (behind_parts d s parts) outer u in
     let both =
     joined (map staying (all_tokens parts)) (map staying toks) c given [] (told_parts d s parts) alone first.led
-    (subst (λ (x : Conditions). StepsLed (map staying toks) x [] alone) (sym to_here) broken.led) in
+    (subst (λ (x : Nested). StepsLed (map staying toks) x [] alone) (sym to_here) broken.led) in
     let ends = ends_cut d outer u (behind_parts d s parts) last toks alone here broken.begun in
     record {
       led = record { hands = both.hands ∙ append-nil given; tells = both.tells };
-      ends = subst (λ (x : Conditions). EndsAs (begun_sign u) (begun_handed u) (behind_all_begun d (behind_parts d s parts) outer u) w x)
+      ends = subst (λ (x : Nested). EndsIn (begun_sign u) (begun_handed u) (behind_all_begun d (behind_parts d s parts) outer u) w x)
           (sym (behind_both (map staying (all_tokens parts)) (map staying toks) c ∙ ap (steps_behind (map staying toks)) to_here ∙
-          behind_staying toks here))
-          (subst (λ (x : Around). EndsAs (begun_sign u) (begun_handed u) x w (all_behind toks here)) broken.around
-          (subst (λ ws. EndsAs (begun_sign u) (begun_handed u) last.around ws (all_behind toks here)) broken.waiting ends));
+          behind_staying toks (nested_in w here)))
+          (record {
+            ends = subst (λ (x : Around). EndsAs (begun_sign u) (begun_handed u) x (all_behind toks here)) broken.around ends;
+            waits = refl;
+          });
     }
-files_led d (Breaking parts outer u misfit more) s w c b are =
-    let first = stretch d s w c parts b are.0 in
-    let broken = broken_led d s w c parts outer u first are.1.0 in
+files_led d (Breaking parts outer u misfit more) s c b are =
+    let w = c.waiting in
+    let first = stretch d s c parts b are.0 in
+    let broken = broken_led d s c parts outer u first are.1.0 in
     let tokens = all_tokens parts in
     let toks = all_begun_tokens outer u in
     let bad = misfit_tokens misfit in
-    let here = all_behind tokens c in
+    let here = all_behind tokens c.now in
     let there = all_behind toks here in
     let beyond = all_behind bad there in
     let last = broken.last in
@@ -1060,55 +1068,57 @@ files_led d (Breaking parts outer u misfit more) s w c b are =
     let cut = misfit_led d outer u (behind_parts d s parts) last toks alone here misfit broken.begun are.1.1.0
     (ap all_kept broken.around ∙ misfit_kept d (behind_parts d s parts) outer u misfit are.1.1.0) in
     let around = around_broken d s parts outer u misfit in
-    let begun : Begun around w beyond =
-    subst (λ (x : Around). Begun (behind_misfit misfit x) w beyond) broken.around
-    (subst (λ ws. Begun (behind_misfit misfit last.around) ws beyond) broken.waiting cut.begun) in
-    let rest = files_led d more around w beyond begun are.1.1.1 in
+    let begun : Begun around beyond =
+    subst (λ (x : Around). Begun (behind_misfit misfit x) beyond) broken.around cut.begun in
+    let rest = files_led d more around (nested_in w beyond) begun are.1.1.1 in
     let given = handed_files d around more in
     let told_bad = told_misfit misfit (behind_all_begun d (behind_parts d s parts) outer u) in
     let others = told_files d around more in
     let to_here = behind_staying tokens c in
-    let to_there = behind_staying toks here in
-    let to_beyond = behind_staying bad there in
-    let third : StepsLed (map staying bad ++ steps more) there (handed_misfit misfit ++ given) (told_bad ++ others) =
-    joined (map staying bad) (steps more) there (handed_misfit misfit) given told_bad others
-    (staying_led bad there (handed_misfit misfit) told_bad cut.hands (cut.tells ∙ ap (told_misfit misfit) broken.around))
-    (subst (λ (x : Conditions). StepsLed (steps more) x given others) (sym to_beyond) rest.led) in
-    let second : StepsLed (map staying toks ++ (map staying bad ++ steps more)) here (handed_misfit misfit ++ given)
+    let to_there = behind_staying toks (nested_in w here) in
+    let to_beyond = behind_staying bad (nested_in w there) in
+    let third : StepsLed (map staying bad ++ steps more) (nested_in w there) (handed_misfit misfit ++ given) (told_bad ++ others) =
+    joined (map staying bad) (steps more) (nested_in w there) (handed_misfit misfit) given told_bad others
+    (staying_led bad (nested_in w there) (handed_misfit misfit) told_bad cut.hands (cut.tells ∙ ap (told_misfit misfit) broken.around))
+    (subst (λ (x : Nested). StepsLed (steps more) x given others) (sym to_beyond) rest.led) in
+    let second : StepsLed (map staying toks ++ (map staying bad ++ steps more)) (nested_in w here) (handed_misfit misfit ++ given)
     (alone ++ (told_bad ++ others)) =
-    joined (map staying toks) (map staying bad ++ steps more) here [] (handed_misfit misfit ++ given) alone (told_bad ++ others) broken.led
-    (subst (λ (x : Conditions). StepsLed (map staying bad ++ steps more) x (handed_misfit misfit ++ given) (told_bad ++ others))
+    joined (map staying toks) (map staying bad ++ steps more) (nested_in w here) [] (handed_misfit misfit ++ given) alone (told_bad ++ others) broken.led
+    (subst (λ (x : Nested). StepsLed (map staying bad ++ steps more) x (handed_misfit misfit ++ given) (told_bad ++ others))
     (sym to_there) third) in
     record {
       led = joined (map staying tokens) (map staying toks ++ (map staying bad ++ steps more)) c (map as_kept (kept_sides d s parts))
           (handed_misfit misfit ++ given) (told_parts d s parts) (alone ++ (told_bad ++ others)) first.led
-          (subst (λ (x : Conditions). StepsLed (map staying toks ++ (map staying bad ++ steps more)) x (handed_misfit misfit ++ given)
+          (subst (λ (x : Nested). StepsLed (map staying toks ++ (map staying bad ++ steps more)) x (handed_misfit misfit ++ given)
           (alone ++ (told_bad ++ others))) (sym to_here) second);
-      ends = subst (λ (x : Conditions). EndsAs (end_sign more) (end_handed more) (behind_files d around more) w x)
+      ends = subst (λ (x : Nested). EndsIn (end_sign more) (end_handed more) (behind_files d around more) w x)
           (sym
           (behind_both (map staying tokens) (map staying toks ++ (map staying bad ++ steps more)) c
           ∙ ap (steps_behind (map staying toks ++ (map staying bad ++ steps more))) to_here
-          ∙ behind_both (map staying toks) (map staying bad ++ steps more) here
+          ∙ behind_both (map staying toks) (map staying bad ++ steps more) (nested_in w here)
           ∙ ap (steps_behind (map staying bad ++ steps more)) to_there
-          ∙ behind_both (map staying bad) (steps more) there
+          ∙ behind_both (map staying bad) (steps more) (nested_in w there)
           ∙ ap (steps_behind (steps more)) to_beyond)) rest.ends;
     }
-files_led d (Including parts t f end more) s w c b are =
+files_led d (Including parts t f end more) s c b are =
+    let w = c.waiting in
     let here = behind_parts d s parts in
     let inside = around_included t here in
     let tokens = all_tokens parts in
-    let c_here = all_behind tokens c in
-    let c_in = step_behind (enters t) c_here in
+    let c_here = all_behind tokens c.now in
+    let n_here = nested_in w c_here in
+    let c_in = step_behind (enters t) n_here in
     let c_end = steps_behind (steps f) c_in in
     let c_more = step_behind (leaves end) c_end in
-    let first = stretch d s w c parts b are.0 in
+    let first = stretch d s c parts b are.0 in
     let to_here = behind_staying tokens c in
-    let st = stays_at (stretch_last d s w c parts) c_here first.stands are.1.0.is_kept in
-    let enter = entered_at t here w c_here st are.1.0.plain in
-    let inner = files_led d f inside (conditionals here.between ∷ w) c_in enter.begun are.1.1.0 in
+    let st = stays_at (stretch_last d s c.now parts) c_here first.stands are.1.0.is_kept in
+    let enter = entered_at t here n_here st are.1.0.plain in
+    let inner = files_led d f inside c_in enter.begun are.1.1.0 in
     let leave =
-    left_at_end end (end_sign f) (end_handed f) here (behind_files d inside f) w c_end inner.ends st.between_kept are.1.0.is_last in
-    let rest = files_led d more (around_behind here) w c_more leave.begun are.1.1.1 in
+    left_at_end end (end_sign f) (end_handed f) here (behind_files d inside f) w c_end
+    (record { ends = inner.ends.ends; waits = inner.ends.waits ∙ enter.waits }) st.between_kept are.1.0.is_last in
+    let rest = files_led d more (around_behind here) c_more leave.begun are.1.1.1 in
     let given = handed_files d (around_behind here) more in
     let last_so = handed_end f end.token in
     let others = told_files d (around_behind here) more in
@@ -1127,7 +1137,7 @@ files_led d (Including parts t f end more) s w c b are =
     let inner_on : StepsLed all_inner c_in inner_given told_in =
     joined (steps f) (leaves end ∷ steps more) c_in (handed_files d inside f) (last_so ++ given) (told_files d inside f)
     (missing_here ++ others) inner.led leaving_on in
-    let entering_on : StepsLed (enters t ∷ all_inner) c_here (as_kept t.token ∷ inner_given) (told_entering ++ told_in) =
+    let entering_on : StepsLed (enters t ∷ all_inner) n_here (as_kept t.token ∷ inner_given) (told_entering ++ told_in) =
     record {
       hands = ap (λ hs. hs ++ handed_by all_inner c_in) enter.hands ∙ ap (λ hs. as_kept t.token ∷ hs) inner_on.hands;
       tells = ap (λ ps. ps ++ told_by all_inner c_in) enter.tells ∙ ap (λ ps. told_entering ++ ps) inner_on.tells;
@@ -1135,16 +1145,17 @@ files_led d (Including parts t f end more) s w c b are =
     record {
       led = joined (map staying tokens) (enters t ∷ all_inner) c (map as_kept (kept_sides d s parts)) (as_kept t.token ∷ inner_given)
           (told_parts d s parts) (told_entering ++ told_in) first.led
-          (subst (λ (x : Conditions). StepsLed (enters t ∷ all_inner) x (as_kept t.token ∷ inner_given) (told_entering ++ told_in))
+          (subst (λ (x : Nested). StepsLed (enters t ∷ all_inner) x (as_kept t.token ∷ inner_given) (told_entering ++ told_in))
           (sym to_here) entering_on);
-      ends = subst (λ (x : Conditions). EndsAs (end_sign more) (end_handed more) (behind_files d (around_behind here) more) w x)
+      ends = subst (λ (x : Nested). EndsIn (end_sign more) (end_handed more) (behind_files d (around_behind here) more) w x)
           (sym
           (behind_both (map staying tokens) (enters t ∷ all_inner) c
           ∙ ap (steps_behind (enters t ∷ all_inner)) to_here
-          ∙ behind_both (steps f) (leaves end ∷ steps more) c_in)) rest.ends;
+          ∙ behind_both (steps f) (leaves end ∷ steps more) c_in))
+          (record { ends = rest.ends.ends; waits = rest.ends.waits ∙ leave.waits });
     }
 
-begun_clear : (c : Conditions) → IsClear c → Begun none_around c.waiting c
+begun_clear : (c : Conditions) → IsClear c → Begun none_around c
 begun_clear c clear = record {
   inside_kept = refl;
   between_kept = refl;
@@ -1154,21 +1165,20 @@ begun_clear c clear = record {
       ∙ ap (λ l. record c { left_out = l; sign = None; said = None }) (sym clear.all_kept)
       ∙ ap (λ s. record c { sign = s; said = None }) (sym clear.no_sign)
       ∙ ap (λ s. record c { said = s }) (sym clear.none_said);
-  waits = refl;
   none_read = clear.none_pending;
 }
 
 pub files_keep_sides : FilesKeepSides
 files_keep_sides d f c clear are =
-    let all = files_led d f none_around c.waiting c (begun_clear c clear) are in
+    let all = files_led d f none_around c (begun_clear c.now clear) are in
     record {
       handed_on = all.led.hands;
       told = all.led.tells;
       end_on = λ end is_last.
-          ap (λ (b : Behind). handed_on b.judged end.token) (all.ends.at_end end is_last)
+          ap (λ (b : Behind). handed_on b.judged end.token) (all.ends.ends.at_end end is_last)
           ∙ ap (λ hs. handed_sign (end_sign f) ++ hs) (end_is_handed f end);
-      at_last = λ end is_last. misses_at end (end_sign f) (end_handed f) (behind_files d none_around f) c.waiting (steps_behind (steps f) c)
-          all.ends is_last;
+      at_last = λ end is_last. misses_at end (end_sign f) (end_handed f) (behind_files d none_around f) (steps_behind (steps f) c).now
+          all.ends.ends is_last;
     }
 
 pub files_tell_unended : FilesTellUnended
@@ -1179,44 +1189,54 @@ files_tell_unended files c r =
 
 -- Turns
 
-none_conditions : (unit : Place) (text : List ℕ) (why : Included) (s : State) → (none_included unit text why s).conditions ≡ s.conditions
-none_conditions unit text answer.Entered s = refl
-none_conditions unit text answer.NotThere s = refl
-none_conditions unit text answer.TooDeep s = refl
+none_nested : (unit : Place) (text : List ℕ) (why : Included) (s : State) → nested (none_included unit text why s) ≡ nested s
+none_nested unit text answer.Entered s = refl
+none_nested unit text answer.NotThere s = refl
+none_nested unit text answer.TooDeep s = refl
 
-included_conditions : (sources : Sources) (o : Choices) (unit : Place) (text : List ℕ) (i : Inclusion) (s : State) →
-    (included_by sources o unit text i s).conditions ≡ passed_files (opens i) s.conditions
-included_conditions sources o unit text (Opens name) s = refl
-included_conditions sources o unit text (OpensNone why) s = none_conditions unit text why s
+included_nested : (sources : Sources) (o : Choices) (unit : Place) (text : List ℕ) (i : Inclusion) (s : State) →
+    nested (included_by sources o unit text i s) ≡ passed_files (opens i) (nested s)
+included_nested sources o unit text (Opens name) s = refl
+included_nested sources o unit text (OpensNone why) s = none_nested unit text why s
 
-asked_conditions : (a : Request) (sources : Sources) (o : Choices) (s : State) →
-    (answered a sources o (asked_nothing s)).conditions ≡ passed_files (asked_passage a sources o s) s.conditions
-asked_conditions (Include text unit) sources o s =
-    included_conditions sources o unit text (inclusion sources o.directories text s.nesting) (asked_nothing s)
-asked_conditions End sources o s = refl
-asked_conditions Nothing sources o s = refl
+asked_nested : (a : Request) (sources : Sources) (o : Choices) (s : State) →
+    nested (answered a sources o (asked_nothing s)) ≡ passed_files (asked_passage a sources o s) (nested s)
+asked_nested (Include text unit) sources o s =
+    included_nested sources o unit text (inclusion sources o.directories text s.nesting) (asked_nothing s)
+asked_nested End sources o s = refl
+asked_nested Nothing sources o s = refl
 
-left_conditions : (ws : List Cursor) (s : State) → (left_by ws (file_closed s)).conditions ≡ file_left s.conditions
-left_conditions [] s = refl
-left_conditions (c ∷ ws) s = refl
+left_nested : (ws : List Waiting) (s : State) → s.nesting.waiting ≡ ws
+    → nested (left_by ws (file_closed s)) ≡ left_to (map (λ (w : Waiting). w.conditionals) ws) (file_ended s.conditions)
+left_nested [] s e = ap (λ (ws : List Waiting). nested_in (map (λ (w : Waiting). w.conditionals) ws) (file_ended s.conditions)) e
+left_nested (w ∷ ws) s e = refl
 
 carried_out_passes : (sources : Sources) (o : Choices) (s : State) →
-    (carried_out sources o s).conditions ≡ passed_files (passage sources o s) s.conditions
+    nested (carried_out sources o s) ≡ passed_files (passage sources o s) (nested s)
 carried_out_passes sources o s = go s.work.report.counts.is_over (is_mode_ended s.reading.mode)
   where
-    go : (over ended : Bool) → (cond over s (cond ended (left s) (answered s.work.asked sources o (asked_nothing s)))).conditions
-        ≡ passed_files (cond over Stays (cond ended Leaves (asked_passage s.work.asked sources o s))) s.conditions
+    go : (over ended : Bool) → nested (cond over s (cond ended (left s) (answered s.work.asked sources o (asked_nothing s))))
+        ≡ passed_files (cond over Stays (cond ended Leaves (asked_passage s.work.asked sources o s))) (nested s)
     go true ended = refl
-    go false true = left_conditions s.nesting.waiting s
-    go false false = asked_conditions s.work.asked sources o s
+    go false true = left_nested s.nesting.waiting s refl
+    go false false = asked_nested s.work.asked sources o s
 
-turn_steps : (sources : Sources) (o : Choices) (s : State) → (turn sources o s).conditions ≡ step_behind (step_at sources o s) s.conditions
+-- what rests keeps the files that wait
+rested_waiting : (s : State) → (rested s).nesting.waiting ≡ s.nesting.waiting
+rested_waiting s =
+    of_both (λ (t : State). t.nesting.waiting ≡ s.nesting.waiting) (has_ended s) s (cond (is_resting s) (piece_closed s) s) (λ _. refl)
+    (λ _. of_both (λ (t : State). t.nesting.waiting ≡ s.nesting.waiting) (is_resting s) (piece_closed s) s (λ _. refl) (λ _. refl))
+
+turn_steps : (sources : Sources) (o : Choices) (s : State) → nested (turn sources o s) ≡ step_behind (step_at sources o s) (nested s)
 turn_steps sources o s =
-    rested_conditions (carried_out sources o (stepped s))
-    ∙ ap (ended_behind (ends_there (carried_out sources o (stepped s)))) (carried_out_passes sources o (stepped s))
+    let done = carried_out sources o (stepped s) in
+    ap (λ (c : Conditions). nested_in (map (λ (w : Waiting). w.conditionals) (rested done).nesting.waiting) c) (rested_conditions done)
+    ∙ ap (λ (ws : List Waiting). nested_in (map (λ (w : Waiting). w.conditionals) ws) (ended_behind (ends_there done) done.conditions))
+    (rested_waiting done)
+    ∙ ap (λ (n : Nested). record n { now = ended_behind (ends_there done) n.now }) (carried_out_passes sources o (stepped s))
 
 steps_hand_on : (sources : Sources) (o : Choices) (n : ℕ) (s : State) →
-    map shown (given_in sources o n s) ≡ handed_by (steps_at sources o n s) s.conditions
+    map shown (given_in sources o n s) ≡ handed_by (steps_at sources o n s) (nested s)
 steps_hand_on sources o zero s = refl
 steps_hand_on sources o (suc n) s =
     let next = turn sources o s in
@@ -1229,7 +1249,7 @@ steps_hand_on sources o (suc n) s =
     (turn_steps sources o s))
 
 steps_turned : (sources : Sources) (o : Choices) (n : ℕ) (s : State) →
-    (turned sources o n s).conditions ≡ steps_behind (steps_at sources o n s) s.conditions
+    nested (turned sources o n s) ≡ steps_behind (steps_at sources o n s) (nested s)
 steps_turned sources o zero s = refl
 steps_turned sources o (suc n) s =
     let next = turn sources o s in
@@ -1237,23 +1257,21 @@ steps_turned sources o (suc n) s =
 
 pub turns_keep_files : TurnsKeepFiles
 turns_keep_files d sources o n s f are_these clear are =
-    let all = files_keep_sides d f s.conditions clear are in
+    let all = files_keep_sides d f (nested s) clear are in
     let behind = turned sources o n s in
     let end = at_turn sources o behind in
     let last = stepped behind in
+    let turned_so = steps_turned sources o n s ∙ ap (λ xs. steps_behind xs (nested s)) are_these in
     record {
-      handed_on = steps_hand_on sources o n s ∙ ap (λ xs. handed_by xs s.conditions) are_these ∙ all.handed_on;
+      handed_on = steps_hand_on sources o n s ∙ ap (λ xs. handed_by xs (nested s)) are_these ∙ all.handed_on;
       end_on = λ is_last.
           let t = token_of behind.nesting.cursor in
           let b = judged (site_of behind.reading) behind.work.output t behind.conditions in
           all_shown behind.nesting.names b.judged t (said_told b.now.said behind.nesting.names (stand_of behind))
-          ∙ ap (λ (c : Conditions). handed_on (judged_at end c).judged t)
-          (steps_turned sources o n s ∙ ap (λ xs. steps_behind xs s.conditions) are_these)
+          ∙ ap (λ (n : Nested). handed_on (judged_at end n.now).judged t) turned_so
           ∙ all.end_on end is_last;
       at_last = λ is_last.
           files_tell_unended last.nesting.names (judged_at end behind.conditions).now last.work.report
           ∙ ap (λ ps. with_all_at last.nesting.names ps last.work.report)
-          (ap (λ (c : Conditions). told_behind Leaves (judged_at end c).now)
-          (steps_turned sources o n s ∙ ap (λ xs. steps_behind xs s.conditions) are_these)
-          ∙ all.at_last end is_last);
+          (ap (λ (n : Nested). told_behind Leaves (judged_at end n.now).now) turned_so ∙ all.at_last end is_last);
     }

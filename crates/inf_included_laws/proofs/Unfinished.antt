@@ -13,7 +13,7 @@ use Rattle.inf_unit.specs.Tokens.{SourceToken, is_end, is_mark}
 use Rattle.inf_conditionals.specs.Atoms.{atom_of}
 use Rattle.inf_conditionals.specs.Condition.{Condition, condition_begun, condition_took}
 use Rattle.inf_conditionals.specs.declared.judged.Forwarded.TheVariants as handed
-use Rattle.inf_conditionals.specs.declared.open.Conditional.{Conditional}
+use Rattle.inf_sources.specs.declared.open_file.Conditional.{Conditional}
 use Rattle.inf_conditionals.specs.declared.pending.Awaits.{Awaits}
 use Rattle.inf_conditionals.specs.declared.pending.Awaits.TheVariants as awaits
 use Rattle.inf_conditionals.specs.declared.pending.Effect.{Effect}
@@ -54,8 +54,8 @@ HasCondition d s (Request is_inner wanted first parts) ks =
 HasCondition d s (FrontingWord sign parts u) ks = HasCondition d (behind_parts d s parts) u ks
 HasCondition d s u ks = Unit {0}
 
-abbrev begun_last : Answers → Unfinished → Around → ℕ → ℕ → List (List Conditional) → Last
-begun_last d u s declared n v = last_at (behind_begun d s u) (declared_tokens (begun_tokens u) declared) (n + length (begun_tokens u)) v
+abbrev begun_last : Answers → Unfinished → Around → ℕ → ℕ → Last
+begun_last d u s declared n = last_at (behind_begun d s u) (declared_tokens (begun_tokens u) declared) (n + length (begun_tokens u))
 
 record Begun (d : Answers) (u : Unfinished) (s : Around) (last : Last) (toks : List At) (places : List Place) (c : Conditions) : Type 0
   where
@@ -73,7 +73,6 @@ record KeptSo (r : Reader) (last : Last) (c : Conditions) : Type 0 where
   inside_kept : are_kept last.around.inside ≡ true
   between_kept : are_kept last.around.between ≡ true
   holds : Holds r base
-  waits : base.waiting ≡ last.waiting
   is : c ≡ at base (conditionals last.around.inside) (conditionals last.around.between) None last.declared
 
 kept_so : (r : Reader) (last : Last) (c : Conditions) → StandsAt r last c → all_kept last.around ≡ true → KeptSo r last c
@@ -85,7 +84,6 @@ kept_so r last c e all = go e.stand e.stack e.is
       inside_kept = ap (λ (x : Around). are_kept x.inside) (sym stack) ∙ si;
       between_kept = ap (λ (x : Around). are_kept x.between) (sym stack) ∙ sb;
       holds = e.holds;
-      waits = e.waits;
       is = is ∙ ap (λ (x : Around). at e.base (conditionals x.inside) (conditionals x.between) None last.declared) stack;
     }
     go (InnerLeft deep x inside between left si sb) stack is =
@@ -95,14 +93,14 @@ kept_so r last c e all = go e.stand e.stack e.is
 
 -- parts that are read
 parts_read : (d : Answers) (parts : Parts) (p : Pending) (others : List Pending) (ks after : List Condition) (s : Around) (declared n : ℕ)
-    (v : List (List Conditional)) (c : Conditions)
-    → StandsAt (Reads p others ks) (last_at s declared n v) c → AreParts d true s declared parts → TakesAll (Reads p others ks)
+    (c : Conditions)
+    → StandsAt (Reads p others ks) (last_at s declared n) c → AreParts d true s declared parts → TakesAll (Reads p others ks)
     (kept_sides d s parts)
     → read_on (kept_sides d s parts) (Reads p others ks) ≡ Reads p others after → n + length (all_tokens parts) ≤ most_levels
-    → Led (Reads p others after) (all_tokens parts) c [] (told_parts d s parts) (last_behind d parts s declared n v)
-parts_read d parts p others ks after s declared n v c e are takes read few =
-    let l = last_behind d parts s declared n v in
-    let is = led d parts (Reads p others ks) s declared n v c e are takes few in
+    → Led (Reads p others after) (all_tokens parts) c [] (told_parts d s parts) (last_behind d parts s declared n)
+parts_read d parts p others ks after s declared n c e are takes read few =
+    let l = last_behind d parts s declared n in
+    let is = led d parts (Reads p others ks) s declared n c e are takes few in
     record {
       hands = is.hands ∙ nothing_handed (kept_sides d s parts) p others ks;
       tells = is.tells;
@@ -123,9 +121,9 @@ begun_declared first tokens declared = declared_behind_first first tokens declar
 
 -- A directive begins that is kept, and these parts come.
 begun_kept : (d : Answers) (parts : Parts) (r : Reader) (is_inner : Bool) (w : ConditionalWord) (a : Awaits) (first : First)
-    (ks after : List Condition) (s : Around) (declared n : ℕ) (v : List (List Conditional)) (c base : Conditions)
+    (ks after : List Condition) (s : Around) (declared n : ℕ) (c base : Conditions)
     → let p = directive is_inner (begins first) a in
-    Holds r base → base.waiting ≡ v → are_kept s.inside ≡ true → are_kept s.between ≡ true → c ≡ at base (conditionals s.inside)
+    Holds r base → are_kept s.inside ≡ true → are_kept s.between ≡ true → c ≡ at base (conditionals s.inside)
     (conditionals s.between) None declared
     → IsFirst true is_inner (within r) w first → NoneInsideFirst true is_inner first s
     → ((m : ℕ) → begun w first.word.token (begins first) is_inner (at base (conditionals s.inside) (conditionals s.between) None m)
@@ -135,50 +133,49 @@ begun_kept : (d : Answers) (parts : Parts) (r : Reader) (is_inner : Bool) (w : C
     (first_tokens first (all_tokens parts)) ≤ most_levels
     → Led (Reads p base.pending after) (first_tokens first (all_tokens parts)) c [] (told_parts d s parts)
     (last_at (behind_parts d s parts) (declared_tokens (first_tokens first (all_tokens parts)) declared)
-    (n + length (first_tokens first (all_tokens parts))) v)
-begun_kept d parts r is_inner w a first ks after s declared n v c base holds waits si sb is is_first none begins_so are takes read few =
+    (n + length (first_tokens first (all_tokens parts))))
+begun_kept d parts r is_inner w a first ks after s declared n c base holds si sb is is_first none begins_so are takes read few =
     let p = directive is_inner (begins first) a in
     let q = Reads p base.pending after in
     let now = declared_first first declared in
     let inner = conditionals s.inside in
     let among = conditionals s.between in
     let toks = first_tokens first (all_tokens parts) in
-    let l = last_behind d parts s now n v in
+    let l = last_behind d parts s now n in
     let less = fewer first (all_tokens parts) in
-    let start : StandsAt (Reads p base.pending ks) (last_at s now n v)
+    let start : StandsAt (Reads p base.pending ks) (last_at s now n)
     (reading is_inner (begins first) a (record base { conditions = ks }) inner among now) =
     record {
       base = awaits_it is_inner (begins first) a (record base { conditions = ks });
       stand = AllStay s.inside s.between si sb;
       holds =
           (refl, refl);
-      waits = waits;
       is = refl;
       stack = refl;
       few = omega arith;
     } in
     subst (λ (x : Conditions). Led q toks x [] (told_parts d s parts)
-    (last_at l.around (declared_tokens toks declared) (n + length toks) v)) (sym is)
+    (last_at l.around (declared_tokens toks declared) (n + length toks))) (sym is)
     (relaxed q toks (at base inner among None declared) [] (told_parts d s parts) l.around l.declared (declared_tokens toks declared)
-    l.levels (n + length toks) v (begun_declared first (all_tokens parts) declared) (omega (arith, less))
+    l.levels (n + length toks) (begun_declared first (all_tokens parts) declared) (omega (arith, less))
     (begins_kept r q is_inner w a first.sign first.word (all_tokens parts) base (record base { conditions = ks }) inner among declared
     (told_parts d s parts) l holds is_first.begins is_first.is (mids_of is_inner (within r) w first s is_first none) begins_so
-    (parts_read d parts p base.pending ks after s now n v
+    (parts_read d parts p base.pending ks after s now n
     (reading is_inner (begins first) a (record base { conditions = ks }) inner among now) start are takes read
     (omega (arith, few, less)))))
 
 -- or its word ends a side that was left out
 begun_left : (w : ConditionalWord) (act : Around → Around) → LeftLed w act → (d : Answers) (parts : Parts) (r : Reader) (is_inner : Bool)
-    (first : First) (s : Around) (declared n : ℕ) (v : List (List Conditional)) (c : Conditions)
-    → (e : StandsAt r (last_at s declared n v) c) → all_kept s ≡ false → all_kept (act s) ≡ true → IsFirst false is_inner (within r) w first
+    (first : First) (s : Around) (declared n : ℕ) (c : Conditions)
+    → (e : StandsAt r (last_at s declared n) c) → all_kept s ≡ false → all_kept (act s) ≡ true → IsFirst false is_inner (within r) w first
     → NoneInside is_inner s
     → AreParts d true (act s) (declared_first first declared) parts → kept_sides d (act s) parts ≡ [] → n + length
     (first_tokens first (all_tokens parts)) ≤ most_levels
     → Led (Reads (directive false (begins first) (awaits.End effect.Nothing)) e.base.pending e.base.conditions)
     (first_tokens first (all_tokens parts)) c [] (told_parts d (act s) parts)
     (last_at (behind_parts d (act s) parts) (declared_tokens (first_tokens first (all_tokens parts)) declared)
-    (n + length (first_tokens first (all_tokens parts))) v)
-begun_left w act left_word d parts r is_inner first s declared n v c e left all is_first none are kept_none few =
+    (n + length (first_tokens first (all_tokens parts))))
+begun_left w act left_word d parts r is_inner first s declared n c e left all is_first none are kept_none few =
     let base = e.base in
     let st = e.stand in
     let a = awaits.End effect.Nothing in
@@ -187,30 +184,29 @@ begun_left w act left_word d parts r is_inner first s declared n v c e left all 
     let x = act s in
     let now = declared_first first declared in
     let toks = first_tokens first (all_tokens parts) in
-    let l = last_behind d parts x now n v in
+    let l = last_behind d parts x now n in
     let places = told_parts d x parts in
     let less = fewer first (all_tokens parts) in
     let same : act (stack_of st) ≡ x = ap act e.stack in
     let kept_so = kept_sides d x parts in
-    subst (λ (y : Conditions). Led q toks y [] places (last_at l.around (declared_tokens toks declared) (n + length toks) v)) (sym e.is)
-    (relaxed q toks (stands_at base st declared) [] places l.around l.declared (declared_tokens toks declared) l.levels (n + length toks) v
+    subst (λ (y : Conditions). Led q toks y [] places (last_at l.around (declared_tokens toks declared) (n + length toks))) (sym e.is)
+    (relaxed q toks (stands_at base st declared) [] places l.around l.declared (declared_tokens toks declared) l.levels (n + length toks)
     (begun_declared first (all_tokens parts) declared) (omega (arith, less))
-    (left_word r q is_inner (within r) first (all_tokens parts) st declared n v base places l e.holds e.waits e.few
+    (left_word r q is_inner (within r) first (all_tokens parts) st declared n base places l e.holds e.few
     (omega (arith, few, less)) (ap all_kept e.stack ∙ left) (subst (NoneInside is_inner) (sym e.stack) none) is_first
     (λ gone. absurd (let never : true ≡ false = sym all ∙ ap all_kept (sym same) ∙ gone in cc))
     (λ inside between si sb is.
-    let start : StandsAt q (last_at x now n v) (reading false (begins first) a base (conditionals inside) (conditionals between) now) =
+    let start : StandsAt q (last_at x now n) (reading false (begins first) a base (conditionals inside) (conditionals between) now) =
     record {
       base = awaits_it false (begins first) a base;
       stand = AllStay inside between si sb;
       holds = (refl, refl);
-      waits = e.waits;
       is =
           refl;
       stack = is ∙ same;
       few = omega arith;
     } in
-    parts_read d parts p base.pending base.conditions base.conditions x now n v
+    parts_read d parts p base.pending base.conditions base.conditions x now n
     (reading false (begins first) a base (conditionals inside) (conditionals between) now) start are (takes_none kept_so q kept_none)
     (reads_none kept_so q kept_none)
     (omega (arith, few, less)))))
@@ -228,16 +224,16 @@ ending_begun : (w : ConditionalWord) (act : Around → Around) (e : Effect) →
     ((t : SourceToken) (place : Place) (is_inner : Bool) (c : Conditions) → begun w t place is_inner c ≡ passed
     (awaiting place is_inner (awaits.End e) c)) → LeftLed w act
     → (d : Answers) (parts : Parts) (r : Reader) (is_inner : Bool) (first : First) (s : Around) (declared n : ℕ)
-    (v : List (List Conditional)) (c : Conditions)
-    → StandsAt r (last_at s declared n v) c → (k : Bool) → all_kept s ≡ k → IsFirst k is_inner (within r) w first → NoneInsideFirst k
+    (c : Conditions)
+    → StandsAt r (last_at s declared n) c → (k : Bool) → all_kept s ≡ k → IsFirst k is_inner (within r) w first → NoneInsideFirst k
     is_inner first s → all_kept (cond k s (act s)) ≡ true
     → AreParts d true (cond k s (act s)) (declared_first first declared) parts → kept_sides d (cond k s (act s)) parts ≡ [] → n + length
     (first_tokens first (all_tokens parts)) ≤ most_levels
     → EndingLed d parts (cond k s (act s)) (last_at (behind_parts d (cond k s (act s)) parts)
-    (declared_tokens (first_tokens first (all_tokens parts)) declared) (n + length (first_tokens first (all_tokens parts))) v)
+    (declared_tokens (first_tokens first (all_tokens parts)) declared) (n + length (first_tokens first (all_tokens parts))))
     (first_tokens first (all_tokens parts)) c
-ending_begun w act eff begins_so left_word d parts r is_inner first s declared n v c e true all is_first none stays are kept_none few =
-    let k = kept_so r (last_at s declared n v) c e all in
+ending_begun w act eff begins_so left_word d parts r is_inner first s declared n c e true all is_first none stays are kept_none few =
+    let k = kept_so r (last_at s declared n) c e all in
     let a = awaits.End eff in
     let p = directive is_inner (begins first) a in
     let tokens = kept_sides d s parts in
@@ -245,19 +241,19 @@ ending_begun w act eff begins_so left_word d parts r is_inner first s declared n
       p = p;
       others = k.base.pending;
       ks = k.base.conditions;
-      led = begun_kept d parts r is_inner w a first k.base.conditions k.base.conditions s declared n v c k.base k.holds k.waits
+      led = begun_kept d parts r is_inner w a first k.base.conditions k.base.conditions s declared n c k.base k.holds
           k.inside_kept k.between_kept k.is is_first none
           (λ m. begins_so first.word.token (begins first) is_inner (at k.base (conditionals s.inside) (conditionals s.between) None m)) are
           (takes_none tokens (Reads p k.base.pending k.base.conditions) kept_none)
           (reads_none tokens (Reads p k.base.pending k.base.conditions) kept_none) few;
       waits_for = (eff, refl);
     }
-ending_begun w act eff begins_so left_word d parts r is_inner first s declared n v c e false left is_first none stays are kept_none few =
+ending_begun w act eff begins_so left_word d parts r is_inner first s declared n c e false left is_first none stays are kept_none few =
     record {
       p = directive false (begins first) (awaits.End effect.Nothing);
       others = e.base.pending;
       ks = e.base.conditions;
-      led = begun_left w act left_word d parts r is_inner first s declared n v c e left stays is_first none are kept_none few;
+      led = begun_left w act left_word d parts r is_inner first s declared n c e left stays is_first none are kept_none few;
       waits_for = (effect.Nothing, refl);
     }
 
@@ -329,8 +325,8 @@ ending_behind : (w : ConditionalWord) (act : Around → Around) (e : Effect) →
     ((t : SourceToken) (place : Place) (is_inner : Bool) (c : Conditions) → begun w t place is_inner c ≡ passed
     (awaiting place is_inner (awaits.End e) c)) → LeftLed w act
     → (d : Answers) (parts : Parts) (r : Reader) (is_inner : Bool) (hashes : List At) (first : First) (s : Around) (declared n : ℕ)
-    (v : List (List Conditional)) (c : Conditions)
-    → StandsAt r (last_at s declared n v) c → HashesBefore is_inner s hashes first → IsFirst (all_kept s) is_inner (within r) w first →
+    (c : Conditions)
+    → StandsAt r (last_at s declared n) c → HashesBefore is_inner s hashes first → IsFirst (all_kept s) is_inner (within r) w first →
     NoneInsideFirst (all_kept s) is_inner first s → all_kept (cond (all_kept s) s (act s)) ≡ true
     → AreParts d true (cond (all_kept s) s (act s)) (declared_first first (declared_tokens hashes declared)) parts → kept_sides d
     (cond (all_kept s) s (act s)) parts ≡ []
@@ -338,12 +334,12 @@ ending_behind : (w : ConditionalWord) (act : Around → Around) (e : Effect) →
     → EndingLed d parts (cond (all_kept s) s (act s))
     (last_at (behind_parts d (cond (all_kept s) s (act s)) parts)
     (declared_tokens (hashes ++ first_tokens first (all_tokens parts)) declared)
-    (n + length (hashes ++ first_tokens first (all_tokens parts))) v)
+    (n + length (hashes ++ first_tokens first (all_tokens parts))))
     (hashes ++ first_tokens first (all_tokens parts)) c
-ending_behind w act eff begins_so left_word d parts r is_inner [] first s declared n v c e before is_first none stays are kept_none few =
-    ending_begun w act eff begins_so left_word d parts r is_inner first s declared n v c e (all_kept s) refl is_first none stays are
+ending_behind w act eff begins_so left_word d parts r is_inner [] first s declared n c e before is_first none stays are kept_none few =
+    ending_begun w act eff begins_so left_word d parts r is_inner first s declared n c e (all_kept s) refl is_first none stays are
     kept_none few
-ending_behind w act eff begins_so left_word d parts r is_inner (t ∷ hashes) first s declared n v c e before is_first none stays are
+ending_behind w act eff begins_so left_word d parts r is_inner (t ∷ hashes) first s declared n c e before is_first none stays are
     kept_none few =
     let x = cond (all_kept s) s (act s) in
     let signs = t ∷ hashes in
@@ -357,16 +353,16 @@ ending_behind w act eff begins_so left_word d parts r is_inner (t ∷ hashes) fi
     let few_st = e.few in
     let few_m = l.few in
     let there = stands_at e.base st later in
-    let e_later : StandsAt r (last_at s later n v) there =
-    record { base = e.base; stand = st; holds = e.holds; waits = e.waits; is = refl; stack = e.stack; few = e.few } in
-    let is = ending_begun w act eff begins_so left_word d parts r is_inner first s later n v there e_later (all_kept s) refl is_first none
+    let e_later : StandsAt r (last_at s later n) there =
+    record { base = e.base; stand = st; holds = e.holds; is = refl; stack = e.stack; few = e.few } in
+    let is = ending_begun w act eff begins_so left_word d parts r is_inner first s later n there e_later (all_kept s) refl is_first none
     stays are kept_none (omega (arith, few, sum)) in
     let next = first_is is_inner first (all_tokens parts) before.1.1 in
     let q = Reads is.p is.others is.ks in
     let places = told_parts d x parts in
     let around = behind_parts d x parts in
     let m = n + length toks in
-    let last = last_at around (declared_tokens toks later) m v in
+    let last = last_at around (declared_tokens toks later) m in
     let at_left : (declared : ℕ) → stands_at e.base st declared ≡ at e.base inner among (left_at l.b l.m) declared =
     λ declared. ap (λ y. at e.base inner among y declared) l.is in
     let on : Led q (signs ++ toks) (at e.base inner among (left_at l.b l.m) declared) [] places last =
@@ -381,21 +377,21 @@ ending_behind w act eff begins_so left_word d parts r is_inner (t ∷ hashes) fi
       others = is.others;
       ks = is.ks;
       led = subst (λ (y : Conditions). Led q (signs ++ toks) y [] places
-          (last_at around (declared_tokens (signs ++ toks) declared) (n + length (signs ++ toks)) v)) (sym (e.is ∙ at_left declared))
+          (last_at around (declared_tokens (signs ++ toks) declared) (n + length (signs ++ toks)))) (sym (e.is ∙ at_left declared))
           (relaxed q (signs ++ toks) (at e.base inner among (left_at l.b l.m) declared) [] places around (declared_tokens toks later)
-          (declared_tokens (signs ++ toks) declared) m (n + length (signs ++ toks)) v
+          (declared_tokens (signs ++ toks) declared) m (n + length (signs ++ toks))
           (sym (declared_both signs toks declared)) (omega (arith, sum)) on);
       waits_for = is.waits_for;
     }
 
 -- a `#` that begins a directive
-front_begun : (d : Answers) (sign : At) (parts : Parts) (s : Around) (declared n : ℕ) (v : List (List Conditional)) (c : Conditions) →
-    StandsAt Hands (last_at s declared n v) c → IsBegun d false s declared (Fronting sign parts)
+front_begun : (d : Answers) (sign : At) (parts : Parts) (s : Around) (declared n : ℕ) (c : Conditions) →
+    StandsAt Hands (last_at s declared n) c → IsBegun d false s declared (Fronting sign parts)
     → n + length (sign ∷ all_tokens parts) ≤ most_levels
-    → Begun d (Fronting sign parts) s (last_behind d parts s (declared_behind sign declared) n v) (sign ∷ all_tokens parts)
+    → Begun d (Fronting sign parts) s (last_behind d parts s (declared_behind sign declared) n) (sign ∷ all_tokens parts)
     (told_parts d s parts) c
-front_begun d sign parts s declared n v c e are few =
-    let k = kept_so Hands (last_at s declared n v) c e are.1.1.0 in
+front_begun d sign parts s declared n c e are few =
+    let k = kept_so Hands (last_at s declared n) c e are.1.1.0 in
     let base = k.base in
     let inner = conditionals s.inside in
     let among = conditionals s.between in
@@ -406,7 +402,7 @@ front_begun d sign parts s declared n v c e are few =
     let tokens = kept_sides d s parts in
     let none_kept = are.1.1.1.1 in
     let toks = sign ∷ all_tokens parts in
-    let l = last_behind d parts s now n v in
+    let l = last_behind d parts s now n in
     let here = at base inner among None declared in
     let start = reading false place awaits.Word base inner among now in
     let places = told_parts d s parts in
@@ -418,13 +414,12 @@ front_begun d sign parts s declared n v c e are few =
           (goes_by q sign (all_tokens parts) here (reading false place awaits.Word base inner among declared) start [] places l
           (sign_kept sign base inner among declared (outer_front sign base k.holds are.0.0) are.0.1.is)
           (mid false sign (awaits_it false place awaits.Word base) None inner among None declared tt (λ _. (ap conditionals are.1.0, refl)))
-          (parts_read d parts p base.pending base.conditions base.conditions s now n v start
+          (parts_read d parts p base.pending base.conditions base.conditions s now n start
           (record {
             base = awaits_it false place awaits.Word base;
             stand = AllStay s.inside s.between k.inside_kept k.between_kept;
             holds =
                 (refl, refl);
-            waits = k.waits;
             is = refl;
             stack = refl;
             few = omega arith;
@@ -437,12 +432,12 @@ front_begun d sign parts s declared n v c e are few =
 
 -- Any of them
 
-begun_led : (d : Answers) (u : Unfinished) (r : Reader) (s : Around) (declared n : ℕ) (v : List (List Conditional)) (c : Conditions) →
-    StandsAt r (last_at s declared n v) c → IsBegun d (within r) s declared u
-    → n + length (begun_tokens u) ≤ most_levels → Begun d u s (begun_last d u s declared n v) (begun_tokens u) (told_begun d s u) c
-begun_led d (Unnamed is_inner if_declared first before) r s declared n v c e are few =
+begun_led : (d : Answers) (u : Unfinished) (r : Reader) (s : Around) (declared n : ℕ) (c : Conditions) →
+    StandsAt r (last_at s declared n) c → IsBegun d (within r) s declared u
+    → n + length (begun_tokens u) ≤ most_levels → Begun d u s (begun_last d u s declared n) (begun_tokens u) (told_begun d s u) c
+begun_led d (Unnamed is_inner if_declared first before) r s declared n c e are few =
     let all = are.1.1.0 in
-    let k = kept_so r (last_at s declared n v) c e all in
+    let k = kept_so r (last_at s declared n) c e all in
     let a = awaits.Name if_declared in
     let p = directive is_inner (begins first) a in
     let tokens = kept_sides d s before in
@@ -451,8 +446,8 @@ begun_led d (Unnamed is_inner if_declared first before) r s declared n v c e are
       p = p;
       others = k.base.pending;
       ks = k.base.conditions;
-      led = begun_kept d before r is_inner (opening if_declared) a first k.base.conditions k.base.conditions s declared n v c k.base k.holds
-          k.waits k.inside_kept k.between_kept k.is are.0 are.1.0
+      led = begun_kept d before r is_inner (opening if_declared) a first k.base.conditions k.base.conditions s declared n c k.base k.holds
+          k.inside_kept k.between_kept k.is are.0 are.1.0
           (λ m. begun_opening is_inner if_declared first.word.token (begins first)
           (at k.base (conditionals s.inside) (conditionals s.between) None m)) are.1.1.1.0
           (takes_none tokens (Reads p k.base.pending k.base.conditions) none_kept)
@@ -461,9 +456,9 @@ begun_led d (Unnamed is_inner if_declared first before) r s declared n v c e are
       condition = tt;
       alone = tt;
     }
-begun_led d (Named is_inner if_declared first before name behind) r s declared n v c e are few =
+begun_led d (Named is_inner if_declared first before name behind) r s declared n c e are few =
     let all = are.1.1.0 in
-    let k = kept_so r (last_at s declared n v) c e all in
+    let k = kept_so r (last_at s declared n) c e all in
     let base = k.base in
     let place = begins first in
     let a = awaits.Name if_declared in
@@ -471,10 +466,10 @@ begun_led d (Named is_inner if_declared first before name behind) r s declared n
     let inner = conditionals s.inside in
     let among = conditionals s.between in
     let tokens = kept_sides d s before in
-    let l = last_behind d before s now n v in
+    let l = last_behind d before s now n in
     let y = behind_name d before name s in
     let later = declared_behind name l.declared in
-    let l2 = last_behind d behind y later l.levels v in
+    let l2 = last_behind d behind y later l.levels in
     let adds = are.1.1.1.0.1 in
     let is_so = is_kept if_declared name.out l.declared name.token.bytes in
     let waits_end = awaits.End (effect.Opens is_so) in
@@ -490,20 +485,19 @@ begun_led d (Named is_inner if_declared first before name behind) r s declared n
     let sum = length_both (all_tokens before) (name ∷ all_tokens behind) in
     let start = reading is_inner place a base inner among now in
     let rest : Led q (all_tokens before ++ name ∷ all_tokens behind) start [] places l2 =
-    within_led d before (led d before) q (name ∷ all_tokens behind) is_inner place a base base.conditions base.conditions s now n v start
+    within_led d before (led d before) q (name ∷ all_tokens behind) is_inner place a base base.conditions base.conditions s now n start
     places_name l2
     (record {
       base = awaits_it is_inner place a base;
       stand = AllStay s.inside s.between k.inside_kept k.between_kept;
       holds = (refl, refl);
-      waits = k.waits;
       is = refl;
       stack = refl;
       few = omega arith;
     })
     all are.1.1.1.0.0 adds.0 (takes_none tokens (Reads p base.pending base.conditions) adds.1)
     (reads_none tokens (Reads p base.pending base.conditions) adds.1) (omega (arith, few, less, sum))
-    (λ more bw bi bb.
+    (λ more bi bb.
     let after = record more { pending = base.pending; conditions = base.conditions } in
     let i = conditionals l.around.inside in
     let b = conditionals l.around.between in
@@ -513,9 +507,9 @@ begun_led d (Named is_inner if_declared first before name behind) r s declared n
     passes q name (all_tokens behind) (reading is_inner place a after i b l.declared) named_so there [] (missing_in name.ended l.around)
     places_behind l2 (name_kept is_inner if_declared place name after i b l.declared are.1.1.1.1.0) refl
     (ended_told name.ended (AllStay l.around.inside l.around.between bi bb) l.declared (awaits_it is_inner place waits_end after))
-    (parts_read d behind p_end base.pending base.conditions base.conditions y later l.levels v there
-    (ended_stands q name.ended (AllStay l.around.inside l.around.between bi bb) l.declared l.levels v
-    (awaits_it is_inner place waits_end after) (refl, refl) bw (omega arith))
+    (parts_read d behind p_end base.pending base.conditions base.conditions y later l.levels there
+    (ended_stands q name.ended (AllStay l.around.inside l.around.between bi bb) l.declared l.levels
+    (awaits_it is_inner place waits_end after) (refl, refl) (omega arith))
     are.1.1.1.1.1.0 (takes_none kept_behind q none_behind) (reads_none kept_behind q none_behind) (omega (arith, few, less, sum)))) in
     let declared_so : l2.declared ≡ declared_tokens toks declared =
     sym (declared_both (all_tokens before) (name ∷ all_tokens behind) now)
@@ -524,10 +518,10 @@ begun_led d (Named is_inner if_declared first before name behind) r s declared n
       p = p_end;
       others = base.pending;
       ks = base.conditions;
-      led = subst (λ (x : Conditions). Led q toks x [] places (last_at l2.around (declared_tokens toks declared) (n + length toks) v))
+      led = subst (λ (x : Conditions). Led q toks x [] places (last_at l2.around (declared_tokens toks declared) (n + length toks)))
           (sym k.is)
           (relaxed q toks (at base inner among None declared) [] places l2.around l2.declared (declared_tokens toks declared) l2.levels
-          (n + length toks) v declared_so (omega (arith, less, sum))
+          (n + length toks) declared_so (omega (arith, less, sum))
           (begins_kept r q is_inner (opening if_declared) a first.sign first.word (all_tokens before ++ name ∷ all_tokens behind) base base
           inner among declared places l2 k.holds are.0.begins are.0.is
           (mids_of is_inner (within r) (opening if_declared) first s are.0 are.1.0)
@@ -536,9 +530,9 @@ begun_led d (Named is_inner if_declared first before name behind) r s declared n
       condition = tt;
       alone = tt;
     }
-begun_led d (Request is_inner wanted first parts) r s declared n v c e are few =
+begun_led d (Request is_inner wanted first parts) r s declared n c e are few =
     let all = are.1.1.0 in
-    let k = kept_so r (last_at s declared n v) c e all in
+    let k = kept_so r (last_at s declared n) c e all in
     let a = awaits.Condition wanted in
     let p = directive is_inner (begins first) a in
     let tokens = kept_sides d s parts in
@@ -549,8 +543,8 @@ begun_led d (Request is_inner wanted first parts) r s declared n v c e are few =
       p = p;
       others = k.base.pending;
       ks = condition_so first tokens ∷ ks;
-      led = begun_kept d parts r is_inner (asking wanted) a first (begun_so ∷ ks) (condition_so first tokens ∷ ks) s declared n v c k.base
-          k.holds k.waits k.inside_kept k.between_kept k.is are.0 are.1.0
+      led = begun_kept d parts r is_inner (asking wanted) a first (begun_so ∷ ks) (condition_so first tokens ∷ ks) s declared n c k.base
+          k.holds k.inside_kept k.between_kept k.is are.0 are.1.0
           (λ m. begun_asking is_inner wanted first.word.token (begins first) k.base (conditionals s.inside) (conditionals s.between) m
           (asking_fits wanted first.word.token (begins first) are.0.is)) are.1.1.1.0
           (read_so tokens begun_so is_inner wanted (begins first) k.base.pending ks so_far)
@@ -559,31 +553,31 @@ begun_led d (Request is_inner wanted first parts) r s declared n v c e are few =
       condition = (ks, refl);
       alone = tt;
     }
-begun_led d (Turns is_inner hashes first parts) r s declared n v c e are few =
+begun_led d (Turns is_inner hashes first parts) r s declared n c e are few =
     let is = ending_behind word.Ifnot turned effect.Turns (λ t place inner y. refl) turns_left d parts r is_inner hashes first s declared n
-    v c e are.0.0 are.0.1 are.1.0 are.1.1.0 are.1.1.1.0 are.1.1.1.1 few in
+    c e are.0.0 are.0.1 are.1.0 are.1.1.0 are.1.1.1.0 are.1.1.1.1 few in
     record { p = is.p; others = is.others; ks = is.ks; led = is.led; waits_for = is.waits_for; condition = tt; alone = tt }
-begun_led d (Closes is_inner hashes first parts) r s declared n v c e are few =
+begun_led d (Closes is_inner hashes first parts) r s declared n c e are few =
     let is = ending_behind word.Endif closed effect.Closes (λ t place inner y. refl) closes_left d parts r is_inner hashes first s declared
-    n v c e are.0.0 are.0.1 are.1.0 are.1.1.0 are.1.1.1.0 are.1.1.1.1 few in
+    n c e are.0.0 are.0.1 are.1.0 are.1.1.0 are.1.1.1.0 are.1.1.1.1 few in
     record { p = is.p; others = is.others; ks = is.ks; led = is.led; waits_for = is.waits_for; condition = tt; alone = tt }
-begun_led d (Fronting sign parts) (Reads p others ks) s declared n v c e are few = absurd are.0
-begun_led d (Fronting sign parts) Hands s declared n v c e are few =
-    let is = front_begun d sign parts s declared n v c e are few in
-    let l = last_behind d parts s (declared_behind sign declared) n v in
+begun_led d (Fronting sign parts) (Reads p others ks) s declared n c e are few = absurd are.0
+begun_led d (Fronting sign parts) Hands s declared n c e are few =
+    let is = front_begun d sign parts s declared n c e are few in
+    let l = last_behind d parts s (declared_behind sign declared) n in
     let toks = sign ∷ all_tokens parts in
     record {
       p = is.p;
       others = is.others;
       ks = is.ks;
       led = relaxed (Reads is.p is.others is.ks) toks c [] (told_parts d s parts) l.around l.declared (declared_tokens toks declared)
-          l.levels (n + length toks) v refl (omega arith) is.led;
+          l.levels (n + length toks) refl (omega arith) is.led;
       waits_for = is.waits_for;
       condition = tt;
       alone = is.alone;
     }
-begun_led d (FrontingWord sign parts u) (Reads p others ks) s declared n v c e are few = absurd are.0
-begun_led d (FrontingWord sign parts u) Hands s declared n v c e are few =
+begun_led d (FrontingWord sign parts u) (Reads p others ks) s declared n c e are few = absurd are.0
+begun_led d (FrontingWord sign parts u) Hands s declared n c e are few =
     let toks = sign ∷ all_tokens parts in
     let rest = drop 1 (begun_tokens u) in
     let is_rest = are.1.1.1.1.0.0 in
@@ -592,8 +586,8 @@ begun_led d (FrontingWord sign parts u) Hands s declared n v c e are few =
     let sum = length_both (all_tokens parts) rest in
     let sum_u = ap (λ ts. length ts) is_rest in
     let first =
-    front_begun d sign parts s declared n v c e (are.0, (are.1.0, (are.1.1.0, (are.1.1.1.0.0, adds.1)))) (omega (arith, few, sum)) in
-    let l = last_behind d parts s (declared_behind sign declared) n v in
+    front_begun d sign parts s declared n c e (are.0, (are.1.0, (are.1.1.0, (are.1.1.1.0.0, adds.1)))) (omega (arith, few, sum)) in
+    let l = last_behind d parts s (declared_behind sign declared) n in
     let there = all_behind toks c in
     let k = kept_at first.p first.others first.ks l there first.led.ends (adds.0 ∙ are.1.1.0) in
     let inner = conditionals l.around.inside in
@@ -606,19 +600,18 @@ begun_led d (FrontingWord sign parts u) Hands s declared n v c e are few =
     ∙ ap (λ ps. at (record k.base { pending = ps; conditions = first.ks }) inner among None l.declared)
     (ap (λ x. x ∷ first.others) first.alone.0 ∙ ap (λ others. p ∷ others) first.alone.1) in
     let second =
-    begun_led d u Hands l.around l.declared l.levels v (at base inner among None l.declared)
+    begun_led d u Hands l.around l.declared l.levels (at base inner among None l.declared)
     (record {
       base = base;
       stand = AllStay l.around.inside l.around.between k.inside_kept k.between_kept;
       holds = refl;
-      waits = k.waits;
       is = refl;
       stack = refl;
       few = omega arith;
     })
     are.1.1.1.1.1.1 (omega (arith, few, sum, sum_u)) in
     let q = Reads second.p second.others second.ks in
-    let l2 = begun_last d u l.around l.declared l.levels v in
+    let l2 = begun_last d u l.around l.declared l.levels in
     let places = told_begun d l.around u in
     let more : Led q rest there [] places l2 =
     subst (λ (x : Conditions). Led q rest x [] places l2) (sym is_there)
@@ -638,7 +631,7 @@ begun_led d (FrontingWord sign parts u) Hands s declared n v c e are few =
       others = second.others;
       ks = second.ks;
       led = relaxed q (toks ++ rest) c [] (told_parts d s parts ++ places) l2.around l2.declared (declared_tokens (toks ++ rest) declared)
-          l2.levels (n + length (toks ++ rest)) v declared_so (omega (arith, sum, sum_u)) both;
+          l2.levels (n + length (toks ++ rest)) declared_so (omega (arith, sum, sum_u)) both;
       waits_for = second.waits_for;
       condition = second.condition;
       alone = are.1.1.1.1.1.0;
@@ -650,9 +643,9 @@ abbrev HasAllCondition : Answers → Around → List Unfinished → Unfinished �
 HasAllCondition d s [] u ks = HasCondition d s u ks
 HasAllCondition d s (x ∷ outer) u ks = HasAllCondition d (behind_begun d s x) outer u ks
 
-abbrev all_begun_last : Answers → List Unfinished → Unfinished → Around → ℕ → ℕ → List (List Conditional) → Last
-all_begun_last d outer u s declared n v =
-    last_at (behind_all_begun d s outer u) (declared_tokens (all_begun_tokens outer u) declared) (n + length (all_begun_tokens outer u)) v
+abbrev all_begun_last : Answers → List Unfinished → Unfinished → Around → ℕ → ℕ → Last
+all_begun_last d outer u s declared n =
+    last_at (behind_all_begun d s outer u) (declared_tokens (all_begun_tokens outer u) declared) (n + length (all_begun_tokens outer u))
 
 pub record AllBegun (d : Answers) (outer : List Unfinished) (u : Unfinished) (s : Around) (last : Last) (toks : List At)
     (places : List Place) (c : Conditions) : Type 0 where
@@ -665,22 +658,22 @@ pub record AllBegun (d : Answers) (outer : List Unfinished) (u : Unfinished) (s 
   pub alone : IsAlone u p others
 
 pub all_begun_led : (d : Answers) (outer : List Unfinished) (u : Unfinished) (r : Reader) (s : Around) (declared n : ℕ)
-    (v : List (List Conditional)) (c : Conditions) → StandsAt r (last_at s declared n v) c → AreBegun d (within r) s declared outer u
-    → n + length (all_begun_tokens outer u) ≤ most_levels → AllBegun d outer u s (all_begun_last d outer u s declared n v)
+    (c : Conditions) → StandsAt r (last_at s declared n) c → AreBegun d (within r) s declared outer u
+    → n + length (all_begun_tokens outer u) ≤ most_levels → AllBegun d outer u s (all_begun_last d outer u s declared n)
     (all_begun_tokens outer u) (told_all_begun d s outer u) c
-all_begun_led d [] u r s declared n v c e are few =
-    let is = begun_led d u r s declared n v c e are few in
+all_begun_led d [] u r s declared n c e are few =
+    let is = begun_led d u r s declared n c e are few in
     record { p = is.p; others = is.others; ks = is.ks; led = is.led; waits_for = is.waits_for; condition = is.condition; alone = is.alone }
-all_begun_led d (x ∷ outer) u r s declared n v c e are few =
+all_begun_led d (x ∷ outer) u r s declared n c e are few =
     let toks = begun_tokens x in
     let more = all_begun_tokens outer u in
     let sum = length_both toks more in
-    let first = begun_led d x r s declared n v c e are.0 (omega (arith, few, sum)) in
-    let l = begun_last d x s declared n v in
+    let first = begun_led d x r s declared n c e are.0 (omega (arith, few, sum)) in
+    let l = begun_last d x s declared n in
     let there = all_behind toks c in
-    let rest = all_begun_led d outer u (Reads first.p first.others first.ks) l.around l.declared l.levels v there first.led.ends are.1
+    let rest = all_begun_led d outer u (Reads first.p first.others first.ks) l.around l.declared l.levels there first.led.ends are.1
     (omega (arith, few, sum)) in
-    let l2 = all_begun_last d outer u l.around l.declared l.levels v in
+    let l2 = all_begun_last d outer u l.around l.declared l.levels in
     let q = Reads rest.p rest.others rest.ks in
     let places = told_begun d s x ++ told_all_begun d l.around outer u in
     let both : Led q (toks ++ more) c [] places l2 = record {
@@ -694,7 +687,7 @@ all_begun_led d (x ∷ outer) u r s declared n v c e are few =
       others = rest.others;
       ks = rest.ks;
       led = relaxed q (toks ++ more) c [] places l2.around l2.declared (declared_tokens (toks ++ more) declared) l2.levels
-          (n + length (toks ++ more)) v (sym (declared_both toks more declared)) (omega (arith, sum)) both;
+          (n + length (toks ++ more)) (sym (declared_both toks more declared)) (omega (arith, sum)) both;
       waits_for = rest.waits_for;
       condition = rest.condition;
       alone = rest.alone;

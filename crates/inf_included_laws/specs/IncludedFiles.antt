@@ -3,14 +3,15 @@ use Rattle.std.specs.Prelude.{◌≡◌, ◌≤◌, ◌+◌, ℕ, zero, suc, Lis
 use Rattle.inf_files.specs.Files.{Sources}
 use Rattle.inf_scanner.specs.declared.tokens.Mark.TheVariants as mark
 use Rattle.inf_scanner.specs.declared.tokens.Place.{Place}
-use Rattle.inf_sources.specs.Inclusions.{Inclusion, Opens, OpensNone, inclusion}
+use Rattle.inf_sources.specs.Inclusions.{Inclusion, Opens, OpensNone, Waiting, inclusion}
+use Rattle.inf_sources.specs.declared.open_file.Conditional.{Conditional}
 use Rattle.inf_unit.specs.Directives.{Request, End, Include, Nothing}
 use Rattle.inf_unit.specs.Messages.{FileNames, Reported}
 use Rattle.inf_unit.specs.Tokens.{SourceToken, is_end}
 use Rattle.inf_conditionals.specs.declared.judged.Forwarded.{Forwarded}
 use Rattle.inf_conditionals.specs.declared.judged.Forwarded.TheVariants as handed
 use Rattle.inf_conditionals.specs.declared.judged.Sign.{Sign}
-use Rattle.inf_conditionals.specs.Ends.{file_entered, file_left, file_told}
+use Rattle.inf_conditionals.specs.Ends.{file_ended, file_told, with_among}
 use Rattle.inf_conditionals.specs.Open.{Conditions, most_levels, silent}
 use Rattle.inf_reader.specs.Handing.{hash}
 use Rattle.inf_reader.specs.Reading.{is_mode_ended}
@@ -37,34 +38,54 @@ pub record Step : Type 0 where
 abbrev pub staying : At → Step
 staying t = record { at = t; passage = Stays }
 
-abbrev pub passed_files : Passage → Conditions → Conditions
+-- The conditionals of the file that is read, and those that are open between the directives of each file that waits, the inner ones first.
+pub record Nested : Type 0 where
+  pub now : Conditions
+  pub waiting : List (List Conditional)
+
+abbrev pub nested_in : List (List Conditional) → Conditions → Nested
+nested_in waiting c = record { now = c; waiting = waiting }
+
+-- behind a file that has ended the one goes on that waits
+abbrev pub left_to : List (List Conditional) → Conditions → Nested
+left_to [] c = nested_in [] c
+left_to (among ∷ waiting) c = nested_in waiting (with_among among c)
+
+abbrev pub passed_files : Passage → Nested → Nested
 passed_files Stays c = c
-passed_files Enters c = file_entered c
-passed_files Leaves c = file_left c
+passed_files Enters c = nested_in (c.now.among ∷ c.waiting) (with_among [] c.now)
+passed_files Leaves c = left_to c.waiting (file_ended c.now)
 
 -- the conditionals behind a step
-abbrev pub step_behind : Step → Conditions → Conditions
-step_behind x c = ended_behind x.at.ended (passed_files x.passage (silent (judged_at x.at c).now))
+abbrev pub behind_passage : Step → Nested → Nested
+behind_passage x c = let n = passed_files x.passage c in record n { now = ended_behind x.at.ended n.now }
 
-abbrev pub steps_behind : List Step → Conditions → Conditions
+abbrev pub step_behind : Step → Nested → Nested
+step_behind x c = behind_passage x (record c { now = silent (judged_at x.at c.now).now })
+
+abbrev pub steps_behind : List Step → Nested → Nested
 steps_behind [] c = c
 steps_behind (x ∷ steps) c = steps_behind steps (step_behind x c)
 
+-- those behind tokens at which reading stays in its file
+abbrev pub tokens_behind : List At → Nested → Nested
+tokens_behind tokens c = record c { now = all_behind tokens c.now }
+
 -- what is handed on
-abbrev pub handed_by : List Step → Conditions → List Handing
+abbrev pub handed_by : List Step → Nested → List Handing
 handed_by [] c = []
-handed_by (x ∷ steps) c = handed_on (judged_at x.at c).judged x.at.token ++ handed_by steps (step_behind x c)
+handed_by (x ∷ steps) c = handed_on (judged_at x.at c.now).judged x.at.token ++ handed_by steps (step_behind x c)
 
 -- and what is told: at the end of a file those conditionals that are open in it
 abbrev pub told_behind : Passage → Conditions → List Place
 told_behind Leaves c = places (reverse c.inner) ++ places (reverse c.among)
 told_behind _ c = []
 
-abbrev pub told_at : Step → Conditions → List Place
-told_at x c = let b = judged_at x.at c in lone_places b.judged.unmatched ++
-    (told_behind x.passage b.now ++ ended_places x.at.ended (passed_files x.passage b.now).inner)
+abbrev pub told_at : Step → Nested → List Place
+told_at x c = let b = judged_at x.at c.now in lone_places b.judged.unmatched ++
+    (told_behind x.passage b.now ++ ended_places x.at.ended (passed_files x.passage (record c { now = b.now })).now.inner)
 
-abbrev pub told_by : List Step → Conditions → List Place
+abbrev pub told_by : List Step → Nested → List Place
 told_by [] c = []
 told_by (x ∷ steps) c = told_at x c ++ told_by steps (step_behind x c)
 
@@ -260,50 +281,50 @@ pub record AreLeft (s : Around) (before : ℕ) (is_inner : Bool) (signs : List A
   pub are : AreHashes is_inner signs
   pub few : before + length signs ≤ most_levels
 
-abbrev pub AreFiles : Answers → Around → Conditions → Files → Type 0
-AreFiles answers s c (Alone parts) = AreOfAFile answers s c.declared parts
+abbrev pub AreFiles : Answers → Around → Nested → Files → Type 0
+AreFiles answers s c (Alone parts) = AreOfAFile answers s c.now.declared parts
 AreFiles answers s c (Cut parts outer u) =
-    AreOfAFile answers s c.declared parts
-    × HaveBegun answers (behind_parts answers s parts) (declared_tokens (all_tokens parts) c.declared) (length (all_tokens parts)) outer u
+    AreOfAFile answers s c.now.declared parts
+    × HaveBegun answers (behind_parts answers s parts) (declared_tokens (all_tokens parts) c.now.declared) (length (all_tokens parts)) outer u
 AreFiles answers s c (HashLast parts sign) =
-    AreOfAFile answers s c.declared parts
+    AreOfAFile answers s c.now.declared parts
     × ((all_kept (behind_parts answers s parts) ≡ true) × ((sign.site.is_between ≡ false) × IsSign true sign))
 AreFiles answers s c (HashThen parts sign behind) =
-    AreOfAFile answers s c.declared parts
+    AreOfAFile answers s c.now.declared parts
     × (IsThen (behind_parts answers s parts) sign behind
     × ((sign.site.is_between ≡ false)
-    × AreFiles answers (behind_parts answers s parts) (released (going_on sign (all_behind (all_tokens parts) c))) behind))
+    × AreFiles answers (behind_parts answers s parts) (record c { now = released (going_on sign (all_behind (all_tokens parts) c.now)) }) behind))
 AreFiles answers s c (HashesLeft parts is_inner signs) =
-    AreOfAFile answers s c.declared parts × AreLeft (behind_parts answers s parts) (length (all_tokens parts)) is_inner signs
+    AreOfAFile answers s c.now.declared parts × AreLeft (behind_parts answers s parts) (length (all_tokens parts)) is_inner signs
 AreFiles answers s c (CutHashesLeft parts outer u is_inner signs) =
-    AreOfAFile answers s c.declared parts
-    × (HaveBegun answers (behind_parts answers s parts) (declared_tokens (all_tokens parts) c.declared) (length (all_tokens parts)) outer u
+    AreOfAFile answers s c.now.declared parts
+    × (HaveBegun answers (behind_parts answers s parts) (declared_tokens (all_tokens parts) c.now.declared) (length (all_tokens parts)) outer u
     × AreLeft (behind_all_begun answers (behind_parts answers s parts) outer u)
     (length (all_tokens parts) + length (all_begun_tokens outer u)) is_inner signs)
 AreFiles answers s c (CutHashLast parts outer u sign) =
-    AreOfAFile answers s c.declared parts
-    × (HaveBegun answers (behind_parts answers s parts) (declared_tokens (all_tokens parts) c.declared) (length (all_tokens parts)) outer u
+    AreOfAFile answers s c.now.declared parts
+    × (HaveBegun answers (behind_parts answers s parts) (declared_tokens (all_tokens parts) c.now.declared) (length (all_tokens parts)) outer u
     × ((all_kept (behind_all_begun answers (behind_parts answers s parts) outer u) ≡ true) × IsSign true sign))
 AreFiles answers s c (CutHashThen parts outer u sign is_between behind) =
-    AreOfAFile answers s c.declared parts
-    × (HaveBegun answers (behind_parts answers s parts) (declared_tokens (all_tokens parts) c.declared) (length (all_tokens parts)) outer u
+    AreOfAFile answers s c.now.declared parts
+    × (HaveBegun answers (behind_parts answers s parts) (declared_tokens (all_tokens parts) c.now.declared) (length (all_tokens parts)) outer u
     × (IsThen (behind_all_begun answers (behind_parts answers s parts) outer u) sign behind
     × AreFiles answers (behind_all_begun answers (behind_parts answers s parts) outer u)
-    (released (going_on sign (all_behind (all_begun_tokens outer u) (all_behind (all_tokens parts) c)))) behind))
+    (record c { now = released (going_on sign (all_behind (all_begun_tokens outer u) (all_behind (all_tokens parts) c.now))) }) behind))
 AreFiles answers s c (Breaking parts outer u misfit behind) =
-    AreOfAFile answers s c.declared parts
-    × (HaveBegun answers (behind_parts answers s parts) (declared_tokens (all_tokens parts) c.declared) (length (all_tokens parts)) outer u
+    AreOfAFile answers s c.now.declared parts
+    × (HaveBegun answers (behind_parts answers s parts) (declared_tokens (all_tokens parts) c.now.declared) (length (all_tokens parts)) outer u
     × (IsMisfit answers (behind_parts answers s parts) outer u misfit
     × AreFiles answers (around_broken answers s parts outer u misfit)
-    (all_behind (misfit_tokens misfit) (all_behind (all_begun_tokens outer u) (all_behind (all_tokens parts) c))) behind))
+    (tokens_behind (misfit_tokens misfit) (tokens_behind (all_begun_tokens outer u) (tokens_behind (all_tokens parts) c))) behind))
 AreFiles answers s c (Including parts entering included leaving behind) =
-    AreOfAFile answers s c.declared parts
+    AreOfAFile answers s c.now.declared parts
     × (IsIncluded (behind_parts answers s parts) entering leaving
     × (AreFiles answers (around_included entering (behind_parts answers s parts))
-    (step_behind (record { at = entering; passage = Enters }) (all_behind (all_tokens parts) c)) included
+    (step_behind (record { at = entering; passage = Enters }) (tokens_behind (all_tokens parts) c)) included
     × AreFiles answers (around_behind (behind_parts answers s parts))
     (step_behind (record { at = leaving; passage = Leaves })
-    (steps_behind (steps included) (step_behind (record { at = entering; passage = Enters }) (all_behind (all_tokens parts) c))))
+    (steps_behind (steps included) (step_behind (record { at = entering; passage = Enters }) (tokens_behind (all_tokens parts) c))))
     behind))
 
 -- what is handed on of a token
@@ -313,18 +334,22 @@ handed_at t c = handed_on (judged_at t c).judged t.token
 -- Just these tokens are handed on, each as one that is kept or as one that does not fit, and just these places are told, in this order; at
 -- the end of the
 -- outermost file those of what is open in it. The end is handed on too, perhaps behind a `#`.
-pub record KeepsFiles (answers : Answers) (files : Files) (c : Conditions) : Type 0 where
+pub record KeepsFiles (answers : Answers) (files : Files) (c : Nested) : Type 0 where
   pub handed_on : handed_by (steps files) c ≡ handed_files answers none_around files
   pub told : told_by (steps files) c ≡ told_files answers none_around files
-  pub end_on : (end : At) → is_end end.token.kind ≡ true → handed_at end (steps_behind (steps files) c) ≡ handed_end files end.token
+  pub end_on : (end : At) → is_end end.token.kind ≡ true → handed_at end (steps_behind (steps files) c).now ≡ handed_end files end.token
   pub at_last : (end : At) → is_end end.token.kind ≡ true
-      → told_behind Leaves (judged_at end (steps_behind (steps files) c)).now ≡ all_unended (behind_files answers none_around files)
+      → told_behind Leaves (judged_at end (steps_behind (steps files) c).now).now ≡ all_unended (behind_files answers none_around files)
 
 abbrev pub FilesKeepSides : Type 0
 FilesKeepSides =
-    (answers : Answers) (files : Files) (c : Conditions) → IsClear c → AreFiles answers none_around c files → KeepsFiles answers files c
+    (answers : Answers) (files : Files) (c : Nested) → IsClear c.now → AreFiles answers none_around c files → KeepsFiles answers files c
 
 -- Turns
+
+-- what is open in the files of a reading
+abbrev pub nested : State → Nested
+nested s = record { now = s.conditions; waiting = map (λ (w : Waiting). w.conditionals) s.nesting.waiting }
 
 -- whether an inclusion opens a file
 abbrev pub opens : Inclusion → Passage
@@ -362,7 +387,7 @@ pub record TurnsKeep (answers : Answers) (sources : Sources) (o : Choices) (n : 
 abbrev pub TurnsKeepFiles : Type 0
 TurnsKeepFiles =
     (answers : Answers) (sources : Sources) (o : Choices) (n : ℕ) (s : State) (files : Files) → steps_at sources o n s ≡ steps files
-    → IsClear s.conditions → AreFiles answers none_around s.conditions files → TurnsKeep answers sources o n s files
+    → IsClear s.conditions → AreFiles answers none_around (nested s) files → TurnsKeep answers sources o n s files
 
 abbrev pub FilesTellUnended : Type 0
 FilesTellUnended = (files : FileNames) (c : Conditions) (r : Reported) → file_told files c r ≡ with_all_at files (told_behind Leaves c) r

@@ -12,8 +12,7 @@ use Rattle.inf_grammar.specs.Language.{grammar}
 use Rattle.inf_laws.specs.BadTokens.{skip_behind}
 use Rattle.inf_syntax.specs.Atoms.{mark_atom}
 use Rattle.inf_syntax.specs.declared.actions.Action.{Action}
-use Rattle.inf_sources.specs.Cursors.{Cursor}
-use Rattle.inf_sources.specs.Inclusions.{Inclusion, Opens, OpensNone, inclusion}
+use Rattle.inf_sources.specs.Inclusions.{Inclusion, Opens, OpensNone, Waiting, inclusion}
 use Rattle.inf_sources.specs.declared.open_files.Included.{Included}
 use Rattle.inf_sources.specs.declared.open_files.Included.TheVariants as answer
 use Rattle.inf_unit.specs.Directives.{Request, End, Include, Nothing}
@@ -24,10 +23,9 @@ use Rattle.inf_conditionals.specs.declared.judged.Forwarded.{Forwarded}
 use Rattle.inf_conditionals.specs.declared.judged.Forwarded.TheVariants as handed
 use Rattle.inf_conditionals.specs.declared.judged.Filtered.{Filtered}
 use Rattle.inf_conditionals.specs.declared.judged.Sign.{Sign}
-use Rattle.inf_conditionals.specs.declared.open.Conditional.{Conditional}
 use Rattle.inf_conditionals.specs.declared.open.LeftOut.{LeftOut}
 use Rattle.inf_conditionals.specs.declared.pending.Pending.{Pending}
-use Rattle.inf_conditionals.specs.Ends.{file_left, file_left_to, side_kept}
+use Rattle.inf_conditionals.specs.Ends.{side_kept}
 use Rattle.inf_conditionals.specs.Judging.{Behind, is_none_pending, judged, may_part}
 use Rattle.inf_conditionals.specs.Open.{Conditions}
 use Rattle.inf_compilation.specs.Actions.{Compilation, is_class}
@@ -198,14 +196,9 @@ carried_out_same sources o s =
     Same : State → Type 0
     Same x = (x.conditions.pending ≡ s.conditions.pending) × (x.conditions.left_out ≡ s.conditions.left_out)
 
-    files_same : (waiting : List (List Conditional)) → ((file_left_to waiting s.conditions).pending ≡ s.conditions.pending) ×
-        ((file_left_to waiting s.conditions).left_out ≡ s.conditions.left_out)
-    files_same [] = (refl, refl)
-    files_same (c ∷ waiting) = (refl, refl)
-
-    left_same : (waiting : List Cursor) → Same (left_by waiting (file_closed s))
-    left_same [] = files_same s.conditions.waiting
-    left_same (c ∷ waiting) = files_same s.conditions.waiting
+    left_same : (waiting : List Waiting) → Same (left_by waiting (file_closed s))
+    left_same [] = (refl, refl)
+    left_same (w ∷ waiting) = (refl, refl)
 
     none_same : (unit : Place) (text : List ℕ) (why : Included) → Same (none_included unit text why (asked_nothing s))
     none_same unit text answer.Entered = (refl, refl)
@@ -313,11 +306,11 @@ clear_parts s fresh none all =
     ∙ or_true (has_ended s)
 
 -- at the end of a file reading goes on between two pieces, or ends
-left_ends : (s : State) (waiting : List Cursor) → is_mode_ended s.reading.mode ≡ true → s.reading.stack ≡ []
+left_ends : (s : State) (waiting : List Waiting) → is_mode_ended s.reading.mode ≡ true → s.reading.stack ≡ []
     → (is_mode_ended (left_by waiting (file_closed s)).reading.mode ≡ true) ⊎
     ((left_by waiting (file_closed s)).reading ≡ between mode.Reads)
 left_ends s [] e empty = inl e
-left_ends s (c ∷ waiting) e empty = inr (ap (λ stack. record { mode = mode.Reads; stack = stack }) empty)
+left_ends s (w ∷ waiting) e empty = inr (ap (λ stack. record { mode = mode.Reads; stack = stack }) empty)
 
 carried_out_ends : (sources : Sources) (o : Choices) (s : State) → is_mode_ended s.reading.mode ≡ true → s.reading.stack ≡ []
     → (is_mode_ended (carried_out sources o s).reading.mode ≡ true) ⊎ ((carried_out sources o s).reading ≡ between mode.Reads)

@@ -8,8 +8,9 @@ use Rattle.inf_lexer.specs.Readers.{Reader, at_front}
 use Rattle.inf_lexer.specs.Unread.{View, innermost, innermost_place, unread as unread_now, unread_of}
 use Rattle.inf_sources.specs.Calls.{IsUnreadable, Kept, Went, given_all, given_to}
 use Rattle.inf_sources.specs.Cursors.{Cursor, Unfinished}
-use Rattle.inf_sources.specs.Inclusions.{Nesting, main_opened}
-use Rattle.inf_sources.specs.Open.{AllGiven, AreNested, AreTracked, Each, Fits, IsCounted, IsFrontOf, IsGiven, IsNested, Open, closed_to, cursor_of, cursors_at, files_of, nesting, opened_since, rest_of}
+use Rattle.inf_sources.specs.Inclusions.{Nesting, cursors, cursors_of, main_opened}
+use Rattle.inf_sources.specs.Open.{AllGiven, AreNested, AreTracked, Each, Fits, IsCounted, IsFrontOf, IsGiven, IsNested, Open, closed_to, cursor_of, files_of, lexers, lexers_of, nesting, opened_since, rest_of, waiting_at}
+use Rattle.inf_sources.specs.declared.open_file.OpenFile.{OpenFile}
 use Rattle.inf_sources.proofs.Places.{files_are, innermost_of, last_of}
 use Rattle.inf_conditionals.specs.Open.{Conditions, no_conditions}
 use Rattle.inf_reader.specs.Reading.{ReaderState}
@@ -152,35 +153,41 @@ near_one s o view front counted = by_over view.is_over refl
         let rest : rest_of s o view ≡ view.left ++ unread_of s o = ap (λ (b : Bool). view.left ++ cond b [] (unread_of s o)) e in
         omega (arith, whole, counted.window, ap length rest, length-append view.left (unread_of s o))
 
-near_places : (s : Sources) (n : ℕ) (names : List (List ℕ)) (all : List Opening) (places : List ℕ) (readers : List Reader) →
+near_places : (s : Sources) (n : ℕ) (names : List (List ℕ)) (all : List Opening) (places : List ℕ) (files : List OpenFile) →
     Each (IsFrontOf s) n all → (bound : ℕ)
-    → bound ≤ length all → AreNested bound places readers → AreTracked s n names all places readers → AreNear s all places
-    (cursors_at s all places readers)
+    → bound ≤ length all → AreNested bound places (lexers_of files) → AreTracked s n names all places (lexers_of files)
+    → AreNear s all places (cursors_of (waiting_at s all places files))
 near_places s n names all [] [] each bound le nested tracked = tt
 near_places s n names all (p ∷ places) [] each bound le nested tracked = tt
-near_places s n names all [] (r ∷ readers) each bound le nested tracked = absurd tracked
-near_places s n names all (p ∷ places) (r ∷ readers) each bound le nested tracked = (
-  near_one s (get_or all p (opened [])) r.window (each p tracked.0.behind (omega (arith, nested.0, le))) tracked.0.counted,
-  near_places s n names all places readers each p (omega (arith, nested.0, le)) nested.1 tracked.1,
+near_places s n names all [] (f ∷ files) each bound le nested tracked = absurd tracked
+near_places s n names all (p ∷ places) (f ∷ files) each bound le nested tracked = (
+  near_one s (get_or all p (opened [])) f.lexer.window (each p tracked.0.behind (omega (arith, nested.0, le))) tracked.0.counted,
+  near_places s n names all places files each p (omega (arith, nested.0, le)) nested.1 tracked.1,
 )
 
 -- the innermost file and those that wait
 near_all : (s : Sources) (old now : Openings) (f : Open) → IsNested old now f → AllGiven s (length old.all) now f
-    → AreNear s now.all (reverse now.open_places) ((nesting s old now f).cursor ∷ (nesting s old now f).waiting)
+    → AreNear s now.all (reverse now.open_places) (cursors (nesting s old now f))
 near_all s old now f n g =
-    let at = innermost_of (length now.all) (reverse now.open_places) f.lexer (reverse f.outer) n.nested in
+    let at = innermost_of (length now.all) (reverse now.open_places) f.lexer (lexers_of (reverse f.outer)) n.nested in
     let place : innermost_place now ≡ at.place = last_of now.open_places at.place at.rest at.is in
-    let near : AreNear s now.all (at.place ∷ at.rest) (cursors_at s now.all (at.place ∷ at.rest) (f.lexer ∷ reverse f.outer)) =
-    near_places s (length old.all) f.nest.names now.all (at.place ∷ at.rest) (f.lexer ∷ reverse f.outer) g.each (length now.all)
-    (omega arith)
-    (subst (λ (ps : List ℕ). AreNested (length now.all) ps (f.lexer ∷ reverse f.outer)) at.is n.nested)
-    (subst (λ (ps : List ℕ). AreTracked s (length old.all) f.nest.names now.all ps (f.lexer ∷ reverse f.outer)) at.is g.tracked) in
+    let nested : AreNested (length now.all) (at.place ∷ at.rest) (lexers f) =
+    subst (λ (ps : List ℕ). AreNested (length now.all) ps (lexers f)) at.is n.nested in
+    let tracked : AreTracked s (length old.all) f.nest.names now.all (at.place ∷ at.rest) (lexers f) =
+    subst (λ (ps : List ℕ). AreTracked s (length old.all) f.nest.names now.all ps (lexers f)) at.is g.tracked in
     let first : cursor_of f.lexer (rest_of s (get_or now.all at.place (opened [])) f.lexer.window) ≡ (nesting s old now f).cursor =
     ap (λ (i : ℕ). cursor_of f.lexer (rest_of s (get_or now.all i (opened [])) f.lexer.window)) (sym place) in
-    subst (λ (ps : List ℕ). AreNear s now.all ps ((nesting s old now f).cursor ∷ (nesting s old now f).waiting)) (sym at.is)
+    let waiting : List Cursor = cursors_of (waiting_at s now.all at.rest (reverse f.outer)) in
+    let near : AreNear s now.all (at.place ∷ at.rest)
+    (cursor_of f.lexer (rest_of s (get_or now.all at.place (opened [])) f.lexer.window) ∷ waiting) = (
+      near_one s (get_or now.all at.place (opened [])) f.lexer.window (g.each at.place tracked.0.behind nested.0) tracked.0.counted,
+      near_places s (length old.all) f.nest.names now.all at.rest (reverse f.outer) g.each at.place (omega (arith, nested.0)) nested.1
+          tracked.1,
+    ) in
+    subst (λ (ps : List ℕ). AreNear s now.all ps (cursors (nesting s old now f))) (sym at.is)
     (subst (λ (ps : List ℕ). AreNear s now.all (at.place ∷ at.rest)
-    ((nesting s old now f).cursor ∷ cursors_at s now.all (drop 1 ps) (reverse f.outer))) (sym at.is)
-    (subst (λ (c : Cursor). AreNear s now.all (at.place ∷ at.rest) (c ∷ cursors_at s now.all at.rest (reverse f.outer))) first near))
+    ((nesting s old now f).cursor ∷ cursors_of (waiting_at s now.all (drop 1 ps) (reverse f.outer)))) (sym at.is)
+    (subst (λ (c : Cursor). AreNear s now.all (at.place ∷ at.rest) (c ∷ waiting)) first near))
 
 -- where their openings stand
 at_places : (s : Sources) (n bound : ℕ) (names : List (List ℕ)) (all : List Opening) (places : List ℕ) (readers : List Reader) →
@@ -192,9 +199,9 @@ at_places s n bound names all (p ∷ places) (r ∷ readers) nested tracked =
     ((tracked.0.behind, nested.0), (tracked.0.named, at_places s n p names all places readers nested.1 tracked.1))
 
 at_all : (s : Sources) (old now : Openings) (f : Open) → IsNested old now f → AllGiven s (length old.all) now f
-    → AreAt (length old.all) (length now.all) f.nest.names now.all (reverse now.open_places) (files_of (f.lexer ∷ reverse f.outer))
+    → AreAt (length old.all) (length now.all) f.nest.names now.all (reverse now.open_places) (files_of (lexers f))
 at_all s old now f n g = at_places s (length old.all) (length now.all) f.nest.names now.all (reverse now.open_places)
-    (f.lexer ∷ reverse f.outer) n.nested g.tracked
+    (lexers f) n.nested g.tracked
 
 pub comes_of : (s : Sources) (o : Choices) (serial name : List ℕ) (old now new : Openings) (f : Open) (was : State)
     (before after : Option (List ℕ)) (c : Compiled)
@@ -224,9 +231,9 @@ comes_of s o serial name old now new f was before after c there begun closed giv
         at = subst (λ (x : Nesting). AreAt n (length new.all) x.names new.all (reverse now.open_places) (numbers_of x)) k.nesting_is
             (subst (λ (xs : List Opening). AreAt n (length xs) f.nest.names xs (reverse now.open_places) (numbers_of (nesting s old now f)))
             (sym all) at);
-        near = subst (λ (x : Nesting). AreNear s new.all (reverse now.open_places) (x.cursor ∷ x.waiting)) k.nesting_is
+        near = subst (λ (x : Nesting). AreNear s new.all (reverse now.open_places) (cursors x)) k.nesting_is
             (subst (λ (xs : List Opening). AreNear s xs (reverse now.open_places)
-            ((nesting s old now f).cursor ∷ (nesting s old now f).waiting)) (sym all) (near_all s old now f k.nested given));
+            (cursors (nesting s old now f))) (sym all) (near_all s old now f k.nested given));
       });
     }
 
@@ -263,7 +270,7 @@ begun_is s o name old now x files at going none unquoted =
 
 -- nothing was given of a file at its front
 pub none_given : (set : CharSet) (limit : ℕ) (f : Open) → (f.lexer ≡ at_front set limit 0) × (f.outer ≡ []) → given_all f ≡ 0
-none_given set limit f front = omega (arith, ap (λ (r : Reader). r.window.given) front.0, ap given_to front.1)
+none_given set limit f front = omega (arith, ap (λ (r : Reader). r.window.given) front.0, ap (λ (fs : List OpenFile). given_to (lexers_of fs)) front.1)
 
 -- A file was not read, between the moment when the main source was entered and that when all were closed.
 pub unread_by : {S : Type 0} (f : Files S) (first entered read last : S) (main now : Open) → Kept f first entered →
@@ -285,10 +292,10 @@ stops_reading_of : (failed : Type 0) (s : Sources) (t : State) (old now new : Op
     → AllGiven s (length old.all) now f → StopsInToken failed s t old now f told → StopsReading failed s t old new told
 stops_reading_of failed s t old now new f told all nested given h =
     let n : ℕ = length old.all in
-    let at = innermost_of (length now.all) (reverse now.open_places) f.lexer (reverse f.outer) nested.nested in
+    let at = innermost_of (length now.all) (reverse now.open_places) f.lexer (lexers_of (reverse f.outer)) nested.nested in
     let place : innermost_place now ≡ at.place = last_of now.open_places at.place at.rest at.is in
-    let tracked : AreTracked s n f.nest.names now.all (at.place ∷ at.rest) (f.lexer ∷ reverse f.outer) =
-    subst (λ (ps : List ℕ). AreTracked s n f.nest.names now.all ps (f.lexer ∷ reverse f.outer)) at.is given.tracked in
+    let tracked : AreTracked s n f.nest.names now.all (at.place ∷ at.rest) (lexers f) =
+    subst (λ (ps : List ℕ). AreTracked s n f.nest.names now.all ps (lexers f)) at.is given.tracked in
     let counted : IsCounted s (innermost now) f.lexer.window =
     subst (λ (i : ℕ). IsCounted s (get_or now.all i (opened [])) f.lexer.window) (sym place) tracked.0.counted in
     let stands : AreAt n (length now.all) t.nesting.names now.all (innermost_place now ∷ at.rest) (numbers_of t.nesting) =

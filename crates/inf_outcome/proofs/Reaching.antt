@@ -9,7 +9,7 @@ use Rattle.inf_files.specs.Files.{Sources}
 use Rattle.inf_lexer.specs.Entering.{first_there}
 use Rattle.inf_lexer.specs.Names.{can_name, candidates}
 use Rattle.inf_sources.specs.Cursors.{Cursor, read}
-use Rattle.inf_sources.specs.Inclusions.{Inclusion, Nesting, Opens, OpensNone, by_first, inclusion, innermost_name}
+use Rattle.inf_sources.specs.Inclusions.{Inclusion, Nesting, Opens, OpensNone, Waiting, by_first, inclusion, innermost_name}
 use Rattle.inf_sources.specs.declared.open_files.Included.{Included}
 use Rattle.inf_sources.specs.declared.open_files.Included.TheVariants as included
 use Rattle.inf_unit.proofs.Cases.{of_both}
@@ -30,8 +30,8 @@ use Rattle.inf_outcome.specs.OutcomeLaws.{OutcomesExist}
 -- Where it does not end reading, it takes something of the innermost file, leaves it, or enters another one behind taking something.
 data Moves (was now : Nesting) : Type 0 where
   Stays : now.waiting ≡ was.waiting → length now.cursor.rest < length was.cursor.rest → Moves was now
-  Leaves : (c : Cursor) (waiting : List Cursor) → was.waiting ≡ c ∷ waiting → now.cursor ≡ c → now.waiting ≡ waiting → Moves was now
-  Enters : (c : Cursor) → now.waiting ≡ c ∷ was.waiting → length c.rest < length was.cursor.rest → length was.waiting < 15 → Moves was now
+  Leaves : (w : Waiting) (waiting : List Waiting) → was.waiting ≡ w ∷ waiting → now.cursor ≡ w.cursor → now.waiting ≡ waiting → Moves was now
+  Enters : (w : Waiting) → now.waiting ≡ w ∷ was.waiting → length w.cursor.rest < length was.cursor.rest → length was.waiting < 15 → Moves was now
 
 abbrev Goes : Nesting → State → Type 0
 Goes was t = (has_ended t ≡ true) ⊎ Moves was t.nesting
@@ -48,10 +48,10 @@ mode_ends : (s : State) → is_mode_ended s.reading.mode ≡ true → has_ended 
 mode_ends s e = or_second s.is_over _ (or_second s.work.report.counts.is_over _ e)
 
 -- the innermost file is left
-left_goes : (was : Nesting) (waiting : List Cursor) (s : State) → was.waiting ≡ waiting → is_mode_ended s.reading.mode ≡ true →
+left_goes : (was : Nesting) (waiting : List Waiting) (s : State) → was.waiting ≡ waiting → is_mode_ended s.reading.mode ≡ true →
     Goes was (left_by waiting (file_closed s))
 left_goes was [] s same e = inl (mode_ends (file_closed s) e)
-left_goes was (c ∷ waiting) s same e = inr (Leaves c waiting same refl refl)
+left_goes was (w ∷ waiting) s same e = inr (Leaves w waiting same refl refl)
 
 -- a file is entered, or none is
 opens_room : (can deep : Bool) (first : Option (List ℕ)) (name : List ℕ) →
@@ -80,7 +80,8 @@ included_goes : (was : Nesting) (sources : Sources) (o : Choices) (unit : Place)
     (included_by sources o unit text i s)
 included_goes was sources o unit text (Opens name) s e same less =
     let room = has_room sources o.directories text name s.nesting e in
-    inr (Enters s.nesting.cursor (ap (λ (waiting : List Cursor). s.nesting.cursor ∷ waiting) same) less
+    let w : Waiting = record { cursor = s.nesting.cursor; conditionals = s.conditions.among; is_system = s.work.is_system } in
+    inr (Enters w (ap (λ (waiting : List Waiting). w ∷ waiting) same) less
     (omega (arith, room, ap length same)))
 included_goes was sources o unit text (OpensNone why) s e same less =
     inr (subst (λ (n : Nesting). Moves was n) (sym (none_stays unit text why s)) (Stays same less))
@@ -140,12 +141,12 @@ turn_goes sources o s =
 -- Turns
 
 -- the innermost file was left for the one around it
-abbrev Popped : List Cursor → State → Type 0
+abbrev Popped : List Waiting → State → Type 0
 Popped [] t = ⊥
-Popped (c ∷ waiting) t = (t.nesting.cursor ≡ c) × (t.nesting.waiting ≡ waiting)
+Popped (w ∷ waiting) t = (t.nesting.cursor ≡ w.cursor) × (t.nesting.waiting ≡ waiting)
 
 -- some turns end reading, or leave the innermost file
-abbrev Reaches : Sources → Choices → State → List Cursor → Type 0
+abbrev Reaches : Sources → Choices → State → List Waiting → Type 0
 Reaches sources o s waiting = (turns : ℕ) × ((has_ended (run sources o turns s) ≡ true) ⊎ Popped waiting (run sources o turns s))
 
 -- where so many files more may be open, and less than n bytes are left of the innermost
@@ -153,7 +154,7 @@ abbrev AllReach : Sources → Choices → ℕ → ℕ → Type 0
 AllReach sources o room n =
     (s : State) → length s.nesting.cursor.rest < n → 15 ≤ length s.nesting.waiting + room → Reaches sources o s s.nesting.waiting
 
-reaches_by : (sources : Sources) (o : Choices) (s t : State) (a : ℕ) (waiting : List Cursor) → run sources o a s ≡ t →
+reaches_by : (sources : Sources) (o : Choices) (s t : State) (a : ℕ) (waiting : List Waiting) → run sources o a s ≡ t →
     Reaches sources o t waiting → Reaches sources o s waiting
 reaches_by sources o s t a waiting leads r =
     let same : run sources o r.0 t ≡ run sources o (a + r.0) s = ap (run sources o r.0) (sym leads) ∙ sym (run_sum sources o a r.0 s) in (
@@ -165,20 +166,20 @@ reaches_by sources o s t a waiting leads r =
     )
 
 -- behind a file inside it the outer one goes on
-inside_by : (sources : Sources) (o : Choices) (room n : ℕ) (s t : State) (c : Cursor) → AllReach sources o room n →
-    t.nesting.waiting ≡ c ∷ s.nesting.waiting
-    → length c.rest < n → 15 ≤ length s.nesting.waiting + room → Reaches sources o t (c ∷ s.nesting.waiting) → Reaches sources o t
+inside_by : (sources : Sources) (o : Choices) (room n : ℕ) (s t : State) (w : Waiting) → AllReach sources o room n →
+    t.nesting.waiting ≡ w ∷ s.nesting.waiting
+    → length w.cursor.rest < n → 15 ≤ length s.nesting.waiting + room → Reaches sources o t (w ∷ s.nesting.waiting) → Reaches sources o t
     s.nesting.waiting
-inside_by sources o room n s t c later opens less deep r = by r.1
+inside_by sources o room n s t w later opens less deep r = by r.1
   where
-    by : (has_ended (run sources o r.0 t) ≡ true) ⊎ Popped (c ∷ s.nesting.waiting) (run sources o r.0 t) →
+    by : (has_ended (run sources o r.0 t) ≡ true) ⊎ Popped (w ∷ s.nesting.waiting) (run sources o r.0 t) →
         Reaches sources o t s.nesting.waiting
     by (inl e) = (r.0, inl e)
     by (inr p) =
         let out : State = run sources o r.0 t in
         let on : Reaches sources o out out.nesting.waiting =
         later out (omega (arith, ap (λ (x : Cursor). length x.rest) p.0, less)) (omega (arith, ap length p.1, deep)) in
-        reaches_by sources o t out r.0 s.nesting.waiting refl (subst (λ (waiting : List Cursor). Reaches sources o out waiting) p.1 on)
+        reaches_by sources o t out r.0 s.nesting.waiting refl (subst (λ (waiting : List Waiting). Reaches sources o out waiting) p.1 on)
 
 -- one turn, and what comes then
 step_by : (sources : Sources) (o : Choices) (room n : ℕ) (s : State) →
@@ -193,12 +194,12 @@ step_by sources o room n s inside later less deep going = by (turn_goes sources 
     one : run sources o (suc zero) s ≡ next
     one = run_going sources o zero s going
 
-    entered : (room : ℕ) (c : Cursor) → 15 ≤ length s.nesting.waiting + room →
+    entered : (room : ℕ) (w : Waiting) → 15 ≤ length s.nesting.waiting + room →
         ((inner : ℕ) → room ≡ suc inner → (m : ℕ) → AllReach sources o inner m) → length s.nesting.waiting < 15
-        → next.nesting.waiting ≡ c ∷ s.nesting.waiting → Reaches sources o next (c ∷ s.nesting.waiting)
-    entered zero c deep inside few opens = absurd (omega (arith, deep, few))
-    entered (suc inner) c deep inside few opens =
-        subst (λ (waiting : List Cursor). Reaches sources o next waiting) opens
+        → next.nesting.waiting ≡ w ∷ s.nesting.waiting → Reaches sources o next (w ∷ s.nesting.waiting)
+    entered zero w deep inside few opens = absurd (omega (arith, deep, few))
+    entered (suc inner) w deep inside few opens =
+        subst (λ (waiting : List Waiting). Reaches sources o next waiting) opens
         (inside inner refl (suc (length next.nesting.cursor.rest)) next (omega arith) (omega (arith, ap length opens, deep)))
 
     by : Goes s.nesting next → Reaches sources o s s.nesting.waiting
@@ -207,15 +208,15 @@ step_by sources o room n s inside later less deep going = by (turn_goes sources 
         let on : Reaches sources o next next.nesting.waiting =
         later next (omega (arith, takes, less)) (omega (arith, ap length same, deep)) in
         reaches_by sources o s next (suc zero) s.nesting.waiting one
-        (subst (λ (waiting : List Cursor). Reaches sources o next waiting) same on)
-    by (inr (Leaves c waiting was cursor rest)) = (
+        (subst (λ (waiting : List Waiting). Reaches sources o next waiting) same on)
+    by (inr (Leaves w waiting was cursor rest)) = (
       suc zero,
-      inr (subst (λ (ws : List Cursor). Popped ws (run sources o (suc zero) s)) (sym was)
-          (subst (λ (x : State). Popped (c ∷ waiting) x) (sym one) (cursor, rest))),
+      inr (subst (λ (ws : List Waiting). Popped ws (run sources o (suc zero) s)) (sym was)
+          (subst (λ (x : State). Popped (w ∷ waiting) x) (sym one) (cursor, rest))),
     )
-    by (inr (Enters c opens takes few)) =
+    by (inr (Enters w opens takes few)) =
         reaches_by sources o s next (suc zero) s.nesting.waiting one
-        (inside_by sources o room n s next c later opens (omega (arith, takes, less)) deep (entered room c deep inside few opens))
+        (inside_by sources o room n s next w later opens (omega (arith, takes, less)) deep (entered room w deep inside few opens))
 
 by_rest : (sources : Sources) (o : Choices) (room : ℕ) → ((inner : ℕ) → room ≡ suc inner → (m : ℕ) → AllReach sources o inner m) → (n : ℕ) →
     AllReach sources o room n

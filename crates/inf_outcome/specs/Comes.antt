@@ -7,7 +7,7 @@ use Rattle.inf_session.specs.Choices.{Choices}
 use Rattle.inf_lexer.specs.Unread.{unread_of}
 use Rattle.inf_session.specs.Leading.{IsFront, StopsAtInclusion}
 use Rattle.inf_sources.specs.Cursors.{Cursor, Unfinished}
-use Rattle.inf_sources.specs.Inclusions.{Nesting, innermost_name}
+use Rattle.inf_sources.specs.Inclusions.{Nesting, cursors, innermost_name}
 use Rattle.inf_sources.specs.Open.{Each, IsFrontOf, IsGiven, IsNested, Open, nesting, opened_since}
 use Rattle.inf_session.specs.Delivered.{Delivers}
 use Rattle.inf_session.specs.Ending.{Outcome}
@@ -25,7 +25,7 @@ AreAt n bound names all (p ∷ places) (f ∷ files) =
 
 -- the numbers of the files that are open
 abbrev pub numbers_of : Nesting → List ℕ
-numbers_of n = map (λ (c : Cursor). c.file) (n.cursor ∷ n.waiting)
+numbers_of n = map (λ (c : Cursor). c.file) (cursors n)
 
 -- of each at most 4,096 bytes were given behind what is still to come
 abbrev pub AreNear : Sources → List Opening → List ℕ → List Cursor → Type 0
@@ -45,7 +45,7 @@ pub record WereOpened (sources : Sources) (o : Choices) (name : List ℕ) (old n
   pub each : Each (IsGiven sources) (length old.all) new.all
   pub places : List ℕ
   pub at : AreAt (length old.all) (length new.all) final.nesting.names new.all places (numbers_of final.nesting)
-  pub near : AreNear sources new.all places (final.nesting.cursor ∷ final.nesting.waiting)
+  pub near : AreNear sources new.all places (cursors final.nesting)
 
 -- Where the main source is not there, nothing was opened.
 abbrev pub OpenedBy : Option (List ℕ) → Sources → Choices → List ℕ → Openings → Openings → Type 0

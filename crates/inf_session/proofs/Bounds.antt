@@ -15,7 +15,6 @@ use Rattle.inf_settings.specs.declared.setting.Setting.TheVariants.{ExpressionNo
 use Rattle.inf_unit.proofs.Cases.{of_both}
 use Rattle.inf_unit.specs.Messages.{FileNames, none_reported, with_full}
 use Rattle.inf_unit.specs.Tokens.{SourceToken}
-use Rattle.inf_compilation.specs.Actions.{Compilation, left, left_to}
 use Rattle.inf_output.specs.Limits.{TableBounds, bounds, table_bounds}
 use Rattle.inf_work.specs.Limits.{SameLimits}
 use Rattle.inf_compilation.specs.Works.{work as work_of}
@@ -59,13 +58,6 @@ quoted_within site j t quoted most few before =
     (λ _. before))
 
 -- The limits
-
-left_to_same : (waiting : List Bool) (w : Compilation) → SameLimits w (left_to waiting w)
-left_to_same [] w = (refl, refl)
-left_to_same (b ∷ waiting) w = (refl, refl)
-
-pub left_same : (before after : Compilation) → after ≡ left before → SameLimits before after
-left_same before after e = subst (λ (w : Compilation). SameLimits before w) (sym e) (left_to_same before.waiting before)
 
 pub bounds_then : (a b c : Session) → SameBounds a b → SameBounds b c → SameBounds a c
 bounds_then a b c first second =

@@ -3,8 +3,7 @@ use Rattle.std.proofs.Common.{◌≡◌, ◌⊎◌, inl, inr, ℕ, suc, zero, �
 use Rattle.inf_files.specs.Files.{Openings, Sources}
 use Rattle.inf_sinks.specs.Sinks.{Takes}
 use Rattle.inf_unit.proofs.Cases.{of_both}
-use Rattle.inf_sources.specs.Cursors.{Cursor}
-use Rattle.inf_sources.specs.Inclusions.{Inclusion, Nesting, Opens, OpensNone, OpensTooMany, inclusion}
+use Rattle.inf_sources.specs.Inclusions.{Inclusion, Nesting, Opens, OpensNone, OpensTooMany, Waiting, inclusion}
 use Rattle.inf_sources.specs.Open.{Open, opened_since}
 use Rattle.inf_sources.specs.declared.open_files.Included.{Included}
 use Rattle.inf_sources.specs.declared.open_files.Included.TheVariants as answer
@@ -37,9 +36,9 @@ front_cut xs ys zs f = front_then xs (xs ++ ys) zs (front_more xs ys) f
 abbrev SameTold : State → State → Type 0
 SameTold s t = t.told ≡ s.told
 
-left_by_told : (waiting : List Cursor) (s : State) → SameTold s (left_by waiting s)
+left_by_told : (waiting : List Waiting) (s : State) → SameTold s (left_by waiting s)
 left_by_told [] s = refl
-left_by_told (c ∷ waiting) s = refl
+left_by_told (w ∷ waiting) s = refl
 
 left_told : (s : State) → SameTold s (left s)
 left_told s = left_by_told s.nesting.waiting (file_closed s)

@@ -1,5 +1,5 @@
 -- What has been opened where a turn was given up.
-use Rattle.std.proofs.Common.{◌≡◌, inl, inr, ℕ, List, false, cond, refl, sym, ap, ◌∙◌}
+use Rattle.std.proofs.Common.{◌≡◌, inl, inr, ℕ, List, Bool, false, cond, refl, sym, ap, ◌∙◌}
 use Rattle.inf_files.specs.Files.{Openings, Sources}
 use Rattle.inf_characters.specs.declared.characters.CharSet.{CharSet}
 use Rattle.inf_scanner.specs.declared.tokens.Place.{Place}
@@ -10,6 +10,7 @@ use Rattle.inf_reader.specs.declared.mode.Recovery.{Recovery}
 use Rattle.inf_reader.specs.declared.mode.Recovery.TheVariants as mode
 use Rattle.inf_sources.specs.Inclusions.{Inclusion, Nesting, OpenedInVain, Opens, OpensNone, inclusion, nested_by}
 use Rattle.inf_sources.specs.Open.{Open, nesting, opened_since}
+use Rattle.inf_sources.specs.declared.open_file.Conditional.{Conditional}
 use Rattle.inf_sources.specs.declared.faults.IncludeFault.TheVariants as vain
 use Rattle.inf_sources.specs.declared.open_files.Included.{Included}
 use Rattle.inf_sources.specs.declared.open_files.Included.TheVariants as answer
@@ -26,21 +27,23 @@ none_opened unit text answer.Entered s = refl
 none_opened unit text answer.NotThere s = refl
 none_opened unit text answer.TooDeep s = refl
 
-included_opens : (sources : Sources) (o : Choices) (unit : Place) (text : List ℕ) (set : CharSet) (limit : ℕ) (i : Inclusion) (s : State)
-    → (nested_by set limit sources i s.nesting).openings ≡ (included_by sources o unit text i s).nesting.openings
-included_opens sources o unit text set limit (Opens name) s = refl
-included_opens sources o unit text set limit (OpensNone why) s = ap (λ (n : Nesting). n.openings) (sym (none_opened unit text why s))
+included_opens : (sources : Sources) (o : Choices) (unit : Place) (text : List ℕ) (set : CharSet) (limit : ℕ)
+    (conditionals : List Conditional) (is_system : Bool) (i : Inclusion) (s : State)
+    → (nested_by set limit sources conditionals is_system i s.nesting).openings ≡ (included_by sources o unit text i s).nesting.openings
+included_opens sources o unit text set limit conditionals is_system (Opens name) s = refl
+included_opens sources o unit text set limit conditionals is_system (OpensNone why) s = ap (λ (n : Nesting). n.openings) (sym (none_opened unit text why s))
 
 -- it was tried
-pub tried : (sources : Sources) (o : Choices) (unit : Place) (text : List ℕ) (set : CharSet) (limit : ℕ) (start old new : Openings)
+pub tried : (sources : Sources) (o : Choices) (unit : Place) (text : List ℕ) (set : CharSet) (limit : ℕ)
+    (conditionals : List Conditional) (is_system : Bool) (start old new : Openings)
     (before : Session) (after : Open)
     → nesting sources start new after
-    ≡ nested_by set limit sources (inclusion sources o.directories text (nesting sources start old before.open_files))
+    ≡ nested_by set limit sources conditionals is_system (inclusion sources o.directories text (nesting sources start old before.open_files))
     (nesting sources start old before.open_files)
     → OpensWithin (included sources o unit text) (state sources start old before) (opened_since start new)
-tried sources o unit text set limit start old new before after e =
+tried sources o unit text set limit conditionals is_system start old new before after e =
     inr (λ told. ap (λ (n : Nesting). n.openings) e
-    ∙ included_opens sources o unit text set limit (inclusion sources o.directories text (nesting sources start old before.open_files))
+    ∙ included_opens sources o unit text set limit conditionals is_system (inclusion sources o.directories text (nesting sources start old before.open_files))
     (state sources start old before told))
 
 -- it could not be tried, or its file is one too many

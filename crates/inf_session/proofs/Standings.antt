@@ -1,16 +1,15 @@
 -- What the session stands for behind a file that was left or entered, a refused inclusion, and a turn.
-use Rattle.std.proofs.Common.{◌≡◌, ℕ, List, [], ◌∷◌, ◌++◌, length, drop, reverse, get_or, Option, refl, sym, ap, subst, ◌∙◌, append_assoc, Result, Ok, Err, IfErr}
+use Rattle.std.proofs.Common.{◌≡◌, ℕ, List, [], ◌∷◌, ◌++◌, length, drop, reverse, get_or, Bool, Option, refl, sym, ap, subst, ◌∙◌, append_assoc, Result, Ok, Err, IfErr}
 use Rattle.inf_files.specs.Files.{Openings, Sources, opened}
-use Rattle.inf_lexer.specs.Readers.{Reader}
 use Rattle.inf_sources.specs.Cursors.{Cursor}
-use Rattle.inf_sources.specs.Inclusions.{Nesting, closed, resumed}
-use Rattle.inf_sources.specs.Open.{AreNested, IsNested, Open, cursor_of, cursors_at, nesting, rest_of}
+use Rattle.inf_sources.specs.Inclusions.{Nesting, Waiting, closed, resumed}
+use Rattle.inf_sources.specs.Open.{AreNested, IsNested, Open, cursor_of, lexers_of, nesting, rest_of, waiting_at}
+use Rattle.inf_sources.specs.declared.open_file.OpenFile.{OpenFile}
 use Rattle.inf_sources.proofs.Places.{innermost_of, reverse_last}
 use Rattle.inf_sinks.specs.Sinks.{Takes}
-use Rattle.inf_conditionals.specs.Ends.{file_left, file_told}
+use Rattle.inf_conditionals.specs.Ends.{file_ended, file_told, with_among}
 use Rattle.inf_conditionals.specs.Open.{Conditions}
 use Rattle.inf_unit.specs.Messages.{Reported, flushed}
-use Rattle.inf_compilation.specs.Actions.{Compilation, left as left_file}
 use Rattle.inf_reader.specs.declared.mode.Recovery.TheVariants as mode
 use Rattle.inf_session.specs.Choices.{Choices}
 use Rattle.inf_session.specs.Faults.{Caused, IfRead}
@@ -24,73 +23,82 @@ use Rattle.inf_session.specs.declared.faults.Fault.TheVariants as fault
 -- Files that wait
 
 -- one does
-pub record Waiting (waiting : List Cursor) : Type 0 where
-  pub first : Cursor
-  pub others : List Cursor
-  pub is : waiting ≡ first ∷ others
+pub record OneWaits (waiting : List Waiting) (f : OpenFile) : Type 0 where
+  pub cursor : Cursor
+  pub others : List Waiting
+  pub is : waiting ≡ record { cursor = cursor; conditionals = reverse f.conditionals.items; is_system = f.is_system } ∷ others
 
-pub one_waits : (s : Sources) (start now : Openings) (f : Open) (outer : List Reader) (r : Reader) → IsNested start now f →
-    f.outer ≡ outer ++ r ∷ []
-    → Waiting (nesting s start now f).waiting
-one_waits s start now f outer r n e =
-    let around : reverse f.outer ≡ r ∷ reverse outer = ap reverse e ∙ reverse_last outer r in
-    let at = innermost_of (length now.all) (reverse now.open_places) f.lexer (reverse f.outer) n.nested in
+pub one_waits : (s : Sources) (start now : Openings) (o : Open) (outer : List OpenFile) (f : OpenFile) → IsNested start now o →
+    o.outer ≡ outer ++ f ∷ []
+    → OneWaits (nesting s start now o).waiting f
+one_waits s start now o outer f n e =
+    let around : reverse o.outer ≡ f ∷ reverse outer = ap reverse e ∙ reverse_last outer f in
+    let at = innermost_of (length now.all) (reverse now.open_places) o.lexer (lexers_of (reverse o.outer)) n.nested in
     let inner =
-    innermost_of at.place at.rest r (reverse outer) (subst (λ (rs : List Reader). AreNested at.place at.rest rs) around at.inner) in
+    innermost_of at.place at.rest f.lexer (lexers_of (reverse outer))
+    (subst (λ (fs : List OpenFile). AreNested at.place at.rest (lexers_of fs)) around at.inner) in
     record {
-      first = cursor_of r (rest_of s (get_or now.all inner.place (opened [])) r.window);
-      others = cursors_at s now.all inner.rest (reverse outer);
-      is = ap (λ (ps : List ℕ). cursors_at s now.all (drop 1 ps) (reverse f.outer)) at.is
-          ∙ ap (λ (ps : List ℕ). cursors_at s now.all ps (reverse f.outer)) inner.is
-          ∙ ap (λ (rs : List Reader). cursors_at s now.all (inner.place ∷ inner.rest) rs) around;
+      cursor = cursor_of f.lexer (rest_of s (get_or now.all inner.place (opened [])) f.lexer.window);
+      others = waiting_at s now.all inner.rest (reverse outer);
+      is = ap (λ (ps : List ℕ). waiting_at s now.all (drop 1 ps) (reverse o.outer)) at.is
+          ∙ ap (λ (ps : List ℕ). waiting_at s now.all ps (reverse o.outer)) inner.is
+          ∙ ap (λ (fs : List OpenFile). waiting_at s now.all (inner.place ∷ inner.rest) fs) around;
     }
 
 -- none does
-none_at : (s : Sources) (now : Openings) (places : List ℕ) → cursors_at s now.all places [] ≡ []
+none_at : (s : Sources) (now : Openings) (places : List ℕ) → waiting_at s now.all places [] ≡ []
 none_at s now [] = refl
 none_at s now (p ∷ places) = refl
 
 pub none_waits : (s : Sources) (start now : Openings) (f : Open) → f.outer ≡ [] → (nesting s start now f).waiting ≡ []
 none_waits s start now f e =
-    ap (λ (rs : List Reader). cursors_at s now.all (drop 1 (reverse now.open_places)) (reverse rs)) e
+    ap (λ (fs : List OpenFile). waiting_at s now.all (drop 1 (reverse now.open_places)) (reverse fs)) e
     ∙ none_at s now (drop 1 (reverse now.open_places))
 
--- a file was left, and reading goes on in the one that waits
-abbrev going_on : Nesting → Compilation → State → State
-going_on n w s = record s { nesting = n; reading = record s.reading { mode = mode.Reads }; work = w }
+-- a file was left, and reading goes on in the one that waits, as that was
+abbrev pub going_on : Nesting → Conditions → Bool → State → State
+going_on n c is_system s = record s {
+  nesting = n;
+  conditions = c;
+  reading = record s.reading { mode = mode.Reads };
+  work = record s.work { is_system = is_system };
+}
 
-resumes : (waiting : List Cursor) (first : Cursor) (others : List Cursor) (s : State) → waiting ≡ first ∷ others
-    → going_on (resumed waiting s.nesting) (left_file s.work) s ≡ left_by waiting s
-resumes [] first others s e = cc
-resumes (c ∷ waiting) first others s e = refl
+resumes : (waiting : List Waiting) (first : Waiting) (others : List Waiting) (s : State) → waiting ≡ first ∷ others
+    → going_on (resumed waiting s.nesting) (with_among first.conditionals s.conditions) first.is_system s ≡ left_by waiting s
+resumes waiting first others s e =
+    ap (λ (ws : List Waiting). going_on (resumed ws s.nesting) (with_among first.conditionals s.conditions) first.is_system s) e
+    ∙ sym (ap (λ (ws : List Waiting). left_by ws s) e)
 
 -- with the conditionals of the file
-abbrev closed_as : Conditions → Reported → State → State
+abbrev pub closed_as : Conditions → Reported → State → State
 closed_as c r s = record s { conditions = c; work = record s.work { report = r } }
 
-closed_is : (s : State) (c : Conditions) (r : Reported) → c ≡ file_left s.conditions →
+closed_is : (s : State) (c : Conditions) (r : Reported) → c ≡ file_ended s.conditions →
     r ≡ file_told s.nesting.names s.conditions s.work.report → closed_as c r s ≡ file_closed s
-closed_is s c r left told =
-    ap (λ (x : Conditions). closed_as x r s) left ∙ ap (λ (x : Reported). closed_as (file_left s.conditions) x s) told
+closed_is s c r ended told =
+    ap (λ (x : Conditions). closed_as x r s) ended ∙ ap (λ (x : Reported). closed_as (file_ended s.conditions) x s) told
 
-pub left_is : (s : State) (n : Nesting) (c : Conditions) (r : Reported) (w : Compilation) → c ≡ file_left s.conditions →
+pub left_is : (s : State) (n : Nesting) (c back : Conditions) (r : Reported) (f : OpenFile) → c ≡ file_ended s.conditions →
     r ≡ file_told s.nesting.names s.conditions s.work.report
-    → w ≡ left_file (record s.work { report = r }) → n ≡ closed s.nesting → Waiting s.nesting.waiting → going_on n w (closed_as c r s) ≡
-    left s
-left_is s n c r w left told marked e one =
-    ap (λ (x : Compilation). going_on n x (closed_as c r s)) marked
-    ∙ ap (λ (x : State). going_on n (left_file x.work) x) (closed_is s c r left told)
-    ∙ ap (λ (m : Nesting). going_on m (left_file (file_closed s).work) (file_closed s)) e
-    ∙ resumes s.nesting.waiting one.first one.others (file_closed s) one.is
+    → back ≡ with_among (reverse f.conditionals.items) c → n ≡ closed s.nesting → OneWaits s.nesting.waiting f
+    → going_on n back f.is_system (closed_as c r s) ≡ left s
+left_is s n c back r f ended told given e one =
+    let among = reverse f.conditionals.items in
+    let first : Waiting = record { cursor = one.cursor; conditionals = among; is_system = f.is_system } in
+    ap (λ (x : Conditions). going_on n x f.is_system (closed_as c r s)) given
+    ∙ ap (λ (x : State). going_on n (with_among among x.conditions) f.is_system x) (closed_is s c r ended told)
+    ∙ ap (λ (m : Nesting). going_on m (with_among among (file_closed s).conditions) f.is_system (file_closed s)) e
+    ∙ resumes s.nesting.waiting first one.others (file_closed s) one.is
 
 -- nothing was left
-pub stays : (s : State) (n : Nesting) (c : Conditions) (r : Reported) → c ≡ file_left s.conditions →
+pub stays : (s : State) (n : Nesting) (c : Conditions) (r : Reported) → c ≡ file_ended s.conditions →
     r ≡ file_told s.nesting.names s.conditions s.work.report
     → n ≡ s.nesting → s.nesting.waiting ≡ [] → record (closed_as c r s) { nesting = n } ≡ left s
-stays s n c r left told e none =
-    ap (λ (x : State). record x { nesting = n }) (closed_is s c r left told)
+stays s n c r ended told e none =
+    ap (λ (x : State). record x { nesting = n }) (closed_is s c r ended told)
     ∙ ap (λ (m : Nesting). record (file_closed s) { nesting = m }) e
-    ∙ sym (ap (λ (waiting : List Cursor). left_by waiting (file_closed s)) none)
+    ∙ sym (ap (λ (waiting : List Waiting). left_by waiting (file_closed s)) none)
 
 -- Faults
 

@@ -1,11 +1,11 @@
 -- What some turns of reading lead to, and what they write.
-use Rattle.std.specs.Prelude.{◌≡◌, ℕ, ◌-◌, ◌<◌, ◌⊎◌, List, ◌∷◌, ◌++◌, map, reverse, Option, false}
+use Rattle.std.specs.Prelude.{◌≡◌, ℕ, ◌-◌, ◌<◌, ◌⊎◌, List, ◌++◌, map, Option, false}
 use Rattle.inf_scanner.specs.declared.tokens.Place.{Place}
 use Rattle.inf_files.specs.Files.{Openings, Sources}
 use Rattle.inf_lexer.specs.Unread.{unread}
 use Rattle.inf_sources.specs.Cursors.{Cursor, Unfinished}
-use Rattle.inf_sources.specs.Inclusions.{Nesting, OpenedInVain, OpensTooMany, inclusion, innermost_name}
-use Rattle.inf_sources.specs.Open.{Open, files_of, opened_since}
+use Rattle.inf_sources.specs.Inclusions.{Nesting, OpenedInVain, OpensTooMany, cursors, inclusion, innermost_name}
+use Rattle.inf_sources.specs.Open.{Open, files_of, lexers, opened_since}
 use Rattle.inf_sources.specs.declared.faults.IncludeFault.TheVariants as fault
 use Rattle.inf_unit.specs.Directives.{Include}
 use Rattle.inf_sinks.specs.Sinks.{Takes}
@@ -53,7 +53,7 @@ pub record StopsInToken (failed : Type 0) (sources : Sources) (s : State) (start
     pub goes_on : files.lexer.window.is_over ≡ false
     pub openings : opened_since start now ≡ s.nesting.openings
     pub names : files.nest.names ≡ s.nesting.names
-    pub numbers : files_of (files.lexer ∷ reverse files.outer) ≡ map (λ (c : Cursor). c.file) (s.nesting.cursor ∷ s.nesting.waiting)
+    pub numbers : files_of (lexers files) ≡ map (λ (c : Cursor). c.file) (cursors s.nesting)
     pub name_is : name ≡ innermost_name s.nesting
 
 -- A file that an inclusion names could not be opened, or is one more than can be numbered.

@@ -8,17 +8,17 @@ use Rattle.inf_scanner.specs.declared.tokens.Place.{Place}
 use Rattle.inf_scanner.specs.declared.tokens.TokenKind.{TokenKind}
 use Rattle.inf_scanner.specs.declared.tokens.TokenKind.TheVariants as kind
 use Rattle.inf_files.specs.Files.{Sources}
-use Rattle.inf_conditionals.specs.Ends.{file_entered, file_left, file_told, piece_ended, piece_told}
+use Rattle.inf_conditionals.specs.Ends.{file_ended, file_told, piece_ended, piece_told, with_among}
 use Rattle.inf_conditionals.specs.Judging.{is_none_pending, judged, may_part}
 use Rattle.inf_conditionals.specs.Open.{Conditions, no_conditions, silent}
 use Rattle.inf_conditionals.specs.declared.judged.Filtered.{Filtered}
 use Rattle.inf_conditionals.specs.declared.judged.Site.{Site}
 use Rattle.inf_report.specs.Messages.{Message, NoInclude, TooManyFiles}
 use Rattle.inf_sources.specs.Cursors.{Cursor, behind, read}
-use Rattle.inf_sources.specs.Inclusions.{Inclusion, Nesting, Opens, OpensNone, inclusion, main_opened, resumed, with_opened}
+use Rattle.inf_sources.specs.Inclusions.{Inclusion, Nesting, Opens, OpensNone, Waiting, inclusion, main_opened, resumed, with_opened}
 use Rattle.inf_sources.specs.declared.open_files.Included.{Included}
 use Rattle.inf_sources.specs.declared.open_files.Included.TheVariants as answer
-use Rattle.inf_compilation.specs.Actions.{Compilation, entered, left as left_file}
+use Rattle.inf_compilation.specs.Actions.{Compilation}
 use Rattle.inf_unit.specs.Directives.{Request, Nothing, Include, End}
 use Rattle.inf_settings.specs.Settings.{number_of}
 use Rattle.inf_settings.specs.declared.setting.Setting.{Setting}
@@ -131,13 +131,17 @@ stepped s =
 -- At the end of a file the conditionals are told that are open in it.
 abbrev pub file_closed : State → State
 file_closed s =
-    record s { conditions = file_left s.conditions; work = record s.work { report = file_told s.nesting.names s.conditions s.work.report } }
+    record s { conditions = file_ended s.conditions; work = record s.work { report = file_told s.nesting.names s.conditions s.work.report } }
 
--- An included file is closed then, and reading goes on in the one that includes it.
-abbrev pub left_by : List Cursor → State → State
+-- An included file is closed then, and reading goes on in the one that includes it, as that was.
+abbrev pub left_by : List Waiting → State → State
 left_by [] s = s
-left_by (c ∷ waiting) s =
-    record s { nesting = resumed (c ∷ waiting) s.nesting; reading = record s.reading { mode = mode.Reads }; work = left_file s.work }
+left_by (w ∷ waiting) s = record s {
+  nesting = resumed (w ∷ waiting) s.nesting;
+  conditions = with_among w.conditionals s.conditions;
+  reading = record s.reading { mode = mode.Reads };
+  work = record s.work { is_system = w.is_system };
+}
 
 abbrev pub left : State → State
 left s = left_by s.nesting.waiting (file_closed s)
@@ -154,12 +158,14 @@ none_included unit text answer.TooDeep s = refused_with unit TooManyFiles s
 
 -- in a file that was entered no conditional is open, and no routine may be replaced yet
 abbrev pub file_begun : State → State
-file_begun s = record s { conditions = file_entered s.conditions; work = entered s.work }
+file_begun s = record s { conditions = with_among [] s.conditions; work = record s.work { is_system = false } }
 
 -- the file that an inclusion opens is the innermost
 abbrev pub included_by : Sources → Choices → Place → List ℕ → Inclusion → State → State
 included_by sources o unit text (Opens name) s =
-    file_begun (record s { nesting = with_opened o.set (most_quoted o) sources name s.nesting })
+    file_begun (record s {
+      nesting = with_opened o.set (most_quoted o) sources s.conditions.among s.work.is_system name s.nesting;
+    })
 included_by sources o unit text (OpensNone why) s = none_included unit text why s
 
 -- the file that the text of an inclusion names is entered, for a unit at a place

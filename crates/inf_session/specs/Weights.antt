@@ -2,7 +2,7 @@
 -- taken of a file weighs more than all that a file inside it can have.
 use Rattle.std.specs.Prelude.{◌≡◌, ℕ, ◌+◌, ◌-◌, ◌*◌, ◌<◌, List, [], ◌∷◌, ◌++◌, length, Bool, false, zero, suc}
 use Rattle.inf_lexer.specs.Readers.{Reader}
-use Rattle.inf_sources.specs.Open.{Open}
+use Rattle.inf_sources.specs.Open.{Open, lexers_of}
 
 -- the most that a lexer can still take, with one for leaving its file
 abbrev pub room : Reader → ℕ
@@ -19,12 +19,12 @@ weigh_from n [] = 0
 weigh_from n (r ∷ readers) = scale (15 - n) (room r) + weigh_from (suc n) readers
 
 abbrev pub weight : Open → ℕ
-weight f = weigh_from 0 (f.outer ++ f.lexer ∷ [])
+weight f = weigh_from 0 (lexers_of f.outer ++ f.lexer ∷ [])
 
 -- How reading goes on behind a token, which may be at the end of its file: there in the file that includes it, and else in the
 -- same file, or at the front of another.
 pub data GoesOn (is_at_end : Bool) (before after : Open) : Type 0 where
-  Leaves : before.outer ≡ after.outer ++ after.lexer ∷ [] → GoesOn is_at_end before after
+  Leaves : lexers_of before.outer ≡ lexers_of after.outer ++ after.lexer ∷ [] → GoesOn is_at_end before after
   Stays : is_at_end ≡ false → after ≡ before → GoesOn is_at_end before after
   Enters : is_at_end ≡ false → after.lexer.window.given ≡ 0 → after.lexer.window.left ≡ [] →
-      after.outer ≡ before.outer ++ before.lexer ∷ [] → length before.outer < 15 → GoesOn is_at_end before after
+      lexers_of after.outer ≡ lexers_of before.outer ++ before.lexer ∷ [] → length before.outer < 15 → GoesOn is_at_end before after

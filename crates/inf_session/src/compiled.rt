@@ -8,9 +8,9 @@ ghost use Rattle.inf_session.specs.Faults.{Caused};
 
 use crate::ending::{Outcome, finish};
 use crate::faults::Fault;
+use inf_compilation::compilation::Compilation;
 use inf_lexer::Stack;
 use inf_sinks::sinks::{Sink, write_whole};
-use inf_compilation::compilation::Compilation;
 use std::alloc::Global;
 
 /// How a compilation ended.

@@ -14,6 +14,7 @@ use crate::compiled::Status;
 use inf_area::Value;
 use inf_cells::Scale;
 use inf_code::code::Code;
+use inf_compilation::compilation::Compilation;
 use inf_lexer::{Place, Stack};
 use inf_link::HeaderFields;
 use inf_names::symbols::Symbols;
@@ -23,7 +24,6 @@ use inf_story::{LinkFault, Story, story, values_of};
 use inf_tables::Tables;
 use inf_unit::messages::{Diagnostics, location};
 use inf_unit::names::{main_of, tell_undeclared};
-use inf_compilation::compilation::Compilation;
 use std::alloc::{AllocError, Global};
 
 /// What comes at the end of a compilation: the lines of its last messages, its story where no error was found, and how

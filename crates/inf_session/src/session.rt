@@ -522,17 +522,21 @@ impl<'a> Session<'a> {
             (nesting (F.sources files.old) start (F.openings files.old) self.old.open_files) (opened_since start (F.openings files.new))))) }
         ensures fits { OnOk result (StaysFit F.Files files.old files.new self.old.open_files) }
     {
-        let message = match self.open_files.include(files, self.setup.directories, text) {
-            Ok(Included::Entered) => {
-                self.conditionals.enter_file()?;
-                self.progress.work.enter_file()?;
-                return Ok(());
-            }
+        let mut conditionals = self.conditionals.take_among();
+        let message = match self.open_files.include(
+            files,
+            self.setup.directories,
+            text,
+            &mut conditionals,
+            &mut self.progress.work.is_system,
+        ) {
+            Ok(Included::Entered) => return Ok(()),
             Ok(Included::NotThere) => Message::NoInclude(text),
             Ok(Included::TooDeep) => Message::TooManyFiles,
             Err(IncludeFault::Memory) => return Err(Fault::Memory),
             Err(IncludeFault::Device) => return Err(unread(self.alloc, shown(text))),
         };
+        self.conditionals.give_among(conditionals);
         let at = location(self.open_files.names(), unit);
         self.progress.work.report.fatal(at, &message)?;
         Ok(())
@@ -560,11 +564,12 @@ impl<'a> Session<'a> {
     {
         self.conditionals
             .end_file(self.open_files.names(), &mut self.progress.work.report)?;
-        if !self.open_files.leave(files) {
+        let Some((conditionals, is_system)) = self.open_files.leave(files) else {
             return Ok(());
-        }
+        };
+        self.conditionals.give_among(conditionals);
+        self.progress.work.is_system = is_system;
         self.progress.reader.mode = Recovery::Reads;
-        self.progress.work.leave_file();
         Ok(())
     }
 }

@@ -1,8 +1,8 @@
--- Names that are the same in any case have the same last letter.
-use Rattle.std.proofs.Common.{◌≡◌, ℕ, ◌+◌, ◌-◌, ◌%◌, List, Bool, true, false, cond, map, length, get_or, refl, sym, ◌∙◌, ap, arith}
-use Rattle.std.specs.Char.{to_ascii_lowercase}
+-- Names that are the same in any case have the same length and last letter; how they are compared byte by byte.
+use Rattle.std.proofs.Common.{◌≡◌, ℕ, suc, ◌+◌, ◌-◌, ◌%◌, ◌<◌, ◌≤◌, ◌&&◌, List, [], ◌∷◌, Bool, true, false, cond, map, length, get_or, drop, refl, sym, ◌∙◌, ap, arith, drop-cons}
+use Rattle.std.specs.Char.{eq_ignore_ascii_case, to_ascii_lowercase}
 use Rattle.std.specs.Str.{str_eq_ignore_ascii_case}
-use Rattle.std.proofs.lemmas.List.{length-map}
+use Rattle.std.proofs.lemmas.List.{drop_all, length-map}
 use Rattle.std.proofs.lemmas.Slice.Eq.{bytes_eq-Decides}
 use Rattle.std.proofs.Math.ListN.{get_or-map}
 use Rattle.inf_sinks.specs.LocalList.{last_letter}
@@ -27,3 +27,25 @@ same_last s w e =
 
 pub same_letter : (s w : List ℕ) → str_eq_ignore_ascii_case s w ≡ true → last_letter s ≡ last_letter w
 same_letter s w e = same_last s w ((bytes_eq-Decides (map to_ascii_lowercase s) (map to_ascii_lowercase w)).0 e)
+
+pub same_length : (s w : List ℕ) → str_eq_ignore_ascii_case s w ≡ true → length s ≡ length w
+same_length s w e =
+    sym (length-map s to_ascii_lowercase)
+    ∙ ap length ((bytes_eq-Decides (map to_ascii_lowercase s) (map to_ascii_lowercase w)).0 e)
+    ∙ length-map w to_ascii_lowercase
+
+-- The bytes from a place on are the same if those at that place are, and those behind it.
+pub same_from : (s w : List ℕ) (i : ℕ) → length s ≡ length w → i < length s →
+    str_eq_ignore_ascii_case (drop i s) (drop i w)
+    ≡ (eq_ignore_ascii_case (get_or s i 0) (get_or w i 0) && str_eq_ignore_ascii_case (drop (suc i) s) (drop (suc i) w))
+same_from s w i size within =
+    ap (λ x. str_eq_ignore_ascii_case x (drop i w)) (drop-cons s i 0 within)
+    ∙ ap (λ x. str_eq_ignore_ascii_case (get_or s i 0 ∷ drop (suc i) s) x) (drop-cons w i 0 (omega (arith, size, within)))
+
+-- Behind the last byte nothing differs.
+pub same_at_end : (s w : List ℕ) (i : ℕ) → length s ≡ length w → length s ≤ i → str_eq_ignore_ascii_case (drop i s) (drop i w) ≡ true
+same_at_end s w i size behind =
+    ap (λ x. str_eq_ignore_ascii_case x (drop i w)) (drop_all i s behind)
+    ∙ ap (λ x. str_eq_ignore_ascii_case [] x) (drop_all i w (omega (arith, size, behind)))
+
+pub ruleset same_steps = (same_from, same_at_end)

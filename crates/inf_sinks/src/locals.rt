@@ -1,5 +1,6 @@
 //! The local variables of a routine.
 ghost use Rattle.std.specs.Prelude.{◌≡◌, ◌≤◌, ◌<◌, [], IfSome, length, option_map, position};
+ghost use Rattle.std.specs.Char.{eq_ignore_ascii_case};
 ghost use Rattle.std.specs.Str.{str_eq_ignore_ascii_case};
 ghost use Rattle.arrayvec.specs.ArrayVec.{array_vec_len};
 ghost use Rattle.inf_sinks.specs.LocalList.{last_letter};
@@ -13,11 +14,35 @@ use inf_scanner::Place;
 /// The most local variables that a routine has (Z-Machine Standard 1.1, section 5.2).
 pub const MOST_LOCALS: usize = 15;
 
-/// Whether two names are the same, in any case. Most that are not differ in their last letters.
+/// Whether two bytes are the same, in any case. Most that are, are spelled the same.
+fn is_same_byte(byte: u8, other: u8) -> bool
+    ensures { result ≡ eq_ignore_ascii_case byte other }
+{
+    byte == other || byte.eq_ignore_ascii_case(&other)
+}
+
+/// Whether two names of the same length are the same, in any case.
+#[tactic(auto, using(crate::proofs::SameNames::same_steps))]
+fn are_same_bytes(name: &[u8], other: &[u8]) -> bool
+    requires { length name.now ≡ length other.now }
+    ensures { result ≡ str_eq_ignore_ascii_case name.now other.now }
+{
+    for i in 0..name.len() {
+        if !is_same_byte(name[i], other[i]) {
+            return false;
+        }
+    }
+    true
+}
+
+/// Whether two names are the same, in any case. Most that are not differ in their lengths or in their last letters.
 fn is_same_name(name: &[u8], other: &[u8]) -> bool
     ensures { result ≡ str_eq_ignore_ascii_case name.now other.now }
 {
-    last_letter(name) == last_letter(other) && name.eq_ignore_ascii_case(other)
+    if name.len() != other.len() {
+        return false;
+    }
+    last_letter(name) == last_letter(other) && are_same_bytes(name, other)
 }
 
 /// The last letter of a name as a number that is the same in any case: 0 where it has none.

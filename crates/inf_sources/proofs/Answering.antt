@@ -1,17 +1,20 @@
 -- What an inclusion comes to, by what the names of the open files answer.
 use Rattle.std.proofs.Common.{◌≡◌, ◌⊎◌, inl, inr, ℕ, suc, ◌+◌, ◌-◌, ◌≤◌, List, [], ◌∷◌, ◌++◌, length, drop, reverse, cond, not, nat_le, Bool, true, false, Option, Some, unwrap_or, refl, sym, ap, subst, ◌∙◌, arith, length-append}
-use Rattle.std.specs.Prelude.{slice_get}
+use Rattle.std.specs.Prelude.{slice_get, Vec}
 use Rattle.std.proofs.lemmas.Bool.{le-leb, leb-true}
 use Rattle.std.proofs.lemmas.List.{length-reverse}
+use Rattle.std.specs.declared.alloc.Global.{Global}
 use Rattle.inf_files.specs.Files.{Openings, Sources}
 use Rattle.inf_lexer.specs.Entering.{ClosedAgain, first_there, with_opened}
 use Rattle.inf_lexer.specs.Names.{Nest, can_name, candidates, entered, innermost_name, name_at, number_of}
 use Rattle.inf_lexer.specs.Readers.{Reader, at_front}
 use Rattle.inf_sources.specs.Inclusions.{Inclusion, OpenedInVain, OpensNone, OpensTooMany, Opens, by_first, inclusion, nested_by}
 use Rattle.inf_sources.specs.declared.faults.IncludeFault.TheVariants as vain
-use Rattle.inf_sources.specs.Open.{AllWait, IsNested, Open, Waits, cursors_at, files_of, nesting, opened_since}
+use Rattle.inf_sources.specs.Open.{AllWait, IsNested, Open, Waits, files_of, lexers_of, nesting, opened_since, waiting_at, waits}
+use Rattle.inf_sources.specs.declared.open_file.Conditional.{Conditional}
+use Rattle.inf_sources.specs.declared.open_file.OpenFile.{OpenFile}
 use Rattle.inf_sources.specs.declared.open_files.Included.TheVariants as included
-use Rattle.inf_sources.proofs.Entered.{Fits, files_more, waits_more}
+use Rattle.inf_sources.proofs.Entered.{Fits, files_more, lexers_more, waits_more}
 use Rattle.inf_sources.proofs.Openings.{entered_nested, entered_nesting, opened_and_closed}
 use Rattle.inf_sources.proofs.Places.{innermost_of, waiting_length}
 
@@ -32,27 +35,27 @@ last_file xs x =
     let last : length (xs ++ x ∷ []) - 1 ≡ length xs = omega (arith, length-append xs (x ∷ [])) in
     ap (λ n. slice_get (xs ++ x ∷ []) n) last ∙ seam xs x
 
-files_length : (readers : List Reader) → length (files_of readers) ≡ length readers
+files_length : (files : List OpenFile) → length (files_of (lexers_of files)) ≡ length files
 files_length [] = refl
-files_length (r ∷ readers) = ap suc (files_length readers)
+files_length (f ∷ files) = ap suc (files_length files)
 
 -- the numbers of the open files are those of the lexers
 abbrev pub IsNumbered : Open → Type 0
-IsNumbered files = files.nest.open_files ≡ files_of files.outer ++ files.lexer.file ∷ []
+IsNumbered files = files.nest.open_files ≡ files_of (lexers_of files.outer) ++ files.lexer.file ∷ []
 
 pub same_name : (files : Open) → IsNumbered files → innermost_name files.nest ≡ unwrap_or (slice_get files.nest.names files.lexer.file) []
 same_name files e =
     ap (λ (fs : List ℕ). name_at (slice_get fs (length fs - 1)) files.nest.names) e
-    ∙ ap (λ (o : Option ℕ). name_at o files.nest.names) (last_file (files_of files.outer) files.lexer.file)
+    ∙ ap (λ (o : Option ℕ). name_at o files.nest.names) (last_file (files_of (lexers_of files.outer)) files.lexer.file)
 
 same_depth : (s : Sources) (start now : Openings) (files : Open) → IsNested start now files → IsNumbered files
     → length files.nest.open_files ≡ length (nesting s start now files).waiting + 1
 same_depth s start now files n e =
-    let at = innermost_of (length now.all) (reverse now.open_places) files.lexer (reverse files.outer) n.nested in
+    let at = innermost_of (length now.all) (reverse now.open_places) files.lexer (lexers_of (reverse files.outer)) n.nested in
     let waits : length (nesting s start now files).waiting ≡ length files.outer =
-    ap (λ (ps : List ℕ). length (cursors_at s now.all (drop 1 ps) (reverse files.outer))) at.is
+    ap (λ (ps : List ℕ). length (waiting_at s now.all (drop 1 ps) (reverse files.outer))) at.is
     ∙ waiting_length s now.all at.place at.rest (reverse files.outer) at.inner ∙ length-reverse files.outer in
-    omega (arith, ap length e, length-append (files_of files.outer) (files.lexer.file ∷ []), files_length files.outer, waits)
+    omega (arith, ap length e, length-append (files_of (lexers_of files.outer)) (files.lexer.file ∷ []), files_length files.outer, waits)
 
 -- what an inclusion is by its three tests
 abbrev by_tests : (can deep : Bool) → Option (List ℕ) → Inclusion
@@ -131,44 +134,47 @@ opened_in_vain s directories text start old new before n e fit flat (inr c) =
 
 -- what is open behind a file that was entered
 pub entered_is : (s : Sources) (start old new : Openings) (before : Open) (name : List ℕ) (nest : Nest) (lexer : Reader)
-    (outer : List Reader) → IsNested start old before
+    (outer : List OpenFile) (conditionals : Vec Conditional Global) (is_system : Bool) → IsNested start old before
     → new ≡ with_opened name old → nest ≡ entered name before.nest → lexer ≡ at_front before.nest.set before.nest.limit
     (number_of name before.nest.names)
-    → outer ≡ before.outer ++ before.lexer ∷ []
+    → outer ≡ before.outer ++ waits before.lexer conditionals is_system ∷ []
     → nesting s start new (record { nest = nest; lexer = lexer; outer = outer }) ≡ nested_by before.nest.set before.nest.limit s
-    (Opens name) (nesting s start old before)
-entered_is s start old new before name nest lexer outer n opens enters fronts waits =
+    (reverse conditionals.items) is_system (Opens name) (nesting s start old before)
+entered_is s start old new before name nest lexer outer conditionals is_system n opens enters fronts more =
     ap (λ (o : Openings). nesting s start o (record { nest = nest; lexer = lexer; outer = outer })) opens
     ∙ ap (λ (x : Nest). nesting s start (with_opened name old) (record { nest = x; lexer = lexer; outer = outer })) enters
     ∙ ap (λ (r : Reader). nesting s start (with_opened name old) (record { nest = entered name before.nest; lexer = r; outer = outer }))
     fronts
-    ∙ ap (λ (o : List Reader). nesting s start (with_opened name old)
+    ∙ ap (λ (o : List OpenFile). nesting s start (with_opened name old)
     (record {
       nest = entered name before.nest;
       lexer = at_front before.nest.set before.nest.limit (number_of name before.nest.names);
       outer = o;
-    })) waits
-    ∙ entered_nesting s start old before name before.nest.set before.nest.limit n
+    })) more
+    ∙ entered_nesting s start old before name before.nest.set before.nest.limit conditionals is_system n
 
-pub entered_nested_of : (start old new : Openings) (before : Open) (name : List ℕ) (nest : Nest) (lexer : Reader) (outer : List Reader) →
-    IsNested start old before
-    → new ≡ with_opened name old → outer ≡ before.outer ++ before.lexer ∷ [] → IsNested start new
+pub entered_nested_of : (start old new : Openings) (before : Open) (name : List ℕ) (nest : Nest) (lexer : Reader) (outer : List OpenFile)
+    (f : OpenFile) → f.lexer ≡ before.lexer → IsNested start old before
+    → new ≡ with_opened name old → outer ≡ before.outer ++ f ∷ [] → IsNested start new
     (record { nest = nest; lexer = lexer; outer = outer })
-entered_nested_of start old new before name nest lexer outer n opens waits =
+entered_nested_of start old new before name nest lexer outer f waits n opens more =
     subst (λ (o : Openings). IsNested start o (record { nest = nest; lexer = lexer; outer = outer })) (sym opens)
-    (subst (λ (o : List Reader). IsNested start (with_opened name old) (record { nest = nest; lexer = lexer; outer = o })) (sym waits)
-    (entered_nested start old before name nest lexer n))
+    (subst (λ (o : List OpenFile). IsNested start (with_opened name old) (record { nest = nest; lexer = lexer; outer = o })) (sym more)
+    (entered_nested start old before name nest lexer f waits n))
 
 -- the numbers and settings behind it
-pub entered_fits : (nest after : Nest) (outer new : List Reader) (waits lexer : Reader) (name : List ℕ) →
-    nest.open_files ≡ files_of outer ++ waits.file ∷ []
-    → AllWait nest.set nest.limit outer → Waits nest.set nest.limit waits → new ≡ outer ++ waits ∷ [] → after ≡ entered name nest
-    → lexer ≡ at_front nest.set nest.limit (number_of name nest.names) → Fits after lexer new
-entered_fits nest after outer new waits lexer name files all w e enters fronts =
-    let made : Fits (entered name nest) (at_front nest.set nest.limit (number_of name nest.names)) (outer ++ waits ∷ []) = (
-      ap (λ fs. fs ++ number_of name nest.names ∷ []) (files ∙ sym (files_more outer waits)),
-      (refl, (refl, waits_more nest.set nest.limit outer waits all w)),
+pub entered_fits : (nest after : Nest) (outer new : List OpenFile) (f : OpenFile) (lexer : Reader) (name : List ℕ) →
+    nest.open_files ≡ files_of (lexers_of outer) ++ f.lexer.file ∷ []
+    → AllWait nest.set nest.limit (lexers_of outer) → Waits nest.set nest.limit f.lexer → new ≡ outer ++ f ∷ []
+    → after ≡ entered name nest
+    → lexer ≡ at_front nest.set nest.limit (number_of name nest.names) → Fits after lexer (lexers_of new)
+entered_fits nest after outer new f lexer name files all w e enters fronts =
+    let readers : List Reader = lexers_of outer in
+    let more : lexers_of new ≡ readers ++ f.lexer ∷ [] = ap lexers_of e ∙ lexers_more outer f in
+    let made : Fits (entered name nest) (at_front nest.set nest.limit (number_of name nest.names)) (readers ++ f.lexer ∷ []) = (
+      ap (λ fs. fs ++ number_of name nest.names ∷ []) (files ∙ sym (files_more readers f.lexer)),
+      (refl, (refl, waits_more nest.set nest.limit readers f.lexer all w)),
     ) in
-    subst (λ (n : Nest). Fits n lexer new) (sym enters)
-    (subst (λ (r : Reader). Fits (entered name nest) r new) (sym fronts)
-    (subst (λ (rs : List Reader). Fits (entered name nest) (at_front nest.set nest.limit (number_of name nest.names)) rs) (sym e) made))
+    subst (λ (n : Nest). Fits n lexer (lexers_of new)) (sym enters)
+    (subst (λ (r : Reader). Fits (entered name nest) r (lexers_of new)) (sym fronts)
+    (subst (λ (rs : List Reader). Fits (entered name nest) (at_front nest.set nest.limit (number_of name nest.names)) rs) (sym more) made))

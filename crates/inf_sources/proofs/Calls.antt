@@ -7,7 +7,8 @@ use Rattle.inf_lexer.specs.Names.{Nest}
 use Rattle.inf_lexer.specs.Readers.{Reader}
 use Rattle.inf_lexer.specs.Unread.{Along, Ends, StillGives}
 use Rattle.inf_sources.specs.Calls.{AskedTooMany, Honestly, IsUnreadable, StaysFit, StaysGiven, Went, given_to}
-use Rattle.inf_sources.specs.Open.{AllGiven, Each, Fits, IsNested, Open}
+use Rattle.inf_sources.specs.Open.{AllGiven, Each, Fits, IsNested, Open, lexers_of}
+use Rattle.inf_sources.specs.declared.open_file.OpenFile.{OpenFile}
 use Rattle.inf_sources.proofs.Counting.{many_names}
 use Rattle.inf_sources.proofs.Fronts.{left_given, read_fit, read_given}
 use Rattle.inf_sources.proofs.Nestings.{left_nested, nested_on}
@@ -69,7 +70,7 @@ unreadable_then f a b c x y z w (inr (inl long)) = inr (inl long)
 unreadable_then f a b c x y z w (inr (inr many)) = inr (inr (record { names = many.names; opened = omega (arith, w.opened, many.opened) }))
 
 -- A token was read of the innermost file.
-pub went_read : {S : Type 0} (f : Files S) (old new : S) (nest : Nest) (before after : Reader) (outer : List Reader) →
+pub went_read : {S : Type 0} (f : Files S) (old new : S) (nest : Nest) (before after : Reader) (outer : List OpenFile) →
     f.sources new ≡ f.sources old
     → f.is_honest new ≡ f.is_honest old → f.faults old ≤ f.faults new → f.depth new ≡ f.depth old
     → min (f.given old + (after.window.given - before.window.given)) last_count ≤ f.given new → f.opened new ≡ f.opened old
@@ -95,7 +96,7 @@ went_read f old new nest before after outer sources honesty faults depth given o
           (along honest) window (ends honest) (still honest) g;
     }
 
-pub fit_read : {S : Type 0} (f : Files S) (old new : S) (nest : Nest) (before after : Reader) (outer : List Reader)
+pub fit_read : {S : Type 0} (f : Files S) (old new : S) (nest : Nest) (before after : Reader) (outer : List OpenFile)
     → (IsTrue (f.is_honest old) → Along (f.sources old) (f.openings old) (f.openings new) before.window.given after.window.given) →
     after.file ≡ before.file
     → after.window.given ≤ 16777216 → length after.window.left ≤ 4096
@@ -107,25 +108,33 @@ fit_read f old new nest before after outer along file few window ends still = λ
     (record { nest = nest; lexer = after; outer = outer }) n refl file
     (along honest) few window (ends honest) (still honest) given fit
 
-given_more : (xs : List Reader) (r : Reader) → given_to (xs ++ r ∷ []) ≡ given_to xs + r.window.given
-given_more [] r = omega arith
-given_more (x ∷ xs) r = let rest = given_more xs r in omega (arith, rest)
+given_more : (xs : List OpenFile) (f : OpenFile) (r : Reader) → f.lexer ≡ r →
+    given_to (lexers_of (xs ++ f ∷ [])) ≡ given_to (lexers_of xs) + r.window.given
+given_more [] f r e = let same = ap (λ (q : Reader). q.window.given) e in omega (arith, same)
+given_more (x ∷ xs) f r e = let rest = given_more xs f r e in omega (arith, rest)
 
 -- A file was entered.
 pub went_in : {S : Type 0} (f : Files S) (old new : S) (before after : Open) → f.sources new ≡ f.sources old →
     f.is_honest new ≡ f.is_honest old
     → f.faults old ≤ f.faults new → f.depth new ≡ f.depth old + 1 → f.given new ≡ f.given old → min (f.opened old + 1) last_count ≤ f.opened
     new
-    → after.outer ≡ before.outer ++ before.lexer ∷ [] → after.lexer.window.given ≡ 0 → length after.nest.names ≤ suc
+    → (waits : OpenFile) → waits.lexer ≡ before.lexer → after.outer ≡ before.outer ++ waits ∷ []
+    → after.lexer.window.given ≡ 0 → length after.nest.names ≤ suc
     (length before.nest.names)
     → Honestly f old before (λ start. IsNested start (f.openings new) after) → StaysGiven f old new before after → Went f old new before
     after
-went_in f old new before after sources honesty faults depth given opened outer front names nested stays = record {
+went_in f old new before after sources honesty faults depth given opened waits same outer front names nested stays = record {
   sources = sources;
   honesty = honesty;
   faults = faults;
-  depth = omega (arith, depth, ap length outer, length-append before.outer (before.lexer ∷ []));
-  given = omega (arith, given, front, ap given_to outer, given_more before.outer before.lexer);
+  depth = omega (arith, depth, ap length outer, length-append before.outer (waits ∷ []));
+  given = omega (
+    arith,
+    given,
+    front,
+    ap (λ (fs : List OpenFile). given_to (lexers_of fs)) outer,
+    given_more before.outer waits before.lexer same,
+  );
   opened = omega (arith, opened, names);
   nested = nested;
   stays_given = stays;
@@ -154,18 +163,25 @@ went_by f old new before after sources honesty faults depth given opened same ne
 pub went_out : {S : Type 0} (f : Files S) (old new : S) (before after : Open) → f.sources new ≡ f.sources old →
     f.is_honest new ≡ f.is_honest old
     → f.faults new ≡ f.faults old → f.depth new + 1 ≡ f.depth old → f.given new ≡ f.given old → f.opened new ≡ f.opened old
-    → before.outer ≡ after.outer ++ after.lexer ∷ [] → after.nest.names ≡ before.nest.names
+    → (back : OpenFile) → after.lexer ≡ back.lexer → before.outer ≡ after.outer ++ back ∷ []
+    → after.nest.names ≡ before.nest.names
     → (IsTrue (f.is_honest old) → Closes (f.openings old) (f.openings new)) → Went f old new before after
-went_out f old new before after sources honesty faults depth given opened outer names closes = record {
+went_out f old new before after sources honesty faults depth given opened back same outer names closes = record {
   sources = sources;
   honesty = honesty;
   faults = omega (arith, faults);
-  depth = omega (arith, depth, ap length outer, length-append after.outer (after.lexer ∷ []));
-  given = omega (arith, given, ap given_to outer, given_more after.outer after.lexer);
+  depth = omega (arith, depth, ap length outer, length-append after.outer (back ∷ []));
+  given = omega (
+    arith,
+    given,
+    ap (λ (fs : List OpenFile). given_to (lexers_of fs)) outer,
+    given_more after.outer back after.lexer (sym same),
+  );
   opened = omega (arith, opened, ap length names);
-  nested = λ honest start n. left_nested start (f.openings old) (f.openings new) before after n (closes honest) outer;
+  nested = λ honest start n. left_nested start (f.openings old) (f.openings new) before after back n (closes honest) outer same;
   stays_given =
-      λ honest start n g. left_given (f.sources old) start (f.openings old) (f.openings new) before after n (closes honest) outer names g;
+      λ honest start n g.
+      left_given (f.sources old) start (f.openings old) (f.openings new) before after n (closes honest) back outer same names g;
 }
 
 -- one name more than can be numbered was opened and closed

@@ -5,9 +5,9 @@ use Rattle.inf_characters.specs.declared.characters.CharSet.{CharSet}
 use Rattle.inf_files.specs.Files.{Opening, Openings, Sources}
 use Rattle.inf_lexer.specs.Names.{Nest, left}
 use Rattle.inf_lexer.specs.Readers.{Reader}
-use Rattle.inf_sources.specs.Cursors.{Cursor}
-use Rattle.inf_sources.specs.Inclusions.{closed, resumed}
-use Rattle.inf_sources.specs.Open.{AllWait, Waits, cursors_at, files_of, nesting}
+use Rattle.inf_sources.specs.Inclusions.{Waiting, closed, resumed}
+use Rattle.inf_sources.specs.Open.{AllWait, Waits, files_of, lexers_of, nesting, waiting_at}
+use Rattle.inf_sources.specs.declared.open_file.OpenFile.{OpenFile}
 
 pub waits_front : (set : CharSet) (limit : ℕ) (readers : List Reader) (r : Reader) → AllWait set limit (readers ++ r ∷ []) →
     AllWait set limit readers
@@ -24,6 +24,10 @@ pub waits_more : (set : CharSet) (limit : ℕ) (readers : List Reader) (r : Read
 waits_more set limit [] r h w = (w, h)
 waits_more set limit (q ∷ readers) r h w = (h.0, waits_more set limit readers r h.1 w)
 
+pub lexers_more : (files : List OpenFile) (f : OpenFile) → lexers_of (files ++ f ∷ []) ≡ lexers_of files ++ f.lexer ∷ []
+lexers_more [] f = refl
+lexers_more (g ∷ files) f = ap (λ readers. g.lexer ∷ readers) (lexers_more files f)
+
 pub files_more : (readers : List Reader) (r : Reader) → files_of (readers ++ r ∷ []) ≡ files_of readers ++ r.file ∷ []
 files_more [] r = refl
 files_more (q ∷ readers) r = ap (λ files. q.file ∷ files) (files_more readers r)
@@ -35,7 +39,7 @@ without_last xs x =
     ap (λ n. take n (xs ++ x ∷ [])) last ∙ take-append_seam xs (x ∷ [])
 
 -- where no file waits nothing is to come of one
-pub none_wait : (s : Sources) (all : List Opening) (places : List ℕ) → cursors_at s all places [] ≡ []
+pub none_wait : (s : Sources) (all : List Opening) (places : List ℕ) → waiting_at s all places [] ≡ []
 none_wait s all [] = refl
 none_wait s all (p ∷ places) = refl
 
@@ -56,12 +60,12 @@ left_fits nest after outer readers file r files waits e is =
     )
 
 -- behind the last file nothing changes
-pub left_none : (s : Sources) (start now : Openings) (nest : Nest) (lexer : Reader) (old new : List Reader) → length old ≡ 0 →
+pub left_none : (s : Sources) (start now : Openings) (nest : Nest) (lexer : Reader) (old new : List OpenFile) → length old ≡ 0 →
     old ≡ new ++ []
     → nesting s start now (record { nest = nest; lexer = lexer; outer = new }) ≡ closed
     (nesting s start now (record { nest = nest; lexer = lexer; outer = old }))
-left_none s start now nest lexer (r ∷ old) new none e = absurd (omega (arith, none))
-left_none s start now nest lexer [] (r ∷ new) none e = cc
+left_none s start now nest lexer (f ∷ old) new none e = absurd (omega (arith, none))
+left_none s start now nest lexer [] (f ∷ new) none e = cc
 left_none s start now nest lexer [] [] none e =
     let n = nesting s start now (record { nest = nest; lexer = lexer; outer = [] }) in
-    ap (λ (waiting : List Cursor). resumed waiting n) (sym (none_wait s now.all (drop 1 (reverse now.open_places))))
+    ap (λ (waiting : List Waiting). resumed waiting n) (sym (none_wait s now.all (drop 1 (reverse now.open_places))))

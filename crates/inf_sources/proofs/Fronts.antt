@@ -9,7 +9,8 @@ use Rattle.inf_lexer.specs.Entering.{ClosedAgain, with_closed, with_opened}
 use Rattle.inf_lexer.specs.Names.{Nest, entered, number_of}
 use Rattle.inf_lexer.specs.Readers.{Reader, at_front}
 use Rattle.inf_lexer.specs.Unread.{Along, Ends, Gave, StillGives, innermost, innermost_place, unread_of}
-use Rattle.inf_sources.specs.Open.{AllGiven, AreNested, AreTracked, Each, Fits, IsCounted, IsFrontOf, IsNested, IsTracked, Open}
+use Rattle.inf_sources.specs.Open.{AllGiven, AreNested, AreTracked, Each, Fits, IsCounted, IsFrontOf, IsNested, IsTracked, Open, lexers, lexers_of}
+use Rattle.inf_sources.specs.declared.open_file.OpenFile.{OpenFile}
 use Rattle.inf_sources.proofs.NamesKept.{named_at, names_stay}
 use Rattle.inf_sources.proofs.Openings.{slice_front}
 use Rattle.inf_sources.proofs.Places.{innermost_of, last_of, or_same, reverse_last}
@@ -80,11 +81,11 @@ read_first : (s : Sources) (start old new : Openings) (before after : Open) → 
 read_first s start old new before after nested names file along window ends still given =
     let n : ℕ = length start.all in
     let gave = along.gave in
-    let at = innermost_of (length old.all) (reverse old.open_places) before.lexer (reverse before.outer) nested.nested in
+    let at = innermost_of (length old.all) (reverse old.open_places) before.lexer (lexers_of (reverse before.outer)) nested.nested in
     let place : innermost_place old ≡ at.place = last_of old.open_places at.place at.rest at.is in
     let now : innermost_place new ≡ innermost_place old = ap (λ (ps : List ℕ). get_or ps (length ps - 1) 0) gave.places in
-    let was : AreTracked s n before.nest.names old.all (at.place ∷ at.rest) (before.lexer ∷ reverse before.outer) =
-    subst (λ (ps : List ℕ). AreTracked s n before.nest.names old.all ps (before.lexer ∷ reverse before.outer)) at.is given.tracked in
+    let was : AreTracked s n before.nest.names old.all (at.place ∷ at.rest) (lexers before) =
+    subst (λ (ps : List ℕ). AreTracked s n before.nest.names old.all ps (lexers before)) at.is given.tracked in
     let first : IsTracked s n before.nest.names old.all (innermost_place old) before.lexer =
     subst (λ (k : ℕ). IsTracked s n before.nest.names old.all k before.lexer) (sym place) was.0 in
     let counted : IsCounted s (innermost new) after.lexer.window = record {
@@ -112,15 +113,15 @@ pub read_given : (s : Sources) (start old new : Openings) (before after : Open) 
 read_given s start old new before after nested outer names file along window ends still given =
     let n : ℕ = length start.all in
     let gave = along.gave in
-    let at = innermost_of (length old.all) (reverse old.open_places) before.lexer (reverse before.outer) nested.nested in
+    let at = innermost_of (length old.all) (reverse old.open_places) before.lexer (lexers_of (reverse before.outer)) nested.nested in
     let place : innermost_place old ≡ at.place = last_of old.open_places at.place at.rest at.is in
     let first : IsTracked s n after.nest.names new.all at.place after.lexer =
     subst (λ (k : ℕ). IsTracked s n after.nest.names new.all k after.lexer) place
     (read_first s start old new before after nested names file along window ends still given) in
-    let was : AreTracked s n before.nest.names old.all (at.place ∷ at.rest) (before.lexer ∷ reverse before.outer) =
-    subst (λ (ps : List ℕ). AreTracked s n before.nest.names old.all ps (before.lexer ∷ reverse before.outer)) at.is given.tracked in
-    let rest : AreTracked s n after.nest.names new.all at.rest (reverse before.outer) =
-    tracked_same s n before.nest.names after.nest.names old.all new.all at.place at.rest (reverse before.outer)
+    let was : AreTracked s n before.nest.names old.all (at.place ∷ at.rest) (lexers before) =
+    subst (λ (ps : List ℕ). AreTracked s n before.nest.names old.all ps (lexers before)) at.is given.tracked in
+    let rest : AreTracked s n after.nest.names new.all at.rest (lexers_of (reverse before.outer)) =
+    tracked_same s n before.nest.names after.nest.names old.all new.all at.place at.rest (lexers_of (reverse before.outer))
     (λ i name e. ap (λ (xs : List (List ℕ)). slice_get xs i) names ∙ e) at.inner
     (λ i less. gave.others i (λ e. omega (arith, less, e, place))) was.1 in
     let front : IsFrontOf s (innermost new) =
@@ -129,9 +130,10 @@ read_given s start old new before after nested outer names file along window end
     in
     record {
       each = read_each (IsFrontOf s) s n old new along.bytes gave front given.each;
-      tracked = subst (λ (ps : List ℕ). AreTracked s n after.nest.names new.all ps (after.lexer ∷ reverse after.outer))
+      tracked = subst (λ (ps : List ℕ). AreTracked s n after.nest.names new.all ps (lexers after))
           (sym (ap reverse gave.places ∙ at.is))
-          (subst (λ (rs : List Reader). AreTracked s n after.nest.names new.all (at.place ∷ at.rest) (after.lexer ∷ reverse rs)) (sym outer)
+          (subst (λ (fs : List OpenFile). AreTracked s n after.nest.names new.all (at.place ∷ at.rest) (after.lexer ∷ lexers_of (reverse fs)))
+          (sym outer)
           (first, rest));
     }
 
@@ -195,25 +197,28 @@ pub entered_given : (s : Sources) (start old new : Openings) (before after : Ope
     IsNested start old before
     → new ≡ with_opened name old → after.nest ≡ entered name before.nest → after.lexer ≡ at_front set limit
     (number_of name before.nest.names)
-    → after.outer ≡ before.outer ++ before.lexer ∷ [] → AllGiven s (length start.all) old before → AllGiven s (length start.all) new after
-entered_given s start old new before after name set limit nested opens nest fronts outer given =
+    → (f : OpenFile) → f.lexer ≡ before.lexer → after.outer ≡ before.outer ++ f ∷ [] → AllGiven s (length start.all) old before →
+    AllGiven s (length start.all) new after
+entered_given s start old new before after name set limit nested opens nest fronts f waits outer given =
     let n : ℕ = length start.all in
     let all : List Opening = old.all ++ opened name ∷ [] in
     let names : List (List ℕ) = (entered name before.nest).names in
     let front : Reader = at_front set limit (number_of name before.nest.names) in
-    let rest : AreTracked s n names all (reverse old.open_places) (before.lexer ∷ reverse before.outer) =
-    tracked_same s n before.nest.names names old.all all (length old.all) (reverse old.open_places) (before.lexer ∷ reverse before.outer)
+    let rest : AreTracked s n names all (reverse old.open_places) (lexers before) =
+    tracked_same s n before.nest.names names old.all all (length old.all) (reverse old.open_places) (lexers before)
     (λ i x e. names_stay name before.nest.names i x e) nested.nested (λ i less. slice_front old.all (opened name) i less) given.tracked in
-    let readers : reverse after.outer ≡ before.lexer ∷ reverse before.outer = ap reverse outer ∙ reverse_last before.outer before.lexer in
-    let tracked : AreTracked s n names all (length old.all ∷ reverse old.open_places) (front ∷ before.lexer ∷ reverse before.outer) =
+    let readers : lexers_of (reverse after.outer) ≡ lexers before =
+    ap (λ (fs : List OpenFile). lexers_of (reverse fs)) outer ∙ ap lexers_of (reverse_last before.outer f)
+    ∙ ap (λ (r : Reader). r ∷ lexers_of (reverse before.outer)) waits in
+    let tracked : AreTracked s n names all (length old.all ∷ reverse old.open_places) (front ∷ lexers before) =
     (tracked_new s n old.all name before.nest set limit nested.more, rest) in
     subst (λ (o : Openings). AllGiven s n o after) (sym opens) (record {
       each = each_more (IsFrontOf s) n old.all name refl given.each;
       tracked = subst (λ (x : Nest). AreTracked s n x.names all (reverse (old.open_places ++ length old.all ∷ []))
-          (after.lexer ∷ reverse after.outer)) (sym nest)
-          (subst (λ (ps : List ℕ). AreTracked s n names all ps (after.lexer ∷ reverse after.outer))
+          (lexers after)) (sym nest)
+          (subst (λ (ps : List ℕ). AreTracked s n names all ps (lexers after))
           (sym (reverse_last old.open_places (length old.all)))
-          (subst (λ (r : Reader). AreTracked s n names all (length old.all ∷ reverse old.open_places) (r ∷ reverse after.outer))
+          (subst (λ (r : Reader). AreTracked s n names all (length old.all ∷ reverse old.open_places) (r ∷ lexers_of (reverse after.outer)))
           (sym fronts)
           (subst (λ (rs : List Reader). AreTracked s n names all (length old.all ∷ reverse old.open_places) (front ∷ rs)) (sym readers)
           tracked)));
@@ -231,13 +236,13 @@ main_given s old new files name nest set limit opens enters fronts outer =
     subst (λ (o : Openings). AllGiven s n o files) (sym opens) (record {
       each = each_more (IsFrontOf s) n old.all name refl (λ i le lt. absurd (omega (arith, le, lt)));
       tracked = subst (λ (x : Nest). AreTracked s n x.names all (reverse (old.open_places ++ length old.all ∷ []))
-          (files.lexer ∷ reverse files.outer)) (sym enters)
-          (subst (λ (ps : List ℕ). AreTracked s n (entered name nest).names all ps (files.lexer ∷ reverse files.outer))
+          (lexers files)) (sym enters)
+          (subst (λ (ps : List ℕ). AreTracked s n (entered name nest).names all ps (lexers files))
           (sym (reverse_last old.open_places (length old.all)))
           (subst (λ (r : Reader). AreTracked s n (entered name nest).names all (length old.all ∷ reverse old.open_places)
-          (r ∷ reverse files.outer)) (sym fronts)
-          (subst (λ (rs : List Reader). AreTracked s n (entered name nest).names all (length old.all ∷ reverse old.open_places)
-          (front ∷ reverse rs)) (sym outer)
+          (r ∷ lexers_of (reverse files.outer))) (sym fronts)
+          (subst (λ (fs : List OpenFile). AreTracked s n (entered name nest).names all (length old.all ∷ reverse old.open_places)
+          (front ∷ lexers_of (reverse fs))) (sym outer)
           (tracked_new s n old.all name nest set limit (omega arith), tt))));
     })
 
@@ -248,7 +253,7 @@ closed_given : (s : Sources) (start old : Openings) (files : Open) (name : List 
 closed_given s start old files name nested given = record {
   each = each_more (IsFrontOf s) (length start.all) old.all name refl given.each;
   tracked = tracked_same s (length start.all) files.nest.names files.nest.names old.all (old.all ++ opened name ∷ []) (length old.all)
-      (reverse old.open_places) (files.lexer ∷ reverse files.outer)
+      (reverse old.open_places) (lexers files)
       (λ i x e. e) nested.nested (λ i less. slice_front old.all (opened name) i less) given.tracked;
 }
 
@@ -267,20 +272,22 @@ failed_fit s known names n old new (inr c) fit =
 
 -- The innermost file was left.
 pub left_given : (s : Sources) (start old new : Openings) (before after : Open) → IsNested start old before → Closes old new →
-    before.outer ≡ after.outer ++ after.lexer ∷ []
+    (f : OpenFile) → before.outer ≡ after.outer ++ f ∷ [] → after.lexer ≡ f.lexer
     → after.nest.names ≡ before.nest.names → AllGiven s (length start.all) old before → AllGiven s (length start.all) new after
-left_given s start old new before after nested closes outer names given =
+left_given s start old new before after nested closes f outer back names given =
     let n : ℕ = length start.all in
     let places : reverse old.open_places ≡ closes.place ∷ reverse new.open_places =
     ap reverse closes.innermost ∙ reverse_last new.open_places closes.place in
-    let readers : reverse before.outer ≡ after.lexer ∷ reverse after.outer = ap reverse outer ∙ reverse_last after.outer after.lexer in
-    let was : AreTracked s n before.nest.names old.all (closes.place ∷ reverse new.open_places) (before.lexer ∷ reverse before.outer) =
-    subst (λ (ps : List ℕ). AreTracked s n before.nest.names old.all ps (before.lexer ∷ reverse before.outer)) places given.tracked in
+    let readers : lexers_of (reverse before.outer) ≡ lexers after =
+    ap (λ (fs : List OpenFile). lexers_of (reverse fs)) outer ∙ ap lexers_of (reverse_last after.outer f)
+    ∙ ap (λ (r : Reader). r ∷ lexers_of (reverse after.outer)) (sym back) in
+    let was : AreTracked s n before.nest.names old.all (closes.place ∷ reverse new.open_places) (lexers before) =
+    subst (λ (ps : List ℕ). AreTracked s n before.nest.names old.all ps (lexers before)) places given.tracked in
     record {
       each = subst (λ (all : List Opening). Each (IsFrontOf s) n all) (sym closes.same) given.each;
       tracked =
-          subst (λ (x : List (List ℕ)). AreTracked s n x new.all (reverse new.open_places) (after.lexer ∷ reverse after.outer)) (sym names)
+          subst (λ (x : List (List ℕ)). AreTracked s n x new.all (reverse new.open_places) (lexers after)) (sym names)
           (subst (λ (all : List Opening). AreTracked s n before.nest.names all (reverse new.open_places)
-          (after.lexer ∷ reverse after.outer)) (sym closes.same)
+          (lexers after)) (sym closes.same)
           (subst (λ (rs : List Reader). AreTracked s n before.nest.names old.all (reverse new.open_places) rs) readers was.1));
     }

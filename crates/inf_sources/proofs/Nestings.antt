@@ -1,5 +1,6 @@
 -- What is open after a token was read, and after a file was left.
-use Rattle.std.proofs.Common.{◌≡◌, ℕ, suc, ◌-◌, List, [], ◌∷◌, ◌++◌, length, drop, reverse, get_or, sym, ap, subst, ◌∙◌, arith, length-append}
+use Rattle.std.proofs.Common.{◌≡◌, ℕ, suc, ◌-◌, List, [], ◌∷◌, ◌++◌, length, drop, reverse, get_or, sym, ap, subst, ◌∙◌, arith, length-append, false, Option, Some, None}
+use Rattle.std.specs.Prelude.{IfNone, is_some}
 use Rattle.std.proofs.lemmas.List.{drop-map, reverse-reverse}
 use Rattle.inf_scanner.specs.Tokens.{Read, next_token}
 use Rattle.inf_scanner.specs.declared.tokens.Token.{Token}
@@ -8,8 +9,9 @@ use Rattle.inf_lexer.specs.Names.{Nest, left}
 use Rattle.inf_lexer.specs.Readers.{Reader, read_out}
 use Rattle.inf_lexer.specs.Unread.{Gave, innermost_place, to_come}
 use Rattle.inf_sources.specs.Cursors.{Cursor, behind, read}
-use Rattle.inf_sources.specs.Inclusions.{Nesting, closed}
-use Rattle.inf_sources.specs.Open.{AreNested, IsNested, Open, Reads, closed_to, cursor_of, cursors_at, nesting, opened_since, rest_of}
+use Rattle.inf_sources.specs.Inclusions.{Nesting, Waiting, closed}
+use Rattle.inf_sources.specs.declared.open_file.OpenFile.{OpenFile}
+use Rattle.inf_sources.specs.Open.{AreNested, IsNested, Open, Reads, closed_to, cursor_of, lexers, lexers_of, nesting, opened_since, rest_of, waiting_as, waiting_at}
 use Rattle.inf_sources.proofs.Places.{innermost_of, last_of, names_of, names_same, nested_as, nested_more, reverse_last, waiting_same}
 
 -- the same files are open
@@ -18,15 +20,15 @@ pub nested_on : (start old new : Openings) (before after : Open) → IsNested st
 nested_on start old new before after n places count outer = record {
   more = omega (arith, n.more, count);
   nested =
-      subst (λ (readers : List Reader). AreNested (length new.all) (reverse new.open_places) (after.lexer ∷ reverse readers)) (sym outer)
-      (subst (λ (ps : List ℕ). AreNested (length new.all) (reverse ps) (after.lexer ∷ reverse before.outer)) (sym places)
-      (subst (λ (bound : ℕ). AreNested bound (reverse old.open_places) (after.lexer ∷ reverse before.outer)) (sym count)
-      (nested_as (length old.all) (reverse old.open_places) before.lexer after.lexer (reverse before.outer) n.nested)));
-  others = ap (λ (readers : List Reader). drop (suc (length readers)) (reverse new.open_places)) outer
+      subst (λ (files : List OpenFile). AreNested (length new.all) (reverse new.open_places) (after.lexer ∷ lexers_of (reverse files))) (sym outer)
+      (subst (λ (ps : List ℕ). AreNested (length new.all) (reverse ps) (after.lexer ∷ lexers_of (reverse before.outer))) (sym places)
+      (subst (λ (bound : ℕ). AreNested bound (reverse old.open_places) (after.lexer ∷ lexers_of (reverse before.outer))) (sym count)
+      (nested_as (length old.all) (reverse old.open_places) before.lexer after.lexer (lexers_of (reverse before.outer)) n.nested)));
+  others = ap (λ (files : List OpenFile). drop (suc (length files)) (reverse new.open_places)) outer
       ∙ ap (λ (ps : List ℕ). drop (suc (length before.outer)) (reverse ps)) places ∙ n.others;
 }
 
-abbrev made : List (List ℕ) → List (List ℕ) → Cursor → List Cursor → Nesting
+abbrev made : List (List ℕ) → List (List ℕ) → Cursor → List Waiting → Nesting
 made names openings cursor waiting = record { names = names; openings = openings; cursor = cursor; waiting = waiting }
 
 -- what the names of later openings are
@@ -65,20 +67,20 @@ pub reads_on : (s : Sources) (start old new : Openings) (before after : Open) (t
 reads_on s start old new before after token bytes n gave nest outer e file same =
     let c = cursor_of before.lexer (to_come s old before.lexer.window) in
     let r : Read = read c in
-    let at = innermost_of (length old.all) (reverse old.open_places) before.lexer (reverse before.outer) n.nested in
+    let at = innermost_of (length old.all) (reverse old.open_places) before.lexer (lexers_of (reverse before.outer)) n.nested in
     let place : innermost_place old ≡ at.place = last_of old.open_places at.place at.rest at.is in
     let cursor : cursor_of after.lexer (to_come s new after.lexer.window) ≡ behind c r =
     cursor_behind before.lexer after.lexer r (to_come s new after.lexer.window) (ap (λ (x : Read). x.rest) e) (ap (λ (x : Read). x.lines) e)
     same.2 same.0 same.1
     (to_come s old before.lexer.window) in
-    let waits : cursors_at s new.all (drop 1 (reverse new.open_places)) (reverse after.outer) ≡ cursors_at s old.all
+    let waits : waiting_at s new.all (drop 1 (reverse new.open_places)) (reverse after.outer) ≡ waiting_at s old.all
     (drop 1 (reverse old.open_places)) (reverse before.outer) =
-    ap (λ (ps : List ℕ). cursors_at s new.all (drop 1 (reverse ps)) (reverse after.outer)) gave.places
-    ∙ ap (λ (readers : List Reader). cursors_at s new.all (drop 1 (reverse old.open_places)) (reverse readers)) outer
-    ∙ ap (λ (ps : List ℕ). cursors_at s new.all (drop 1 ps) (reverse before.outer)) at.is
+    ap (λ (ps : List ℕ). waiting_at s new.all (drop 1 (reverse ps)) (reverse after.outer)) gave.places
+    ∙ ap (λ (files : List OpenFile). waiting_at s new.all (drop 1 (reverse old.open_places)) (reverse files)) outer
+    ∙ ap (λ (ps : List ℕ). waiting_at s new.all (drop 1 ps) (reverse before.outer)) at.is
     ∙ waiting_same s old.all new.all at.place at.rest (reverse before.outer) at.inner
     (λ i less. gave.others i (λ is. omega (arith, less, is, place)))
-    ∙ sym (ap (λ (ps : List ℕ). cursors_at s old.all (drop 1 ps) (reverse before.outer)) at.is) in
+    ∙ sym (ap (λ (ps : List ℕ). waiting_at s old.all (drop 1 ps) (reverse before.outer)) at.is) in
     record {
       kind = ap (λ (x : Read). x.kind) e;
       place = ap (λ (f : ℕ). record { file = f; line = token.place.line }) file
@@ -87,67 +89,78 @@ reads_on s start old new before after token bytes n gave nest outer e file same 
       goes_on =
           ap (λ (x : Nest). made x.names (names_of (drop (length start.all) new.all))
           (cursor_of after.lexer (to_come s new after.lexer.window))
-          (cursors_at s new.all (drop 1 (reverse new.open_places)) (reverse after.outer))) nest
+          (waiting_at s new.all (drop 1 (reverse new.open_places)) (reverse after.outer))) nest
           ∙ ap (λ x. made before.nest.names x (cursor_of after.lexer (to_come s new after.lexer.window))
-          (cursors_at s new.all (drop 1 (reverse new.open_places)) (reverse after.outer))) (opened_as_before s start old new bytes gave)
+          (waiting_at s new.all (drop 1 (reverse new.open_places)) (reverse after.outer))) (opened_as_before s start old new bytes gave)
           ∙ ap (λ x. made before.nest.names (names_of (drop (length start.all) old.all)) x
-          (cursors_at s new.all (drop 1 (reverse new.open_places)) (reverse after.outer))) cursor
+          (waiting_at s new.all (drop 1 (reverse new.open_places)) (reverse after.outer))) cursor
           ∙ ap (λ x. made before.nest.names (names_of (drop (length start.all) old.all)) (behind c r) x) waits;
     }
 
 -- The innermost file was left
 
-pub left_nested : (start old new : Openings) (before after : Open) → IsNested start old before → Closes old new
-    → before.outer ≡ after.outer ++ after.lexer ∷ [] → IsNested start new after
-left_nested start old new before after n closes outer =
-    let at = innermost_of (length old.all) (reverse old.open_places) before.lexer (reverse before.outer) n.nested in
+pub left_nested : (start old new : Openings) (before after : Open) (f : OpenFile) → IsNested start old before → Closes old new
+    → before.outer ≡ after.outer ++ f ∷ [] → after.lexer ≡ f.lexer → IsNested start new after
+left_nested start old new before after f n closes outer back =
+    let at = innermost_of (length old.all) (reverse old.open_places) before.lexer (lexers_of (reverse before.outer)) n.nested in
     let places : reverse old.open_places ≡ closes.place ∷ reverse new.open_places =
     ap reverse closes.innermost ∙ reverse_last new.open_places closes.place in
-    let readers : reverse before.outer ≡ after.lexer ∷ reverse after.outer = ap reverse outer ∙ reverse_last after.outer after.lexer in
+    let readers : lexers_of (reverse before.outer) ≡ lexers after =
+    ap (λ (files : List OpenFile). lexers_of (reverse files)) outer ∙ ap lexers_of (reverse_last after.outer f)
+    ∙ ap (λ (r : Reader). r ∷ lexers_of (reverse after.outer)) (sym back) in
     let rest : at.rest ≡ reverse new.open_places = ap (λ (ps : List ℕ). drop 1 ps) (sym at.is ∙ places) in
-    let inner : AreNested at.place (reverse new.open_places) (after.lexer ∷ reverse after.outer) =
-    subst (λ (ps : List ℕ). AreNested at.place ps (after.lexer ∷ reverse after.outer)) rest
+    let inner : AreNested at.place (reverse new.open_places) (lexers after) =
+    subst (λ (ps : List ℕ). AreNested at.place ps (lexers after)) rest
     (subst (λ (rs : List Reader). AreNested at.place at.rest rs) readers at.inner) in
     let count : length new.all ≡ length old.all = ap length closes.same in
     let size : length before.outer ≡ suc (length after.outer) =
-    ap length outer ∙ omega (arith, length-append after.outer (after.lexer ∷ [])) in
+    ap length outer ∙ omega (arith, length-append after.outer (f ∷ [])) in
     record {
       more = omega (arith, n.more, count);
-      nested = nested_more at.place (length new.all) (reverse new.open_places) (after.lexer ∷ reverse after.outer)
+      nested = nested_more at.place (length new.all) (reverse new.open_places) (lexers after)
           (omega (arith, at.less, count)) inner;
       others = sym (ap (λ (ps : List ℕ). drop (suc (suc (length after.outer))) ps) places)
           ∙ ap (λ (k : ℕ). drop (suc k) (reverse old.open_places)) (sym size) ∙ n.others;
     }
 
-pub left_nesting : (s : Sources) (start old new : Openings) (before after : Open) → IsNested start old before → Closes old new
-    → before.outer ≡ after.outer ++ after.lexer ∷ [] → after.nest ≡ left before.nest
+pub left_nesting : (s : Sources) (start old new : Openings) (before after : Open) (f : OpenFile) → IsNested start old before →
+    Closes old new
+    → before.outer ≡ after.outer ++ f ∷ [] → after.lexer ≡ f.lexer → after.nest ≡ left before.nest
     → nesting s start new after ≡ closed (nesting s start old before)
-left_nesting s start old new before after n closes outer nest =
-    let at = innermost_of (length new.all) (reverse new.open_places) after.lexer (reverse after.outer)
-    (left_nested start old new before after n closes outer).nested in
+left_nesting s start old new before after f n closes outer back nest =
+    let at = innermost_of (length new.all) (reverse new.open_places) after.lexer (lexers_of (reverse after.outer))
+    (left_nested start old new before after f n closes outer back).nested in
     let places : reverse old.open_places ≡ closes.place ∷ reverse new.open_places =
     ap reverse closes.innermost ∙ reverse_last new.open_places closes.place in
-    let readers : reverse before.outer ≡ after.lexer ∷ reverse after.outer = ap reverse outer ∙ reverse_last after.outer after.lexer in
+    let files : reverse before.outer ≡ f ∷ reverse after.outer = ap reverse outer ∙ reverse_last after.outer f in
     let place : innermost_place new ≡ at.place = last_of new.open_places at.place at.rest at.is in
-    let waits : cursors_at s old.all (drop 1 (reverse old.open_places)) (reverse before.outer)
-    ≡ cursor_of after.lexer (rest_of s (get_or old.all at.place (opened [])) after.lexer.window) ∷ cursors_at s old.all at.rest
+    let waits : waiting_at s old.all (drop 1 (reverse old.open_places)) (reverse before.outer)
+    ≡ waiting_as f (rest_of s (get_or old.all at.place (opened [])) f.lexer.window) ∷ waiting_at s old.all at.rest
     (reverse after.outer) =
-    ap (λ (ps : List ℕ). cursors_at s old.all (drop 1 ps) (reverse before.outer)) places
-    ∙ ap (λ (rs : List Reader). cursors_at s old.all (reverse new.open_places) rs) readers
-    ∙ ap (λ (ps : List ℕ). cursors_at s old.all ps (after.lexer ∷ reverse after.outer)) at.is in
+    ap (λ (ps : List ℕ). waiting_at s old.all (drop 1 ps) (reverse before.outer)) places
+    ∙ ap (λ (fs : List OpenFile). waiting_at s old.all (reverse new.open_places) fs) files
+    ∙ ap (λ (ps : List ℕ). waiting_at s old.all ps (f ∷ reverse after.outer)) at.is in
     ap (λ (x : Nest). made x.names (names_of (drop (length start.all) new.all)) (cursor_of after.lexer (to_come s new after.lexer.window))
-    (cursors_at s new.all (drop 1 (reverse new.open_places)) (reverse after.outer))) nest
+    (waiting_at s new.all (drop 1 (reverse new.open_places)) (reverse after.outer))) nest
     ∙ ap (λ (i : ℕ). made before.nest.names (names_of (drop (length start.all) new.all))
     (cursor_of after.lexer (rest_of s (get_or new.all i (opened [])) after.lexer.window))
-    (cursors_at s new.all (drop 1 (reverse new.open_places)) (reverse after.outer))) place
+    (waiting_at s new.all (drop 1 (reverse new.open_places)) (reverse after.outer))) place
     ∙ ap (λ (ps : List ℕ). made before.nest.names (names_of (drop (length start.all) new.all))
     (cursor_of after.lexer (rest_of s (get_or new.all at.place (opened [])) after.lexer.window))
-    (cursors_at s new.all (drop 1 ps) (reverse after.outer))) at.is
+    (waiting_at s new.all (drop 1 ps) (reverse after.outer))) at.is
     ∙ ap (λ (all : List Opening). made before.nest.names (names_of (drop (length start.all) all))
     (cursor_of after.lexer (rest_of s (get_or all at.place (opened [])) after.lexer.window))
-    (cursors_at s all at.rest (reverse after.outer))) closes.same
-    ∙ sym (ap (λ (waiting : List Cursor). closed (made before.nest.names (names_of (drop (length start.all) old.all))
+    (waiting_at s all at.rest (reverse after.outer))) closes.same
+    ∙ ap (λ (r : Reader). made before.nest.names (names_of (drop (length start.all) old.all))
+    (cursor_of r (rest_of s (get_or old.all at.place (opened [])) r.window))
+    (waiting_at s old.all at.rest (reverse after.outer))) back
+    ∙ sym (ap (λ (waiting : List Waiting). closed (made before.nest.names (names_of (drop (length start.all) old.all))
     (cursor_of before.lexer (to_come s old before.lexer.window)) waiting)) waits)
+
+-- where nothing was left this is known
+pub none_left : {T : Type 0} (o : Option T) (P : Type 0) → is_some o ≡ false → IfNone o P → P
+none_left None P e h = h
+none_left (Some x) P e h = cc
 
 -- all files were left but the main one, which was closed too
 pub closed_is : (start old now new : Openings) (files : Open) → IsNested start now files → length files.outer ≡ 0 → now.all ≡ old.all →

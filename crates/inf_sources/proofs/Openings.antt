@@ -1,7 +1,8 @@
 -- What is open after a file was entered.
 use Rattle.std.proofs.Common.{◌≡◌, ◌⊎◌, inl, inr, ℕ, suc, zero, ◌<◌, ◌≤◌, List, [], ◌∷◌, ◌++◌, length, drop, reverse, get_or, Some, unwrap_or, refl, sym, ap, subst, ◌∙◌, arith, length-append}
-use Rattle.std.specs.Prelude.{slice_get}
+use Rattle.std.specs.Prelude.{slice_get, Bool, Vec}
 use Rattle.std.proofs.Math.Seq.{get_or-append_seam}
+use Rattle.std.specs.declared.alloc.Global.{Global}
 use Rattle.inf_characters.specs.declared.characters.CharSet.{CharSet}
 use Rattle.inf_files.specs.Files.{Opening, Openings, Sources, opened}
 use Rattle.inf_lexer.specs.Entering.{ClosedAgain, with_closed, with_opened}
@@ -9,8 +10,10 @@ use Rattle.inf_lexer.specs.Names.{Nest, entered, number_of}
 use Rattle.inf_lexer.specs.Readers.{Reader, at_front}
 use Rattle.inf_lexer.specs.Unread.{innermost, innermost_place, to_come, unread}
 use Rattle.inf_sources.specs.Cursors.{Cursor, front}
-use Rattle.inf_sources.specs.Inclusions.{Nesting, main_opened, with_opened as one_more}
-use Rattle.inf_sources.specs.Open.{AreNested, IsNested, Open, cursor_of, cursors_at, nesting, opened_since, rest_of}
+use Rattle.inf_sources.specs.Inclusions.{Nesting, Waiting, main_opened, with_opened as one_more}
+use Rattle.inf_sources.specs.declared.open_file.Conditional.{Conditional}
+use Rattle.inf_sources.specs.declared.open_file.OpenFile.{OpenFile}
+use Rattle.inf_sources.specs.Open.{AreNested, IsNested, Open, cursor_of, lexers, lexers_of, nesting, opened_since, rest_of, waiting_as, waiting_at, waits}
 use Rattle.inf_sources.proofs.Places.{innermost_of, last_of, names_of, nested_more, reverse_last, waiting_same}
 
 last_is : (old : Openings) (name : List ℕ) → innermost_place (with_opened name old) ≡ length old.all
@@ -57,7 +60,7 @@ main_nesting s old name set limit =
       openings = names;
       cursor = cursor_of (at_front set limit 0)
           (to_come s (with_opened name old) (at_front set limit 0).window);
-      waiting = cursors_at s (old.all ++ opened name ∷ [])
+      waiting = waiting_at s (old.all ++ opened name ∷ [])
           (drop 1 (reverse (old.open_places ++ length old.all ∷ []))) [];
     })
     (drop_more (length old.all) old.all (opened name) (omega arith) ∙ ap (λ os. names_of os ++ name ∷ []) (drop_all old.all))
@@ -65,7 +68,7 @@ main_nesting s old name set limit =
       names = name ∷ [];
       openings = name ∷ [];
       cursor = c;
-      waiting = cursors_at s (old.all ++ opened name ∷ [])
+      waiting = waiting_at s (old.all ++ opened name ∷ [])
           (drop 1 (reverse (old.open_places ++ length old.all ∷ []))) [];
     }) (front_is s old name set limit 0)
     ∙ ap (λ w. record { names = name ∷ []; openings = name ∷ []; cursor = front set limit 0 (unwrap_or (s name) []); waiting = w })
@@ -75,7 +78,7 @@ main_nesting s old name set limit =
     drop_all [] = refl
     drop_all (x ∷ xs) = drop_all xs
 
-    none_at : (places : List ℕ) → cursors_at s (old.all ++ opened name ∷ []) places [] ≡ []
+    none_at : (places : List ℕ) → waiting_at s (old.all ++ opened name ∷ []) places [] ≡ []
     none_at [] = refl
     none_at (p ∷ places) = refl
 
@@ -93,18 +96,19 @@ main_nested old name nest lexer =
 
 -- one file more
 
-pub entered_nested : (start old : Openings) (before : Open) (name : List ℕ) (nest : Nest) (lexer : Reader) → IsNested start old before
-    → IsNested start (with_opened name old) (record { nest = nest; lexer = lexer; outer = before.outer ++ before.lexer ∷ [] })
-entered_nested start old before name nest lexer n =
+pub entered_nested : (start old : Openings) (before : Open) (name : List ℕ) (nest : Nest) (lexer : Reader) (f : OpenFile) →
+    f.lexer ≡ before.lexer → IsNested start old before
+    → IsNested start (with_opened name old) (record { nest = nest; lexer = lexer; outer = before.outer ++ f ∷ [] })
+entered_nested start old before name nest lexer f waits n =
     let places : reverse (old.open_places ++ length old.all ∷ []) ≡ length old.all ∷ reverse old.open_places =
     reverse_last old.open_places (length old.all) in
-    let readers : reverse (before.outer ++ before.lexer ∷ []) ≡ before.lexer ∷ reverse before.outer =
-    reverse_last before.outer before.lexer in
-    let size : length (before.outer ++ before.lexer ∷ []) ≡ suc (length before.outer) =
-    omega (arith, length-append before.outer (before.lexer ∷ [])) in
+    let readers : lexers_of (reverse (before.outer ++ f ∷ [])) ≡ lexers before =
+    ap lexers_of (reverse_last before.outer f) ∙ ap (λ (r : Reader). r ∷ lexers_of (reverse before.outer)) waits in
+    let size : length (before.outer ++ f ∷ []) ≡ suc (length before.outer) =
+    omega (arith, length-append before.outer (f ∷ [])) in
     record {
       more = omega (arith, n.more, length-append old.all (opened name ∷ []));
-      nested = subst (λ ps. AreNested (length (old.all ++ opened name ∷ [])) ps (lexer ∷ reverse (before.outer ++ before.lexer ∷ [])))
+      nested = subst (λ ps. AreNested (length (old.all ++ opened name ∷ [])) ps (lexer ∷ lexers_of (reverse (before.outer ++ f ∷ []))))
           (sym places)
           (subst (λ rs. AreNested (length (old.all ++ opened name ∷ [])) (length old.all ∷ reverse old.open_places) (lexer ∷ rs))
           (sym readers)
@@ -114,43 +118,44 @@ entered_nested start old before name nest lexer n =
           ∙ ap (λ ps. drop (suc (suc (length before.outer))) ps) places ∙ n.others;
     }
 
-pub entered_nesting : (s : Sources) (start old : Openings) (before : Open) (name : List ℕ) (set : CharSet) (limit : ℕ) →
-    IsNested start old before
+pub entered_nesting : (s : Sources) (start old : Openings) (before : Open) (name : List ℕ) (set : CharSet) (limit : ℕ)
+    (conditionals : Vec Conditional Global) (is_system : Bool) → IsNested start old before
     → nesting s start (with_opened name old) (record {
       nest = entered name before.nest;
       lexer = at_front set limit
           (number_of name before.nest.names);
-      outer = before.outer ++ before.lexer ∷ [];
+      outer = before.outer ++ waits before.lexer conditionals is_system ∷ [];
     })
-    ≡ one_more set limit s name (nesting s start old before)
-entered_nesting s start old before name set limit n =
+    ≡ one_more set limit s (reverse conditionals.items) is_system name (nesting s start old before)
+entered_nesting s start old before name set limit conditionals is_system n =
+    let f : OpenFile = waits before.lexer conditionals is_system in
     let number : ℕ = number_of name before.nest.names in
     let new = with_opened name old in
-    let at = innermost_of (length old.all) (reverse old.open_places) before.lexer (reverse before.outer) n.nested in
+    let at = innermost_of (length old.all) (reverse old.open_places) before.lexer (lexers_of (reverse before.outer)) n.nested in
     let places : reverse new.open_places ≡ length old.all ∷ reverse old.open_places = reverse_last old.open_places (length old.all) in
-    let readers : reverse (before.outer ++ before.lexer ∷ []) ≡ before.lexer ∷ reverse before.outer =
-    reverse_last before.outer before.lexer in
+    let files : reverse (before.outer ++ f ∷ []) ≡ f ∷ reverse before.outer = reverse_last before.outer f in
     let place : innermost_place old ≡ at.place = last_of old.open_places at.place at.rest at.is in
-    let waits : cursors_at s new.all (drop 1 (reverse new.open_places)) (reverse (before.outer ++ before.lexer ∷ [])) ≡
-    (nesting s start old before).cursor ∷ (nesting s start old before).waiting =
-    ap (λ (ps : List ℕ). cursors_at s new.all (drop 1 ps) (reverse (before.outer ++ before.lexer ∷ []))) places
-    ∙ ap (λ rs. cursors_at s new.all (reverse old.open_places) rs) readers
-    ∙ waiting_same s old.all new.all (length old.all) (reverse old.open_places) (before.lexer ∷ reverse before.outer) n.nested
+    let all_wait : waiting_at s new.all (drop 1 (reverse new.open_places)) (reverse (before.outer ++ f ∷ [])) ≡
+    record { cursor = (nesting s start old before).cursor; conditionals = reverse conditionals.items; is_system = is_system }
+    ∷ (nesting s start old before).waiting =
+    ap (λ (ps : List ℕ). waiting_at s new.all (drop 1 ps) (reverse (before.outer ++ f ∷ []))) places
+    ∙ ap (λ fs. waiting_at s new.all (reverse old.open_places) fs) files
+    ∙ waiting_same s old.all new.all (length old.all) (reverse old.open_places) (f ∷ reverse before.outer) n.nested
     (λ i less. slice_front old.all (opened name) i less)
-    ∙ ap (λ (ps : List ℕ). cursors_at s old.all ps (before.lexer ∷ reverse before.outer)) at.is
-    ∙ sym (ap (λ (i : ℕ). cursor_of before.lexer (rest_of s (get_or old.all i (opened [])) before.lexer.window) ∷ cursors_at s old.all
+    ∙ ap (λ (ps : List ℕ). waiting_at s old.all ps (f ∷ reverse before.outer)) at.is
+    ∙ sym (ap (λ (i : ℕ). waiting_as f (rest_of s (get_or old.all i (opened [])) before.lexer.window) ∷ waiting_at s old.all
     at.rest (reverse before.outer)) place)
-    ∙ sym (ap (λ (ps : List ℕ). cursor_of before.lexer (to_come s old before.lexer.window) ∷ cursors_at s old.all (drop 1 ps)
+    ∙ sym (ap (λ (ps : List ℕ). waiting_as f (to_come s old before.lexer.window) ∷ waiting_at s old.all (drop 1 ps)
     (reverse before.outer)) at.is) in
-    let made : List (List ℕ) → Cursor → List Cursor → Nesting = λ openings cursor waiting.
+    let made : List (List ℕ) → Cursor → List Waiting → Nesting = λ openings cursor waiting.
     record { names = (entered name before.nest).names; openings = openings; cursor = cursor; waiting = waiting } in
     ap (λ x. made x (cursor_of (at_front set limit number) (to_come s new (at_front set limit number).window))
-    (cursors_at s new.all (drop 1 (reverse new.open_places)) (reverse (before.outer ++ before.lexer ∷ []))))
+    (waiting_at s new.all (drop 1 (reverse new.open_places)) (reverse (before.outer ++ f ∷ []))))
     (drop_more (length start.all) old.all (opened name) n.more)
     ∙ ap (λ x. made (names_of (drop (length start.all) old.all) ++ name ∷ []) x
-    (cursors_at s new.all (drop 1 (reverse new.open_places)) (reverse (before.outer ++ before.lexer ∷ []))))
+    (waiting_at s new.all (drop 1 (reverse new.open_places)) (reverse (before.outer ++ f ∷ []))))
     (front_is s old name set limit number)
-    ∙ ap (λ x. made (names_of (drop (length start.all) old.all) ++ name ∷ []) (front set limit number (unwrap_or (s name) [])) x) waits
+    ∙ ap (λ x. made (names_of (drop (length start.all) old.all) ++ name ∷ []) (front set limit number (unwrap_or (s name) [])) x) all_wait
 
 -- one that was closed at once
 
@@ -159,7 +164,7 @@ closed_nested : (start old : Openings) (before : Open) (name : List ℕ) → IsN
 closed_nested start old before name n = record {
   more = omega (arith, n.more, length-append old.all (opened name ∷ []));
   nested =
-      nested_more (length old.all) (length (old.all ++ opened name ∷ [])) (reverse old.open_places) (before.lexer ∷ reverse before.outer)
+      nested_more (length old.all) (length (old.all ++ opened name ∷ [])) (reverse old.open_places) (lexers before)
       (omega (arith, length-append old.all (opened name ∷ []))) n.nested;
   others = n.others;
 }
@@ -184,13 +189,13 @@ only_name name x (suc place) e = cc
 abbrev fresh : CharSet → ℕ → Nest
 fresh set limit = record { set = set; limit = limit; names = []; open_files = [] }
 
-pub main_of : (s : Sources) (old new : Openings) (name n : List ℕ) (stack nest : Nest) (lexer : Reader) (outer : List Reader)
+pub main_of : (s : Sources) (old new : Openings) (name n : List ℕ) (stack nest : Nest) (lexer : Reader) (outer : List OpenFile)
     (set : CharSet) (limit : ℕ)
     → stack ≡ fresh set limit → n ≡ name → new ≡ with_opened n old → nest ≡ entered n stack → lexer ≡ at_front stack.set stack.limit
     (number_of n stack.names) → outer ≡ []
     → nesting s old new (record { nest = nest; lexer = lexer; outer = outer }) ≡ main_opened set limit s name
 main_of s old new name n stack nest lexer outer set limit is_fresh named opens enters fronts empty =
-    ap (λ (o : List Reader). nesting s old new (record { nest = nest; lexer = lexer; outer = o })) empty
+    ap (λ (o : List OpenFile). nesting s old new (record { nest = nest; lexer = lexer; outer = o })) empty
     ∙ ap (λ (r : Reader). nesting s old new (record { nest = nest; lexer = r; outer = [] })) fronts
     ∙ ap (λ (x : Nest). nesting s old new (record {
       nest = x;
@@ -204,10 +209,10 @@ main_of s old new name n stack nest lexer outer set limit is_fresh named opens e
     (record { nest = entered m (fresh set limit); lexer = at_front set limit 0; outer = [] })) named
     ∙ main_nesting s old name set limit
 
-pub main_nested_of : (old new : Openings) (n : List ℕ) (nest : Nest) (lexer : Reader) (outer : List Reader) → new ≡ with_opened n old →
+pub main_nested_of : (old new : Openings) (n : List ℕ) (nest : Nest) (lexer : Reader) (outer : List OpenFile) → new ≡ with_opened n old →
     outer ≡ []
     → IsNested old new (record { nest = nest; lexer = lexer; outer = outer })
 main_nested_of old new n nest lexer outer opens empty =
     subst (λ (o : Openings). IsNested old o (record { nest = nest; lexer = lexer; outer = outer })) (sym opens)
-    (subst (λ (o : List Reader). IsNested old (with_opened n old) (record { nest = nest; lexer = lexer; outer = o })) (sym empty)
+    (subst (λ (o : List OpenFile). IsNested old (with_opened n old) (record { nest = nest; lexer = lexer; outer = o })) (sym empty)
     (main_nested old n nest lexer))

@@ -7,7 +7,9 @@ use Rattle.std.proofs.lemmas.List.{reverse-append, reverse-reverse}
 use Rattle.inf_files.specs.Files.{Opening, Openings, Sources, opened}
 use Rattle.inf_lexer.specs.Readers.{Reader}
 use Rattle.inf_sources.specs.Cursors.{Cursor}
-use Rattle.inf_sources.specs.Open.{AreNested, IsNested, Open, cursor_of, cursors_at, files_of, nesting, rest_of}
+use Rattle.inf_sources.specs.Inclusions.{cursors, cursors_of}
+use Rattle.inf_sources.specs.Open.{AreNested, IsNested, Open, files_of, lexers, lexers_of, nesting, rest_of, waiting_as, waiting_at}
+use Rattle.inf_sources.specs.declared.open_file.OpenFile.{OpenFile}
 
 -- the last of some numbers
 last_place : (outer : List ℕ) (place : ℕ) → get_or (outer ++ place ∷ []) (length (outer ++ place ∷ []) - 1) 0 ≡ place
@@ -62,39 +64,41 @@ pub or_same : (old new : List Opening) (i : ℕ) → slice_get new i ≡ slice_g
 or_same old new i e = or_of new i ∙ ap (λ o. unwrap_or o (opened [])) e ∙ sym (or_of old i)
 
 -- files that wait have the same to come where their openings did not change
-pub waiting_same : (s : Sources) (old new : List Opening) (bound : ℕ) (places : List ℕ) (readers : List Reader) →
-    AreNested bound places readers
-    → ((i : ℕ) → i < bound → slice_get new i ≡ slice_get old i) → cursors_at s new places readers ≡ cursors_at s old places readers
+pub waiting_same : (s : Sources) (old new : List Opening) (bound : ℕ) (places : List ℕ) (files : List OpenFile) →
+    AreNested bound places (lexers_of files)
+    → ((i : ℕ) → i < bound → slice_get new i ≡ slice_get old i) → waiting_at s new places files ≡ waiting_at s old places files
 waiting_same s old new bound [] [] h same = refl
 waiting_same s old new bound (p ∷ places) [] h same = refl
-waiting_same s old new bound [] (r ∷ readers) h same = absurd h
-waiting_same s old new bound (p ∷ places) (r ∷ readers) h same =
-    ap (λ o. cursor_of r (rest_of s o r.window) ∷ cursors_at s new places readers) (or_same old new p (same p h.0))
-    ∙ ap (λ cursors. cursor_of r (rest_of s (get_or old p (opened [])) r.window) ∷ cursors)
-    (waiting_same s old new p places readers h.1 (λ i less. same i (omega (arith, less, h.0))))
+waiting_same s old new bound [] (f ∷ files) h same = absurd h
+waiting_same s old new bound (p ∷ places) (f ∷ files) h same =
+    ap (λ o. waiting_as f (rest_of s o f.lexer.window) ∷ waiting_at s new places files) (or_same old new p (same p h.0))
+    ∙ ap (λ waiting. waiting_as f (rest_of s (get_or old p (opened [])) f.lexer.window) ∷ waiting)
+    (waiting_same s old new p places files h.1 (λ i less. same i (omega (arith, less, h.0))))
 
-pub waiting_length : (s : Sources) (all : List Opening) (bound : ℕ) (places : List ℕ) (readers : List Reader) →
-    AreNested bound places readers
-    → length (cursors_at s all places readers) ≡ length readers
+pub waiting_length : (s : Sources) (all : List Opening) (bound : ℕ) (places : List ℕ) (files : List OpenFile) →
+    AreNested bound places (lexers_of files)
+    → length (waiting_at s all places files) ≡ length files
 waiting_length s all bound [] [] h = refl
 waiting_length s all bound (p ∷ places) [] h = refl
-waiting_length s all bound [] (r ∷ readers) h = absurd h
-waiting_length s all bound (p ∷ places) (r ∷ readers) h = ap suc (waiting_length s all p places readers h.1)
+waiting_length s all bound [] (f ∷ files) h = absurd h
+waiting_length s all bound (p ∷ places) (f ∷ files) h = ap suc (waiting_length s all p places files h.1)
 
 -- the numbers of open files
-waiting_files : (s : Sources) (all : List Opening) (bound : ℕ) (places : List ℕ) (readers : List Reader) → AreNested bound places readers
-    → map (λ (c : Cursor). c.file) (cursors_at s all places readers) ≡ files_of readers
+waiting_files : (s : Sources) (all : List Opening) (bound : ℕ) (places : List ℕ) (files : List OpenFile) →
+    AreNested bound places (lexers_of files)
+    → map (λ (c : Cursor). c.file) (cursors_of (waiting_at s all places files)) ≡ files_of (lexers_of files)
 waiting_files s all bound [] [] h = refl
 waiting_files s all bound (p ∷ places) [] h = refl
-waiting_files s all bound [] (r ∷ readers) h = absurd h
-waiting_files s all bound (p ∷ places) (r ∷ readers) h = ap (λ (files : List ℕ). r.file ∷ files) (waiting_files s all p places readers h.1)
+waiting_files s all bound [] (f ∷ files) h = absurd h
+waiting_files s all bound (p ∷ places) (f ∷ files) h =
+    ap (λ (numbers : List ℕ). f.lexer.file ∷ numbers) (waiting_files s all p places files h.1)
 
 pub files_are : (s : Sources) (start now : Openings) (files : Open) → IsNested start now files
-    → map (λ (c : Cursor). c.file) ((nesting s start now files).cursor ∷ (nesting s start now files).waiting) ≡ files_of
-    (files.lexer ∷ reverse files.outer)
+    → map (λ (c : Cursor). c.file) (cursors (nesting s start now files)) ≡ files_of (lexers files)
 files_are s start now files n =
-    let at = innermost_of (length now.all) (reverse now.open_places) files.lexer (reverse files.outer) n.nested in
-    ap (λ (ps : List ℕ). files.lexer.file ∷ map (λ (c : Cursor). c.file) (cursors_at s now.all (drop 1 ps) (reverse files.outer))) at.is
+    let at = innermost_of (length now.all) (reverse now.open_places) files.lexer (lexers_of (reverse files.outer)) n.nested in
+    ap (λ (ps : List ℕ). files.lexer.file ∷ map (λ (c : Cursor). c.file)
+    (cursors_of (waiting_at s now.all (drop 1 ps) (reverse files.outer)))) at.is
     ∙ ap (λ (fs : List ℕ). files.lexer.file ∷ fs) (waiting_files s now.all at.place at.rest (reverse files.outer) at.inner)
 
 -- Names of openings

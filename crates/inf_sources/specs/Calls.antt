@@ -3,7 +3,7 @@ use Rattle.std.specs.Prelude.{◌≡◌, ◌+◌, ◌-◌, ◌<◌, ◌≤◌, �
 use Rattle.inf_files.specs.Files.{Openings, Rose, last_count}
 use Rattle.inf_files.specs.declared.files.Files.{Ghosts as Files}
 use Rattle.inf_lexer.specs.Readers.{Reader}
-use Rattle.inf_sources.specs.Open.{AllGiven, Each, Fits, IsNested, Open}
+use Rattle.inf_sources.specs.Open.{AllGiven, Each, Fits, IsNested, Open, lexers_of}
 
 -- with an honest reader, whatever was opened before the files that are open
 abbrev pub Honestly : {S : Type 0} → Files S → S → Open → (Openings → Type 0) → Type 0
@@ -15,7 +15,7 @@ given_to [] = 0
 given_to (r ∷ readers) = r.window.given + given_to readers
 
 abbrev pub given_all : Open → ℕ
-given_all f = given_to f.outer + f.lexer.window.given
+given_all f = given_to (lexers_of f.outer) + f.lexer.window.given
 
 -- A call keeps the sources and the honesty of the reader, and each failure and each opening is counted.
 pub record Kept {S : Type 0} (f : Files S) (old new : S) : Type 0 where

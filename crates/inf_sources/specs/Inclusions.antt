@@ -1,5 +1,5 @@
 -- Which file an inclusion opens, and what is open then (Designer's Manual, fourth edition, sections 38 and 39).
-use Rattle.std.specs.Prelude.{◌≡◌, ℕ, ◌+◌, ◌≤◌, ◌⊎◌, List, [], ◌∷◌, ◌++◌, length, nat_le, not, if◌then◌else◌, Option, Some, None, slice_get, unwrap_or}
+use Rattle.std.specs.Prelude.{◌≡◌, ℕ, ◌+◌, ◌≤◌, ◌⊎◌, List, [], ◌∷◌, ◌++◌, length, map, nat_le, not, Bool, if◌then◌else◌, Option, Some, None, slice_get, unwrap_or}
 use Rattle.inf_characters.specs.declared.characters.CharSet.{CharSet}
 use Rattle.inf_files.specs.Files.{Sources}
 use Rattle.inf_lexer.specs.Entering.{first_there}
@@ -7,16 +7,32 @@ use Rattle.inf_lexer.specs.Names.{can_name, candidates, number_of, with_name}
 use Rattle.inf_sources.specs.Cursors.{Cursor, front}
 use Rattle.inf_sources.specs.declared.faults.IncludeFault.{IncludeFault}
 use Rattle.inf_sources.specs.declared.faults.IncludeFault.TheVariants as fault
+use Rattle.inf_sources.specs.declared.open_file.Conditional.{Conditional}
 use Rattle.inf_sources.specs.declared.open_files.Included.{Included}
 use Rattle.inf_sources.specs.declared.open_files.Included.TheVariants as included
 
+-- A file that waits for one that it includes: what is still to come of it; the conditionals that are open between its directives,
+-- the latest first; and whether its routines may be replaced.
+pub record Waiting : Type 0 where
+  pub cursor : Cursor
+  pub conditionals : List Conditional
+  pub is_system : Bool
+
+-- what is still to come of each of some files
+abbrev pub cursors_of : List Waiting → List Cursor
+cursors_of waiting = map (λ (w : Waiting). w.cursor) waiting
+
 -- The files that are open: the names that were opened, each at its number; the names of all openings in their order; what is
--- still to come of the innermost file; and of those that wait for it, the inner ones first.
+-- still to come of the innermost file; and those that wait for it, the inner ones first.
 pub record Nesting : Type 0 where
   pub names : List (List ℕ)
   pub openings : List (List ℕ)
   pub cursor : Cursor
-  pub waiting : List Cursor
+  pub waiting : List Waiting
+
+-- what is still to come of each, the innermost first
+abbrev pub cursors : Nesting → List Cursor
+cursors n = n.cursor ∷ cursors_of n.waiting
 
 -- the front of the source of this name, which gets the next number, if the name is new
 abbrev pub front_of : CharSet → ℕ → Sources → List ℕ → List (List ℕ) → Cursor
@@ -31,19 +47,19 @@ main_opened set limit sources name = record {
   waiting = [];
 }
 
--- one file more is open, the innermost
-abbrev pub with_opened : CharSet → ℕ → Sources → List ℕ → Nesting → Nesting
-with_opened set limit sources name n = record {
+-- one file more is open, the innermost, and the one waits in which these conditionals are open, and which is marked so
+abbrev pub with_opened : CharSet → ℕ → Sources → List Conditional → Bool → List ℕ → Nesting → Nesting
+with_opened set limit sources conditionals is_system name n = record {
   names = with_name name n.names;
   openings = n.openings ++ name ∷ [];
   cursor = front_of set limit sources name n.names;
-  waiting = n.cursor ∷ n.waiting;
+  waiting = record { cursor = n.cursor; conditionals = conditionals; is_system = is_system } ∷ n.waiting;
 }
 
 -- the innermost file is closed, where another waits for it
-abbrev pub resumed : List Cursor → Nesting → Nesting
+abbrev pub resumed : List Waiting → Nesting → Nesting
 resumed [] n = n
-resumed (c ∷ waiting) n = record n { cursor = c; waiting = waiting }
+resumed (w ∷ waiting) n = record n { cursor = w.cursor; waiting = waiting }
 
 abbrev pub closed : Nesting → Nesting
 closed n = resumed n.waiting n
@@ -73,10 +89,10 @@ inclusion sources directories text n =
     if nat_le most_open (length n.waiting + 1) then OpensNone included.TooDeep
     else by_first (first_there sources (candidates directories (innermost_name n) text))
 
--- what is open behind it
-abbrev pub nested_by : CharSet → ℕ → Sources → Inclusion → Nesting → Nesting
-nested_by set limit sources (Opens name) n = with_opened set limit sources name n
-nested_by set limit sources (OpensNone why) n = n
+-- what is open behind it, by the conditionals and the mark of the innermost file
+abbrev pub nested_by : CharSet → ℕ → Sources → List Conditional → Bool → Inclusion → Nesting → Nesting
+nested_by set limit sources conditionals is_system (Opens name) n = with_opened set limit sources conditionals is_system name n
+nested_by set limit sources conditionals is_system (OpensNone why) n = n
 
 -- what is answered of it
 abbrev pub answer_of : Inclusion → Included

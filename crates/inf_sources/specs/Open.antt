@@ -1,5 +1,6 @@
 -- What the code's open files stand for, with a reader that keeps to its sources.
-use Rattle.std.specs.Prelude.{◌≡◌, ℕ, suc, ◌<◌, ◌≤◌, List, [], ◌∷◌, ◌++◌, length, map, drop, reverse, get_or, unwrap_or, Some, slice_get, true, false, if◌then◌else◌}
+use Rattle.std.specs.Prelude.{◌≡◌, ℕ, suc, ◌<◌, ◌≤◌, List, [], ◌∷◌, ◌++◌, length, map, drop, reverse, get_or, unwrap_or, Some, slice_get, Bool, true, false, if◌then◌else◌, Vec}
+use Rattle.std.specs.declared.alloc.Global.{Global}
 use Rattle.inf_characters.specs.declared.characters.CharSet.{CharSet}
 use Rattle.inf_scanner.specs.declared.tokens.Token.{Token}
 use Rattle.inf_files.specs.Files.{Opening, Openings, Sources, opened}
@@ -7,13 +8,27 @@ use Rattle.inf_lexer.specs.Names.{Nest}
 use Rattle.inf_lexer.specs.Readers.{Reader}
 use Rattle.inf_lexer.specs.Unread.{to_come, unread_of, View}
 use Rattle.inf_sources.specs.Cursors.{Cursor, behind, read}
-use Rattle.inf_sources.specs.Inclusions.{Nesting}
+use Rattle.inf_sources.specs.Inclusions.{Nesting, Waiting}
+use Rattle.inf_sources.specs.declared.open_file.Conditional.{Conditional}
+use Rattle.inf_sources.specs.declared.open_file.OpenFile.{OpenFile}
 
--- The names and numbers of the files, the lexer of the innermost, and those of the files that wait, the main one first.
+-- The names and numbers of the files, the lexer of the innermost, and the files that wait, the main one first.
 pub record Open : Type 0 where
   pub nest : Nest
   pub lexer : Reader
-  pub outer : List Reader
+  pub outer : List OpenFile
+
+-- a file that waits: its lexer, the conditionals that are open between its directives, the latest last, and its mark
+abbrev pub waits : Reader → Vec Conditional Global → Bool → OpenFile
+waits lexer conditionals is_system = record { lexer = lexer; conditionals = conditionals; is_system = is_system }
+
+-- the lexers of some files
+abbrev pub lexers_of : List OpenFile → List Reader
+lexers_of files = map (λ (f : OpenFile). f.lexer) files
+
+-- those of all that are open, the innermost first
+abbrev pub lexers : Open → List Reader
+lexers files = files.lexer ∷ lexers_of (reverse files.outer)
 
 -- the numbers of the files of some lexers
 abbrev pub files_of : List Reader → List ℕ
@@ -37,11 +52,16 @@ cursor_of r rest = record { rest = rest; lines = r.lines; file = r.file; set = r
 abbrev pub rest_of : Sources → Opening → View → List ℕ
 rest_of sources o view = view.left ++ (if view.is_over then [] else unread_of sources o)
 
--- what is still to come of each of some files, by the places of their openings
-abbrev pub cursors_at : Sources → List Opening → List ℕ → List Reader → List Cursor
-cursors_at sources all (p ∷ places) (r ∷ readers) =
-    cursor_of r (rest_of sources (get_or all p (opened [])) r.window) ∷ cursors_at sources all places readers
-cursors_at sources all places readers = []
+-- a file that waits, of which this is still to come
+abbrev pub waiting_as : OpenFile → List ℕ → Waiting
+waiting_as f rest =
+    record { cursor = cursor_of f.lexer rest; conditionals = reverse f.conditionals.items; is_system = f.is_system }
+
+-- some files that wait, by the places of their openings
+abbrev pub waiting_at : Sources → List Opening → List ℕ → List OpenFile → List Waiting
+waiting_at sources all (p ∷ places) (f ∷ files) =
+    waiting_as f (rest_of sources (get_or all p (opened [])) f.lexer.window) ∷ waiting_at sources all places files
+waiting_at sources all places files = []
 
 -- the names of the openings now behind those that were there before, in their order
 abbrev pub opened_since : Openings → Openings → List (List ℕ)
@@ -53,7 +73,7 @@ nesting sources start now files = record {
   names = files.nest.names;
   openings = opened_since start now;
   cursor = cursor_of files.lexer (to_come sources now files.lexer.window);
-  waiting = cursors_at sources now.all (drop 1 (reverse now.open_places)) (reverse files.outer);
+  waiting = waiting_at sources now.all (drop 1 (reverse now.open_places)) (reverse files.outer);
 }
 
 -- each lexer has its opening, and each was opened behind those around it
@@ -65,7 +85,7 @@ AreNested bound (p ∷ places) (r ∷ readers) = (p < bound) × AreNested p plac
 -- the open files were opened behind the others, one inside the other
 pub record IsNested (start now : Openings) (files : Open) : Type 0 where
   pub more : length start.all ≤ length now.all
-  pub nested : AreNested (length now.all) (reverse now.open_places) (files.lexer ∷ reverse files.outer)
+  pub nested : AreNested (length now.all) (reverse now.open_places) (lexers files)
   pub others : drop (suc (length files.outer)) (reverse now.open_places) ≡ reverse start.open_places
 
 -- What was given of an opening is a front of its source,
@@ -108,7 +128,7 @@ AreTracked sources n names all (p ∷ places) (r ∷ readers) =
 -- All that was opened behind n openings was given so.
 pub record AllGiven (sources : Sources) (n : ℕ) (now : Openings) (files : Open) : Type 0 where
   pub each : Each (IsFrontOf sources) n now.all
-  pub tracked : AreTracked sources n files.nest.names now.all (reverse now.open_places) (files.lexer ∷ reverse files.outer)
+  pub tracked : AreTracked sources n files.nest.names now.all (reverse now.open_places) (lexers files)
 
 -- A token was read of the innermost file, with this spelling.
 pub record Reads (token : Token) (spelling : List ℕ) (was now : Nesting) : Type 0 where

@@ -2,6 +2,7 @@
 #![tactic(auto)]
 
 mod faults;
+pub mod open_file;
 pub mod open_files;
 
 pub use faults::IncludeFault;

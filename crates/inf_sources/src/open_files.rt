@@ -1,5 +1,5 @@
 //! The files that are open, each with its lexer.
-ghost use Rattle.std.specs.Prelude.{◌≡◌, ◌≢◌, ◌+◌, ◌-◌, min, ◌≤◌, ◌<◌, ◌⊎◌, ◌++◌, [], ◌∷◌, true, false, if◌then◌else◌, is_ok, IfErr, IfOk, OnOk, OnErr, IsErrOf, IsOk, IsTrue, None, Some, length, map, slice_get, unwrap_or};
+ghost use Rattle.std.specs.Prelude.{◌≡◌, ◌≢◌, ◌+◌, ◌-◌, min, ◌≤◌, ◌<◌, ◌⊎◌, ◌++◌, [], ◌∷◌, false, true, if◌then◌else◌, is_ok, IfErr, IfNone, IfOk, IfSome, OnOk, OnErr, IsErrOf, IsOk, IsTrue, None, Some, length, map, reverse, slice_get, unwrap_or};
 ghost use Rattle.inf_files.specs.Files.{Openings, Rose, last_count};
 ghost use Rattle.inf_lexer.specs.Names.{can_name, innermost_name};
 ghost use Rattle.inf_lexer.specs.Readers.{Took, at_front};
@@ -8,9 +8,10 @@ ghost use Rattle.inf_sources.specs.Calls.{AskedTooMany, Honestly, Kept, StaysFit
 ghost use Rattle.inf_sources.specs.Cursors.{Unfinished};
 ghost use Rattle.inf_sources.specs.Inclusions.{OpenedInVain, OpensTooMany, answer_of, closed, inclusion, main_opened, nested_by};
 ghost use Rattle.inf_sources.specs.Quoted.{KeepsFew};
-ghost use Rattle.inf_sources.specs.Open.{AllGiven, Each, Fits, IsNested, Reads, closed_to, nesting, opened_since};
+ghost use Rattle.inf_sources.specs.Open.{AllGiven, Each, Fits, IsNested, Reads, closed_to, nesting, opened_since, waits};
 
 use crate::faults::IncludeFault;
+use crate::open_file::{Conditional, OpenFile};
 use inf_files::files::Files;
 use inf_lexer::{EnterFault, LexFault, Lexer, Stack, Token};
 use inf_text::CharSet;
@@ -29,27 +30,29 @@ pub enum Included {
     TooDeep,
 }
 
-/// The files that are open: their names, and the lexer of each.
+/// The files that are open: their names, the lexer of the innermost, and the others as they were left.
 ///
 /// With an honest reader they stand for a `Nesting`: what is still to come of each.
 #[derive(Drop)]
 pub struct OpenFiles {
+    alloc: Global,
     names: Stack,
+    /// The lexer of the innermost file.
     lexer: Lexer,
-    /// The lexers of the files that wait for the innermost, the main one first.
-    outer: Vec<Lexer>,
+    /// The files that wait for it, the main one first.
+    outer: Vec<OpenFile>,
 }
 
 impl Model for OpenFiles {
     ghost use Rattle.std.specs.Prelude.{◌≡◌, ◌++◌, [], ◌∷◌};
-    ghost use Rattle.inf_sources.specs.Open.{AllWait, Open, files_of};
+    ghost use Rattle.inf_sources.specs.Open.{AllWait, Open, files_of, lexers_of};
 
     ghost Value = { Open };
 
     ghost view = { λ o. record { nest = o.names; lexer = o.lexer; outer = o.outer.items } };
 
-    ghost invariant = { λ o. (o.names.open_files ≡ files_of o.outer.items ++ o.lexer.file ∷ [])
-        × ((o.lexer.set ≡ o.names.set) × ((o.lexer.limit ≡ o.names.limit) × AllWait o.names.set o.names.limit o.outer.items)) };
+    ghost invariant = { λ o. (o.names.open_files ≡ files_of (lexers_of o.outer.items) ++ o.lexer.file ∷ [])
+        × ((o.lexer.set ≡ o.names.set) × ((o.lexer.limit ≡ o.names.limit) × AllWait o.names.set o.names.limit (lexers_of o.outer.items))) };
 }
 
 impl OpenFiles {
@@ -89,6 +92,7 @@ impl OpenFiles {
         let mut names = Stack::new(alloc, set, limit);
         let lexer = names.enter_main(files, name)?;
         Ok(OpenFiles {
+            alloc,
             names,
             lexer,
             outer: Vec::new(alloc),
@@ -156,6 +160,9 @@ impl OpenFiles {
     /// the innermost. A name that no file has, one that is empty or has a byte over 127, and a seventeenth file open
     /// nothing.
     ///
+    /// The conditionals and the mark are those of the innermost file. They wait with it where a file is entered, which has
+    /// no conditional yet and no mark.
+    ///
     /// `Device` comes where the reader failed, or 65,535 other names were opened before; `Memory` where there is no room,
     /// which is asked for before each attempt to open a source.
     pub fn include<F: Files>(
@@ -163,6 +170,8 @@ impl OpenFiles {
         files: &mut F,
         directories: &[&str],
         text: &[u8],
+        conditionals: &mut Vec<Conditional>,
+        is_system: &mut bool,
     ) -> Result<Included, IncludeFault>
         requires goes { self.old.lexer.has_failed ≡ false }
 
@@ -174,7 +183,7 @@ impl OpenFiles {
         ensures nesting { Honestly F.Files files.old self.old
             (λ start. OnOk result (let was = nesting (F.sources files.old) start (F.openings files.old) self.old in
             nesting (F.sources files.old) start (F.openings files.new) self.new
-            ≡ nested_by self.old.nest.set self.old.nest.limit (F.sources files.old)
+            ≡ nested_by self.old.nest.set self.old.nest.limit (F.sources files.old) (reverse conditionals.old.items) is_system.old
             (inclusion (F.sources files.old) (map (λ d. d.now) directories.now) text.now was) was)) }
         ensures in_vain { Honestly F.Files files.old self.old
             (λ start. IfErr result (λ fault. let was = nesting (F.sources files.old) start (F.openings files.old) self.old in
@@ -186,8 +195,12 @@ impl OpenFiles {
         ensures went { Went F.Files files.old files.new self.old self.new }
         ensures entered { IfOk result (λ included. included ≡ Included.Entered →
             ((self.new.lexer.window.given ≡ 0) × (self.new.lexer.window.left ≡ []))
-            × ((self.new.outer ≡ self.old.outer ++ self.old.lexer ∷ []) × (length self.old.outer < 15))) }
-        ensures kept { IfOk result (λ included. (included ≡ Included.Entered → ⊥) → self.new ≡ self.old) }
+            × ((self.new.outer ≡ self.old.outer ++ waits self.old.lexer conditionals.old is_system.old ∷ [])
+            × (length self.old.outer < 15))) }
+        ensures fresh { IfOk result (λ included. included ≡ Included.Entered →
+            (conditionals.new.items ≡ []) × (is_system.new ≡ false)) }
+        ensures kept { IfOk result (λ included. (included ≡ Included.Entered → ⊥) →
+            (self.new ≡ self.old) × ((conditionals.new ≡ conditionals.old) × (is_system.new ≡ is_system.old))) }
         ensures err { OnErr result (self.new ≡ self.old) }
         ensures goes { OnOk result (self.new.lexer.has_failed ≡ false) }
         ensures settings { (self.new.nest.set ≡ self.old.nest.set) × (self.new.nest.limit ≡ self.old.nest.limit) }
@@ -202,7 +215,11 @@ impl OpenFiles {
         self.outer.reserve(1)?;
         match self.names.enter(files, directories, text) {
             Ok(lexer) => {
-                let waits = mem::replace(&mut self.lexer, lexer);
+                let waits = OpenFile {
+                    lexer: mem::replace(&mut self.lexer, lexer),
+                    conditionals: mem::replace(conditionals, Vec::new(self.alloc)),
+                    is_system: mem::replace(is_system, false),
+                };
                 self.outer.push_reserved(waits);
                 Ok(Included::Entered)
             }
@@ -214,12 +231,13 @@ impl OpenFiles {
         }
     }
 
-    /// Closes the innermost file and goes on in the one that waits for it; answers whether one does. Where none does,
-    /// nothing is closed.
-    pub fn leave<F: Files>(&mut self, files: &mut F) -> bool
+    /// Closes the innermost file and goes on in the one that waits for it; gives back its conditionals and its mark. Where none
+    /// waits, nothing is closed.
+    pub fn leave<F: Files>(&mut self, files: &mut F) -> Option<(Vec<Conditional>, bool)>
         requires is_open { length self.old.outer < F.depth files.old }
-        ensures left { result ≡ true → (self.old.outer ≡ self.new.outer ++ self.new.lexer ∷ []) × (self.new.lexer.has_failed ≡ false) }
-        ensures last { result ≡ false → (self.old.outer ≡ []) × ((self.new ≡ self.old) × (files.new ≡ files.old)) }
+        ensures left { IfSome result (λ back. (self.old.outer ≡ self.new.outer ++ waits self.new.lexer back.0 back.1 ∷ [])
+            × (self.new.lexer.has_failed ≡ false)) }
+        ensures last { IfNone result ((self.old.outer ≡ []) × ((self.new ≡ self.old) × (files.new ≡ files.old))) }
         ensures nesting { Honestly F.Files files.old self.old (λ start. nesting (F.sources files.old) start (F.openings files.new) self.new
             ≡ closed (nesting (F.sources files.old) start (F.openings files.old) self.old)) }
         ensures went { Went F.Files files.old files.new self.old self.new }
@@ -228,12 +246,14 @@ impl OpenFiles {
         ensures all { IsTrue (F.is_honest files.old) → (F.openings files.new).all ≡ (F.openings files.old).all }
         ensures settings { (self.new.nest.set ≡ self.old.nest.set) × (self.new.nest.limit ≡ self.old.nest.limit) }
     {
-        let Some(lexer) = self.outer.pop() else {
-            return false;
-        };
+        let OpenFile {
+            lexer,
+            conditionals,
+            is_system,
+        } = self.outer.pop()?;
         self.names.leave(files);
         self.lexer = lexer;
-        true
+        Some((conditionals, is_system))
     }
 
     /// Closes all files that are open.
@@ -245,7 +265,7 @@ impl OpenFiles {
         ensures all { IsTrue (F.is_honest files.old) → (F.openings files.new).all ≡ (F.openings files.old).all }
         ensures depth { F.depth files.new + length self.outer + 1 ≡ F.depth files.old }
     {
-        while self.leave(files) {}
+        while self.leave(files).is_some() {}
         self.names.leave(files);
     }
 }

@@ -86,6 +86,7 @@ fn found_operand(found: Found<Place>, number: Option<usize>) -> Operand
 }
 
 /// What a name stands for, which is only looked up. A local hides it.
+#[inline(always)]
 pub(crate) fn looked_name(locals: &Locals, names: &Symbols<Place>, name: &[u8]) -> Operand
     requires { length name.now ≤ 35 }
     ensures { result ≡ looked_name (listed locals.now) names.now name.now }
@@ -194,6 +195,7 @@ fn settled_action(name: Option<NameToken<'_>>, out: &mut Output) -> Result<Opera
 }
 
 /// What a leaf of a unit with these tokens stands for, where its name is only looked up, behind new actions.
+#[inline(always)]
 fn looked_leaf(
     locals: &Locals,
     out: &Output,
@@ -238,6 +240,7 @@ fn settled_as(found: Option<(Found<Place>, Option<usize>)>) -> Operand
 }
 
 /// What a name stands for, which is used, where it is no local.
+#[inline(always)]
 fn settled_name(
     locals: &Locals,
     name: Option<NameToken<'_>>,
@@ -342,6 +345,7 @@ fn add_one(
 }
 
 /// What a leaf of a unit with these tokens stands for, whose name or word is used, and whose text is added.
+#[inline(always)]
 fn settled_leaf(
     alloc: Global,
     set: CharSet,

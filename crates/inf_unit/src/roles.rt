@@ -172,7 +172,8 @@ pub fn is_text(note: Note) -> bool
     matches!(note, Note::PrintText)
 }
 
-/// What an action is there for.
+/// What an action is there for. A call would cost more than the look into the table.
+#[inline(always)]
 pub fn role_of(action: Action) -> Role
     ensures { result ≡ role_of action }
 {

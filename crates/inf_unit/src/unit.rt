@@ -184,6 +184,8 @@ impl Unit {
     }
 
     /// A token is taken.
+    // It is inlined, as what else is done for each token: a call costs as much as half of it.
+    #[inline(always)]
     pub fn take(&mut self, token: &SourceToken<'_>) -> Result<(), AllocError>
         ensures { OnOk result (unit self.new ≡ taken (spelled token.now) (unit self.old)) }
     {
@@ -213,6 +215,7 @@ impl Unit {
     }
 
     /// What an action of the grammar notes of it, beside what it gathers of expressions.
+    #[inline(always)]
     pub fn note(&mut self, note: Note) -> Result<(), AllocError>
         ensures { OnOk result (unit self.new ≡ noted note (unit self.old)) }
     {
@@ -363,6 +366,7 @@ impl Unit {
     }
 
     /// What an action of the grammar gathers of an expression.
+    #[inline(always)]
     pub fn step(&mut self, step: Step) -> Result<(), AllocError>
         ensures { OnOk result (unit self.new ≡ stepped step (unit self.old)) }
     {
@@ -397,6 +401,7 @@ impl Unit {
     }
 
     /// The last token is a leaf.
+    #[inline(always)]
     fn leaf(&mut self) -> Result<(), AllocError>
         ensures { OnOk result (unit self.new ≡ stepped Step.Leaf (unit self.old)) }
     {

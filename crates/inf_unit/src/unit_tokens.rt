@@ -157,6 +157,7 @@ impl UnitTokens {
     }
 
     /// One more.
+    #[inline(always)]
     pub fn add(&mut self, token: &SourceToken<'_>) -> Result<(), AllocError>
         ensures { OnOk result (self.new ≡ self.old ++ spelled token.now ∷ []) }
     {

@@ -11,9 +11,9 @@ use inf_bodies::bodies::{attribute_of_body, class_of_body, end_body, property_of
 use inf_bodies::values::{routine_of_body, value_of_body};
 use inf_compilation::compilation::Compilation;
 use inf_compilation::parts::Part;
+use inf_constructs::constructs::{Case, Kind, Over};
 use inf_lexer::{Place, Stack};
 use inf_listings::arrays::end_entry;
-use inf_constructs::constructs::{Case, Kind, Over};
 use inf_syntax::Action;
 use inf_unit::roles::{Ending, Note, Opening, Role, is_text, makes_sure, role_of};
 use inf_verb_lines::lines::end_line;

@@ -1,9 +1,15 @@
--- Where the last letters differ, so do the names.
-use Rattle.std.proofs.Common.{nat_eq, sym, ◌∙◌}
+-- Where the lengths or the last letters differ, so do the names.
+use Rattle.std.proofs.Common.{nat_eq, sym, ◌∙◌, arith}
 use Rattle.std.specs.Str.{str_eq_ignore_ascii_case}
 use Rattle.std.proofs.lemmas.Bool.{eqb-true, false_from_ne_true}
-use Rattle.inf_sinks.proofs.SameNames.{same_letter}
+use Rattle.inf_sinks.proofs.SameNames.{same_length, same_letter}
 use Rattle.inf_sinks.proofs.locals.is_same_name.Goals as goal
+
+pub returns-then-name-other : goal.returns-then-name-other
+returns-then-name-other c =
+    let name = c.args.name.now in
+    let other = c.args.other.now in
+    sym (false_from_ne_true (str_eq_ignore_ascii_case name other) (λ e. omega (arith, same_length name other e)))
 
 pub returns-else-last_letter : goal.returns-else-last_letter
 returns-else-last_letter c =

@@ -1,9 +1,8 @@
 use Rattle.std.proofs.Common.{◌≡◌, ◌⊎◌, inl, inr, Err, ap, subst, ◌∙◌}
-use Rattle.inf_opcode.proofs.Growing.{on_err}
 use Rattle.inf_sources.specs.Inclusions.{OpenedInVain, OpensTooMany, inclusion}
 use Rattle.inf_sources.specs.Open.{nesting, opened_since}
 use Rattle.inf_session.specs.Choices.{chosen}
-use Rattle.inf_session.proofs.Opening.{in_vain, tried}
+use Rattle.inf_session.proofs.Opening.{in_vain}
 use Rattle.inf_files.specs.Files.{Rose}
 use Rattle.inf_sources.specs.Calls.{IsUnreadable}
 use Rattle.inf_session.specs.Leading.{NotTried}
@@ -48,32 +47,6 @@ returns-in-Err-Device-clause-stops g c = λ honest start nested.
             (c.in-Err-Device.ensures.in_vain honest start nested);
       },
     )) c.unread.ensures
-
-pub returns-in_err-enter_file-in-Ok-Entered-clause-opened : goal.returns-in_err-enter_file-in-Ok-Entered-clause-opened
-returns-in_err-enter_file-in-Ok-Entered-clause-opened g c = λ honest start nested.
-    let files = g.F.Files in
-    let s = files.sources c.args.files.now in
-    let o = chosen c.args.self.now.setup in
-    let old = files.openings c.args.files.now in
-    let new = files.openings c.include.new.files in
-    let before = c.args.self.now in
-    let nest = before.open_files.nest in
-    on_err c.from_residual.result
-    (tried s o c.args.unit c.args.text.now nest.set nest.limit start old new before c.include.new.self
-    (c.in-Ok-Entered.ensures.nesting honest start nested))
-
-pub returns-in_err-enter_file-in-Ok-Entered-2-clause-opened : goal.returns-in_err-enter_file-in-Ok-Entered-2-clause-opened
-returns-in_err-enter_file-in-Ok-Entered-2-clause-opened g c = λ honest start nested.
-    let files = g.F.Files in
-    let s = files.sources c.args.files.now in
-    let o = chosen c.args.self.now.setup in
-    let old = files.openings c.args.files.now in
-    let new = files.openings c.include.new.files in
-    let before = c.args.self.now in
-    let nest = before.open_files.nest in
-    on_err c.from_residual-in_err-enter_file-in-Ok-Entered-2.result
-    (tried s o c.args.unit c.args.text.now nest.set nest.limit start old new before c.include.new.self
-    (c.in-Ok-Entered.ensures.nesting honest start nested))
 
 pub returns-in-Err-Device-clause-opened : goal.returns-in-Err-Device-clause-opened
 returns-in-Err-Device-clause-opened g c = λ honest start nested.

@@ -1,8 +1,8 @@
 use Rattle.std.proofs.Common.{◌≡◌, true, Err, ℕ, List, [], ◌∷◌, ◌≤◌, reverse, unwrap_or, inl, inr, ap, length, subst, sym, ◌∙◌}
 use Rattle.std.specs.Prelude.{slice_get}
 use Rattle.inf_files.specs.Files.{Rose}
-use Rattle.inf_lexer.specs.Readers.{Reader}
-use Rattle.inf_sources.specs.Open.{files_of, nesting}
+use Rattle.inf_sources.specs.Open.{files_of, lexers_of, nesting}
+use Rattle.inf_sources.specs.declared.open_file.OpenFile.{OpenFile}
 use Rattle.inf_sources.proofs.Places.{files_are}
 use Rattle.inf_session.specs.Leading.{StopsInToken}
 use Rattle.inf_sources.specs.Quoted.{is_quoted_kind}
@@ -59,8 +59,8 @@ returns-in-Err-Read-clause-stops g c = λ honest start nested.
       openings = c.next.ensures.opened honest start nested;
       names = ap (λ (n : Nest). n.names) same.0;
       numbers =
-          ap (λ (n : ℕ). n ∷ files_of (reverse after.outer)) same.1.1
-          ∙ ap (λ (rs : List Reader). before.lexer.file ∷ files_of (reverse rs)) same.1.0 ∙ sym (files_are s start old before nested);
+          ap (λ (n : ℕ). n ∷ files_of (lexers_of (reverse after.outer))) same.1.1
+          ∙ ap (λ (fs : List OpenFile). before.lexer.file ∷ files_of (lexers_of (reverse fs))) same.1.0 ∙ sym (files_are s start old before nested);
       name_is = is ∙ c.innermost.ensures.file ∙ ap (λ (n : Nest). unwrap_or (slice_get n.names after.lexer.file) []) same.0
           ∙ ap (λ (k : ℕ). unwrap_or (slice_get before.nest.names k) []) same.1.1;
     }) c.unread.ensures

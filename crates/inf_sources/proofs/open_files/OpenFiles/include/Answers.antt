@@ -1,4 +1,4 @@
-use Rattle.std.proofs.Common.{◌≡◌, ◌≤◌, ◌⊎◌, IsTrue, inl, inr, List, false, length, ◌++◌, [], ◌∷◌, Err, Some, None, map, sym, ap, subst, ◌∙◌}
+use Rattle.std.proofs.Common.{◌≡◌, ◌≤◌, ◌⊎◌, IsTrue, inl, inr, List, false, length, ◌++◌, [], ◌∷◌, Err, Some, None, map, refl, reverse, sym, ap, subst, ◌∙◌}
 use Rattle.inf_files.specs.Files.{Openings, Rose}
 use Rattle.inf_lexer.specs.Entering.{Leaves}
 use Rattle.inf_lexer.specs.Names.{Nest, can_name, candidates, innermost_name, number_of}
@@ -7,7 +7,8 @@ use Rattle.inf_lexer.specs.declared.enter_faults.EnterFault.TheVariants as fault
 use Rattle.inf_sources.specs.Calls.{AskedTooMany, Honestly, Went}
 use Rattle.inf_sources.specs.Inclusions.{OpenedInVain, OpensTooMany, answer_of, inclusion, nested_by}
 use Rattle.inf_sources.specs.declared.faults.IncludeFault.TheVariants as vain
-use Rattle.inf_sources.specs.Open.{Each, Fits, IsNested, Open, nesting, opened_since}
+use Rattle.inf_sources.specs.Open.{Each, Fits, IsNested, Open, nesting, opened_since, waits}
+use Rattle.inf_sources.specs.declared.open_file.OpenFile.{OpenFile}
 use Rattle.inf_sources.specs.declared.open_files.Included.TheVariants as included
 use Rattle.inf_sources.proofs.Answering.{is_true, deep_is, entered_fits, entered_is, entered_nested_of, first_is, opened_in_vain, opens_too_many}
 use Rattle.inf_sources.proofs.Calls.{asked_too_many, went_by, went_in}
@@ -21,12 +22,16 @@ invariant_of-self-in-Ok g c =
     let inv = c.self.invariant in
     let e = c.in-Ok.ensures.ok in
     let goes = ap (λ (o : Open). o.lexer.has_failed) c.self.view_is ∙ c.requires.goes in
-    entered_fits c.self.inside.names c.enter.new.self c.self.inside.outer.items c.push_reserved.new.self.items c.self.inside.lexer
-    c.replace-waits.new.dest e.name
-    inv.0 inv.1.1.1 (record { of_set = inv.1.0; of_limit = inv.1.1.0; goes = goes })
-    (c.push_reserved.ensures.items ∙ ap (λ r. c.reserve.new.self.items ++ r ∷ []) c.replace-waits.ensures.value ∙ ap
-    (λ rs. rs ++ c.self.inside.lexer ∷ []) c.in_ok-reserve.ensures.items)
-    e.is_entered.0 (c.replace-waits.ensures.after ∙ e.is_entered.1)
+    let outer =
+    c.push_reserved.ensures.items
+    ∙ ap (λ r. c.reserve.new.self.items ++ waits r c.replace-in-Ok.result c.replace-in-Ok-2.result ∷ []) c.replace.ensures.value
+    ∙ ap (λ v. c.reserve.new.self.items ++ waits c.self.inside.lexer v c.replace-in-Ok-2.result ∷ []) c.replace-in-Ok.ensures.value
+    ∙ ap (λ b. c.reserve.new.self.items ++ waits c.self.inside.lexer c.args.conditionals.now b ∷ []) c.replace-in-Ok-2.ensures.value
+    ∙ ap (λ fs. fs ++ waits c.self.inside.lexer c.args.conditionals.now c.args.is_system.now ∷ []) c.in_ok-reserve.ensures.items in
+    entered_fits c.self.inside.names c.enter.new.self c.self.inside.outer.items c.push_reserved.new.self.items
+    (waits c.self.inside.lexer c.args.conditionals.now c.args.is_system.now) c.replace.new.dest e.name
+    inv.0 inv.1.1.1 (record { of_set = inv.1.0; of_limit = inv.1.1.0; goes = goes }) outer
+    e.is_entered.0 (c.replace.ensures.after ∙ e.is_entered.1)
 
 pub returns-in-Ok-clause-answer : goal.returns-in-Ok-clause-answer
 returns-in-Ok-clause-answer g c = λ honest start nested.
@@ -58,16 +63,21 @@ returns-in-Ok-clause-nesting g c = λ honest start nested.
     let flat : 16 ≤ length before.nest.open_files → ⊥ =
     λ h. let never = (c.in-Ok.ensures.too_deep (is_true (can_name text) fit) h).0 in cc in
     let new = files.openings c.enter.new.files in
-    let after : Open = record { nest = c.enter.new.self; lexer = c.replace-waits.new.dest; outer = c.push_reserved.new.self.items } in
+    let after : Open = record { nest = c.enter.new.self; lexer = c.replace.new.dest; outer = c.push_reserved.new.self.items } in
     let outer =
-    c.push_reserved.ensures.items ∙ ap (λ r. c.reserve.new.self.items ++ r ∷ []) c.replace-waits.ensures.value
-    ∙ ap (λ rs. rs ++ c.self.inside.lexer ∷ []) c.in_ok-reserve.ensures.items in
+    c.push_reserved.ensures.items
+    ∙ ap (λ r. c.reserve.new.self.items ++ waits r c.replace-in-Ok.result c.replace-in-Ok-2.result ∷ []) c.replace.ensures.value
+    ∙ ap (λ v. c.reserve.new.self.items ++ waits c.self.inside.lexer v c.replace-in-Ok-2.result ∷ []) c.replace-in-Ok.ensures.value
+    ∙ ap (λ b. c.reserve.new.self.items ++ waits c.self.inside.lexer c.args.conditionals.now b ∷ []) c.replace-in-Ok-2.ensures.value
+    ∙ ap (λ fs. fs ++ waits c.self.inside.lexer c.args.conditionals.now c.args.is_system.now ∷ []) c.in_ok-reserve.ensures.items in
     subst (λ (o : Open). IsNested start old o → nesting s start new after ≡ nested_by o.nest.set o.nest.limit s
+    (reverse c.args.conditionals.now.items) c.args.is_system.now
     (inclusion s directories text (nesting s start old o)) (nesting s start old o)) c.self.view_is
-    (λ n. entered_is s start old new before e.name c.enter.new.self c.replace-waits.new.dest c.push_reserved.new.self.items n
+    (λ n. entered_is s start old new before e.name c.enter.new.self c.replace.new.dest c.push_reserved.new.self.items
+    c.args.conditionals.now c.args.is_system.now n
     (e.is_opened honest) e.is_entered.0
-    (c.replace-waits.ensures.after ∙ e.is_entered.1) outer
-    ∙ ap (λ i. nested_by before.nest.set before.nest.limit s i (nesting s start old before))
+    (c.replace.ensures.after ∙ e.is_entered.1) outer
+    ∙ ap (λ i. nested_by before.nest.set before.nest.limit s (reverse c.args.conditionals.now.items) c.args.is_system.now i (nesting s start old before))
     (sym (first_is s directories text start old before (Some e.name) n c.self.invariant.0 fit flat (e.is_first honest)))) nested
 
 pub returns-in-Ok-clause-went : goal.returns-in-Ok-clause-went
@@ -78,20 +88,25 @@ returns-in-Ok-clause-went g c =
     let old = files.openings c.args.files.now in
     let new = files.openings c.enter.new.files in
     let before : Open = record { nest = c.self.inside.names; lexer = c.self.inside.lexer; outer = c.self.inside.outer.items } in
-    let after : Open = record { nest = c.enter.new.self; lexer = c.replace-waits.new.dest; outer = c.push_reserved.new.self.items } in
+    let after : Open = record { nest = c.enter.new.self; lexer = c.replace.new.dest; outer = c.push_reserved.new.self.items } in
     let outer =
-    c.push_reserved.ensures.items ∙ ap (λ r. c.reserve.new.self.items ++ r ∷ []) c.replace-waits.ensures.value
-    ∙ ap (λ rs. rs ++ c.self.inside.lexer ∷ []) c.in_ok-reserve.ensures.items in
-    let front = ap (λ (r : Reader). r.window.given) (c.replace-waits.ensures.after ∙ e.is_entered.1) in
+    c.push_reserved.ensures.items
+    ∙ ap (λ r. c.reserve.new.self.items ++ waits r c.replace-in-Ok.result c.replace-in-Ok-2.result ∷ []) c.replace.ensures.value
+    ∙ ap (λ v. c.reserve.new.self.items ++ waits c.self.inside.lexer v c.replace-in-Ok-2.result ∷ []) c.replace-in-Ok.ensures.value
+    ∙ ap (λ b. c.reserve.new.self.items ++ waits c.self.inside.lexer c.args.conditionals.now b ∷ []) c.replace-in-Ok-2.ensures.value
+    ∙ ap (λ fs. fs ++ waits c.self.inside.lexer c.args.conditionals.now c.args.is_system.now ∷ []) c.in_ok-reserve.ensures.items in
+    let front = ap (λ (r : Reader). r.window.given) (c.replace.ensures.after ∙ e.is_entered.1) in
     subst (λ (o : Open). Went files c.args.files.now c.enter.new.files o after) c.self.view_is
     (went_in files c.args.files.now c.enter.new.files before after enter.sources enter.honesty enter.faults enter.depth enter.given
-    enter.opened outer front
+    enter.opened (waits c.self.inside.lexer c.args.conditionals.now c.args.is_system.now) refl outer front
     (entered_counts e.name before.nest after.nest e.is_entered.0)
-    (λ honest start n. entered_nested_of start old new before e.name c.enter.new.self c.replace-waits.new.dest
-    c.push_reserved.new.self.items n (e.is_opened honest) outer)
+    (λ honest start n. entered_nested_of start old new before e.name c.enter.new.self c.replace.new.dest
+    c.push_reserved.new.self.items (waits c.self.inside.lexer c.args.conditionals.now c.args.is_system.now) refl n (e.is_opened honest)
+    outer)
     (λ honest start n all. entered_given (files.sources c.args.files.now) start old new before after e.name before.nest.set
     before.nest.limit n (e.is_opened honest) e.is_entered.0
-    (c.replace-waits.ensures.after ∙ e.is_entered.1) outer all))
+    (c.replace.ensures.after ∙ e.is_entered.1)
+    (waits c.self.inside.lexer c.args.conditionals.now c.args.is_system.now) refl outer all))
 
 pub returns-in-Err-Absent-clause-answer : goal.returns-in-Err-Absent-clause-answer
 returns-in-Err-Absent-clause-answer g c = λ honest start nested.
@@ -129,14 +144,14 @@ returns-in-Err-Absent-clause-nesting g c = λ honest start nested.
     (Err f)) c.in-Err-Absent.field-0-is (c.in-Err-Absent.ensures.leaves honest) in
     subst (λ (o : Open). IsNested start old o → nesting s start (files.openings c.enter.new.files)
     (record { nest = c.enter.new.self; lexer = c.self.inside.lexer; outer = c.reserve.new.self.items })
-    ≡ nested_by o.nest.set o.nest.limit s (inclusion s directories text (nesting s start old o)) (nesting s start old o)) c.self.view_is
+    ≡ nested_by o.nest.set o.nest.limit s (reverse c.args.conditionals.now.items) c.args.is_system.now (inclusion s directories text (nesting s start old o)) (nesting s start old o)) c.self.view_is
     (λ n. ap (λ x. nesting s start x (record { nest = c.enter.new.self; lexer = c.self.inside.lexer; outer = c.reserve.new.self.items }))
     left.1
     ∙ ap (λ x. nesting s start old (record { nest = x; lexer = c.self.inside.lexer; outer = c.reserve.new.self.items }))
     c.in-Err-Absent.ensures.err
     ∙ ap (λ x. nesting s start old (record { nest = c.self.inside.names; lexer = c.self.inside.lexer; outer = x }))
     c.in_ok-reserve.ensures.items
-    ∙ ap (λ i. nested_by before.nest.set before.nest.limit s i (nesting s start old before))
+    ∙ ap (λ i. nested_by before.nest.set before.nest.limit s (reverse c.args.conditionals.now.items) c.args.is_system.now i (nesting s start old before))
     (sym (first_is s directories text start old before None n c.self.invariant.0 fit flat left.0))) nested
 
 pub returns-in-Err-TooDeep-clause-answer : goal.returns-in-Err-TooDeep-clause-answer
@@ -165,14 +180,14 @@ returns-in-Err-TooDeep-clause-nesting g c = λ honest start nested.
     let full = c.in-Err-TooDeep.ensures.full (ap (λ f. Err f) c.in-Err-TooDeep.field-0-is) in
     subst (λ (o : Open). IsNested start old o → nesting s start (files.openings c.enter.new.files)
     (record { nest = c.enter.new.self; lexer = c.self.inside.lexer; outer = c.reserve.new.self.items })
-    ≡ nested_by o.nest.set o.nest.limit s (inclusion s directories text (nesting s start old o)) (nesting s start old o)) c.self.view_is
+    ≡ nested_by o.nest.set o.nest.limit s (reverse c.args.conditionals.now.items) c.args.is_system.now (inclusion s directories text (nesting s start old o)) (nesting s start old o)) c.self.view_is
     (λ n. ap (λ x. nesting s start x (record { nest = c.enter.new.self; lexer = c.self.inside.lexer; outer = c.reserve.new.self.items }))
     (ap files.openings (c.in-Err-TooDeep.ensures.too_deep (is_true (can_name text) fit) full).1)
     ∙ ap (λ x. nesting s start old (record { nest = x; lexer = c.self.inside.lexer; outer = c.reserve.new.self.items }))
     c.in-Err-TooDeep.ensures.err
     ∙ ap (λ x. nesting s start old (record { nest = c.self.inside.names; lexer = c.self.inside.lexer; outer = x }))
     c.in_ok-reserve.ensures.items
-    ∙ ap (λ i. nested_by before.nest.set before.nest.limit s i (nesting s start old before))
+    ∙ ap (λ i. nested_by before.nest.set before.nest.limit s (reverse c.args.conditionals.now.items) c.args.is_system.now i (nesting s start old before))
     (sym (deep_is s directories text start old before n c.self.invariant.0 fit full))) nested
 
 pub returns-in-Ok-clause-fits : goal.returns-in-Ok-clause-fits
@@ -196,7 +211,7 @@ returns-in-Err-Device-clause-went g c =
     subst (λ f. Leaves s before.nest.names names old new (Err f)) c.in-Err-Device.field-0-is (enter.leaves honest) in
     let same : after ≡ before =
     ap (λ (n : Nest). record { nest = n; lexer = c.self.inside.lexer; outer = c.reserve.new.self.items }) enter.err
-    ∙ ap (λ (rs : List Reader). record { nest = c.self.inside.names; lexer = c.self.inside.lexer; outer = rs })
+    ∙ ap (λ (fs : List OpenFile). record { nest = c.self.inside.names; lexer = c.self.inside.lexer; outer = fs })
     c.in_ok-reserve.ensures.items in
     subst (λ (o : Open). Went files c.args.files.now c.enter.new.files o after) c.self.view_is
     (went_by files c.args.files.now c.enter.new.files before after enter.sources enter.honesty enter.faults enter.depth enter.given

@@ -1,16 +1,16 @@
-use Rattle.std.proofs.Common.{◌≡◌, List, length, arith, ap, subst, sym, ◌∙◌}
+use Rattle.std.proofs.Common.{◌≡◌, List, length, refl, arith, ap, subst, sym, ◌∙◌}
 use Rattle.inf_files.specs.Files.{Opening}
 use Rattle.inf_sources.specs.Inclusions.{closed}
 use Rattle.inf_lexer.specs.Names.{Nest}
 use Rattle.inf_sources.specs.Calls.{Went}
 use Rattle.inf_sources.proofs.Calls.{went_out}
-use Rattle.inf_sources.specs.Open.{AllWait, Each, Fits, IsNested, Open, nesting}
-use Rattle.inf_sources.proofs.Entered.{left_fits, left_none, waits_last}
+use Rattle.inf_sources.specs.Open.{AllWait, Each, Fits, IsNested, Open, lexers_of, nesting}
+use Rattle.inf_sources.proofs.Entered.{left_fits, left_none, lexers_more, waits_last}
 use Rattle.inf_sources.proofs.Nestings.{left_nesting}
 use Rattle.inf_sources.proofs.open_files.OpenFiles.leave.Goals as goal
 
-pub returns-in_default-clause-nesting : goal.returns-in_default-clause-nesting
-returns-in_default-clause-nesting g c = λ honest start nested.
+pub returns-in_err-lexer-clause-nesting : goal.returns-in_err-lexer-clause-nesting
+returns-in_err-lexer-clause-nesting g c = λ honest start nested.
     let files = g.F.Files in
     let s = files.sources c.args.files.now in
     let now = files.openings c.args.files.now in
@@ -20,21 +20,26 @@ returns-in_default-clause-nesting g c = λ honest start nested.
       outer = c.pop.new.self.items;
     }) ≡ closed (nesting s start now o)) c.self.view_is
     (left_none s start now c.self.inside.names c.self.inside.lexer c.self.inside.outer.items c.pop.new.self.items
-    (omega (arith, c.in_default.ensures.cases.0)) c.in_default.ensures.items)
+    (omega (arith, c.in_err-lexer.ensures.cases.0)) c.in_err-lexer.ensures.items)
 
 pub invariant_of-self-2 : goal.invariant_of-self-2
 invariant_of-self-2 g c =
     let inv = c.self.invariant in
-    left_fits c.self.inside.names c.leave.new.self c.self.inside.outer.items c.pop.new.self.items c.self.inside.lexer.file c.in-Some.lexer
-    inv.0 inv.1.1.1 c.in-Some.ensures.items c.leave.ensures.left
+    let f = c.in_ok-lexer.field-0 in
+    let items = c.in_ok-lexer.ensures.items in
+    left_fits c.self.inside.names c.leave.new.self (lexers_of c.self.inside.outer.items) (lexers_of c.pop.new.self.items)
+    c.self.inside.lexer.file f.lexer inv.0 inv.1.1.1 (ap lexers_of items ∙ lexers_more c.pop.new.self.items f)
+    c.leave.ensures.left
 
 pub returns-clause-left : goal.returns-clause-left
-returns-clause-left g c = λ is. (
-  sym (ap (λ (o : Open). o.outer) c.self.view_is) ∙ c.in-Some.ensures.items,
-  (waits_last c.self.inside.names.set c.self.inside.names.limit c.pop.new.self.items c.in-Some.lexer
-      (subst (λ readers. AllWait c.self.inside.names.set c.self.inside.names.limit readers) c.in-Some.ensures.items
-      c.self.invariant.1.1.1)).goes,
-)
+returns-clause-left g c =
+    let f = c.in_ok-lexer.field-0 in
+    let items = c.in_ok-lexer.ensures.items in (
+      sym (ap (λ (o : Open). o.outer) c.self.view_is) ∙ items,
+      (waits_last c.self.inside.names.set c.self.inside.names.limit (lexers_of c.pop.new.self.items) f.lexer
+          (subst (λ readers. AllWait c.self.inside.names.set c.self.inside.names.limit readers)
+          (ap lexers_of items ∙ lexers_more c.pop.new.self.items f) c.self.invariant.1.1.1)).goes,
+    )
 
 pub returns-clause-nesting : goal.returns-clause-nesting
 returns-clause-nesting g c = λ honest start nested.
@@ -42,20 +47,24 @@ returns-clause-nesting g c = λ honest start nested.
     let s = files.sources c.args.files.now in
     let old = files.openings c.args.files.now in
     let new = files.openings c.leave.new.files in
+    let f = c.in_ok-lexer.field-0 in
+    let items = c.in_ok-lexer.ensures.items in
     let before : Open = record { nest = c.self.inside.names; lexer = c.self.inside.lexer; outer = c.self.inside.outer.items } in
-    let after : Open = record { nest = c.leave.new.self; lexer = c.in-Some.lexer; outer = c.pop.new.self.items } in
+    let after : Open = record { nest = c.leave.new.self; lexer = f.lexer; outer = c.pop.new.self.items } in
     subst (λ (o : Open). IsNested start old o → nesting s start new after ≡ closed (nesting s start old o)) c.self.view_is
-    (λ n. left_nesting s start old new before after n (c.leave.ensures.closes honest) c.in-Some.ensures.items c.leave.ensures.left) nested
+    (λ n. left_nesting s start old new before after f n (c.leave.ensures.closes honest) items refl c.leave.ensures.left) nested
 
 pub returns-clause-went : goal.returns-clause-went
 returns-clause-went g c =
     let files = g.F.Files in
     let leave = c.leave.ensures in
+    let f = c.in_ok-lexer.field-0 in
+    let items = c.in_ok-lexer.ensures.items in
     let before : Open = record { nest = c.self.inside.names; lexer = c.self.inside.lexer; outer = c.self.inside.outer.items } in
-    let after : Open = record { nest = c.leave.new.self; lexer = c.in-Some.lexer; outer = c.pop.new.self.items } in
+    let after : Open = record { nest = c.leave.new.self; lexer = f.lexer; outer = c.pop.new.self.items } in
     subst (λ (o : Open). Went files c.args.files.now c.leave.new.files o after) c.self.view_is
     (went_out files c.args.files.now c.leave.new.files before after leave.sources leave.honesty leave.faults leave.depth leave.given
-    leave.opened c.in-Some.ensures.items
+    leave.opened f refl items
     (ap (λ (n : Nest). n.names) leave.left) leave.closes)
 
 pub returns-clause-fits : goal.returns-clause-fits

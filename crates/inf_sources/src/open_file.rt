@@ -1,0 +1,23 @@
+//! A file that waits for one that it includes.
+
+use inf_lexer::Lexer;
+use inf_scanner::Place;
+
+/// A conditional that is open.
+#[derive(Clone, Copy, Debug, PartialEq, Eq)]
+pub struct Conditional {
+    /// Where its directive begins.
+    pub place: Place,
+    /// Whether its second side has begun.
+    pub is_second: bool,
+}
+
+/// A file that waits for one that it includes: all that is needed to go on in it.
+#[derive(Drop)]
+pub struct OpenFile {
+    pub lexer: Lexer,
+    /// The conditionals that were opened between its directives, the latest last.
+    pub conditionals: Vec<Conditional>,
+    /// Whether its routines may be replaced.
+    pub is_system: bool,
+}
