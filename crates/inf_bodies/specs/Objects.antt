@@ -21,7 +21,7 @@ use Rattle.inf_scanner.specs.declared.tokens.TokenKind.TheVariants as kind
 use Rattle.inf_settings.specs.declared.setting.Setting.{Setting}
 use Rattle.inf_settings.specs.declared.setting.Setting.TheVariants as setting
 use Rattle.inf_statements.specs.Printing.{text_at}
-use Rattle.inf_sinks.specs.Spellings.{Name}
+use Rattle.inf_names.specs.Spellings.{Name}
 use Rattle.inf_text.specs.Packing.{packed}
 use Rattle.inf_unit.specs.Messages.{Diagnostic, FileNames}
 use Rattle.inf_unit.specs.Texts.{fit_characters}

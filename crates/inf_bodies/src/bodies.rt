@@ -1,6 +1,6 @@
 //! What stands in the bodies of objects and classes: classes, attributes and properties.
 ghost use Rattle.std.specs.Prelude.{IfOk, OnOk, option_map, ◌≡◌};
-ghost use Rattle.inf_sinks.specs.Spellings.{as_name};
+ghost use Rattle.inf_names.specs.Spellings.{as_name};
 ghost use Rattle.inf_bodies.specs.Bodies.{attribute_finding, attribute_of, attribute_read, attribute_set, attribute_set_some, class_finding, class_read, further, further_added, further_finding, further_found, further_placed, given, given_finding, given_with, individual_declared, individual_given, individual_named, is_given, is_words, last_at, number_finding, place_finding, placed, placed_finding, property_finding, property_given, property_gives, property_in, property_lost, property_of, property_read};
 ghost use Rattle.inf_compilation.specs.Actions.{body_ended};
 ghost use Rattle.inf_compilation.specs.Works.{work};
@@ -16,7 +16,7 @@ use inf_names::meanings::Meaning;
 use inf_names::symbols::Found;
 use inf_output::Output;
 use inf_scanner::Mark;
-use inf_sinks::spellings::Name;
+use inf_names::spellings::Name;
 use inf_tables::WorldFault;
 use inf_unit::tokens::is_mark;
 use inf_unit::unit::order;

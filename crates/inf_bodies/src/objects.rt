@@ -1,7 +1,7 @@
 //! The headers of classes and objects.
 ghost use Rattle.std.specs.Prelude.{IfOk, OnOk, option_map, ◌≡◌};
 ghost use Rattle.inf_characters.specs.Reading.{text_of as read_in};
-ghost use Rattle.inf_sinks.specs.Spellings.{as_name};
+ghost use Rattle.inf_names.specs.Spellings.{as_name};
 ghost use Rattle.inf_unit.specs.Texts.{fit_characters};
 ghost use Rattle.inf_bodies.specs.Objects.{above_finding, bracketed, class_begun, class_header, class_lost, class_of, class_of_word, class_opened, class_with, entry_told, found_at, header_in, header_text, hung_finding, in_brackets, joined, joined_fault, joined_some, lost_begun, named_known, named_parent_finding, object_begun, object_declared, object_ended, object_header, object_in, object_known, object_lost, object_named, object_new, object_of, object_opened, object_with, own_name, packed_name, parent_finding, parent_fit, parent_in, refused_finding, setting_of, short_name, shown_name, word_place};
 ghost use Rattle.inf_world.specs.World.{class_of_fault};
@@ -20,7 +20,7 @@ use inf_names::symbols::Found;
 use inf_output::Output;
 use inf_report::messages::FixedLimit;
 use inf_settings::setting::Setting;
-use inf_sinks::spellings::Name;
+use inf_names::spellings::Name;
 use inf_tables::{Misfit, Parent, ShortName, WorldFault};
 use inf_text::{CharSet, Mode, Text, TextFault, pack, read_text};
 use inf_unit::unit::order;

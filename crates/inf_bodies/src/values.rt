@@ -1,6 +1,6 @@
 //! The values of properties: words of the dictionary, expressions, and routines.
 ghost use Rattle.std.specs.Prelude.{IfOk, OnOk, option_map, ◌≡◌};
-ghost use Rattle.inf_sinks.specs.LocalList.{headed as as_headed};
+ghost use Rattle.inf_names.specs.LocalList.{headed as as_headed};
 ghost use Rattle.inf_bodies.specs.Values.{bracket_in, bracket_step, char_text, embedded, embedded_begun, embedded_findings, embedded_opened, embedded_read, expression_finding, expression_placed, found_embedded, leaf_text, many_by, name_place, next_routine, only_leaf, place_before, routine_placed, settled_finding, settled_placed, takes_words, text_finding, text_placed, text_value, value_finding, value_placed, value_read, value_with, value_with_finding, word_leaf, word_text, word_used, wrong_if};
 ghost use Rattle.inf_bodies.specs.Bodies.{place_finding};
 ghost use Rattle.inf_compilation.specs.Meant.{found_as};
@@ -18,7 +18,7 @@ use inf_lexer::{Place, Stack};
 use inf_listings::arrays::{has_variables, looked_value, text_at};
 use inf_report::messages::FixedLimit;
 use inf_scanner::{Mark, TokenKind};
-use inf_sinks::locals::Headed;
+use inf_names::locals::Headed;
 use inf_tables::WordUse;
 use inf_text::{Mode, Text, dict_word};
 use inf_unit::tokens::is_mark;

@@ -35,8 +35,8 @@ use Rattle.inf_names.specs.declared.meanings.Meaning.{Meaning}
 use Rattle.inf_names.specs.declared.meanings.Meaning.TheVariants as meaning
 use Rattle.inf_report.specs.Messages.{BranchTooFar, ConstantOutOfRange, DeepNesting, Exceeded, LabelMissing, UnusedLocal}
 use Rattle.inf_report.specs.OwnWords.{Words}
-use Rattle.inf_sinks.specs.Spellings.{Name}
-use Rattle.inf_sinks.specs.Locals.{Local, Headed}
+use Rattle.inf_names.specs.Spellings.{Name}
+use Rattle.inf_names.specs.Locals.{Local, Headed}
 use Rattle.inf_unit.specs.Directives.{Request, Nothing}
 use Rattle.inf_unit.specs.Messages.{FileNames, Diagnostic, Reported, location, nothing_reported, with_error, with_fatal, with_fault, with_full, with_warning}
 use Rattle.inf_unit.specs.Names.{no_symbols}

@@ -8,8 +8,8 @@ use Rattle.inf_names.specs.declared.symbols.DeclareFault.TheVariants as declarin
 use Rattle.inf_report.specs.Messages.{ConstantOutOfRange, Declared, End, LabelTwice, Message, MisplacedDefault, NotConstant, NothingToLeave, SystemName, Told, TooMany, TooManyArguments, UsedBefore, WrongKind, WrongOpcode, WrongVerb}
 use Rattle.inf_report.specs.declared.messages.FixedLimit.{FixedLimit}
 use Rattle.inf_report.specs.declared.messages.FixedLimit.TheVariants as countable
-use Rattle.inf_sinks.specs.Spellings.{Name}
-use Rattle.inf_sinks.specs.Locals.{Headed, Repeated}
+use Rattle.inf_names.specs.Spellings.{Name}
+use Rattle.inf_names.specs.Locals.{Headed, Repeated}
 use Rattle.inf_unit.specs.Messages.{FileNames, Diagnostic, location}
 use Rattle.inf_unit.specs.Tokens.{SourceToken, told}
 use Rattle.inf_compilation.specs.Words.{nowhere}

@@ -1,6 +1,6 @@
 -- What the code's findings stand for.
 use Rattle.std.specs.Prelude.{option_map}
-use Rattle.inf_sinks.specs.Spellings.{as_name}
+use Rattle.inf_names.specs.Spellings.{as_name}
 use Rattle.inf_compilation.specs.Findings.{Again, Findings}
 use Rattle.inf_compilation.specs.declared.findings.Again.{Again as CodeAgain}
 use Rattle.inf_compilation.specs.declared.findings.Findings.{Findings as CodeFindings}

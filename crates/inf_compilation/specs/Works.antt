@@ -1,5 +1,5 @@
 -- What the code's work stands for.
-use Rattle.inf_sinks.specs.LocalList.{listed}
+use Rattle.inf_names.specs.LocalList.{listed}
 use Rattle.inf_unit.specs.AtHand.{unit}
 use Rattle.inf_unit.specs.Directives.{asked}
 use Rattle.inf_compilation.specs.Actions.{Compilation}

@@ -1,8 +1,8 @@
 //! What is told of what is wrong with a unit.
 ghost use Rattle.std.specs.Prelude.{option_map, ◌≡◌};
 ghost use Rattle.inf_report.specs.Meant.{meant, named};
-ghost use Rattle.inf_sinks.specs.LocalList.{headed as as_headed, repeated as repeated_of};
-ghost use Rattle.inf_sinks.specs.Spellings.{as_name};
+ghost use Rattle.inf_names.specs.LocalList.{headed as as_headed, repeated as repeated_of};
+ghost use Rattle.inf_names.specs.Spellings.{as_name};
 ghost use Rattle.inf_unit.specs.Diagnostics.{blamed};
 ghost use Rattle.inf_compilation.specs.Findings.{again_by, again_finding, again_local, again_message, again_told, blame_of, found_alone, header_findings, many_finding, message_of, nothing_found, told_as};
 ghost use Rattle.inf_compilation.specs.Meant.{again_as, found_as};
@@ -11,8 +11,8 @@ use inf_expressions::{Finding, NOT_CONSTANT, OUT_OF_RANGE, WRONG_KIND, least_of_
 use inf_lexer::{Place, Stack};
 use inf_names::symbols::DeclareFault;
 use inf_report::messages::{FixedLimit, Message, Told};
-use inf_sinks::locals::{Headed, Repeated};
-use inf_sinks::spellings::Name;
+use inf_names::locals::{Headed, Repeated};
+use inf_names::spellings::Name;
 use inf_statements::effects::{GIVEN_TWICE, MISPLACED_DEFAULT, NOTHING_TO_LEAVE, WRONG_OPCODE};
 use inf_unit::messages::{Diagnostic, location};
 use inf_unit::tokens::told;

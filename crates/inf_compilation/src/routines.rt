@@ -1,9 +1,9 @@
 //! Where routines begin and end.
 ghost use Rattle.std.specs.Prelude.{IfOk, None, OnOk, is_some, option_map, ◌≡◌};
 ghost use Rattle.inf_names.specs.Symbols.{declare_fault};
-ghost use Rattle.inf_sinks.specs.LocalList.{headed as as_headed, listed};
-ghost use Rattle.inf_sinks.specs.Locals.{no_locals};
-ghost use Rattle.inf_sinks.specs.Spellings.{as_name};
+ghost use Rattle.inf_names.specs.LocalList.{headed as as_headed, listed};
+ghost use Rattle.inf_names.specs.Locals.{no_locals};
+ghost use Rattle.inf_names.specs.Spellings.{as_name};
 ghost use Rattle.inf_compilation.specs.Actions.{kind_ended, with_all_unused, with_routine_fault};
 ghost use Rattle.inf_compilation.specs.Meant.{found_as};
 
@@ -15,8 +15,8 @@ use inf_lexer::{Place, Stack};
 use inf_names::meanings::Meaning;
 use inf_names::symbols::{DeclareFault, Found};
 use inf_report::messages::Message;
-use inf_sinks::locals::{Headed, Locals};
-use inf_sinks::spellings::Name;
+use inf_names::locals::{Headed, Locals};
+use inf_names::spellings::Name;
 use inf_unit::messages::{Diagnostics, location};
 use std::alloc::AllocError;
 use std::mem;

@@ -2,7 +2,7 @@
 ghost use Rattle.std.specs.Prelude.{IfOk, OnOk, map, option_map, ◌≡◌};
 ghost use Rattle.inf_expressions.specs.Forests.{trees_in as rooted_in};
 ghost use Rattle.inf_constructs.specs.Roots.{tree_in};
-ghost use Rattle.inf_sinks.specs.Spellings.{as_name};
+ghost use Rattle.inf_names.specs.Spellings.{as_name};
 ghost use Rattle.inf_declarations.specs.Declarations.{alias_finding, alias_meaning, alias_told, aliased, attribute, attribute_added, attribute_ended, attribute_number, attribute_with, declaration_ended, declared_ended, declared_finding, declared_findings, has_most_attributes, is_alias, is_late, is_name_at, last_meaning, late_finding, name_known, names_itself, new_attribute, nothing_of, plainly_known, standing_fault, value_in, valued};
 ghost use Rattle.inf_compilation.specs.Actions.{settled_of, trees_at};
 ghost use Rattle.inf_compilation.specs.Meant.{again_as, found_as};
@@ -20,7 +20,7 @@ use inf_lexer::{Place, Stack};
 use inf_names::meanings::Meaning;
 use inf_names::symbols::{DeclareFault, Found};
 use inf_report::messages::FixedLimit;
-use inf_sinks::spellings::Name;
+use inf_names::spellings::Name;
 use inf_statements::operands::settled;
 use inf_tables::WorldFault;
 use inf_unit::unit::order;

@@ -3,7 +3,7 @@ ghost use Rattle.std.specs.Prelude.{IfOk, OnOk, length, map, option_map, ◌≡�
 ghost use Rattle.inf_expressions.specs.Forests.{trees_in as rooted_in};
 ghost use Rattle.inf_names.specs.Symbols.{found_in};
 ghost use Rattle.inf_constructs.specs.Roots.{tree_in};
-ghost use Rattle.inf_sinks.specs.Spellings.{as_name};
+ghost use Rattle.inf_names.specs.Spellings.{as_name};
 ghost use Rattle.inf_unit.specs.Messages.{location, with_words};
 ghost use Rattle.inf_unit.specs.Units.{quoted_in};
 ghost use Rattle.inf_compilation.specs.Actions.{as_constant, constant, constant_ended, constant_finding, constant_findings, constant_meaning, constant_of, constant_with, declared_meaning, is_declared, is_first_declared, leaf_meaning, named_leaf, new_stub, replace, stub, stub_locals, stubbed, used_name, words_of};
@@ -24,7 +24,7 @@ use inf_names::meanings::Meaning;
 use inf_names::symbols::{DeclareFault, Found, ReferFault, Symbols};
 use inf_report::messages::FixedLimit;
 use inf_report::own_words::OwnWords;
-use inf_sinks::spellings::Name;
+use inf_names::spellings::Name;
 use inf_statements::operands::add_leaf as add_operand;
 use inf_unit::directives::{Request, weight_of};
 use inf_unit::messages::location;

@@ -1,6 +1,6 @@
 //! The directive `Global`.
 ghost use Rattle.std.specs.Prelude.{OnOk, map, ◌≡◌};
-ghost use Rattle.inf_sinks.specs.Spellings.{as_name};
+ghost use Rattle.inf_names.specs.Spellings.{as_name};
 ghost use Rattle.inf_declarations.specs.Declarations.{global_added, global_ended, global_variable, global_with, has_most_globals, new_global, nothing_of, valued};
 ghost use Rattle.inf_compilation.specs.Works.{work};
 
@@ -11,7 +11,7 @@ use inf_expressions::Finding;
 use inf_lexer::{Place, Stack};
 use inf_names::meanings::Meaning;
 use inf_report::messages::FixedLimit;
-use inf_sinks::spellings::Name;
+use inf_names::spellings::Name;
 use inf_unit::unit::order;
 use std::alloc::AllocError;
 

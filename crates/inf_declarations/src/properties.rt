@@ -1,6 +1,6 @@
 //! The directive `Property`.
 ghost use Rattle.std.specs.Prelude.{IfOk, OnOk, map, ◌≡◌};
-ghost use Rattle.inf_sinks.specs.Spellings.{as_name};
+ghost use Rattle.inf_names.specs.Spellings.{as_name};
 ghost use Rattle.inf_declarations.specs.Declarations.{has_most_properties, is_additive, is_additive_word, is_alias, name_known, new_property, nothing_of, property, property_added, property_ended, property_named, property_names, property_number, property_order, property_with, valued};
 ghost use Rattle.inf_compilation.specs.Works.{work};
 
@@ -11,7 +11,7 @@ use inf_expressions::{Finding, Wanted, least_of_both};
 use inf_lexer::{Place, Stack};
 use inf_names::meanings::Meaning;
 use inf_report::messages::FixedLimit;
-use inf_sinks::spellings::Name;
+use inf_names::spellings::Name;
 use inf_tables::WorldFault;
 use inf_unit::unit::order;
 use inf_unit::unit_tokens::UnitTokens;

@@ -15,7 +15,7 @@ use Rattle.inf_names.specs.declared.symbols.Found.TheVariants as found
 use Rattle.inf_names.specs.declared.symbols.ReferFault.{ReferFault}
 use Rattle.inf_names.proofs.Putting.{length-put}
 use Rattle.inf_report.specs.Messages.{Undeclared}
-use Rattle.inf_sinks.specs.Spellings.{Name}
+use Rattle.inf_names.specs.Spellings.{Name}
 use Rattle.inf_unit.specs.Messages.{FileNames, Reported, location, with_error}
 use Rattle.inf_unit.specs.Names.{with_all_undeclared, with_undeclared}
 use Rattle.inf_names.specs.declared.symbols.DeclareFault.TheVariants as declaring

@@ -6,8 +6,8 @@ use Rattle.std.proofs.lemmas.Bool.{and_from, and_parts, cond_both, not-true, or_
 use Rattle.inf_scanner.specs.declared.tokens.Place.{Place}
 use Rattle.inf_names.specs.Symbols.{folded}
 use Rattle.inf_report.specs.Messages.{UnusedLocal}
-use Rattle.inf_sinks.specs.Spellings.{Name}
-use Rattle.inf_sinks.specs.Locals.{Local, Headed, local_of, most_locals, no_locals, with_all_named, with_local_by, with_locals, with_named}
+use Rattle.inf_names.specs.Spellings.{Name}
+use Rattle.inf_names.specs.Locals.{Local, Headed, local_of, most_locals, no_locals, with_all_named, with_local_by, with_locals, with_named}
 use Rattle.inf_unit.specs.Messages.{FileNames, Reported, location, with_warning}
 use Rattle.inf_compilation.specs.Actions.{with_all_unused}
 use Rattle.inf_laws.specs.UnusedLocals.{AreDifferent, AreNew, AreUnnamed, HeadersMakeNew, UnusedAreWarned, is_local, is_named_by, is_named_in, with_units, with_warnings}

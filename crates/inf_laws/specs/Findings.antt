@@ -7,8 +7,8 @@ use Rattle.inf_names.specs.declared.symbols.Found.{Found as FoundName}
 use Rattle.inf_names.specs.declared.symbols.Found.TheVariants as found
 use Rattle.inf_report.specs.Messages.{Declared, SystemName, TooMany}
 use Rattle.inf_report.specs.declared.messages.FixedLimit.TheVariants as countable
-use Rattle.inf_sinks.specs.Spellings.{Name}
-use Rattle.inf_sinks.specs.Locals.{with_locals, no_locals}
+use Rattle.inf_names.specs.Spellings.{Name}
+use Rattle.inf_names.specs.Locals.{with_locals, no_locals}
 use Rattle.inf_expressions.specs.declared.findings.Finding.{Finding as Found}
 use Rattle.inf_expressions.specs.Findings.{is_before, least_of_both}
 use Rattle.inf_output.specs.Output.{full}

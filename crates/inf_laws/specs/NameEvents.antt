@@ -9,7 +9,7 @@ use Rattle.inf_names.specs.declared.meanings.Meaning.{Meaning}
 use Rattle.inf_names.specs.declared.symbols.Found.{Found}
 use Rattle.inf_names.specs.declared.symbols.Found.TheVariants as found
 use Rattle.inf_report.specs.Messages.{Undeclared}
-use Rattle.inf_sinks.specs.Spellings.{Name}
+use Rattle.inf_names.specs.Spellings.{Name}
 use Rattle.inf_unit.specs.Messages.{FileNames, Reported, location, with_error}
 use Rattle.inf_unit.specs.Names.{with_all_undeclared}
 use Rattle.inf_names.specs.declared.symbols.DeclareFault.{DeclareFault}

@@ -4,8 +4,8 @@ use Rattle.std.specs.List.{list_any, list_all}
 use Rattle.std.specs.Str.{str_eq_ignore_ascii_case}
 use Rattle.inf_scanner.specs.declared.tokens.Place.{Place}
 use Rattle.inf_report.specs.Messages.{UnusedLocal}
-use Rattle.inf_sinks.specs.Spellings.{Name}
-use Rattle.inf_sinks.specs.Locals.{Local, with_all_named, with_locals, no_locals}
+use Rattle.inf_names.specs.Spellings.{Name}
+use Rattle.inf_names.specs.Locals.{Local, with_all_named, with_locals, no_locals}
 use Rattle.inf_unit.specs.Messages.{FileNames, Reported, location, with_warning}
 use Rattle.inf_compilation.specs.Actions.{with_all_unused}
 

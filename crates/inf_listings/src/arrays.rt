@@ -2,7 +2,7 @@
 ghost use Rattle.std.specs.Prelude.{IfOk, OnOk, false, map, ◌≡◌};
 ghost use Rattle.inf_arrays.specs.Adding.{added as adding_of};
 ghost use Rattle.inf_arrays.specs.Arrays.{Characters, added_fault};
-ghost use Rattle.inf_sinks.specs.Spellings.{as_name};
+ghost use Rattle.inf_names.specs.Spellings.{as_name};
 ghost use Rattle.inf_statements.specs.Printing.{text_at};
 ghost use Rattle.inf_listings.specs.Arrays.{added, added_finding, adding, apart, array_header, array_kind, array_named, array_opened, bare_leaf, bare_text, code_of, codes_of, entry_added, entry_ended, entry_finding, entry_judged, entry_with, header_with, is_alone, is_variable, items_finding, kind_in, kind_named, listed, looked_value, lost_added, own_finding, refused, story_added, text_added, text_finding, value_added, variables_from};
 ghost use Rattle.inf_compilation.specs.Actions.{operands_of};
@@ -20,7 +20,7 @@ use inf_output::Output;
 use inf_report::messages::FixedLimit;
 use inf_scanner::{Mark, TokenKind};
 use inf_settings::setting::Setting;
-use inf_sinks::spellings::Name;
+use inf_names::spellings::Name;
 use inf_tables::{ArrayFault, ArrayKind, Arrays, Entries};
 use inf_text::{Text, TextItem};
 use inf_unit::texts::text_of;

@@ -1,3 +1,6 @@
 pub mod KeyBytes
 pub mod Putting
 pub mod Unknown
+pub mod LocalLemmas
+pub mod Places
+pub mod SameNames

@@ -20,7 +20,7 @@ use Rattle.inf_compilation.specs.Parts.{closed_ahead}
 use Rattle.inf_work.proofs.Limits.{all_acted_same, begun_at_same, closed_ahead_same, cut_same, same_then, took_same as work_took_same}
 use Rattle.inf_reader.specs.Handing.{handed_as, hash, judged_taken, lone_told, sign_taken, token_taken, unfit_in, unit_ended}
 use Rattle.inf_reader.specs.Reading.{Reading, ReaderState, bad, judged, piece_begun, read_at, step, step_in, took}
-use Rattle.inf_sinks.specs.Spellings.{Name}
+use Rattle.inf_names.specs.Spellings.{Name}
 use Rattle.inf_gathering.specs.declared.gathering.Leaf.{Leaf}
 use Rattle.inf_gathering.specs.declared.gathering.Leaf.TheVariants as leaf
 use Rattle.inf_unit.specs.Units.{name_at}

@@ -1,4 +1,1 @@
 pub mod TakenBytes
-pub mod LocalLemmas
-pub mod Places
-pub mod SameNames

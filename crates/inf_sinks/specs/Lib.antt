@@ -1,5 +1,2 @@
 pub mod Sinks
 pub mod MemorySink
-pub mod Spellings
-pub mod Locals
-pub mod LocalList

@@ -1,7 +1,5 @@
-//! The devices that take bytes, names as a source spells them, and the locals of a routine.
+//! The devices that take bytes.
 #![tactic(auto)]
 
-pub mod locals;
 pub mod memory_sink;
 pub mod sinks;
-pub mod spellings;

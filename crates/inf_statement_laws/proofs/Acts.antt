@@ -1,7 +1,7 @@
 -- What each action leaves of the statements that are open.
 use Rattle.std.proofs.Common.{◌≡◌, ℕ, List, [], ◌∷◌, Bool, true, false, ◌&&◌, Option, Some, None, refl, ◌∙◌, ap}
 use Rattle.std.specs.Prelude.{◌-◌, if◌then◌else◌, nat_lt, unwrap_or}
-use Rattle.inf_sinks.specs.Spellings.{Name}
+use Rattle.inf_names.specs.Spellings.{Name}
 use Rattle.inf_unit.specs.Units.{first_place, last_place, long_at, names_in, noted as unit_noted, taken as unit_taken, text_passed}
 use Rattle.inf_compilation.specs.Actions.{Compilation, close, close_open, header_of, header_with, is_deep, is_to_be_replaced, named, nested, opens, passed, settled_of, sized, stopped, took, trees_at}
 use Rattle.inf_compilation.specs.Parts.{actions_named, case_prepared, construct_closed, construct_ended, construct_opened, constructs_laid, found_in, has_last, is_default, order_of, part_begun, part_carried, part_effect, part_ended, part_finished, part_prepared, place_of, statement_at, wanted_of}

@@ -31,8 +31,8 @@ use Rattle.inf_templates.specs.Limits.{PartKeeps}
 use Rattle.inf_templates.specs.Meaning.{meaning, part}
 use Rattle.inf_templates.specs.Parts.{Part, SP, TEMP, is, worked}
 use Rattle.inf_templates.proofs.Keeping.{alone_keeps, branch_keeps, call_keeps, call_routine_keeps, is_keeps, part_keeps, value_keeps, worked_keeps}
-use Rattle.inf_sinks.specs.Locals.{Local, number_of}
-use Rattle.inf_sinks.specs.Spellings.{Name}
+use Rattle.inf_names.specs.Locals.{Local, number_of}
+use Rattle.inf_names.specs.Spellings.{Name}
 use Rattle.inf_expressions.specs.declared.operators.Operand.{Operand}
 use Rattle.inf_expressions.specs.declared.operators.Operand.TheVariants as operand
 use Rattle.inf_unit.specs.Opcodes.{opcode_of}

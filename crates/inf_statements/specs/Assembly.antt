@@ -20,7 +20,7 @@ use Rattle.inf_output.specs.declared.operands.Simple.{Simple}
 use Rattle.inf_output.specs.declared.operands.Simple.TheVariants as simple
 use Rattle.inf_output.specs.Output.{Code, behind, instruction, jumped, naming, next_label, nothing}
 use Rattle.inf_templates.specs.Meaning.{meaning}
-use Rattle.inf_sinks.specs.Locals.{Local, number_of}
+use Rattle.inf_names.specs.Locals.{Local, number_of}
 use Rattle.inf_unit.specs.Opcodes.{opcode_of}
 use Rattle.inf_unit.specs.Tokens.{SourceToken}
 use Rattle.inf_unit.specs.Units.{bytes_at, next_place, order}

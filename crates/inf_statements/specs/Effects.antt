@@ -11,7 +11,7 @@ use Rattle.inf_expressions.specs.Findings.{wrong_kind}
 use Rattle.inf_expressions.specs.Trees.{Tree}
 use Rattle.inf_names.specs.Symbols.{Table}
 use Rattle.inf_output.specs.Output.{Code, jumped, marked, nothing, ◌▸◌}
-use Rattle.inf_sinks.specs.Locals.{Local}
+use Rattle.inf_names.specs.Locals.{Local}
 use Rattle.inf_unit.specs.Opcodes.{opcode_of}
 use Rattle.inf_unit.specs.Tokens.{SourceToken}
 use Rattle.inf_unit.specs.Units.{bytes_at, next_place, order}

@@ -1,5 +1,5 @@
 -- What the code's sites of statements stand for.
-use Rattle.inf_sinks.specs.LocalList.{listed}
+use Rattle.inf_names.specs.LocalList.{listed}
 use Rattle.inf_statements.specs.Effects.{Site}
 use Rattle.inf_statements.specs.declared.effects.Site.{Site as CodeSite}
 

@@ -2,7 +2,7 @@
 ghost use Rattle.std.specs.Prelude.{◌≡◌, Bool, ◌≤◌, ◌-◌, IfOk, IfSome, OnOk, Some, false, is_some, length, true};
 ghost use Rattle.inf_opcode.specs.Opcodes.{row_of};
 ghost use Rattle.inf_output.specs.Output.{Takes, TakesVariable};
-ghost use Rattle.inf_sinks.specs.LocalList.{listed};
+ghost use Rattle.inf_names.specs.LocalList.{listed};
 ghost use Rattle.inf_statements.specs.Assembly.{branched, branched_to, ends_from, ends_of, first_variable, fits, fits_jump, fits_row, fits_some, has_ends, instructed, jumped_on, labelled, line_finding, line_instructed, line_laid, line_laid_by, named_first, no_ends, operands_in, placed, printing_of, prints, same, some_printed, store_finding, store_of, store_variable, stored_in, variable_of, with_end, wrong_opcode};
 ghost use Rattle.inf_constructs.specs.Roots.{trees_from};
 ghost use Rattle.inf_statements.specs.Statements.{PrintsText};
@@ -17,7 +17,7 @@ use inf_names::symbols::Symbols;
 use inf_opcode::{Branch, Destination, Label, MOST_OPERANDS, Opcode, OpcodeRow};
 use inf_output::{Output, Simple};
 use inf_scanner::Place;
-use inf_sinks::locals::Locals;
+use inf_names::locals::Locals;
 use inf_templates::simple_of;
 use inf_text::CharSet;
 use inf_unit::items::Item;

@@ -23,7 +23,7 @@ use inf_names::symbols::Symbols;
 use inf_opcode::{Label, Opcode};
 use inf_output::Output;
 use inf_scanner::Place;
-use inf_sinks::locals::Locals;
+use inf_names::locals::Locals;
 use inf_templates::Tasks;
 use inf_text::{CharSet, Text, pack};
 use inf_unit::items::Item;

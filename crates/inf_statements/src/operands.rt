@@ -1,6 +1,6 @@
 //! What the leaves of a unit stand for.
 ghost use Rattle.std.specs.Prelude.{◌≡◌, ◌≤◌, [], ◌∷◌, ◌++◌, List, IfOk, IfSome, OnOk, length, option_map};
-ghost use Rattle.inf_sinks.specs.LocalList.{listed};
+ghost use Rattle.inf_names.specs.LocalList.{listed};
 ghost use Rattle.inf_unit.specs.NameTokens.{named};
 ghost use Rattle.inf_statements.specs.Operands.{Settled, all_looked, found_operand, function_of, is_stack, leaf_added, leaf_named, leaves_named, looked, looked_action, looked_alone, looked_leaf, looked_name, new_action, one_added, operand_by, referring, settled, settled_action, settled_alone, settled_as, settled_leaf, settled_name, settled_text, settled_word, standing, stores_named, word_operand, word_sum};
 ghost use Rattle.inf_statements.specs.Printing.{text_at};
@@ -12,7 +12,7 @@ use inf_names::meanings::{Function as NamedFunction, Meaning};
 use inf_names::symbols::{Found, Symbols};
 use inf_output::{Output, action_key};
 use inf_scanner::{DictionaryWord, Place};
-use inf_sinks::locals::Locals;
+use inf_names::locals::Locals;
 use inf_tables::WordUse;
 use inf_text::{CharSet, pack};
 use inf_unit::items::Item;

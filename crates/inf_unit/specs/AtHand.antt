@@ -1,5 +1,5 @@
 -- What the code's unit at hand stands for.
-use Rattle.inf_sinks.specs.LocalList.{headed}
+use Rattle.inf_names.specs.LocalList.{headed}
 use Rattle.inf_unit.specs.Units.{Unit}
 use Rattle.inf_unit.specs.declared.unit.Unit.{Unit as CodeUnit}
 

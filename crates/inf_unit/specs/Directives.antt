@@ -4,7 +4,7 @@ use Rattle.std.specs.Str.{str_eq_ignore_ascii_case}
 use Rattle.inf_scanner.specs.declared.tokens.Place.{Place}
 use Rattle.inf_report.specs.declared.messages.Kind.{Kind}
 use Rattle.inf_report.specs.declared.messages.Kind.TheVariants as weight
-use Rattle.inf_sinks.specs.Spellings.{Name}
+use Rattle.inf_names.specs.Spellings.{Name}
 use Rattle.inf_unit.specs.declared.directives.Directive.{Directive}
 use Rattle.inf_unit.specs.declared.directives.Directive.TheVariants as directive
 use Rattle.inf_unit.specs.declared.directives.Request.{Request as CodeRequest}

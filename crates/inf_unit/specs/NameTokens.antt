@@ -1,5 +1,5 @@
 -- What the code's name tokens stand for.
-use Rattle.inf_sinks.specs.Spellings.{Name}
+use Rattle.inf_names.specs.Spellings.{Name}
 use Rattle.inf_unit.specs.declared.unit_tokens.NameToken.{NameToken}
 
 abbrev pub named : NameToken → Name

@@ -7,7 +7,7 @@ use Rattle.inf_scanner.specs.declared.tokens.TokenKind.{TokenKind}
 use Rattle.inf_scanner.specs.declared.tokens.TokenKind.TheVariants as kind
 use Rattle.inf_scanner.specs.declared.tokens.Place.{Place}
 use Rattle.inf_report.specs.Messages.{Told, Bytes, Quote, Text, End}
-use Rattle.inf_sinks.specs.Spellings.{Name}
+use Rattle.inf_names.specs.Spellings.{Name}
 use Rattle.inf_unit.specs.declared.tokens.SourceToken as code
 
 -- A token: what it is, its bytes (of a text or quote those between its quotes), and the place of its first byte.

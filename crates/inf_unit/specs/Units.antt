@@ -8,8 +8,8 @@ use Rattle.inf_scanner.specs.declared.tokens.TokenKind.TheVariants as kind
 use Rattle.inf_gathering.specs.declared.gathering.Leaf.{Leaf}
 use Rattle.inf_gathering.specs.declared.gathering.Leaf.TheVariants as leaf
 use Rattle.inf_gathering.specs.Gatherings.{Gathering, nothing_gathered, with_bracket, with_call, with_closed_bracket, with_comma, with_leaf, with_list, with_part, with_prefix, with_rule, with_suffix, with_test, with_two}
-use Rattle.inf_sinks.specs.Locals.{Headed, no_locals, with_local}
-use Rattle.inf_sinks.specs.Spellings.{Name}
+use Rattle.inf_names.specs.Locals.{Headed, no_locals, with_local}
+use Rattle.inf_names.specs.Spellings.{Name}
 use Rattle.inf_opcode.specs.declared.opcodes.Opcode.{Opcode}
 use Rattle.inf_opcode.specs.Opcodes.{row_of}
 use Rattle.inf_syntax.specs.declared.actions.Action.{Action}

@@ -1,11 +1,11 @@
 //! The directives that are one unit, and what they ask of the reading.
 ghost use Rattle.std.specs.Prelude.{◌≡◌, map};
-ghost use Rattle.inf_sinks.specs.Spellings.{as_name};
+ghost use Rattle.inf_names.specs.Spellings.{as_name};
 ghost use Rattle.inf_unit.specs.Directives.{declaration_of, directive_of, weight_of, weight_of_word};
 
 use inf_report::messages::Kind;
 use inf_scanner::Place;
-use inf_sinks::spellings::Name;
+use inf_names::spellings::Name;
 
 /// What a directive is, told by its word.
 #[derive(Clone, Copy, Debug, PartialEq, Eq)]

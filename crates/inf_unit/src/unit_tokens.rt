@@ -1,6 +1,6 @@
 //! The tokens of a unit.
 ghost use Rattle.std.specs.Prelude.{◌≡◌, ◌≤◌, [], ◌∷◌, ◌++◌, drop, IfOk, IfSome, OnOk, length, map, option_map, slice_get, take};
-ghost use Rattle.inf_sinks.specs.Spellings.{as_name};
+ghost use Rattle.inf_names.specs.Spellings.{as_name};
 ghost use Rattle.inf_unit.specs.Kept.{as_spelled, kept_bytes};
 ghost use Rattle.inf_unit.specs.NameTokens.{named};
 ghost use Rattle.inf_unit.specs.Tokens.{spelled};
@@ -9,7 +9,7 @@ ghost use Rattle.inf_unit.specs.Units.{bytes_at, kind_at, last_place, name_at, n
 use crate::tokens::{SourceToken, is_mark};
 use arrayvec::ArrayVec;
 use inf_scanner::{Mark, Place, TokenKind};
-use inf_sinks::spellings::{MOST_NAME_BYTES, Name, Spelling};
+use inf_names::spellings::{MOST_NAME_BYTES, Name, Spelling};
 use std::alloc::{AllocError, Global};
 use std::marker::Model;
 

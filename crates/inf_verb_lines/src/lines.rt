@@ -14,7 +14,7 @@ use inf_names::symbols::{Found, Symbols};
 use inf_output::Output;
 use inf_scanner::{DictionaryWord, Mark, TokenKind};
 use inf_settings::setting::Setting;
-use inf_sinks::spellings::Name;
+use inf_names::spellings::Name;
 use inf_tables::{LineFault, LineToken, Noun, WordUse};
 use inf_unit::unit::{next_place, order};
 use inf_unit::unit_tokens::{NameToken, UnitTokens};

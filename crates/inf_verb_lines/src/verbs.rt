@@ -1,6 +1,6 @@
 //! The directives `Verb`, `Extend` and `Fake_action`: their headers.
 ghost use Rattle.std.specs.Prelude.{IfOk, OnOk, length, map, option_map, true, ◌<◌, ◌≡◌};
-ghost use Rattle.inf_sinks.specs.Spellings.{as_name};
+ghost use Rattle.inf_names.specs.Spellings.{as_name};
 ghost use Rattle.inf_verb_lines.specs.Verbs.{extend_header, extend_with, fake_action, fake_findings, fake_with, has_most_verbs, has_verb, head_finding, header_opened, is_mark_at, is_name_in, like_at, like_finding, like_used, lines_extended, lines_of, misfit_finding, new_verb, no_verb_finding, place_behind, place_named, texts_before, verb_begun, verb_ended, verb_extended, verb_findings, verb_head, verb_header, verb_header_with, verb_named, verb_opened, verb_passed, verb_use, with_text, word_at, word_in, word_used, words_end, words_finding, words_from, words_given, words_used, wrong_verb};
 ghost use Rattle.inf_output.specs.Actions.{faked};
 ghost use Rattle.inf_compilation.specs.Meant.{again_as, found_as};
@@ -16,7 +16,7 @@ use inf_output::Output;
 use inf_report::messages::FixedLimit;
 use inf_scanner::{DictionaryWord, Mark, TokenKind};
 use inf_settings::setting::Setting;
-use inf_sinks::spellings::Name;
+use inf_names::spellings::Name;
 use inf_tables::{VerbFault, WordUse};
 use inf_unit::tokens::is_mark;
 use inf_unit::unit::order;

@@ -12,7 +12,7 @@ use Rattle.inf_output.proofs.Keeping.{declared_keeps, same_then as out_same_then
 use Rattle.inf_scanner.specs.declared.tokens.Place.{Place}
 use Rattle.inf_statements.specs.Printing.{text_at}
 use Rattle.inf_statements.proofs.Keeping.{leaves_same}
-use Rattle.inf_sinks.specs.Spellings.{Name}
+use Rattle.inf_names.specs.Spellings.{Name}
 use Rattle.inf_unit.specs.Messages.{FileNames}
 use Rattle.inf_unit.specs.Units.{first_place, name_order, names_in}
 use Rattle.inf_unit.proofs.Cases.{of_both}

@@ -14,8 +14,8 @@ use Rattle.inf_output.specs.Output.{Out, opened}
 use Rattle.inf_output.proofs.Keeping.{declared_keeps, opened_keeps, passed_table_keeps, same, same_then as out_same_then, with_word_keeps}
 use Rattle.inf_scanner.specs.declared.tokens.Place.{Place}
 use Rattle.inf_statements.proofs.Keeping.{leaves_same}
-use Rattle.inf_sinks.specs.Locals.{Headed, no_locals}
-use Rattle.inf_sinks.specs.Spellings.{Name}
+use Rattle.inf_names.specs.Locals.{Headed, no_locals}
+use Rattle.inf_names.specs.Spellings.{Name}
 use Rattle.inf_text.specs.Packing.{dictionary_bytes}
 use Rattle.inf_unit.proofs.Cases.{of_both}
 use Rattle.inf_unit.specs.Messages.{FileNames}

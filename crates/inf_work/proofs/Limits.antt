@@ -14,8 +14,8 @@ use Rattle.inf_names.specs.Symbols.{declare_fault}
 use Rattle.inf_output.specs.Output.{Out, begun, closed, declared, opened}
 use Rattle.inf_output.specs.Limits.{SameLimits as SameOutLimits}
 use Rattle.inf_output.proofs.Keeping.{begun_keeps, closed_keeps, declared_keeps, opened_keeps, referred_keeps, same_then as out_same_then}
-use Rattle.inf_sinks.specs.Spellings.{Name}
-use Rattle.inf_sinks.specs.Locals.{Headed}
+use Rattle.inf_names.specs.Spellings.{Name}
+use Rattle.inf_names.specs.Locals.{Headed}
 use Rattle.inf_syntax.specs.declared.actions.Action.{Action}
 use Rattle.inf_unit.specs.Directives.{directive_of}
 use Rattle.inf_unit.specs.declared.directives.Directive.{Directive}

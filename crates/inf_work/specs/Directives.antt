@@ -1,7 +1,7 @@
 -- What the directives do that are one unit.
 use Rattle.std.specs.Prelude.{List, [], ◌∷◌, true}
 use Rattle.inf_scanner.specs.declared.tokens.Place.{Place}
-use Rattle.inf_sinks.specs.Spellings.{Name}
+use Rattle.inf_names.specs.Spellings.{Name}
 use Rattle.inf_unit.specs.Directives.{Include, End, directive_of, weight_of}
 use Rattle.inf_unit.specs.declared.directives.Directive.{Directive}
 use Rattle.inf_unit.specs.declared.directives.Directive.TheVariants as directive

@@ -2,7 +2,7 @@
 use Rattle.std.specs.Prelude.{ℕ, List, [], ◌∷◌, codes, false, if◌then◌else◌}
 use Rattle.std.specs.Str.{str_eq_ignore_ascii_case}
 use Rattle.inf_scanner.specs.declared.tokens.Place.{Place}
-use Rattle.inf_sinks.specs.Spellings.{Name}
+use Rattle.inf_names.specs.Spellings.{Name}
 use Rattle.inf_unit.specs.Messages.{FileNames}
 use Rattle.inf_unit.specs.Units.{first_place, names_in}
 use Rattle.inf_compilation.specs.Actions.{Compilation, passed}

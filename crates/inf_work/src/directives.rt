@@ -1,6 +1,6 @@
 //! The directives that are one unit: each is told by its word.
 ghost use Rattle.std.specs.Prelude.{OnOk, map, ◌≡◌};
-ghost use Rattle.inf_sinks.specs.Spellings.{as_name};
+ghost use Rattle.inf_names.specs.Spellings.{as_name};
 ghost use Rattle.inf_unit.specs.Directives.{Include, asked};
 ghost use Rattle.inf_compilation.specs.Actions.{constant, replace, stub};
 ghost use Rattle.inf_work.specs.Directives.{carried_out, directive_end};
@@ -13,7 +13,7 @@ use inf_declarations::directives::{constant, default, inclusion, message, replac
 use inf_declarations::globals::global_variable;
 use inf_declarations::properties::property;
 use inf_lexer::{Place, Stack};
-use inf_sinks::spellings::Name;
+use inf_names::spellings::Name;
 use inf_unit::directives::{Directive, Request, directive_of};
 use inf_verb_lines::verbs::fake_action;
 use std::alloc::AllocError;

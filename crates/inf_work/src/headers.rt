@@ -1,6 +1,6 @@
 //! The headers of directives that have entries, bodies or lines: each is told by its word.
 ghost use Rattle.std.specs.Prelude.{OnOk, false, map, ◌≡◌};
-ghost use Rattle.inf_sinks.specs.Spellings.{as_name};
+ghost use Rattle.inf_names.specs.Spellings.{as_name};
 ghost use Rattle.inf_work.specs.Headers.{class_named, header_as, header_ended, header_of, heading_of};
 ghost use Rattle.inf_listings.specs.Arrays.{array_named};
 ghost use Rattle.inf_compilation.specs.Works.{work};
@@ -9,7 +9,7 @@ use inf_bodies::objects::{class_header, object_header};
 use inf_compilation::compilation::Compilation;
 use inf_lexer::{Place, Stack};
 use inf_listings::arrays::array_named;
-use inf_sinks::spellings::Name;
+use inf_names::spellings::Name;
 use inf_verb_lines::verbs::{extend_header, verb_header};
 use std::alloc::AllocError;
 

@@ -1,5 +1,5 @@
 use Rattle.std.proofs.Common.{◌≡◌, drop, map}
-use Rattle.inf_sinks.specs.LocalList.{local}
+use Rattle.inf_names.specs.LocalList.{local}
 use Rattle.inf_compilation.specs.Actions.{with_all_unused}
 use Rattle.inf_compilation.proofs.routines.tell_unused.Given as goal
 

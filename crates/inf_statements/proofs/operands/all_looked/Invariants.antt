@@ -1,6 +1,6 @@
 use Rattle.std.proofs.Common.{◌≡◌, [], drop, false}
 use Rattle.inf_names.specs.Symbols.{no_names}
-use Rattle.inf_sinks.specs.LocalList.{listed}
+use Rattle.inf_names.specs.LocalList.{listed}
 use Rattle.inf_statements.specs.Operands.{looked_from}
 use Rattle.inf_statements.proofs.operands.all_looked.Given as goal
 

@@ -1,5 +1,5 @@
 use Rattle.std.proofs.Common.{◌≡◌, drop}
-use Rattle.inf_sinks.specs.LocalList.{listed}
+use Rattle.inf_names.specs.LocalList.{listed}
 use Rattle.inf_statements.specs.Operands.{stores_named}
 use Rattle.inf_statements.proofs.operands.name_stores.Given as goal
 

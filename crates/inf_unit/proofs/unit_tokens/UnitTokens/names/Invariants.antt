@@ -1,5 +1,5 @@
 use Rattle.std.proofs.Common.{◌≡◌, [], drop, map}
-use Rattle.inf_sinks.specs.Spellings.{as_name}
+use Rattle.inf_names.specs.Spellings.{as_name}
 use Rattle.inf_unit.specs.Kept.{as_spelled}
 use Rattle.inf_unit.specs.Units.{names_from}
 use Rattle.inf_unit.proofs.unit_tokens.UnitTokens.names.Given as goal

@@ -1,8 +1,8 @@
 use Rattle.std.proofs.Common.{◌≡◌, ◌<◌, ◌+◌, Some, ap, sym, ◌∙◌, length, arith}
 use Rattle.std.specs.List.{position_or_len}
-use Rattle.inf_sinks.proofs.LocalLemmas.{has, number_from-absent, number_from-found}
-use Rattle.inf_sinks.proofs.Places.{found_place, no_place}
-use Rattle.inf_sinks.proofs.locals.Locals.number.Goals as goal
+use Rattle.inf_names.proofs.LocalLemmas.{has, number_from-absent, number_from-found}
+use Rattle.inf_names.proofs.Places.{found_place, no_place}
+use Rattle.inf_names.proofs.locals.Locals.number.Goals as goal
 
 pub returns-in_err-place : goal.returns-in_err-place
 returns-in_err-place c =

@@ -1,6 +1,6 @@
 use Rattle.std.proofs.Common.{◌≡◌, ◌≤◌, ◌-◌, drop, length}
 use Rattle.std.specs.Str.{str_eq_ignore_ascii_case}
-use Rattle.inf_sinks.proofs.locals.are_same_bytes.Given as goal
+use Rattle.inf_names.proofs.locals.are_same_bytes.Given as goal
 
 -- those from here on are the same if all are
 abbrev pub invariant-loop-i : goal.invariant-loop-i

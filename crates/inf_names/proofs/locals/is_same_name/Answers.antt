@@ -2,8 +2,8 @@
 use Rattle.std.proofs.Common.{nat_eq, sym, ◌∙◌, arith}
 use Rattle.std.specs.Str.{str_eq_ignore_ascii_case}
 use Rattle.std.proofs.lemmas.Bool.{eqb-true, false_from_ne_true}
-use Rattle.inf_sinks.proofs.SameNames.{same_length, same_letter}
-use Rattle.inf_sinks.proofs.locals.is_same_name.Goals as goal
+use Rattle.inf_names.proofs.SameNames.{same_length, same_letter}
+use Rattle.inf_names.proofs.locals.is_same_name.Goals as goal
 
 pub returns-then-name-other : goal.returns-then-name-other
 returns-then-name-other c =

@@ -1,10 +1,10 @@
 use Rattle.std.proofs.Common.{◌≡◌, ◌<◌, ap, map, sym, ◌∙◌, length, length-set, get_or, set, arith}
 use Rattle.std.specs.List.{position_or_len}
 use Rattle.arrayvec.proofs.ArrayVecLemmas.{items-with_items}
-use Rattle.inf_sinks.specs.LocalList.{local}
-use Rattle.inf_sinks.proofs.LocalLemmas.{as_named, has, with_named-absent, with_named-found}
-use Rattle.inf_sinks.proofs.Places.{found_place, no_place}
-use Rattle.inf_sinks.proofs.locals.Locals.name.Goals as goal
+use Rattle.inf_names.specs.LocalList.{local}
+use Rattle.inf_names.proofs.LocalLemmas.{as_named, has, with_named-absent, with_named-found}
+use Rattle.inf_names.proofs.Places.{found_place, no_place}
+use Rattle.inf_names.proofs.locals.Locals.name.Goals as goal
 
 pub returns-in-Some : goal.returns-in-Some
 returns-in-Some c =

@@ -1,6 +1,6 @@
 //! Names as a source spells them.
 ghost use Rattle.std.specs.Prelude.{◌≡◌, ◌≤◌, length};
-ghost use Rattle.inf_sinks.specs.Spellings.{as_name};
+ghost use Rattle.inf_names.specs.Spellings.{as_name};
 
 use arrayvec::ArrayVec;
 use inf_scanner::Place;

@@ -5,7 +5,7 @@ use Rattle.std.specs.Str.{str_eq_ignore_ascii_case}
 use Rattle.std.proofs.lemmas.List.{drop_all, length-map}
 use Rattle.std.proofs.lemmas.Slice.Eq.{bytes_eq-Decides}
 use Rattle.std.proofs.Math.ListN.{get_or-map}
-use Rattle.inf_sinks.specs.LocalList.{last_letter}
+use Rattle.inf_names.specs.LocalList.{last_letter}
 
 in_any_case : (byte : ℕ) → to_ascii_lowercase byte % 32 ≡ byte % 32
 in_any_case byte = by_tests _ _

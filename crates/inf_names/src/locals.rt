@@ -3,9 +3,9 @@ ghost use Rattle.std.specs.Prelude.{◌≡◌, ◌≤◌, ◌<◌, [], IfSome, l
 ghost use Rattle.std.specs.Char.{eq_ignore_ascii_case};
 ghost use Rattle.std.specs.Str.{str_eq_ignore_ascii_case};
 ghost use Rattle.arrayvec.specs.ArrayVec.{array_vec_len};
-ghost use Rattle.inf_sinks.specs.LocalList.{last_letter};
-ghost use Rattle.inf_sinks.specs.Locals.{number_of, local_of, with_named, with_local, no_locals};
-ghost use Rattle.inf_sinks.specs.Spellings.{as_name};
+ghost use Rattle.inf_names.specs.LocalList.{last_letter};
+ghost use Rattle.inf_names.specs.Locals.{number_of, local_of, with_named, with_local, no_locals};
+ghost use Rattle.inf_names.specs.Spellings.{as_name};
 
 use crate::spellings::{Name, Spelling, copy_of};
 use arrayvec::ArrayVec;
@@ -97,7 +97,7 @@ pub struct Headed {
 }
 
 impl Locals {
-    ghost use Rattle.inf_sinks.specs.LocalList.{listed};
+    ghost use Rattle.inf_names.specs.LocalList.{listed};
 
     pub fn new() -> Locals
         ensures { listed result ≡ [] }
@@ -154,8 +154,8 @@ impl Locals {
 }
 
 impl Headed {
-    ghost use Rattle.inf_sinks.specs.LocalList.{headed};
-    ghost use Rattle.inf_sinks.specs.Locals.{earlier};
+    ghost use Rattle.inf_names.specs.LocalList.{headed};
+    ghost use Rattle.inf_names.specs.Locals.{earlier};
 
     /// No local yet.
     pub fn new() -> Headed
