@@ -9,10 +9,10 @@ ghost use Rattle.inf_compilation.specs.Meant.{again_as, found_as};
 
 use inf_expressions::{Finding, NOT_CONSTANT, OUT_OF_RANGE, WRONG_KIND, least_of_both};
 use inf_lexer::{Place, Stack};
-use inf_names::symbols::DeclareFault;
-use inf_report::messages::{FixedLimit, Message, Told};
 use inf_names::locals::{Headed, Repeated};
 use inf_names::spellings::Name;
+use inf_names::symbols::DeclareFault;
+use inf_report::messages::{FixedLimit, Message, Told};
 use inf_statements::effects::{GIVEN_TWICE, MISPLACED_DEFAULT, NOTHING_TO_LEAVE, WRONG_OPCODE};
 use inf_unit::messages::{Diagnostic, location};
 use inf_unit::tokens::told;

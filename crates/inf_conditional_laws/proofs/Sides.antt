@@ -11,7 +11,7 @@ use Rattle.inf_unit.specs.Tokens.{SourceToken, is_end, is_mark}
 use Rattle.inf_conditionals.specs.Atoms.{atom_of}
 use Rattle.inf_conditionals.specs.Condition.{Condition, condition_took, is_whole, verdict_of}
 use Rattle.inf_conditionals.specs.Said.{too_much}
-use Rattle.inf_conditionals.specs.declared.judged.Site.{Site}
+use Rattle.inf_conditionals.specs.declared.filtered.Site.{Site}
 use Rattle.inf_conditionals.specs.declared.open.LeftOut.{LeftOut}
 use Rattle.inf_conditionals.specs.declared.pending.Awaits.{Awaits}
 use Rattle.inf_conditionals.specs.declared.pending.Awaits.TheVariants as awaits

@@ -6,8 +6,8 @@ use Rattle.inf_output.specs.Output.{Out}
 use Rattle.inf_scanner.specs.declared.tokens.Mark.TheVariants as mark
 use Rattle.inf_scanner.specs.declared.tokens.Place.{Place}
 use Rattle.inf_unit.specs.Tokens.{SourceToken, is_end, is_mark}
-use Rattle.inf_conditionals.specs.declared.judged.Filtered.{Filtered}
-use Rattle.inf_conditionals.specs.declared.judged.Site.{Site}
+use Rattle.inf_conditionals.specs.declared.filtered.Filtered.{Filtered}
+use Rattle.inf_conditionals.specs.declared.filtered.Site.{Site}
 use Rattle.inf_conditionals.specs.declared.open.LeftOut.{LeftOut}
 use Rattle.inf_conditionals.specs.declared.pending.Awaits.TheVariants as awaits
 use Rattle.inf_conditionals.specs.declared.pending.Effect.TheVariants as effect

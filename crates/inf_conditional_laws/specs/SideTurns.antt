@@ -3,7 +3,7 @@ use Rattle.std.specs.Prelude.{◌≡◌, ◌≤◌, ◌+◌, ℕ, zero, suc, Lis
 use Rattle.inf_files.specs.Files.{Sources}
 use Rattle.inf_unit.specs.Directives.{Request, End, Include, Nothing}
 use Rattle.inf_unit.specs.Tokens.{is_end}
-use Rattle.inf_conditionals.specs.declared.judged.Forwarded.TheVariants as handed
+use Rattle.inf_conditionals.specs.declared.filtered.Forwarded.TheVariants as handed
 use Rattle.inf_conditionals.specs.declared.open.LeftOut.{LeftOut}
 use Rattle.inf_conditionals.specs.Open.{is_second, latest, most_levels}
 use Rattle.inf_reader.specs.Handing.{site_of}

@@ -7,7 +7,7 @@ ghost use Rattle.inf_unit.specs.Tokens.{spelled};
 
 use crate::condition::Condition;
 use crate::ends::tell_all;
-use crate::judged::{Filtered, Forwarded, KEPT, NONE, Sign, Site, TAKEN};
+use crate::filtered::{Filtered, Forwarded, KEPT, NONE, Sign, Site, TAKEN};
 use crate::open::LeftOut;
 use crate::pending::{Awaits, Effect, Pending};
 use crate::said::{Said, too_much};

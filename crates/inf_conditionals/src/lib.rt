@@ -8,7 +8,7 @@ pub mod atoms;
 pub mod condition;
 pub mod conditionals;
 pub mod ends;
-pub mod judged;
+pub mod filtered;
 pub mod open;
 mod operands;
 pub mod pending;

@@ -4,8 +4,8 @@ ghost use Rattle.inf_names.specs.Symbols.{folded};
 
 use arrayvec::ArrayVec;
 use indexmap::IndexMap;
-use inf_opcode::Label;
 use inf_names::spellings::MOST_NAME_BYTES;
+use inf_opcode::Label;
 use std::alloc::{AllocError, Global};
 use std::marker::Model;
 

@@ -21,10 +21,10 @@ use inf_expressions::{Finding, Forest, Wanted, build, constant as constant_in, l
 use inf_gathering::gathering::Leaf;
 use inf_lexer::{Place, Stack};
 use inf_names::meanings::Meaning;
+use inf_names::spellings::Name;
 use inf_names::symbols::{DeclareFault, Found, ReferFault, Symbols};
 use inf_report::messages::FixedLimit;
 use inf_report::own_words::OwnWords;
-use inf_names::spellings::Name;
 use inf_statements::operands::add_leaf as add_operand;
 use inf_unit::directives::{Request, weight_of};
 use inf_unit::messages::location;

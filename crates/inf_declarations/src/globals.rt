@@ -10,8 +10,8 @@ use inf_compilation::compilation::Compilation;
 use inf_expressions::Finding;
 use inf_lexer::{Place, Stack};
 use inf_names::meanings::Meaning;
-use inf_report::messages::FixedLimit;
 use inf_names::spellings::Name;
+use inf_report::messages::FixedLimit;
 use inf_unit::unit::order;
 use std::alloc::AllocError;
 

@@ -12,7 +12,7 @@ use Rattle.inf_grammar.specs.Language.{grammar, known}
 use Rattle.inf_unit.specs.Tokens.{SourceToken, is_end, is_mark}
 use Rattle.inf_conditionals.specs.Atoms.{atom_of}
 use Rattle.inf_conditionals.specs.Condition.{Condition, condition_begun, condition_took}
-use Rattle.inf_conditionals.specs.declared.judged.Forwarded.TheVariants as handed
+use Rattle.inf_conditionals.specs.declared.filtered.Forwarded.TheVariants as handed
 use Rattle.inf_sources.specs.declared.open_file.Conditional.{Conditional}
 use Rattle.inf_conditionals.specs.declared.pending.Awaits.{Awaits}
 use Rattle.inf_conditionals.specs.declared.pending.Awaits.TheVariants as awaits

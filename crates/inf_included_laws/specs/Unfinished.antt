@@ -9,9 +9,9 @@ use Rattle.inf_grammar.specs.Language.{grammar, known}
 use Rattle.inf_unit.specs.Tokens.{SourceToken, is_mark}
 use Rattle.inf_conditionals.specs.Atoms.{atom_of}
 use Rattle.inf_conditionals.specs.Condition.{Condition, condition_begun, condition_took, is_whole}
-use Rattle.inf_conditionals.specs.declared.judged.Forwarded.{Forwarded}
-use Rattle.inf_conditionals.specs.declared.judged.Forwarded.TheVariants as handed
-use Rattle.inf_conditionals.specs.declared.judged.Sign.{Sign}
+use Rattle.inf_conditionals.specs.declared.filtered.Forwarded.{Forwarded}
+use Rattle.inf_conditionals.specs.declared.filtered.Forwarded.TheVariants as handed
+use Rattle.inf_conditionals.specs.declared.filtered.Sign.{Sign}
 use Rattle.inf_conditionals.specs.declared.words.ConditionalWord.TheVariants as word
 use Rattle.inf_conditionals.specs.Open.{most_levels}
 use Rattle.inf_reader.specs.Handing.{hash}

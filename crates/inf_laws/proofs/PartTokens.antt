@@ -16,11 +16,11 @@ use Rattle.inf_conditionals.specs.Open.{Conditions, closed, closed_by, ended_by,
 use Rattle.inf_conditionals.specs.Said.{too_much, told_by}
 use Rattle.inf_conditionals.specs.Words.{awaits_of, word_of}
 use Rattle.inf_conditionals.specs.declared.condition.Verdict.{Verdict}
-use Rattle.inf_conditionals.specs.declared.judged.Forwarded.{Forwarded}
-use Rattle.inf_conditionals.specs.declared.judged.Forwarded.TheVariants as handed
-use Rattle.inf_conditionals.specs.declared.judged.Filtered.{Filtered}
-use Rattle.inf_conditionals.specs.declared.judged.Sign.{Sign}
-use Rattle.inf_conditionals.specs.declared.judged.Site.{Site}
+use Rattle.inf_conditionals.specs.declared.filtered.Forwarded.{Forwarded}
+use Rattle.inf_conditionals.specs.declared.filtered.Forwarded.TheVariants as handed
+use Rattle.inf_conditionals.specs.declared.filtered.Filtered.{Filtered}
+use Rattle.inf_conditionals.specs.declared.filtered.Sign.{Sign}
+use Rattle.inf_conditionals.specs.declared.filtered.Site.{Site}
 use Rattle.inf_sources.specs.declared.open_file.Conditional.{Conditional}
 use Rattle.inf_conditionals.specs.declared.open.LeftOut.{LeftOut}
 use Rattle.inf_conditionals.specs.declared.pending.Awaits.{Awaits}

@@ -19,10 +19,10 @@ use Rattle.inf_unit.specs.Directives.{Request, End, Include, Nothing}
 use Rattle.inf_unit.specs.Messages.{FileNames}
 use Rattle.inf_unit.specs.Tokens.{SourceToken, is_end}
 use Rattle.inf_unit.proofs.Cases.{of_both}
-use Rattle.inf_conditionals.specs.declared.judged.Forwarded.{Forwarded}
-use Rattle.inf_conditionals.specs.declared.judged.Forwarded.TheVariants as handed
-use Rattle.inf_conditionals.specs.declared.judged.Filtered.{Filtered}
-use Rattle.inf_conditionals.specs.declared.judged.Sign.{Sign}
+use Rattle.inf_conditionals.specs.declared.filtered.Forwarded.{Forwarded}
+use Rattle.inf_conditionals.specs.declared.filtered.Forwarded.TheVariants as handed
+use Rattle.inf_conditionals.specs.declared.filtered.Filtered.{Filtered}
+use Rattle.inf_conditionals.specs.declared.filtered.Sign.{Sign}
 use Rattle.inf_conditionals.specs.declared.open.LeftOut.{LeftOut}
 use Rattle.inf_conditionals.specs.declared.pending.Pending.{Pending}
 use Rattle.inf_conditionals.specs.Ends.{side_kept}
@@ -31,8 +31,8 @@ use Rattle.inf_conditionals.specs.Open.{Conditions}
 use Rattle.inf_compilation.specs.Actions.{Compilation, is_class}
 use Rattle.inf_reader.specs.Handing.{hash, is_empty, reads, said_told, sign_taken, site_of}
 use Rattle.inf_reader.specs.Reading.{Reading, ReaderState, between, is_mode_ended, passed, piece_rule}
-use Rattle.inf_reader.specs.declared.mode.Recovery.{Recovery}
-use Rattle.inf_reader.specs.declared.mode.Recovery.TheVariants as mode
+use Rattle.inf_reader.specs.declared.recovery.Recovery.{Recovery}
+use Rattle.inf_reader.specs.declared.recovery.Recovery.TheVariants as mode
 use Rattle.inf_session.specs.Choices.{Choices}
 use Rattle.inf_session.specs.Session.{State, answered, asked_nothing, file_closed, has_ended, carried_out, included_by, is_parted, is_resting, left, left_by, none_included, piece_closed, rested, stand_of, start, stepped, token_of, turn}
 use Rattle.inf_laws.specs.KeptTokens.{Given, Kept, Seen, Stands, Unfit, all_given_to, given_as, given_of, given_sign, given_to, given_token, rests, seen_atom, skipped, token_in}

@@ -10,8 +10,8 @@ use Rattle.inf_unit.specs.Messages.{FileNames}
 use Rattle.inf_unit.specs.Tokens.{SourceToken, is_end, is_mark}
 use Rattle.inf_reader.specs.Handing.{skips, unfit_in}
 use Rattle.inf_reader.specs.Reading.{ReaderState, passed, passed_mark, step_in}
-use Rattle.inf_reader.specs.declared.mode.Recovery.{Recovery}
-use Rattle.inf_reader.specs.declared.mode.Recovery.TheVariants as mode
+use Rattle.inf_reader.specs.declared.recovery.Recovery.{Recovery}
+use Rattle.inf_reader.specs.declared.recovery.Recovery.TheVariants as mode
 use Rattle.inf_laws.specs.KeptTokens.{Given, Kept, Unfit, skipped, token_in}
 use Rattle.inf_laws.specs.Skipping.{at, Lack, PassesTo, PassedTokensDoNothing, DirectivesAreSkipped, RoutinesAreSkipped, SourcesEnd}
 

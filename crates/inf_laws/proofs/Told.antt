@@ -13,7 +13,7 @@ use Rattle.inf_compilation.specs.Actions.{Compilation, is_class, piece_begun as 
 use Rattle.inf_reader.specs.Handing.{unfit_in}
 use Rattle.inf_reader.specs.Pieces.{BeginsPiece, at_hand, at_hand_by, work_by}
 use Rattle.inf_reader.specs.Reading.{Reading, ReaderState, bad, between, judged, piece_begun, read_at, step_in, took}
-use Rattle.inf_reader.specs.declared.mode.Recovery.TheVariants as mode
+use Rattle.inf_reader.specs.declared.recovery.Recovery.TheVariants as mode
 use Rattle.inf_laws.specs.KeptTokens.{Given, GoesBehind, Kept, Seen, Unfit, all_given_to, given_to, rests, seen_atom}
 use Rattle.inf_laws.specs.Skipping.{given_at}
 use Rattle.inf_laws.specs.Told.{IsAt, TokensAreTakenOrTold, UnfitTokensAreTold}

@@ -1,8 +1,8 @@
 -- How a bad token is passed over, said of the tokens of its piece before it.
 use Rattle.std.specs.Prelude.{ℕ, List, if◌then◌else◌}
 use Rattle.inf_grammar.specs.Brackets.{is_bracket_open}
-use Rattle.inf_reader.specs.declared.mode.Recovery.{Recovery}
-use Rattle.inf_reader.specs.declared.mode.Recovery.TheVariants as mode
+use Rattle.inf_reader.specs.declared.recovery.Recovery.{Recovery}
+use Rattle.inf_reader.specs.declared.recovery.Recovery.TheVariants as mode
 
 -- How tokens are passed over behind those that begin a piece, and that the grammar sees so: as in a routine where the last bracket among
 -- them is

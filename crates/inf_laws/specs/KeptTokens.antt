@@ -8,16 +8,16 @@ use Rattle.inf_machine.specs.declared.symbols.Symbol.{Symbol}
 use Rattle.inf_machine.specs.Machine.{fits, taken}
 use Rattle.inf_grammar.specs.Language.{grammar, known}
 use Rattle.inf_conditionals.specs.Atoms.{atom_as}
-use Rattle.inf_conditionals.specs.declared.judged.Forwarded.{Forwarded}
-use Rattle.inf_conditionals.specs.declared.judged.Forwarded.TheVariants as handed
-use Rattle.inf_conditionals.specs.declared.judged.Filtered.{Filtered}
-use Rattle.inf_conditionals.specs.declared.judged.Sign.{Sign}
+use Rattle.inf_conditionals.specs.declared.filtered.Forwarded.{Forwarded}
+use Rattle.inf_conditionals.specs.declared.filtered.Forwarded.TheVariants as handed
+use Rattle.inf_conditionals.specs.declared.filtered.Filtered.{Filtered}
+use Rattle.inf_conditionals.specs.declared.filtered.Sign.{Sign}
 use Rattle.inf_compilation.specs.Actions.{Compilation, is_class}
 use Rattle.inf_reader.specs.Handing.{hash, is_empty, judged_taken, reads, sign_taken}
 use Rattle.inf_reader.specs.Pieces.{BeginsPiece, IsPiece}
 use Rattle.inf_reader.specs.Reading.{Reading, ReaderState, between, is_mode_ended, passed, piece_begun, skip_of}
-use Rattle.inf_reader.specs.declared.mode.Recovery.{Recovery}
-use Rattle.inf_reader.specs.declared.mode.Recovery.TheVariants as mode
+use Rattle.inf_reader.specs.declared.recovery.Recovery.{Recovery}
+use Rattle.inf_reader.specs.declared.recovery.Recovery.TheVariants as mode
 use Rattle.inf_laws.specs.BadTokens.{skip_behind}
 
 -- What is handed on

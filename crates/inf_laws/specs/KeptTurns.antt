@@ -4,7 +4,7 @@ use Rattle.inf_files.specs.Files.{Sources}
 use Rattle.inf_conditionals.specs.Judging.{judged}
 use Rattle.inf_reader.specs.Handing.{said_told, site_of}
 use Rattle.inf_reader.specs.Reading.{between, is_mode_ended}
-use Rattle.inf_reader.specs.declared.mode.Recovery.TheVariants as mode
+use Rattle.inf_reader.specs.declared.recovery.Recovery.TheVariants as mode
 use Rattle.inf_session.specs.Choices.{Choices}
 use Rattle.inf_session.specs.Session.{State, stand_of, stepped, token_of, turn}
 use Rattle.inf_laws.specs.KeptTokens.{Given, GoesOn, Stands, given_of}

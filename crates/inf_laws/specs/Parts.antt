@@ -2,7 +2,7 @@
 use Rattle.std.specs.Prelude.{◌≡◌, ◌⊎◌, ℕ, zero, suc, List, [], true, false}
 use Rattle.inf_files.specs.Files.{Sources}
 use Rattle.inf_reader.specs.Reading.{between}
-use Rattle.inf_reader.specs.declared.mode.Recovery.TheVariants as mode
+use Rattle.inf_reader.specs.declared.recovery.Recovery.TheVariants as mode
 use Rattle.inf_session.specs.Choices.{Choices}
 use Rattle.inf_session.specs.Session.{State, is_parted, start, stepped, turn}
 use Rattle.inf_laws.specs.KeptTokens.{Stands, rests}

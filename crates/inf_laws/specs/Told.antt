@@ -5,7 +5,7 @@ use Rattle.inf_unit.specs.Tokens.{SourceToken, is_end}
 use Rattle.inf_compilation.specs.Actions.{is_class}
 use Rattle.inf_reader.specs.Pieces.{BeginsPiece, at_hand, work_by}
 use Rattle.inf_reader.specs.Reading.{ReaderState, bad, between, took}
-use Rattle.inf_reader.specs.declared.mode.Recovery.TheVariants as mode
+use Rattle.inf_reader.specs.declared.recovery.Recovery.TheVariants as mode
 use Rattle.inf_laws.specs.KeptTokens.{GoesOn, Kept, Seen, Unfit, all_given_to, rests, seen_atom}
 use Rattle.inf_laws.specs.Skipping.{given_at}
 

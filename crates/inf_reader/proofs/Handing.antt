@@ -4,14 +4,14 @@ use Rattle.inf_scanner.specs.declared.tokens.Place.{Place}
 use Rattle.inf_scanner.specs.declared.tokens.TokenKind.TheVariants as kind
 use Rattle.inf_unit.specs.Messages.{FileNames}
 use Rattle.inf_unit.specs.Tokens.{SourceToken}
-use Rattle.inf_conditionals.specs.declared.judged.Forwarded.{Forwarded}
-use Rattle.inf_conditionals.specs.declared.judged.Forwarded.TheVariants as handed
-use Rattle.inf_conditionals.specs.declared.judged.Filtered.{Filtered}
+use Rattle.inf_conditionals.specs.declared.filtered.Forwarded.{Forwarded}
+use Rattle.inf_conditionals.specs.declared.filtered.Forwarded.TheVariants as handed
+use Rattle.inf_conditionals.specs.declared.filtered.Filtered.{Filtered}
 use Rattle.inf_conditionals.proofs.Ending.{is_on}
 use Rattle.inf_reader.specs.Handing.{handed_as, judged_taken, lone_told, sign_taken, token_taken, unfit_in, unit_ended}
 use Rattle.inf_reader.specs.Reading.{ReaderState}
-use Rattle.inf_reader.specs.declared.mode.Recovery.{Recovery}
-use Rattle.inf_reader.specs.declared.mode.Recovery.TheVariants as mode
+use Rattle.inf_reader.specs.declared.recovery.Recovery.{Recovery}
+use Rattle.inf_reader.specs.declared.recovery.Recovery.TheVariants as mode
 use Rattle.inf_reader.proofs.Turns.{end_at}
 
 abbrev end_of : List ℕ → Place → SourceToken

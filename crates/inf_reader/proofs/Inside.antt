@@ -6,7 +6,7 @@ use Rattle.inf_unit.specs.Messages.{FileNames}
 use Rattle.inf_unit.specs.Tokens.{SourceToken, is_end}
 use Rattle.inf_compilation.specs.Actions.{Compilation, piece_begun as work_begun}
 use Rattle.inf_reader.specs.Reading.{Reading, judged, piece_begun, read_at}
-use Rattle.inf_reader.specs.declared.mode.Recovery.TheVariants as mode
+use Rattle.inf_reader.specs.declared.recovery.Recovery.TheVariants as mode
 
 pub read_inside : (files : FileNames) (t : SourceToken) (stack : List (Symbol Action)) (r : Reading) (w : Compilation) → (stack ≡ [] → ⊥) →
     read_at files t stack r w ≡ judged files t r w

@@ -8,16 +8,16 @@ use Rattle.inf_machine.specs.declared.symbols.Symbol.{Symbol}
 use Rattle.inf_unit.specs.Messages.{FileNames}
 use Rattle.inf_unit.specs.Tokens.{SourceToken, is_end}
 use Rattle.inf_unit.proofs.Cases.{of_both}
-use Rattle.inf_conditionals.specs.declared.judged.Forwarded.{Forwarded}
-use Rattle.inf_conditionals.specs.declared.judged.Forwarded.TheVariants as handed
-use Rattle.inf_conditionals.specs.declared.judged.Filtered.{Filtered}
-use Rattle.inf_conditionals.specs.declared.judged.Sign.{Sign}
+use Rattle.inf_conditionals.specs.declared.filtered.Forwarded.{Forwarded}
+use Rattle.inf_conditionals.specs.declared.filtered.Forwarded.TheVariants as handed
+use Rattle.inf_conditionals.specs.declared.filtered.Filtered.{Filtered}
+use Rattle.inf_conditionals.specs.declared.filtered.Sign.{Sign}
 use Rattle.inf_compilation.specs.Actions.{Compilation, begun_at, is_class, piece_begun as work_begun, took as work_took}
-use Rattle.inf_work.specs.Acting.{all_acted}
-use Rattle.inf_work.specs.Limits.{SameLimits}
+use Rattle.inf_actions.specs.Acting.{all_acted}
+use Rattle.inf_actions.specs.Limits.{SameLimits}
 use Rattle.inf_grammar.specs.Routines.{closings}
 use Rattle.inf_compilation.specs.Parts.{closed_ahead}
-use Rattle.inf_work.proofs.Limits.{all_acted_same, begun_at_same, closed_ahead_same, cut_same, same_then, took_same as work_took_same}
+use Rattle.inf_actions.proofs.Limits.{all_acted_same, begun_at_same, closed_ahead_same, cut_same, same_then, took_same as work_took_same}
 use Rattle.inf_reader.specs.Handing.{handed_as, hash, judged_taken, lone_told, sign_taken, token_taken, unfit_in, unit_ended}
 use Rattle.inf_reader.specs.Reading.{Reading, ReaderState, bad, judged, piece_begun, read_at, step, step_in, took}
 use Rattle.inf_names.specs.Spellings.{Name}
@@ -30,8 +30,8 @@ use Rattle.inf_conditionals.specs.Said.{Deep, Long, Right, Said, Wrong, with_rig
 use Rattle.inf_output.specs.Limits.{Keeps as KeepsAll, SameLimits as SameOutLimits}
 use Rattle.inf_output.proofs.Keeping.{action_same, same_then as out_same_then}
 use Rattle.inf_output.specs.Output.{Out}
-use Rattle.inf_reader.specs.declared.mode.Recovery.{Recovery}
-use Rattle.inf_reader.specs.declared.mode.Recovery.TheVariants as mode
+use Rattle.inf_reader.specs.declared.recovery.Recovery.{Recovery}
+use Rattle.inf_reader.specs.declared.recovery.Recovery.TheVariants as mode
 
 -- what was compiled behind something has the limits from before
 abbrev Keeps : Compilation → ReaderState → Type 0

@@ -19,11 +19,11 @@ use Rattle.inf_machine.specs.Machine.{fits, taken}
 use Rattle.inf_grammar.specs.Routines.{is_in_routine}
 use Rattle.inf_grammar.specs.Language.{grammar, known}
 use Rattle.inf_compilation.specs.Actions.{Compilation, cut, is_class, no_work, piece_begun as work_begun, took as work_took}
-use Rattle.inf_work.specs.Acting.{all_acted}
+use Rattle.inf_actions.specs.Acting.{all_acted}
 use Rattle.inf_conditionals.specs.Atoms.{atom_as}
 use Rattle.inf_reader.specs.Tests.{complaint_of}
-use Rattle.inf_reader.specs.declared.mode.Recovery.{Recovery}
-use Rattle.inf_reader.specs.declared.mode.Recovery.TheVariants as mode
+use Rattle.inf_reader.specs.declared.recovery.Recovery.{Recovery}
+use Rattle.inf_reader.specs.declared.recovery.Recovery.TheVariants as mode
 
 -- What is read: how, and what of the piece at hand is still to come.
 pub record Reading : Type 0 where

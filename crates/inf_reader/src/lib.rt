@@ -2,9 +2,9 @@
 #![tactic(auto)]
 
 mod laws;
-pub mod mode;
 pub mod progress;
 pub mod reader;
+pub mod recovery;
 mod tokens;
 
 pub use laws::{limits_stay, pieces_begin};

@@ -6,13 +6,14 @@ ghost use Rattle.inf_reader.specs.Handing.{hash};
 ghost use Rattle.inf_reader.specs.Reading.{with_complaint};
 ghost use Rattle.inf_reader.specs.Tests.{complaint_of};
 
-use crate::mode::{Recovery, passed};
 use crate::reader::Reader;
+use crate::recovery::{Recovery, passed};
 use crate::tokens::complaint_of;
+use inf_actions::acting::{act_all, cut};
 use inf_compilation::compilation::Compilation;
 use inf_conditionals::atoms::atom_at;
 use inf_conditionals::ends::tell_lone;
-use inf_conditionals::judged::{Filtered, Forwarded, Site};
+use inf_conditionals::filtered::{Filtered, Forwarded, Site};
 use inf_lexer::{Place, Stack};
 use inf_names::hashing::NameHashing;
 use inf_report::messages::{Kind, Location};
@@ -22,7 +23,6 @@ use inf_syntax::Action;
 use inf_text::CharSet;
 use inf_unit::messages::{Diagnostics, location};
 use inf_unit::tokens::{SourceToken, is_end};
-use inf_work::work::{act_all, cut};
 use std::alloc::{AllocError, Global};
 
 /// How far a source was read, and what was compiled of it.

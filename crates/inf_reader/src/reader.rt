@@ -4,9 +4,9 @@ ghost use Rattle.inf_grammar.specs.Language.{grammar, known};
 ghost use Rattle.inf_machine.specs.Machine.{fits, taken};
 ghost use Rattle.inf_reader.specs.Reading.{between, passed, skip_of, piece_begun};
 ghost use Rattle.inf_reader.specs.Standing.{reading};
-ghost use Rattle.inf_reader.specs.declared.mode.Recovery.TheVariants as mode;
+ghost use Rattle.inf_reader.specs.declared.recovery.Recovery.TheVariants as mode;
 
-use crate::mode::{Recovery, passed};
+use crate::recovery::{Recovery, passed};
 use inf_grammar::{Action, Machine, PIECE};
 use inf_unit::tokens::SourceToken;
 use std::alloc::{AllocError, Global};

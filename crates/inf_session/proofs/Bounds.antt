@@ -6,8 +6,8 @@ use Rattle.inf_sources.specs.Quoted.{is_quoted_kind}
 use Rattle.inf_scanner.specs.declared.tokens.BadToken.TheVariants as bad
 use Rattle.inf_scanner.specs.declared.tokens.TokenKind.{TokenKind}
 use Rattle.inf_scanner.specs.declared.tokens.TokenKind.TheVariants as kind
-use Rattle.inf_conditionals.specs.declared.judged.Filtered.{Filtered}
-use Rattle.inf_conditionals.specs.declared.judged.Site.{Site}
+use Rattle.inf_conditionals.specs.declared.filtered.Filtered.{Filtered}
+use Rattle.inf_conditionals.specs.declared.filtered.Site.{Site}
 use Rattle.inf_code.specs.declared.code.CodeLimits.{CodeLimits}
 use Rattle.inf_settings.specs.Settings.{all_settings, number_of}
 use Rattle.inf_settings.specs.declared.setting.Setting.{Setting}
@@ -16,9 +16,9 @@ use Rattle.inf_unit.proofs.Cases.{of_both}
 use Rattle.inf_unit.specs.Messages.{FileNames, none_reported, with_full}
 use Rattle.inf_unit.specs.Tokens.{SourceToken}
 use Rattle.inf_output.specs.Limits.{TableBounds, bounds, table_bounds}
-use Rattle.inf_work.specs.Limits.{SameLimits}
+use Rattle.inf_actions.specs.Limits.{SameLimits}
 use Rattle.inf_compilation.specs.Works.{work as work_of}
-use Rattle.inf_work.proofs.Limits.{same_then}
+use Rattle.inf_actions.proofs.Limits.{same_then}
 use Rattle.inf_reader.specs.Reading.{ReaderState, has_ended_at}
 use Rattle.inf_reader.specs.Standing.{standing}
 use Rattle.inf_reader.specs.declared.progress.Progress.{Progress}

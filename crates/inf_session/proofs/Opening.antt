@@ -6,8 +6,8 @@ use Rattle.inf_scanner.specs.declared.tokens.Place.{Place}
 use Rattle.inf_unit.proofs.Cases.{of_both}
 use Rattle.inf_unit.specs.Directives.{Request, Include}
 use Rattle.inf_reader.specs.Reading.{is_mode_ended}
-use Rattle.inf_reader.specs.declared.mode.Recovery.{Recovery}
-use Rattle.inf_reader.specs.declared.mode.Recovery.TheVariants as mode
+use Rattle.inf_reader.specs.declared.recovery.Recovery.{Recovery}
+use Rattle.inf_reader.specs.declared.recovery.Recovery.TheVariants as mode
 use Rattle.inf_sources.specs.Inclusions.{Inclusion, Nesting, OpenedInVain, Opens, OpensNone, inclusion, nested_by}
 use Rattle.inf_sources.specs.Open.{Open, nesting, opened_since}
 use Rattle.inf_sources.specs.declared.open_file.Conditional.{Conditional}

@@ -10,7 +10,7 @@ use Rattle.inf_sinks.specs.Sinks.{Takes}
 use Rattle.inf_conditionals.specs.Ends.{file_ended, file_told, with_among}
 use Rattle.inf_conditionals.specs.Open.{Conditions}
 use Rattle.inf_unit.specs.Messages.{Reported, flushed}
-use Rattle.inf_reader.specs.declared.mode.Recovery.TheVariants as mode
+use Rattle.inf_reader.specs.declared.recovery.Recovery.TheVariants as mode
 use Rattle.inf_session.specs.Choices.{Choices}
 use Rattle.inf_session.specs.Faults.{Caused, IfRead}
 use Rattle.inf_session.specs.Leading.{CutsShort, Writes}

@@ -8,8 +8,8 @@ use Rattle.inf_unit.specs.Messages.{FileNames}
 use Rattle.inf_unit.specs.Tokens.{SourceToken}
 use Rattle.inf_conditionals.specs.Judging.{Behind, judged}
 use Rattle.inf_conditionals.specs.Open.{Conditions}
-use Rattle.inf_conditionals.specs.declared.judged.Filtered.{Filtered}
-use Rattle.inf_conditionals.specs.declared.judged.Site.{Site}
+use Rattle.inf_conditionals.specs.declared.filtered.Filtered.{Filtered}
+use Rattle.inf_conditionals.specs.declared.filtered.Site.{Site}
 use Rattle.inf_conditionals.proofs.Ending.{end_is_handed, end_of}
 use Rattle.inf_reader.proofs.Handing.{end_taken}
 use Rattle.inf_reader.specs.Handing.{judged_taken}

@@ -11,8 +11,8 @@ use Rattle.inf_files.specs.Files.{Sources}
 use Rattle.inf_conditionals.specs.Ends.{file_ended, file_told, piece_ended, piece_told, with_among}
 use Rattle.inf_conditionals.specs.Judging.{is_none_pending, judged, may_part}
 use Rattle.inf_conditionals.specs.Open.{Conditions, no_conditions, silent}
-use Rattle.inf_conditionals.specs.declared.judged.Filtered.{Filtered}
-use Rattle.inf_conditionals.specs.declared.judged.Site.{Site}
+use Rattle.inf_conditionals.specs.declared.filtered.Filtered.{Filtered}
+use Rattle.inf_conditionals.specs.declared.filtered.Site.{Site}
 use Rattle.inf_report.specs.Messages.{Message, NoInclude, TooManyFiles}
 use Rattle.inf_sources.specs.Cursors.{Cursor, behind, read}
 use Rattle.inf_sources.specs.Inclusions.{Inclusion, Nesting, Opens, OpensNone, Waiting, inclusion, main_opened, resumed, with_opened}
@@ -28,7 +28,7 @@ use Rattle.inf_unit.specs.Messages.{FileNames, flushed, location, none_reported,
 use Rattle.inf_unit.specs.Tokens.{SourceToken}
 use Rattle.inf_reader.specs.Handing.{judged_taken, said_told, site_of}
 use Rattle.inf_reader.specs.Reading.{Reading, ReaderState, begun_stand, has_ended_at, is_mode_ended}
-use Rattle.inf_reader.specs.declared.mode.Recovery.TheVariants as mode
+use Rattle.inf_reader.specs.declared.recovery.Recovery.TheVariants as mode
 use Rattle.inf_session.specs.Choices.{Choices, most_quoted}
 
 -- The files that are open with what is still to come of each; the conditionals; how the next token is read; what was compiled,

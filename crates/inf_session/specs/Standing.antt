@@ -18,7 +18,7 @@ use Rattle.inf_compilation.specs.Actions.{limits_of}
 use Rattle.inf_output.specs.Limits.{TableBounds, bounds, table_bounds}
 use Rattle.inf_tables.specs.Tables.{no_tables}
 use Rattle.inf_code.specs.declared.code.CodeLimits.{CodeLimits}
-use Rattle.inf_work.specs.Limits.{SameLimits}
+use Rattle.inf_actions.specs.Limits.{SameLimits}
 use Rattle.inf_compilation.specs.Works.{work as work_of}
 use Rattle.inf_reader.specs.Reading.{has_ended_at}
 use Rattle.inf_reader.specs.Standing.{reading, standing}

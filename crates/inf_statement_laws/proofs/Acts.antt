@@ -29,7 +29,7 @@ use Rattle.inf_constructs.specs.declared.constructs.Case.TheVariants as case
 use Rattle.inf_constructs.specs.declared.constructs.Construct.{Construct}
 use Rattle.inf_constructs.specs.declared.constructs.Kind.{Kind}
 use Rattle.inf_constructs.specs.declared.constructs.Kind.TheVariants as kind
-use Rattle.inf_work.specs.Acting.{act, ended as ended_as, is_crowded, kind_of, noted, noted_of, played}
+use Rattle.inf_actions.specs.Acting.{act, ended as ended_as, is_crowded, kind_of, noted, noted_of, played}
 use Rattle.inf_compilation.specs.declared.parts.Part.{Part}
 use Rattle.inf_compilation.specs.declared.parts.Part.TheVariants as part
 use Rattle.inf_statement_laws.specs.Happenings.{Acts, Happening, Takes, happen_quietly, happens_quietly, is_quiet, is_quiet_end, is_quiet_role}

@@ -17,7 +17,7 @@ use Rattle.inf_constructs.specs.declared.constructs.Construct.{Construct}
 use Rattle.inf_constructs.specs.declared.constructs.Kind.{Kind}
 use Rattle.inf_constructs.specs.declared.constructs.Kind.TheVariants as kind
 use Rattle.inf_constructs.specs.declared.constructs.Over.TheVariants as over
-use Rattle.inf_work.specs.Acting.{act}
+use Rattle.inf_actions.specs.Acting.{act}
 use Rattle.inf_compilation.specs.Actions.{Compilation, is_deep, nested}
 use Rattle.inf_compilation.specs.Parts.{closed_ahead, construct_closed, construct_ended, construct_joined, construct_opened, constructs_laid}
 use Rattle.inf_statement_laws.specs.Happenings.{Acts, Between, Happening, IsRead, Moment, Quiet, bodies, rests}

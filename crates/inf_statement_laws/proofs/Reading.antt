@@ -18,7 +18,7 @@ use Rattle.inf_grammar.specs.Routines.{closings}
 use Rattle.inf_unit.specs.Messages.{FileNames}
 use Rattle.inf_unit.specs.Tokens.{SourceToken}
 use Rattle.inf_unit.specs.Units.{first_place, names_in}
-use Rattle.inf_work.specs.Acting.{act, acted}
+use Rattle.inf_actions.specs.Acting.{act, acted}
 use Rattle.inf_compilation.specs.Actions.{Compilation, took}
 use Rattle.inf_compilation.specs.Parts.{closed_ahead, construct_ended}
 use Rattle.inf_statement_laws.specs.Happenings.{Acts, AreOf, Between, Happening, Quiet, Takes, happen_quietly, is_quiet}

@@ -12,7 +12,7 @@ use Rattle.inf_constructs.specs.declared.constructs.Case.TheVariants as case
 use Rattle.inf_constructs.specs.declared.constructs.Construct.{Construct}
 use Rattle.inf_constructs.specs.declared.constructs.Kind.TheVariants as kind
 use Rattle.inf_constructs.specs.declared.constructs.Over.TheVariants as over
-use Rattle.inf_work.specs.Acting.{act}
+use Rattle.inf_actions.specs.Acting.{act}
 use Rattle.inf_compilation.specs.Actions.{Compilation, is_deep, nested, took}
 use Rattle.inf_statement_laws.specs.Happenings.{Acts, Between, Happening, Moment, Takes}
 use Rattle.inf_statement_laws.specs.Nested.{Case, Do, For, If, IfElse, Nested, Objectloop, Plain, Switch, Then, While, step_happenings}

@@ -14,7 +14,7 @@ use Rattle.inf_unit.specs.Messages.{FileNames}
 use Rattle.inf_unit.specs.Tokens.{SourceToken}
 use Rattle.inf_constructs.specs.Constructs.{depth}
 use Rattle.inf_constructs.specs.declared.constructs.Construct.{Construct}
-use Rattle.inf_work.specs.Acting.{act, all_acted}
+use Rattle.inf_actions.specs.Acting.{act, all_acted}
 use Rattle.inf_compilation.specs.Actions.{Compilation, begun_at, took}
 use Rattle.inf_compilation.specs.Parts.{closed_ahead}
 use Rattle.inf_statement_laws.specs.Happenings.{Acts, AreOf, Between, Happening, IsRead, bodies, rests}

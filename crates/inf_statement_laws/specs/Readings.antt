@@ -12,7 +12,7 @@ use Rattle.inf_code.specs.Code.{labels}
 use Rattle.inf_output.specs.Output.{begun, full}
 use Rattle.inf_unit.specs.Messages.{FileNames, with_full}
 use Rattle.inf_unit.specs.Tokens.{SourceToken}
-use Rattle.inf_work.specs.Acting.{all_acted}
+use Rattle.inf_actions.specs.Acting.{all_acted}
 use Rattle.inf_compilation.specs.Actions.{Compilation, took}
 use Rattle.inf_compilation.specs.Parts.{closed_ahead}
 use Rattle.inf_statement_laws.specs.Happenings.{Acts, Between, Happening, Moment, Quiet, Takes}

@@ -19,11 +19,11 @@ use crate::statements::{
 use inf_constructs::constructs::Constructs;
 use inf_constructs::labels::Labels;
 use inf_expressions::{Finding, Forest, Nodes, Root, Wanted};
+use inf_names::locals::Locals;
 use inf_names::symbols::Symbols;
 use inf_opcode::{Label, Opcode};
 use inf_output::Output;
 use inf_scanner::Place;
-use inf_names::locals::Locals;
 use inf_templates::Tasks;
 use inf_text::{CharSet, Text, pack};
 use inf_unit::items::Item;

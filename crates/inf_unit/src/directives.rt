@@ -3,9 +3,9 @@ ghost use Rattle.std.specs.Prelude.{◌≡◌, map};
 ghost use Rattle.inf_names.specs.Spellings.{as_name};
 ghost use Rattle.inf_unit.specs.Directives.{declaration_of, directive_of, weight_of, weight_of_word};
 
+use inf_names::spellings::Name;
 use inf_report::messages::Kind;
 use inf_scanner::Place;
-use inf_names::spellings::Name;
 
 /// What a directive is, told by its word.
 #[derive(Clone, Copy, Debug, PartialEq, Eq)]

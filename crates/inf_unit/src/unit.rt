@@ -11,9 +11,9 @@ use crate::steps::Step;
 use crate::tokens::{SourceToken, is_mark};
 use crate::unit_tokens::UnitTokens;
 use inf_gathering::gathering::{Gathering, Leaf};
-use inf_scanner::{Mark, Place, TokenKind};
 use inf_names::locals::Headed;
 use inf_names::spellings::Name;
+use inf_scanner::{Mark, Place, TokenKind};
 use inf_syntax::Action;
 use std::alloc::{AllocError, Global};
 

@@ -8,8 +8,8 @@ ghost use Rattle.inf_unit.specs.Units.{bytes_at, kind_at, last_place, name_at, n
 
 use crate::tokens::{SourceToken, is_mark};
 use arrayvec::ArrayVec;
-use inf_scanner::{Mark, Place, TokenKind};
 use inf_names::spellings::{MOST_NAME_BYTES, Name, Spelling};
+use inf_scanner::{Mark, Place, TokenKind};
 use std::alloc::{AllocError, Global};
 use std::marker::Model;
 

@@ -12,11 +12,11 @@ use inf_compilation::findings::{
 };
 use inf_expressions::{Finding, least_of_both};
 use inf_lexer::{Place, Stack};
+use inf_names::spellings::Name;
 use inf_output::Output;
 use inf_report::messages::FixedLimit;
 use inf_scanner::{DictionaryWord, Mark, TokenKind};
 use inf_settings::setting::Setting;
-use inf_names::spellings::Name;
 use inf_tables::{VerbFault, WordUse};
 use inf_unit::tokens::is_mark;
 use inf_unit::unit::order;

@@ -6,7 +6,7 @@ use Rattle.inf_sources.specs.Open.{opened_since}
 use Rattle.inf_sources.specs.Calls.{IsUnreadable}
 use Rattle.inf_sources.proofs.Calls.{fit_then, unreadable_then, went_then}
 use Rattle.inf_compilation.specs.Works.{work as work_of}
-use Rattle.inf_work.proofs.Limits.{same_then}
+use Rattle.inf_actions.proofs.Limits.{same_then}
 use Rattle.inf_session.specs.Choices.{Choices, chosen, most_quoted}
 use Rattle.inf_session.specs.Faults.{Caused, IfRead}
 use Rattle.inf_session.specs.Leading.{CutsShort, GivenUp, OpensWithin, StopsFor, Writes}

@@ -1,6 +1,6 @@
 use Rattle.std.proofs.Common.{◌≡◌, ℕ, ◌<◌, ◌≤◌, ◌⊎◌, true, false, length, cond, suc}
 use Rattle.inf_sources.specs.Calls.{Honestly, StaysFit, Went}
-use Rattle.inf_work.specs.Limits.{SameLimits}
+use Rattle.inf_actions.specs.Limits.{SameLimits}
 use Rattle.inf_compilation.specs.Works.{work as work_of}
 use Rattle.inf_session.specs.Choices.{chosen, most_quoted}
 use Rattle.inf_session.specs.Delivered.{Appends}

@@ -1,0 +1,159 @@
+//! What the actions of the grammar do: they gather what a unit has, which acts at its end.
+ghost use Rattle.std.specs.Prelude.{None, OnOk, ◌≡◌};
+ghost use Rattle.inf_actions.specs.Acting.{act, acted, all_acted, ended, is_crowded, kind_of, noted};
+ghost use Rattle.inf_unit.specs.Directives.{Nothing};
+ghost use Rattle.inf_compilation.specs.Actions.{cut, is_deep};
+ghost use Rattle.inf_compilation.specs.Works.{work};
+
+use crate::directives::end_directive;
+use crate::headers::end_directive_header;
+use inf_bodies::bodies::{attribute_of_body, class_of_body, end_body, property_of_body};
+use inf_bodies::values::{routine_of_body, value_of_body};
+use inf_compilation::compilation::Compilation;
+use inf_compilation::parts::Part;
+use inf_constructs::constructs::{Case, Kind, Over};
+use inf_lexer::{Place, Stack};
+use inf_listings::arrays::end_entry;
+use inf_syntax::Action;
+use inf_unit::roles::{Ending, Note, Opening, Role, is_text, makes_sure, role_of};
+use inf_verb_lines::lines::end_line;
+use std::alloc::AllocError;
+
+/// The kind of a statement that begins.
+fn kind_of(opening: Opening) -> Kind
+    ensures { result ≡ kind_of opening }
+{
+    match opening {
+        Opening::If => Kind::If,
+        Opening::While => Kind::While,
+        Opening::Do => Kind::Do,
+        Opening::For => Kind::For,
+        Opening::Objectloop => Kind::Objects(Over::Nothing, 0),
+        Opening::Switch => Kind::Switch(Case::Nothing, false),
+    }
+}
+
+/// A bad token cuts the unit at hand, of which the outermost expression surely was one, and the word before it opened its statement.
+/// The routine in
+/// which it stands is given up.
+pub fn cut(compilation: &mut Compilation, files: &Stack) -> Result<(), AllocError>
+    ensures { OnOk result (work compilation.new ≡ cut files.now.names (work compilation.old)) }
+{
+    compilation.unit.is_sure = true;
+    end_body(compilation)?;
+    compilation.output.code.give_up();
+    compilation.size(files)?;
+    compilation.check_opening(files)
+}
+
+/// Carries out the actions on the way to a token at a place.
+pub fn act_all(
+    compilation: &mut Compilation,
+    files: &Stack,
+    place: Place,
+    actions: &[Action],
+) -> Result<(), AllocError>
+    ensures { OnOk result (work compilation.new ≡ all_acted files.now.names place actions.now (work compilation.old)) }
+{
+    compilation.opening = None;
+    act_each(compilation, files, place, actions)
+}
+
+/// Carries out some actions, before a token at a place.
+fn act_each(
+    compilation: &mut Compilation,
+    files: &Stack,
+    place: Place,
+    actions: &[Action],
+) -> Result<(), AllocError>
+    ensures { OnOk result (work compilation.new ≡ acted files.now.names place actions.now (work compilation.old)) }
+{
+    for action in actions {
+        act(compilation, files, place, *action)?;
+    }
+    Ok(())
+}
+
+/// Carries out an action, before a token at a place.
+fn act(
+    compilation: &mut Compilation,
+    files: &Stack,
+    place: Place,
+    action: Action,
+) -> Result<(), AllocError>
+    ensures { OnOk result (work compilation.new ≡ act files.now.names place action (work compilation.old)) }
+{
+    match role_of(action) {
+        Role::Gather(step) => compilation.unit.step(step),
+        Role::Note(noted) => note(compilation, files, noted),
+        Role::End(ending) => end(compilation, files, place, ending),
+        Role::Open(opening) => compilation.open_construct(files, place, kind_of(opening)),
+        Role::Join => compilation.constructs.go_on(&mut compilation.output),
+        Role::Close => compilation.close_construct(),
+        Role::Deeper => {
+            let is_deep = compilation.is_deep(1);
+            compilation.nest(files, place, is_deep)
+        }
+        Role::MaybeDeeper => {
+            compilation.opening = Some(place);
+            Ok(())
+        }
+        Role::Nothing => Ok(()),
+    }
+}
+
+/// Whether the unit at hand prints more than code may have bytes. Its code then passes that setting, whatever else it prints.
+fn is_crowded(compilation: &Compilation) -> bool
+    ensures { result ≡ is_crowded (work compilation.now) }
+{
+    compilation.unit.items.len() > compilation.output.code.most_bytes()
+}
+
+/// Something is noted of the unit at hand, by which its outermost expression may be too long. Of texts that are printed so many are
+/// kept.
+fn note(compilation: &mut Compilation, files: &Stack, note: Note) -> Result<(), AllocError>
+    ensures { OnOk result (work compilation.new ≡ noted files.now.names note (work compilation.old)) }
+{
+    if is_text(note) && is_crowded(compilation) {
+        compilation.unit.pass_text();
+        return Ok(());
+    }
+    compilation.unit.note(note)?;
+    if makes_sure(note) {
+        return compilation.size(files);
+    }
+    Ok(())
+}
+
+/// The unit at hand ends, before a token at a place.
+fn end(
+    compilation: &mut Compilation,
+    files: &Stack,
+    place: Place,
+    ending: Ending,
+) -> Result<(), AllocError>
+    ensures { OnOk result (work compilation.new ≡ ended files.now.names place ending (work compilation.old)) }
+{
+    match ending {
+        Ending::Locals => compilation.end_header(files, place),
+        Ending::Embedded => routine_of_body(compilation, files, place),
+        Ending::Routine => compilation.close(files, place),
+        Ending::Directive => end_directive(compilation, files, place),
+        Ending::Header => end_directive_header(compilation, files, place),
+        Ending::Body => end_body(compilation),
+        Ending::Class => class_of_body(compilation, files, place),
+        Ending::Attribute => attribute_of_body(compilation, files, place),
+        Ending::Property => property_of_body(compilation, files, place),
+        Ending::Value => value_of_body(compilation, files, place),
+        Ending::Line => end_line(compilation, files, place),
+        Ending::Entry => end_entry(compilation, files, place, false),
+        Ending::Alone => end_entry(compilation, files, place, true),
+        Ending::Statement => compilation.end_statement(files, place),
+        Ending::Condition => compilation.end_part(files, place, Part::Condition),
+        Ending::Start => compilation.end_part(files, place, Part::Start),
+        Ending::Step => compilation.end_part(files, place, Part::Step),
+        Ending::Loop => compilation.end_part(files, place, Part::Loop),
+        Ending::Switched => compilation.end_part(files, place, Part::Switched),
+        Ending::Case => compilation.end_part(files, place, Part::Case),
+    }
+}

@@ -1,0 +1,66 @@
+//! The directives that are one unit: each is told by its word.
+ghost use Rattle.std.specs.Prelude.{OnOk, map, ◌≡◌};
+ghost use Rattle.inf_names.specs.Spellings.{as_name};
+ghost use Rattle.inf_unit.specs.Directives.{Include, asked};
+ghost use Rattle.inf_compilation.specs.Actions.{constant, replace, stub};
+ghost use Rattle.inf_actions.specs.Directives.{carried_out, directive_end};
+ghost use Rattle.inf_declarations.specs.Defaults.{default};
+ghost use Rattle.inf_compilation.specs.Works.{work};
+
+use inf_compilation::compilation::Compilation;
+use inf_declarations::declarations::attribute;
+use inf_declarations::directives::{constant, default, inclusion, message, replace, stub};
+use inf_declarations::globals::global_variable;
+use inf_declarations::properties::property;
+use inf_lexer::{Place, Stack};
+use inf_names::spellings::Name;
+use inf_unit::directives::{Directive, Request, directive_of};
+use inf_verb_lines::verbs::fake_action;
+use std::alloc::AllocError;
+
+/// A directive ends, before a token at a place.
+pub(crate) fn end_directive(
+    compilation: &mut Compilation,
+    files: &Stack,
+    place: Place,
+) -> Result<(), AllocError>
+    ensures { OnOk result (work compilation.new ≡ directive_end files.now.names place (work compilation.old)) }
+{
+    let names = compilation.unit.tokens.names(compilation.alloc)?;
+    let Some((word, names)) = names.split_first() else {
+        compilation.pass(true);
+        return Ok(());
+    };
+    let first = compilation.unit.first_place(place);
+    carry_out(compilation, directive_of(word.bytes()), files, first, names)?;
+    compilation.begin(files, first)
+}
+
+/// Carries out a directive that begins at a place, with these names behind its word.
+fn carry_out(
+    compilation: &mut Compilation,
+    directive: Directive,
+    files: &Stack,
+    first: Place,
+    names: &[Name],
+) -> Result<(), AllocError>
+    ensures { OnOk result (work compilation.new
+        ≡ carried_out directive files.now.names first (map as_name names.now) (work compilation.old)) }
+{
+    match directive {
+        Directive::Include => compilation.asked = inclusion(compilation, first)?,
+        Directive::Message => message(compilation, files, first, names)?,
+        Directive::End => compilation.asked = Request::End,
+        Directive::Constant => return constant(compilation, files, first, names),
+        Directive::Replace => return replace(compilation, files, first, names),
+        Directive::Stub => return stub(compilation, files, first, names),
+        Directive::Default => return default(compilation, files, first, names),
+        Directive::Attribute => return attribute(compilation, files, first, names),
+        Directive::Property => return property(compilation, files, first, names),
+        Directive::Global => return global_variable(compilation, files, first, names),
+        Directive::FakeAction => return fake_action(compilation, files, first, names),
+        Directive::SystemFile => compilation.is_system = true,
+    }
+    compilation.pass(true);
+    Ok(())
+}

@@ -1,0 +1,116 @@
+//! The headers of directives that have entries, bodies or lines: each is told by its word.
+ghost use Rattle.std.specs.Prelude.{OnOk, false, map, ◌≡◌};
+ghost use Rattle.inf_names.specs.Spellings.{as_name};
+ghost use Rattle.inf_actions.specs.Headers.{class_named, header_as, header_ended, header_of, heading_of};
+ghost use Rattle.inf_listings.specs.Arrays.{array_named};
+ghost use Rattle.inf_compilation.specs.Works.{work};
+
+use inf_bodies::objects::{class_header, object_header};
+use inf_compilation::compilation::Compilation;
+use inf_lexer::{Place, Stack};
+use inf_listings::arrays::array_named;
+use inf_names::spellings::Name;
+use inf_verb_lines::verbs::{extend_header, verb_header};
+use std::alloc::AllocError;
+
+/// What a directive with a header declares.
+#[derive(Clone, Copy, Debug, PartialEq, Eq)]
+pub enum Heading {
+    Array,
+    Class,
+    Object,
+    Verb,
+    Extend,
+}
+
+/// What a directive with a header declares, told by its word. An object may have the name of a class for it.
+fn heading_of(word: &[u8]) -> Heading
+    ensures { result ≡ heading_of word.now }
+{
+    if word.eq_ignore_ascii_case(b"array") {
+        Heading::Array
+    } else if word.eq_ignore_ascii_case(b"class") {
+        Heading::Class
+    } else if word.eq_ignore_ascii_case(b"verb") {
+        Heading::Verb
+    } else if word.eq_ignore_ascii_case(b"extend") {
+        Heading::Extend
+    } else {
+        Heading::Object
+    }
+}
+
+/// The header of a directive with entries ends, before a token at a place.
+pub(crate) fn end_directive_header(
+    compilation: &mut Compilation,
+    files: &Stack,
+    place: Place,
+) -> Result<(), AllocError>
+    ensures { OnOk result (work compilation.new ≡ header_ended files.now.names place (work compilation.old)) }
+{
+    let names = compilation.unit.tokens.names(compilation.alloc)?;
+    let first = compilation.unit.first_place(place);
+    header_of(compilation, files, first, names.as_slice())
+}
+
+/// The same, where it has these names, the first of them its word.
+fn header_of(
+    compilation: &mut Compilation,
+    files: &Stack,
+    first: Place,
+    names: &[Name],
+) -> Result<(), AllocError>
+    ensures { OnOk result (work compilation.new ≡ header_of files.now.names first (map as_name names.now) (work compilation.old)) }
+{
+    match names.split_first() {
+        Some((word, names)) => header_as(
+            compilation,
+            heading_of(word.bytes()),
+            files,
+            first,
+            names,
+        ),
+        None => {
+            compilation.pass(false);
+            Ok(())
+        }
+    }
+}
+
+/// The header of a directive that declares this, with these names behind its word.
+fn header_as(
+    compilation: &mut Compilation,
+    heading: Heading,
+    files: &Stack,
+    first: Place,
+    names: &[Name],
+) -> Result<(), AllocError>
+    ensures { OnOk result (work compilation.new
+        ≡ header_as heading files.now.names first (map as_name names.now) (work compilation.old)) }
+{
+    match heading {
+        Heading::Array => array_named(compilation, files, first, names),
+        Heading::Class => class_named(compilation, files, first, names),
+        Heading::Object => object_header(compilation, files, first),
+        Heading::Verb => verb_header(compilation, files, first),
+        Heading::Extend => extend_header(compilation, files, first),
+    }
+}
+
+/// Opens a class of the first of these names.
+fn class_named(
+    compilation: &mut Compilation,
+    files: &Stack,
+    first: Place,
+    names: &[Name],
+) -> Result<(), AllocError>
+    ensures { OnOk result (work compilation.new ≡ class_named files.now.names first (map as_name names.now) (work compilation.old)) }
+{
+    match names.first() {
+        Some(name) => class_header(compilation, files, first, name),
+        None => {
+            compilation.pass(false);
+            Ok(())
+        }
+    }
+}
