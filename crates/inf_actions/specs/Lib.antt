@@ -1,4 +1,3 @@
 pub mod Headers
 pub mod Directives
 pub mod Acting
-pub mod Limits

@@ -14,6 +14,7 @@ use inf_compilation::parts::Part;
 use inf_constructs::constructs::{Case, Kind, Over};
 use inf_lexer::{Place, Stack};
 use inf_listings::arrays::end_entry;
+use inf_settings::bounds::Bounds;
 use inf_syntax::Action;
 use inf_unit::roles::{Ending, Note, Opening, Role, is_text, makes_sure, role_of};
 use inf_verb_lines::lines::end_line;
@@ -36,7 +37,7 @@ fn kind_of(opening: Opening) -> Kind
 /// A bad token cuts the unit at hand, of which the outermost expression surely was one, and the word before it opened its statement.
 /// The routine in
 /// which it stands is given up.
-pub fn cut(compilation: &mut Compilation, files: &Stack) -> Result<(), AllocError>
+pub fn cut<B: Bounds>(compilation: &mut Compilation<B>, files: &Stack) -> Result<(), AllocError>
     ensures { OnOk result (work compilation.new ≡ cut files.now.names (work compilation.old)) }
 {
     compilation.unit.is_sure = true;
@@ -47,8 +48,8 @@ pub fn cut(compilation: &mut Compilation, files: &Stack) -> Result<(), AllocErro
 }
 
 /// Carries out the actions on the way to a token at a place.
-pub fn act_all(
-    compilation: &mut Compilation,
+pub fn act_all<B: Bounds>(
+    compilation: &mut Compilation<B>,
     files: &Stack,
     place: Place,
     actions: &[Action],
@@ -60,8 +61,8 @@ pub fn act_all(
 }
 
 /// Carries out some actions, before a token at a place.
-fn act_each(
-    compilation: &mut Compilation,
+fn act_each<B: Bounds>(
+    compilation: &mut Compilation<B>,
     files: &Stack,
     place: Place,
     actions: &[Action],
@@ -75,8 +76,8 @@ fn act_each(
 }
 
 /// Carries out an action, before a token at a place.
-fn act(
-    compilation: &mut Compilation,
+fn act<B: Bounds>(
+    compilation: &mut Compilation<B>,
     files: &Stack,
     place: Place,
     action: Action,
@@ -103,7 +104,7 @@ fn act(
 }
 
 /// Whether the unit at hand prints more than code may have bytes. Its code then passes that setting, whatever else it prints.
-fn is_crowded(compilation: &Compilation) -> bool
+fn is_crowded<B: Bounds>(compilation: &Compilation<B>) -> bool
     ensures { result ≡ is_crowded (work compilation.now) }
 {
     compilation.unit.items.len() > compilation.output.code.most_bytes()
@@ -111,7 +112,11 @@ fn is_crowded(compilation: &Compilation) -> bool
 
 /// Something is noted of the unit at hand, by which its outermost expression may be too long. Of texts that are printed so many are
 /// kept.
-fn note(compilation: &mut Compilation, files: &Stack, note: Note) -> Result<(), AllocError>
+fn note<B: Bounds>(
+    compilation: &mut Compilation<B>,
+    files: &Stack,
+    note: Note,
+) -> Result<(), AllocError>
     ensures { OnOk result (work compilation.new ≡ noted files.now.names note (work compilation.old)) }
 {
     if is_text(note) && is_crowded(compilation) {
@@ -126,8 +131,8 @@ fn note(compilation: &mut Compilation, files: &Stack, note: Note) -> Result<(), 
 }
 
 /// The unit at hand ends, before a token at a place.
-fn end(
-    compilation: &mut Compilation,
+fn end<B: Bounds>(
+    compilation: &mut Compilation<B>,
     files: &Stack,
     place: Place,
     ending: Ending,

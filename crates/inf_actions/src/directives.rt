@@ -14,13 +14,14 @@ use inf_declarations::globals::global_variable;
 use inf_declarations::properties::property;
 use inf_lexer::{Place, Stack};
 use inf_names::spellings::Name;
+use inf_settings::bounds::Bounds;
 use inf_unit::directives::{Directive, Request, directive_of};
 use inf_verb_lines::verbs::fake_action;
 use std::alloc::AllocError;
 
 /// A directive ends, before a token at a place.
-pub(crate) fn end_directive(
-    compilation: &mut Compilation,
+pub(crate) fn end_directive<B: Bounds>(
+    compilation: &mut Compilation<B>,
     files: &Stack,
     place: Place,
 ) -> Result<(), AllocError>
@@ -37,8 +38,8 @@ pub(crate) fn end_directive(
 }
 
 /// Carries out a directive that begins at a place, with these names behind its word.
-fn carry_out(
-    compilation: &mut Compilation,
+fn carry_out<B: Bounds>(
+    compilation: &mut Compilation<B>,
     directive: Directive,
     files: &Stack,
     first: Place,

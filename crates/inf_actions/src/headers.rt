@@ -10,6 +10,7 @@ use inf_compilation::compilation::Compilation;
 use inf_lexer::{Place, Stack};
 use inf_listings::arrays::array_named;
 use inf_names::spellings::Name;
+use inf_settings::bounds::Bounds;
 use inf_verb_lines::verbs::{extend_header, verb_header};
 use std::alloc::AllocError;
 
@@ -41,8 +42,8 @@ fn heading_of(word: &[u8]) -> Heading
 }
 
 /// The header of a directive with entries ends, before a token at a place.
-pub(crate) fn end_directive_header(
-    compilation: &mut Compilation,
+pub(crate) fn end_directive_header<B: Bounds>(
+    compilation: &mut Compilation<B>,
     files: &Stack,
     place: Place,
 ) -> Result<(), AllocError>
@@ -54,8 +55,8 @@ pub(crate) fn end_directive_header(
 }
 
 /// The same, where it has these names, the first of them its word.
-fn header_of(
-    compilation: &mut Compilation,
+fn header_of<B: Bounds>(
+    compilation: &mut Compilation<B>,
     files: &Stack,
     first: Place,
     names: &[Name],
@@ -78,8 +79,8 @@ fn header_of(
 }
 
 /// The header of a directive that declares this, with these names behind its word.
-fn header_as(
-    compilation: &mut Compilation,
+fn header_as<B: Bounds>(
+    compilation: &mut Compilation<B>,
     heading: Heading,
     files: &Stack,
     first: Place,
@@ -98,8 +99,8 @@ fn header_as(
 }
 
 /// Opens a class of the first of these names.
-fn class_named(
-    compilation: &mut Compilation,
+fn class_named<B: Bounds>(
+    compilation: &mut Compilation<B>,
     files: &Stack,
     first: Place,
     names: &[Name],

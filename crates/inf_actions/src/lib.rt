@@ -4,4 +4,3 @@
 pub mod acting;
 pub mod directives;
 pub mod headers;
-pub mod laws;

@@ -1,5 +1,5 @@
 //! Arrays, entry by entry.
-ghost use Rattle.std.specs.Prelude.{◌≡◌, ◌<◌, ◌≤◌, ◌+◌, ◌++◌, ◌∷◌, ◌^◌, [], None, Some, OnOk, OnErr, IfOk, IfErr, IfNone, IsSome, MatchResult, is_some, length, map, option_map, option_to_list, replicate, unwrap_or};
+ghost use Rattle.std.specs.Prelude.{◌≡◌, ◌<◌, ◌≤◌, ◌+◌, ◌++◌, ◌∷◌, ◌^◌, [], None, Some, OnOk, OnErr, IfOk, IfErr, IfNone, IsSome, MatchResult, is_some, length, map, option_map, option_to_list, replicate, unwrap_or, true};
 ghost use Rattle.inf_area.specs.Fixups.{with_fixups};
 ghost use Rattle.inf_area.specs.declared.targets.AreaName.TheVariants as area_name;
 ghost use Rattle.inf_area.specs.declared.targets.Value.TheVariants.{Known};
@@ -10,12 +10,14 @@ ghost use Rattle.inf_arrays.specs.Arrays.{HasRoom, added_fault, all_of, array_ce
 ghost use Rattle.inf_arrays.specs.Kinds.{bytes_cells, count_cells, count_size, entries_cells, low_byte};
 ghost use Rattle.inf_arrays.specs.Listing.{listed};
 ghost use Rattle.inf_arrays.specs.declared.arrays.ArrayFault.TheVariants.{Memory};
+ghost use Rattle.inf_settings.specs.declared.setting.Setting.TheVariants as setting;
 
 use crate::kinds::{ArrayKind, is_byte, misfit_by};
 use inf_area::{Area, AreaName, Refs, Value};
 use inf_cells::{Cells, WriteFault, append_cells};
+use inf_settings::bounds::Bounds;
 use std::alloc::{AllocError, AllocFailed, Global};
-use std::marker::Model;
+use std::marker::{Model, PhantomData};
 
 /// Why an array was not opened, or has no more entries.
 #[derive(Clone, Copy, Debug, PartialEq, Eq)]
@@ -58,8 +60,8 @@ struct Array {
 }
 
 /// The arrays of a story so far, of which the last may be open, and how many bytes they may have together.
-#[derive(Debug, Drop)]
-pub struct Arrays {
+#[derive(Drop)]
+pub struct Arrays<B: Bounds> {
     alloc: Global,
     closed: Vec<Array>,
     open: Option<Array>,
@@ -67,19 +69,21 @@ pub struct Arrays {
     size: usize,
     later: usize,
     limit: usize,
+    of: PhantomData<B>,
+    ghost is_allowed: { B.allows setting.Arrays limit ≡ true },
 }
 
-impl Model for Arrays {
+impl<B: Bounds> Model for Arrays<B> {
     ghost use Rattle.std.specs.Prelude.{◌≡◌, ◌≤◌, map, option_map};
     ghost use Rattle.inf_arrays.specs.Arrays.{AllArrays, all_of, arrays_laters, arrays_size};
 
     ghost Value = { AllArrays };
 
-    ghost use Rattle.inf_arrays.specs.Listing.{listed, seen};
+    ghost use Rattle.inf_arrays.specs.Listing.{seen};
 
-    ghost view = { λ a. seen a };
+    ghost view = { λ a. seen a.closed.items a.open a.limit };
 
-    ghost invariant = { λ a. (a.size ≡ arrays_size (all_of (seen a))) × (a.later ≡ arrays_laters (all_of (seen a))) × (a.later ≤ a.size) ×
+    ghost invariant = { λ a. (a.size ≡ arrays_size (all_of (seen a.closed.items a.open a.limit))) × (a.later ≡ arrays_laters (all_of (seen a.closed.items a.open a.limit))) × (a.later ≤ a.size) ×
         (a.size ≤ a.limit) };
 }
 
@@ -132,9 +136,10 @@ fn low_byte(value: Value) -> u8
     }
 }
 
-impl Arrays {
+impl<B: Bounds> Arrays<B> {
     /// No arrays, which may have so many bytes together. It takes no memory until the second array is opened or the first entry comes.
-    pub fn new(alloc: Global, limit: usize) -> Arrays
+    pub fn new(alloc: Global, limit: usize) -> Arrays<B>
+        requires { B.allows setting.Arrays limit ≡ true }
         ensures { result ≡ no_arrays limit }
     {
         Arrays {
@@ -144,6 +149,7 @@ impl Arrays {
             size: 0,
             later: 0,
             limit,
+            of: PhantomData,
         }
     }
 
@@ -151,6 +157,7 @@ impl Arrays {
     pub fn size(&self) -> usize
         ensures value { result ≡ arrays_size (all_of self.now) }
         ensures limited { result ≤ self.now.limit }
+        ensures allowed { B.allows setting.Arrays self.now.limit ≡ true }
     {
         self.size
     }

@@ -7,9 +7,10 @@ ghost use Rattle.inf_arrays.specs.Kinds.{laters};
 
 use crate::arrays::Arrays;
 use crate::globals::Globals;
+use inf_settings::bounds::Bounds;
 
 /// What is written of arrays has as many bytes, and as many numbers that are known later, as they count.
-pub fn written_arrays(arrays: &Arrays)
+pub fn written_arrays<B: Bounds>(arrays: &Arrays<B>)
     ensures size { length (bytes_of (arrays_cells (all_of arrays.now))) ≡ arrays_size (all_of arrays.now) }
     ensures laters { later_count (arrays_cells (all_of arrays.now)) ≡ arrays_laters (all_of arrays.now) }
 {}

@@ -2,7 +2,7 @@
 ghost use Rattle.std.specs.Prelude.{IfOk, OnOk, option_map, ◌≡◌};
 ghost use Rattle.inf_names.specs.Spellings.{as_name};
 ghost use Rattle.inf_bodies.specs.Bodies.{attribute_finding, attribute_of, attribute_read, attribute_set, attribute_set_some, class_finding, class_read, further, further_added, further_finding, further_found, further_placed, given, given_finding, given_with, individual_declared, individual_given, individual_named, is_given, is_words, last_at, number_finding, place_finding, placed, placed_finding, property_finding, property_given, property_gives, property_in, property_lost, property_of, property_read};
-ghost use Rattle.inf_compilation.specs.Actions.{body_ended};
+ghost use Rattle.inf_compilation.specs.Actions.{body_ended, world_ended};
 ghost use Rattle.inf_compilation.specs.Works.{work};
 
 use crate::objects::{
@@ -17,6 +17,7 @@ use inf_names::spellings::Name;
 use inf_names::symbols::Found;
 use inf_output::Output;
 use inf_scanner::Mark;
+use inf_settings::bounds::Bounds;
 use inf_tables::WorldFault;
 use inf_unit::tokens::is_mark;
 use inf_unit::unit::order;
@@ -97,7 +98,11 @@ fn is_given(tokens: &UnitTokens, at: usize) -> bool
 }
 
 /// The open body gives an attribute, or takes it away.
-fn set_attribute(number: usize, is_given: bool, out: &mut Output) -> Result<(), AllocError>
+fn set_attribute<B: Bounds>(
+    number: usize,
+    is_given: bool,
+    out: &mut Output<B>,
+) -> Result<(), AllocError>
     ensures { OnOk result (out.new ≡ attribute_set number is_given out.old) }
 {
     match out.tables.world.set_attribute(number, is_given) {
@@ -107,7 +112,11 @@ fn set_attribute(number: usize, is_given: bool, out: &mut Output) -> Result<(), 
 }
 
 /// The same, if there is such an attribute.
-fn set_some(number: Option<usize>, is_given: bool, out: &mut Output) -> Result<(), AllocError>
+fn set_some<B: Bounds>(
+    number: Option<usize>,
+    is_given: bool,
+    out: &mut Output<B>,
+) -> Result<(), AllocError>
     ensures { OnOk result (out.new ≡ attribute_set_some number is_given out.old) }
 {
     match number {
@@ -129,10 +138,10 @@ fn attribute_finding(number: Option<usize>, at: usize) -> Option<Finding>
 // Properties
 
 /// A name is declared as that of an individual property, where it is new.
-fn declare_individual(
+fn declare_individual<B: Bounds>(
     name: &Option<Name>,
     number: usize,
-    out: &mut Output,
+    out: &mut Output<B>,
 ) -> Result<(), AllocError>
     ensures { OnOk result (out.new ≡ individual_declared (option_map as_name name.now) number out.old) }
 {
@@ -147,7 +156,7 @@ fn declare_individual(
 }
 
 /// A property with something wrong: further values give nothing.
-fn lose_property(name: &Option<Name>, out: &mut Output) -> Result<(), AllocError>
+fn lose_property<B: Bounds>(name: &Option<Name>, out: &mut Output<B>) -> Result<(), AllocError>
     ensures { OnOk result (out.new ≡ property_lost (option_map as_name name.now) out.old) }
 {
     declare_individual(name, 0, out)?;
@@ -156,7 +165,11 @@ fn lose_property(name: &Option<Name>, out: &mut Output) -> Result<(), AllocError
 }
 
 /// The open body gives a property, with its first value if it has one.
-fn give_property(number: usize, value: Option<Value>, out: &mut Output) -> Result<(), AllocError>
+fn give_property<B: Bounds>(
+    number: usize,
+    value: Option<Value>,
+    out: &mut Output<B>,
+) -> Result<(), AllocError>
     ensures { OnOk result (out.new ≡ property_given number value out.old) }
 {
     match out.tables.world.give_property(number, value) {
@@ -171,11 +184,11 @@ fn give_property(number: usize, value: Option<Value>, out: &mut Output) -> Resul
 }
 
 /// An individual property with its name, which the open body gives.
-fn give_named(
+fn give_named<B: Bounds>(
     name: &Option<Name>,
     number: usize,
     value: Option<Value>,
-    out: &mut Output,
+    out: &mut Output<B>,
 ) -> Result<(), AllocError>
     ensures { OnOk result (out.new ≡ individual_named (option_map as_name name.now) number value out.old) }
 {
@@ -184,10 +197,10 @@ fn give_named(
 }
 
 /// A new individual property, which the open body gives.
-fn give_individual(
+fn give_individual<B: Bounds>(
     name: &Option<Name>,
     value: Option<Value>,
-    out: &mut Output,
+    out: &mut Output<B>,
 ) -> Result<(), AllocError>
     ensures { OnOk result (out.new ≡ individual_given (option_map as_name name.now) value out.old) }
 {
@@ -199,7 +212,7 @@ fn give_individual(
 }
 
 /// A further value of the property that was given last.
-fn add_further(value: Value, out: &mut Output) -> Result<(), AllocError>
+fn add_further<B: Bounds>(value: Value, out: &mut Output<B>) -> Result<(), AllocError>
     ensures { OnOk result (out.new ≡ further_added value out.old) }
 {
     match out.tables.world.add_value(value) {
@@ -213,19 +226,26 @@ fn add_further(value: Value, out: &mut Output) -> Result<(), AllocError>
     }
 }
 
-/// The body of an object or class ends, if one is open.
-pub fn end_body(compilation: &mut Compilation) -> Result<(), AllocError>
-    ensures { OnOk result (work compilation.new ≡ body_ended (work compilation.old)) }
+/// The open body of the world ends, if one is open.
+fn end_world<B: Bounds>(out: &mut Output<B>) -> Result<(), AllocError>
+    ensures { OnOk result (out.new ≡ world_ended out.old) }
 {
-    match compilation.output.tables.world.end_body() {
+    match out.tables.world.end_body() {
         Ok(()) | Err(WorldFault::Limit(_) | WorldFault::Misfit(_) | WorldFault::Full(_)) => Ok(()),
         Err(WorldFault::Memory) => Err(AllocError),
     }
 }
 
+/// The body of an object or class ends, if one is open.
+pub fn end_body<B: Bounds>(compilation: &mut Compilation<B>) -> Result<(), AllocError>
+    ensures { OnOk result (work compilation.new ≡ body_ended (work compilation.old)) }
+{
+    end_world(&mut compilation.output)
+}
+
 /// A class of the open body, which the last token names.
-pub fn class_of_body(
-    compilation: &mut Compilation,
+pub fn class_of_body<B: Bounds>(
+    compilation: &mut Compilation<B>,
     files: &Stack,
     place: Place,
 ) -> Result<(), AllocError>
@@ -239,8 +259,8 @@ pub fn class_of_body(
 }
 
 /// An attribute of the open body, which the last token names, and which `~` before it takes away.
-pub fn attribute_of_body(
-    compilation: &mut Compilation,
+pub fn attribute_of_body<B: Bounds>(
+    compilation: &mut Compilation<B>,
     files: &Stack,
     place: Place,
 ) -> Result<(), AllocError>
@@ -260,8 +280,8 @@ pub fn attribute_of_body(
 // Where values go
 
 /// What is wrong with a property with a number, if its name at a place has one, and with this first value.
-fn number_finding(
-    compilation: &Compilation,
+fn number_finding<B: Bounds>(
+    compilation: &Compilation<B>,
     number: Option<usize>,
     value: Option<Value>,
     at: usize,
@@ -278,7 +298,11 @@ fn number_finding(
 }
 
 /// What is wrong with a property whose name stands at a place, with this first value. A name that is not declared is that of a new one.
-fn property_finding(compilation: &Compilation, at: usize, value: Option<Value>) -> Option<Finding>
+fn property_finding<B: Bounds>(
+    compilation: &Compilation<B>,
+    at: usize,
+    value: Option<Value>,
+) -> Option<Finding>
     ensures { result ≡ property_finding at value (work compilation.now) }
 {
     match found_at(compilation, at) {
@@ -290,15 +314,15 @@ fn property_finding(compilation: &Compilation, at: usize, value: Option<Value>) 
 }
 
 /// What is wrong with a further value.
-fn further_finding(compilation: &Compilation, value: Value) -> Option<Finding>
+fn further_finding<B: Bounds>(compilation: &Compilation<B>, value: Value) -> Option<Finding>
     ensures { result ≡ further_finding value (work compilation.now) }
 {
     refused_finding(compilation.output.tables.world.value_fault(value), 0)
 }
 
 /// What is wrong with where a value goes: to the property whose name stands before it, or to the one that was given last.
-pub(crate) fn place_finding(
-    compilation: &Compilation,
+pub(crate) fn place_finding<B: Bounds>(
+    compilation: &Compilation<B>,
     name: Option<usize>,
     value: Value,
 ) -> Option<Finding>
@@ -311,7 +335,11 @@ pub(crate) fn place_finding(
 }
 
 /// The property is given whose name stands at a place and with which nothing is wrong.
-fn give(compilation: &mut Compilation, at: usize, value: Option<Value>) -> Result<(), AllocError>
+fn give<B: Bounds>(
+    compilation: &mut Compilation<B>,
+    at: usize,
+    value: Option<Value>,
+) -> Result<(), AllocError>
     ensures { OnOk result (work compilation.new ≡ property_gives at value (work compilation.old)) }
 {
     match property_of(found_at(compilation, at)) {
@@ -324,8 +352,8 @@ fn give(compilation: &mut Compilation, at: usize, value: Option<Value>) -> Resul
 }
 
 /// The property whose name stands at a place, in which this was found.
-fn give_with(
-    compilation: &mut Compilation,
+fn give_with<B: Bounds>(
+    compilation: &mut Compilation<B>,
     found: Option<Finding>,
     at: usize,
     value: Option<Value>,
@@ -342,8 +370,8 @@ fn give_with(
 }
 
 /// A property whose name stands at a place, with this first value, and what is found of that. Answers what is wrong.
-fn given(
-    compilation: &mut Compilation,
+fn given<B: Bounds>(
+    compilation: &mut Compilation<B>,
     at: usize,
     value: Option<Value>,
     of_value: Option<Finding>,
@@ -358,8 +386,8 @@ fn given(
 }
 
 /// A further value, where this is wrong with it.
-fn further_with(
-    compilation: &mut Compilation,
+fn further_with<B: Bounds>(
+    compilation: &mut Compilation<B>,
     found: Option<Finding>,
     value: Value,
 ) -> Result<(), AllocError>
@@ -372,8 +400,8 @@ fn further_with(
 }
 
 /// A further value, with what was found of it before. Answers what is wrong.
-fn further(
-    compilation: &mut Compilation,
+fn further<B: Bounds>(
+    compilation: &mut Compilation<B>,
     value: Value,
     of_value: Option<Finding>,
 ) -> Result<Option<Finding>, AllocError>
@@ -386,8 +414,8 @@ fn further(
 }
 
 /// A value goes where it is to go. Answers what is wrong, with what was found of it before.
-pub(crate) fn placed(
-    compilation: &mut Compilation,
+pub(crate) fn placed<B: Bounds>(
+    compilation: &mut Compilation<B>,
     name: Option<usize>,
     value: Value,
     of_value: Option<Finding>,
@@ -402,8 +430,8 @@ pub(crate) fn placed(
 }
 
 /// A property without values, which the last token names.
-pub fn property_of_body(
-    compilation: &mut Compilation,
+pub fn property_of_body<B: Bounds>(
+    compilation: &mut Compilation<B>,
     files: &Stack,
     place: Place,
 ) -> Result<(), AllocError>

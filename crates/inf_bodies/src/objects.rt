@@ -20,6 +20,7 @@ use inf_names::spellings::Name;
 use inf_names::symbols::Found;
 use inf_output::Output;
 use inf_report::messages::FixedLimit;
+use inf_settings::bounds::Bounds;
 use inf_settings::setting::Setting;
 use inf_tables::{Misfit, Parent, ShortName, WorldFault};
 use inf_text::{CharSet, Mode, Text, TextFault, pack, read_text};
@@ -165,7 +166,7 @@ fn shown_name(name: &Option<Name>) -> &[u8]
 // What headers do
 
 /// A body is open that belongs to nothing, since something is wrong with its header.
-fn begin_lost(out: &mut Output) -> Result<(), AllocError>
+fn begin_lost<B: Bounds>(out: &mut Output<B>) -> Result<(), AllocError>
     ensures { OnOk result (out.new ≡ lost_begun out.old) }
 {
     match out.tables.world.begin_lost() {
@@ -175,7 +176,7 @@ fn begin_lost(out: &mut Output) -> Result<(), AllocError>
 }
 
 /// A class with something wrong in its header: its name stands for no class.
-fn lose_class(name: &Name, out: &mut Output) -> Result<(), AllocError>
+fn lose_class<B: Bounds>(name: &Name, out: &mut Output<B>) -> Result<(), AllocError>
     ensures { OnOk result (out.new ≡ class_lost (as_name name.now) out.old) }
 {
     begin_lost(out)?;
@@ -184,7 +185,11 @@ fn lose_class(name: &Name, out: &mut Output) -> Result<(), AllocError>
 }
 
 /// A class with its name. Where it would pass a limit there is none.
-fn begin_class(name: &Name, short: ShortName, out: &mut Output) -> Result<(), AllocError>
+fn begin_class<B: Bounds>(
+    name: &Name,
+    short: ShortName,
+    out: &mut Output<B>,
+) -> Result<(), AllocError>
     ensures { OnOk result (out.new ≡ class_begun short (as_name name.now) out.old) }
 {
     match out.tables.world.begin_class(short) {
@@ -206,7 +211,11 @@ fn begin_class(name: &Name, short: ShortName, out: &mut Output) -> Result<(), Al
 }
 
 /// The name of an object is declared, if it has one.
-fn declare_object(name: &Option<Name>, number: usize, out: &mut Output) -> Result<(), AllocError>
+fn declare_object<B: Bounds>(
+    name: &Option<Name>,
+    number: usize,
+    out: &mut Output<B>,
+) -> Result<(), AllocError>
     ensures { OnOk result (out.new ≡ object_declared (option_map as_name name.now) number out.old) }
 {
     match name {
@@ -223,7 +232,7 @@ fn declare_object(name: &Option<Name>, number: usize, out: &mut Output) -> Resul
 }
 
 /// An object with something wrong in its header: its name stands for no object.
-fn lose_object(name: &Option<Name>, out: &mut Output) -> Result<(), AllocError>
+fn lose_object<B: Bounds>(name: &Option<Name>, out: &mut Output<B>) -> Result<(), AllocError>
     ensures { OnOk result (out.new ≡ object_lost (option_map as_name name.now) out.old) }
 {
     begin_lost(out)?;
@@ -231,7 +240,7 @@ fn lose_object(name: &Option<Name>, out: &mut Output) -> Result<(), AllocError>
 }
 
 /// The open body is of the class with a number, unless the world refuses it. Answers why it does.
-fn join(number: usize, out: &mut Output) -> Result<Option<WorldFault>, AllocError>
+fn join<B: Bounds>(number: usize, out: &mut Output<B>) -> Result<Option<WorldFault>, AllocError>
     ensures value { OnOk result (out.new ≡ joined number out.old) }
     ensures fault { IfOk result (λ fault. fault ≡ class_of_fault number out.old.tables.world) }
 {
@@ -248,9 +257,9 @@ fn join(number: usize, out: &mut Output) -> Result<Option<WorldFault>, AllocErro
 }
 
 /// The same, if there is such a class.
-pub(crate) fn join_some(
+pub(crate) fn join_some<B: Bounds>(
     class: Option<usize>,
-    out: &mut Output,
+    out: &mut Output<B>,
 ) -> Result<Option<WorldFault>, AllocError>
     ensures value { OnOk result (out.new ≡ joined_some class out.old) }
     ensures fault { IfOk result (λ fault. fault ≡ joined_fault class out.old) }
@@ -262,11 +271,11 @@ pub(crate) fn join_some(
 }
 
 /// What is left to do for an object with a number: it is of the class that its word names, and its name is declared.
-fn name_object(
+fn name_object<B: Bounds>(
     class: Option<usize>,
     name: &Option<Name>,
     number: usize,
-    out: &mut Output,
+    out: &mut Output<B>,
 ) -> Result<(), AllocError>
     ensures { OnOk result (out.new ≡ object_named class (option_map as_name name.now) number out.old) }
 {
@@ -275,12 +284,12 @@ fn name_object(
 }
 
 /// An object with its name. Where it would pass a limit there is none.
-fn begin_object(
+fn begin_object<B: Bounds>(
     parent: Parent,
     short: ShortName,
     class: Option<usize>,
     name: &Option<Name>,
-    out: &mut Output,
+    out: &mut Output<B>,
 ) -> Result<(), AllocError>
     ensures { OnOk result (out.new ≡ object_begun parent short class (option_map as_name name.now) out.old) }
 {
@@ -296,7 +305,7 @@ fn begin_object(
 }
 
 /// What looking for the name at a place of the unit finds.
-pub(crate) fn found_at(compilation: &Compilation, at: usize) -> Found<Place>
+pub(crate) fn found_at<B: Bounds>(compilation: &Compilation<B>, at: usize) -> Found<Place>
     ensures { result ≡ found_at at (work compilation.now) }
 {
     compilation
@@ -306,8 +315,8 @@ pub(crate) fn found_at(compilation: &Compilation, at: usize) -> Found<Place>
 }
 
 /// The end of a unit of an object or a class that begins at a place, in which this was found.
-pub(crate) fn tell_entry(
-    compilation: &mut Compilation,
+pub(crate) fn tell_entry<B: Bounds>(
+    compilation: &mut Compilation<B>,
     files: &Stack,
     first: Place,
     found: Option<Finding>,
@@ -320,8 +329,8 @@ pub(crate) fn tell_entry(
 // Classes
 
 /// The header of a class of this name.
-pub fn class_header(
-    compilation: &mut Compilation,
+pub fn class_header<B: Bounds>(
+    compilation: &mut Compilation<B>,
     files: &Stack,
     first: Place,
     name: &Name,
@@ -334,8 +343,8 @@ pub fn class_header(
 }
 
 /// The same, where so much is known of its name.
-fn class_with(
-    compilation: &mut Compilation,
+fn class_with<B: Bounds>(
+    compilation: &mut Compilation<B>,
     files: &Stack,
     first: Place,
     name: &Name,
@@ -357,8 +366,8 @@ fn class_with(
 }
 
 /// A class of this name is open, or, where something is wrong with its header, a body that belongs to nothing.
-fn open_class(
-    compilation: &mut Compilation,
+fn open_class<B: Bounds>(
+    compilation: &mut Compilation<B>,
     name: &Name,
     found: Option<Finding>,
 ) -> Result<(), AllocError>
@@ -376,14 +385,14 @@ fn open_class(
 // Objects
 
 /// The class of the source that the word of a header names.
-fn class_of_word(compilation: &Compilation) -> Option<usize>
+fn class_of_word<B: Bounds>(compilation: &Compilation<B>) -> Option<usize>
     ensures { result ≡ class_of_word (work compilation.now) }
 {
     class_of(found_at(compilation, word_place(&compilation.unit.tokens)))
 }
 
 /// What is wrong with the arrows of a header: no object stands above them.
-fn above_finding(compilation: &Compilation, header: Header) -> Option<Finding>
+fn above_finding<B: Bounds>(compilation: &Compilation<B>, header: Header) -> Option<Finding>
     ensures { result ≡ above_finding header.arrow header.arrows (work compilation.now) }
 {
     let world = &compilation.output.tables.world;
@@ -394,7 +403,7 @@ fn above_finding(compilation: &Compilation, header: Header) -> Option<Finding>
 }
 
 /// What is wrong with the parent that a header names.
-fn named_parent_finding(compilation: &Compilation, header: Header) -> Option<Finding>
+fn named_parent_finding<B: Bounds>(compilation: &Compilation<B>, header: Header) -> Option<Finding>
     ensures { result ≡ named_parent_finding header.parent header.arrow (work compilation.now) }
 {
     match header.parent {
@@ -404,7 +413,7 @@ fn named_parent_finding(compilation: &Compilation, header: Header) -> Option<Fin
 }
 
 /// What is wrong with where a header puts its object.
-fn parent_finding(compilation: &Compilation, header: Header) -> Option<Finding>
+fn parent_finding<B: Bounds>(compilation: &Compilation<B>, header: Header) -> Option<Finding>
     ensures { result ≡ parent_finding header (work compilation.now) }
 {
     least_of_both(
@@ -414,7 +423,7 @@ fn parent_finding(compilation: &Compilation, header: Header) -> Option<Finding>
 }
 
 /// The parent that a header gives.
-fn parent(compilation: &Compilation, header: Header) -> Parent
+fn parent<B: Bounds>(compilation: &Compilation<B>, header: Header) -> Parent
     ensures { result ≡ parent_in header.parent header.arrows (work compilation.now) }
 {
     match header.parent {
@@ -424,7 +433,7 @@ fn parent(compilation: &Compilation, header: Header) -> Parent
 }
 
 /// The name at a place of the unit.
-pub(crate) fn name_at(compilation: &Compilation, at: usize) -> Option<Name>
+pub(crate) fn name_at<B: Bounds>(compilation: &Compilation<B>, at: usize) -> Option<Name>
     ensures { option_map as_name result ≡ name_at (work compilation.now).unit.tokens at }
 {
     match compilation.unit.tokens.name_at(at) {
@@ -434,7 +443,7 @@ pub(crate) fn name_at(compilation: &Compilation, at: usize) -> Option<Name>
 }
 
 /// The name that a header gives its object.
-fn own_name(compilation: &Compilation, header: Header) -> Option<Name>
+fn own_name<B: Bounds>(compilation: &Compilation<B>, header: Header) -> Option<Name>
     ensures { option_map as_name result ≡ own_name header.own (work compilation.now) }
 {
     match header.own {
@@ -444,7 +453,10 @@ fn own_name(compilation: &Compilation, header: Header) -> Option<Name>
 }
 
 /// The characters of the text of a header.
-fn header_text(compilation: &Compilation, header: Header) -> Result<Option<Text>, AllocError>
+fn header_text<B: Bounds>(
+    compilation: &Compilation<B>,
+    header: Header,
+) -> Result<Option<Text>, AllocError>
     ensures { IfOk result (λ text. text ≡ header_text header.text (work compilation.now)) }
 {
     match header.text {
@@ -454,8 +466,8 @@ fn header_text(compilation: &Compilation, header: Header) -> Result<Option<Text>
 }
 
 /// The short name of an object: its text, or its name in round brackets.
-fn short_name(
-    compilation: &Compilation,
+fn short_name<B: Bounds>(
+    compilation: &Compilation<B>,
     header: Header,
     name: &Option<Name>,
 ) -> Result<ShortName, AllocError>
@@ -468,8 +480,8 @@ fn short_name(
 }
 
 /// What is known of an object with a name.
-fn named_known(
-    compilation: &Compilation,
+fn named_known<B: Bounds>(
+    compilation: &Compilation<B>,
     files: &Stack,
     header: Header,
     at: usize,
@@ -485,8 +497,8 @@ fn named_known(
 }
 
 /// What is known of an object by its header.
-fn object_known(
-    compilation: &Compilation,
+fn object_known<B: Bounds>(
+    compilation: &Compilation<B>,
     files: &Stack,
     header: Header,
     name: &Option<Name>,
@@ -503,8 +515,8 @@ fn object_known(
 }
 
 /// An object is open, or, where something is wrong with its header, a body that belongs to nothing.
-fn open_object(
-    compilation: &mut Compilation,
+fn open_object<B: Bounds>(
+    compilation: &mut Compilation<B>,
     header: Header,
     name: &Option<Name>,
     found: Option<Finding>,
@@ -518,8 +530,8 @@ fn open_object(
 }
 
 /// An object with a header in which nothing is wrong.
-fn new_object(
-    compilation: &mut Compilation,
+fn new_object<B: Bounds>(
+    compilation: &mut Compilation<B>,
     header: Header,
     name: &Option<Name>,
 ) -> Result<(), AllocError>
@@ -532,8 +544,8 @@ fn new_object(
 }
 
 /// The end of a header that begins at a place: what is wrong with it is told.
-fn end_object(
-    compilation: &mut Compilation,
+fn end_object<B: Bounds>(
+    compilation: &mut Compilation<B>,
     files: &Stack,
     first: Place,
     name: &Option<Name>,
@@ -559,8 +571,8 @@ fn end_object(
 }
 
 /// The header of an object.
-fn object_with(
-    compilation: &mut Compilation,
+fn object_with<B: Bounds>(
+    compilation: &mut Compilation<B>,
     files: &Stack,
     first: Place,
     header: Header,
@@ -575,8 +587,8 @@ fn object_with(
 }
 
 /// The header of an object, which may be one of a class that its word names.
-pub fn object_header(
-    compilation: &mut Compilation,
+pub fn object_header<B: Bounds>(
+    compilation: &mut Compilation<B>,
     files: &Stack,
     first: Place,
 ) -> Result<(), AllocError>

@@ -19,6 +19,7 @@ use inf_listings::arrays::{has_variables, looked_value, text_at};
 use inf_names::locals::Headed;
 use inf_report::messages::FixedLimit;
 use inf_scanner::{Mark, TokenKind};
+use inf_settings::bounds::Bounds;
 use inf_tables::WordUse;
 use inf_text::{Mode, Text, dict_word};
 use inf_unit::tokens::is_mark;
@@ -127,7 +128,7 @@ fn embedded_findings(own: Option<Finding>, are_locals: bool, header: Findings) -
 
 /// Whether a character or a text is a word of the dictionary, as a value of the property whose name stands at a place, or of the one
 /// that was given last.
-fn takes_words(compilation: &Compilation, name: Option<usize>) -> bool
+fn takes_words<B: Bounds>(compilation: &Compilation<B>, name: Option<usize>) -> bool
     ensures { result ≡ takes_words name (work compilation.now) }
 {
     match name {
@@ -137,7 +138,7 @@ fn takes_words(compilation: &Compilation, name: Option<usize>) -> bool
 }
 
 /// The leaf that may be a word of the dictionary: that of an expression which has no more.
-fn word_leaf(compilation: &Compilation, takes_words: bool) -> Option<Leaf>
+fn word_leaf<B: Bounds>(compilation: &Compilation<B>, takes_words: bool) -> Option<Leaf>
     ensures { result ≡ word_leaf takes_words (work compilation.now) }
 {
     let gathering = &compilation.unit.gathering;
@@ -149,7 +150,7 @@ fn word_leaf(compilation: &Compilation, takes_words: bool) -> Option<Leaf>
 }
 
 /// The character that the last token is, as a text.
-fn char_text(compilation: &Compilation) -> Result<Option<Text>, AllocError>
+fn char_text<B: Bounds>(compilation: &Compilation<B>) -> Result<Option<Text>, AllocError>
     ensures { IfOk result (λ text. text ≡ char_text (work compilation.now)) }
 {
     match compilation
@@ -163,7 +164,10 @@ fn char_text(compilation: &Compilation) -> Result<Option<Text>, AllocError>
 }
 
 /// The characters of a leaf that is a character or a text.
-fn leaf_text(compilation: &Compilation, leaf: Leaf) -> Result<Option<Text>, AllocError>
+fn leaf_text<B: Bounds>(
+    compilation: &Compilation<B>,
+    leaf: Leaf,
+) -> Result<Option<Text>, AllocError>
     ensures { IfOk result (λ text. text ≡ leaf_text leaf (work compilation.now)) }
 {
     match leaf {
@@ -174,7 +178,10 @@ fn leaf_text(compilation: &Compilation, leaf: Leaf) -> Result<Option<Text>, Allo
 }
 
 /// The characters of the word of the dictionary that a value is.
-fn word_text(compilation: &Compilation, takes_words: bool) -> Result<Option<Text>, AllocError>
+fn word_text<B: Bounds>(
+    compilation: &Compilation<B>,
+    takes_words: bool,
+) -> Result<Option<Text>, AllocError>
     ensures { IfOk result (λ text. text ≡ word_text takes_words (work compilation.now)) }
 {
     match word_leaf(compilation, takes_words) {
@@ -184,8 +191,8 @@ fn word_text(compilation: &Compilation, takes_words: bool) -> Result<Option<Text
 }
 
 /// A word as a value is used, unless something is wrong with it.
-fn use_word(
-    compilation: &mut Compilation,
+fn use_word<B: Bounds>(
+    compilation: &mut Compilation<B>,
     found: Option<Finding>,
     text: &Text,
 ) -> Result<(), AllocError>
@@ -200,8 +207,8 @@ fn use_word(
 }
 
 /// A value that is a word with these characters.
-fn place_text(
-    compilation: &mut Compilation,
+fn place_text<B: Bounds>(
+    compilation: &mut Compilation<B>,
     name: Option<usize>,
     text: &Text,
 ) -> Result<Option<Finding>, AllocError>
@@ -218,8 +225,8 @@ fn place_text(
 // Expressions
 
 /// A value that is the unit's expression, with which nothing is wrong.
-fn place_settled(
-    compilation: &mut Compilation,
+fn place_settled<B: Bounds>(
+    compilation: &mut Compilation<B>,
     name: Option<usize>,
 ) -> Result<Option<Finding>, AllocError>
     ensures value { OnOk result (work compilation.new ≡ settled_placed name (work compilation.old)) }
@@ -230,8 +237,8 @@ fn place_settled(
 }
 
 /// A value that is the unit's expression, of which this was found, and this is its value where its names are only looked up.
-fn place_with(
-    compilation: &mut Compilation,
+fn place_with<B: Bounds>(
+    compilation: &mut Compilation<B>,
     name: Option<usize>,
     judged: Option<Finding>,
     looked: Value,
@@ -246,8 +253,8 @@ fn place_with(
 }
 
 /// A value that is the unit's expression.
-fn place_expression(
-    compilation: &mut Compilation,
+fn place_expression<B: Bounds>(
+    compilation: &mut Compilation<B>,
     name: Option<usize>,
 ) -> Result<Option<Finding>, AllocError>
     ensures value { OnOk result (work compilation.new ≡ expression_placed name (work compilation.old)) }
@@ -260,8 +267,8 @@ fn place_expression(
 }
 
 /// A value goes to the property whose name stands before it, or to the one that was given last. Answers what is wrong.
-fn place_value(
-    compilation: &mut Compilation,
+fn place_value<B: Bounds>(
+    compilation: &mut Compilation<B>,
     name: Option<usize>,
 ) -> Result<Option<Finding>, AllocError>
     ensures value { OnOk result (work compilation.new ≡ value_placed name (work compilation.old)) }
@@ -274,8 +281,8 @@ fn place_value(
 }
 
 /// A value of a property: its first, with the property's name before it, or a further one.
-pub fn value_of_body(
-    compilation: &mut Compilation,
+pub fn value_of_body<B: Bounds>(
+    compilation: &mut Compilation<B>,
     files: &Stack,
     place: Place,
 ) -> Result<(), AllocError>
@@ -290,15 +297,15 @@ pub fn value_of_body(
 // Routines
 
 /// The next routine, as a value.
-fn next_routine(compilation: &Compilation) -> Value
+fn next_routine<B: Bounds>(compilation: &Compilation<B>) -> Value
     ensures { result ≡ next_routine (work compilation.now) }
 {
     Value::Later(Target::Place(AreaName::Code, compilation.output.code.next_place()))
 }
 
 /// The next routine goes where it is to go, unless something is wrong with it.
-fn place_routine(
-    compilation: &mut Compilation,
+fn place_routine<B: Bounds>(
+    compilation: &mut Compilation<B>,
     name: Option<usize>,
     is_lost: bool,
 ) -> Result<(), AllocError>
@@ -310,8 +317,8 @@ fn place_routine(
 }
 
 /// Opens the code of a routine that is a value.
-fn open_embedded(
-    compilation: &mut Compilation,
+fn open_embedded<B: Bounds>(
+    compilation: &mut Compilation<B>,
     files: &Stack,
     first: Place,
     headed: Headed,
@@ -326,8 +333,8 @@ fn open_embedded(
 }
 
 /// A routine goes where it is to go as a value, unless something is wrong with it, and its code opens.
-fn begin_embedded(
-    compilation: &mut Compilation,
+fn begin_embedded<B: Bounds>(
+    compilation: &mut Compilation<B>,
     files: &Stack,
     first: Place,
     name: Option<usize>,
@@ -342,7 +349,11 @@ fn begin_embedded(
 }
 
 /// What is wrong with a routine as a value, of which the locals stand behind the tokens of its unit.
-fn found_embedded(compilation: &Compilation, name: Option<usize>, headed: &Headed) -> Findings
+fn found_embedded<B: Bounds>(
+    compilation: &Compilation<B>,
+    name: Option<usize>,
+    headed: &Headed,
+) -> Findings
     ensures { found_as result ≡ found_embedded name (as_headed headed.now) (work compilation.now) }
 {
     let own = place_finding(compilation, name, next_routine(compilation));
@@ -353,8 +364,8 @@ fn found_embedded(compilation: &Compilation, name: Option<usize>, headed: &Heade
 
 /// A routine that is a value, with these locals.
 #[tactic(auto, unfolding(crate::specs::Values::embedded))]
-fn embed(
-    compilation: &mut Compilation,
+fn embed<B: Bounds>(
+    compilation: &mut Compilation<B>,
     files: &Stack,
     first: Place,
     name: Option<usize>,
@@ -367,8 +378,8 @@ fn embed(
 }
 
 /// The header of a routine that is a value: its first, with the property's name before its bracket, or a further one.
-pub fn routine_of_body(
-    compilation: &mut Compilation,
+pub fn routine_of_body<B: Bounds>(
+    compilation: &mut Compilation<B>,
     files: &Stack,
     place: Place,
 ) -> Result<(), AllocError>

@@ -9,13 +9,15 @@ ghost use Rattle.inf_assembler.specs.declared.routines.Limit.TheVariants as code
 ghost use Rattle.inf_assembler.specs.declared.routines.CloseFault.TheVariants as close_fault;
 ghost use Rattle.inf_assembler.specs.Routines.{IsOpen, contents_of, refusal};
 ghost use Rattle.inf_code.specs.Code.{IsSpare, begun, bytes_of_code, code_cells, code_count, code_left, fault_behind, fault_closed, reference_count, references_left, references_open, full_begun, full_behind_bytes, full_first, full_label, full_opened, full_with, labels, labels_left, place_behind, routine_bounds, with_closed, with_item, with_label, with_none_open, with_opened, zeros_behind};
+ghost use Rattle.inf_settings.specs.declared.setting.Setting.TheVariants as setting;
 
 use inf_area::{AddFault, Area, AreaName, Fixup, PagedArea, Refs, Target};
 use inf_assembler::{CloseFault, GrowFault, Limit, Limits, Routine, RoutineKind};
 use inf_cells::Scale;
 use inf_opcode::{Instruction, Label};
+use inf_settings::bounds::Bounds;
 use std::alloc::{AllocError, Global};
-use std::marker::Model;
+use std::marker::{Model, PhantomData};
 
 /// The bytes of the first routine of each story, with the zeros behind it: no locals, `call_1n` of what is known later, and `quit`
 /// (Z-Machine Standard 1.1, sections 5.2 and 14).
@@ -90,8 +92,8 @@ impl CodeLimits {
 /// where these go; and behind them the routine that is open, if any.
 ///
 /// Before those of the source stands a first routine, which calls `Main`. A place in code counts from its front, and so is one in the area.
-#[derive(Debug, Drop)]
-pub struct Code {
+#[derive(Drop)]
+pub struct Code<B: Bounds> {
     limits: CodeLimits,
     scale: Scale,
     // Whether the first routine counts.
@@ -106,9 +108,11 @@ pub struct Code {
     // Whether the open routine is lost. What it refers to goes to the spare list, which is empty between.
     is_lost: bool,
     spare: Refs,
+    of: PhantomData<B>,
+    ghost is_allowed: { B.allows setting.Code limits.code ≡ true },
 }
 
-impl Model for Code {
+impl<B: Bounds> Model for Code<B> {
     ghost use Rattle.inf_code.specs.Code.{Routines, HasRoom, IsCode, IsSpare, open_in, source_cells};
 
     ghost Value = { Routines };
@@ -126,11 +130,12 @@ impl Model for Code {
         (HasRoom code.has_begun code.limits × IsSpare code.spare) };
 }
 
-impl Code {
+impl<B: Bounds> Code<B> {
     ghost use Rattle.inf_code.specs.Code.{Routines, no_routines};
 
     /// No code, which may hold so much, in a story whose packed addresses are multiplied by this.
-    pub fn new(alloc: Global, limits: CodeLimits, scale: Scale) -> Result<Code, AllocError>
+    pub fn new(alloc: Global, limits: CodeLimits, scale: Scale) -> Result<Code<B>, AllocError>
+        requires { B.allows setting.Code limits.code ≡ true }
         ensures { IfOk result (λ code. code ≡ no_routines limits scale) }
     {
         let mut area = PagedArea::new(alloc);
@@ -145,6 +150,7 @@ impl Code {
             routine: None,
             is_lost: false,
             spare: Refs::new(alloc, MOST_REFERENCES),
+            of: PhantomData,
         })
     }
 
@@ -166,6 +172,7 @@ impl Code {
     pub fn count(&self) -> usize
         ensures value { result ≡ code_count self.now }
         ensures few { result ≤ self.now.limits.code }
+        ensures allowed { B.allows setting.Code self.now.limits.code ≡ true }
     {
         if self.has_begun {
             self.finished

@@ -302,11 +302,14 @@ abbrev pub is_to_be_replaced : Name → Compilation → Bool
 is_to_be_replaced n w = w.is_system && is_kept (found_in n.bytes w.replaced)
 
 -- behind its bracket a header has the name of its routine; its locals are kept apart
-abbrev pub header_of : FileNames → Place → List Name → Compilation → Compilation
-header_of files first [] w = passed true w
-header_of files first (name ∷ names) w =
+abbrev pub header_named : FileNames → Place → Name → Compilation → Compilation
+header_named files first name w =
     if is_to_be_replaced name w then passed true (record w { is_replaced = true; is_embedded = false; constructs = [] })
     else header_with files first name w.unit.headed (record w { is_replaced = false; is_embedded = false })
+
+abbrev pub header_of : FileNames → Place → List Name → Compilation → Compilation
+header_of files first [] w = passed true w
+header_of files first (name ∷ names) w = header_named files first name w
 
 abbrev pub header_end : FileNames → Place → Compilation → Compilation
 header_end files place w = header_of files (first_place w.unit.tokens place) (names_in w.unit.tokens) w

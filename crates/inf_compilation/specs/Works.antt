@@ -5,7 +5,7 @@ use Rattle.inf_unit.specs.Directives.{asked}
 use Rattle.inf_compilation.specs.Actions.{Compilation}
 use Rattle.inf_compilation.specs.declared.compilation.Compilation.{Compilation as CodeCompilation}
 
-abbrev pub work : CodeCompilation → Compilation
+abbrev pub work : {B : Type 0} → CodeCompilation B → Compilation
 work w = record {
   set = w.set;
   longest = w.longest;

@@ -1,5 +1,6 @@
 //! What the actions of the grammar do: they gather what a unit has, which acts at its end.
 ghost use Rattle.std.specs.Prelude.{IfOk, None, OnOk, false, true, ◌<◌, ◌≡◌, ◌≤◌};
+ghost use Rattle.inf_settings.specs.Bounds.{Allows};
 ghost use Rattle.inf_unit.specs.Messages.{location};
 ghost use Rattle.inf_unit.specs.Tokens.{spelled};
 ghost use Rattle.inf_compilation.specs.Actions.{names_class, no_output};
@@ -18,6 +19,7 @@ use inf_names::symbols::{Found, Symbols};
 use inf_output::{Output, Strings};
 use inf_report::messages::Message;
 use inf_scanner::{Mark, TokenKind};
+use inf_settings::bounds::{Bounds, Unbounded};
 use inf_settings::setting::Setting;
 use inf_settings::settings::Settings;
 use inf_tables::{Arrays, Tables};
@@ -37,7 +39,7 @@ const MOST_NESTED: usize = 64;
 
 /// What was compiled so far.
 #[derive(Drop)]
-pub struct Compilation {
+pub struct Compilation<B: Bounds> {
     pub alloc: Global,
     /// The character set of the sources.
     pub set: CharSet,
@@ -57,21 +59,21 @@ pub struct Compilation {
     pub(crate) labels: Labels,
     /// Its locals.
     pub locals: Locals,
-    pub output: Output,
+    pub output: Output<B>,
     /// What is left to be laid of a tree: nothing, between the calls that lay.
     pub(crate) tasks: Tasks,
     pub report: Diagnostics,
     /// What the directive that was finished last asks of the reading.
     pub asked: Request,
     /// The names of routines that are to be replaced.
-    pub replaced: Symbols<Place>,
+    pub replaced: Symbols<Place, B>,
     /// Whether routines of the file at hand may be replaced.
     pub is_system: bool,
     /// Whether the routine at hand is passed over, since it is to be replaced.
     pub is_replaced: bool,
     /// The array whose entries are read, and where they go if its header had an error.
     pub listing: Listing,
-    pub lost: Arrays,
+    pub lost: Arrays<Unbounded>,
     /// Whether the values that are read are those of the property `name`.
     pub is_name: bool,
     /// Whether the open routine is a value of a property.
@@ -81,16 +83,25 @@ pub struct Compilation {
 }
 
 /// No code and no names, of which there may be as many as the settings say.
-fn no_output(alloc: Global, settings: &Settings, hashing: NameHashing) -> Result<Output, AllocError>
+fn no_output<B: Bounds>(
+    alloc: Global,
+    settings: &Settings,
+    hashing: NameHashing,
+) -> Result<Output<B>, AllocError>
+    requires { Allows B.allows settings.now }
     ensures { IfOk result (λ output. output ≡ no_output settings.now) }
 {
     let limits = CodeLimits {
         labels: settings.of(Setting::Labels) as usize,
-        code: settings.of(Setting::Code) as usize,
+        code: settings.bound::<B>(Setting::Code) as usize,
         refs: settings.of(Setting::References) as usize,
     };
     let code = Code::new(alloc, limits, Scale::Four)?;
-    let strings = Strings::new(alloc, settings.of(Setting::Strings) as usize, Scale::Four);
+    let strings = Strings::new(
+        alloc,
+        settings.bound::<B>(Setting::Strings) as usize,
+        Scale::Four,
+    );
     let tables = Tables::new(alloc, settings);
     Ok(Output::new(
         code,
@@ -126,7 +137,7 @@ pub struct Listing {
     pub has_entries: bool,
 }
 
-impl Compilation {
+impl<B: Bounds> Compilation<B> {
     ghost use Rattle.inf_unit.specs.Directives.{Nothing, asked, asks};
     ghost use Rattle.inf_compilation.specs.Actions.{begun_at, is_class, is_deep, labels_counted, nested, no_work, opening_checked, passed, piece_begun, sized, token_checked, took, unit_ended};
     ghost use Rattle.inf_compilation.specs.Meant.{found_as};
@@ -139,7 +150,8 @@ impl Compilation {
         set: CharSet,
         settings: &Settings,
         hashing: NameHashing,
-    ) -> Result<Compilation, AllocError>
+    ) -> Result<Compilation<B>, AllocError>
+        requires { Allows B.allows settings.now }
         ensures { IfOk result (λ w. work w ≡ no_work set settings.now) }
     {
         Ok(Compilation {

@@ -10,6 +10,7 @@ use inf_constructs::constructs::Kind;
 use inf_constructs::lay_case;
 use inf_expressions::{Finding, Forest, Operand, Wanted, build, judge, least_of_both};
 use inf_lexer::{Place, Stack};
+use inf_settings::bounds::Bounds;
 use inf_statements::effects::{MISPLACED_DEFAULT, Site, wanted_by};
 use inf_statements::operands::{all_looked, name_locals, name_stores, settled};
 use inf_statements::statements::{Statement, lay_expression, lay_switched, lay_test};
@@ -63,7 +64,7 @@ fn is_default(items: &[Item]) -> bool
     matches!(items, [Item::Default, ..])
 }
 
-impl Compilation {
+impl<B: Bounds> Compilation<B> {
     ghost use Rattle.inf_constructs.specs.Constructs.{are_own};
     ghost use Rattle.inf_compilation.specs.Actions.{finding_at, named, operands_of, settled_of, trees_at};
     ghost use Rattle.inf_compilation.specs.Parts.{actions_named, case_prepared, construct_opened, found_in, order_of, own_case_prepared, own_finding, part_begun, part_carried, part_effect, part_ended, place_of, statement_at, statement_laid_in};

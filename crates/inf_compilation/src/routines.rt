@@ -17,6 +17,7 @@ use inf_names::meanings::Meaning;
 use inf_names::spellings::Name;
 use inf_names::symbols::{DeclareFault, Found};
 use inf_report::messages::Message;
+use inf_settings::bounds::Bounds;
 use inf_unit::messages::{Diagnostics, location};
 use std::alloc::AllocError;
 use std::mem;
@@ -78,8 +79,8 @@ fn tell_unused(
     Ok(())
 }
 
-impl Compilation {
-    ghost use Rattle.inf_compilation.specs.Actions.{close, code_closed, header_end, header_with, is_to_be_replaced, opened_with, routine_declared};
+impl<B: Bounds> Compilation<B> {
+    ghost use Rattle.inf_compilation.specs.Actions.{close, code_closed, header_end, header_named, header_with, is_to_be_replaced, opened_with, routine_declared};
     ghost use Rattle.inf_compilation.specs.Works.{work};
 
     /// The header of a routine ends, before a token at a place.
@@ -91,6 +92,14 @@ impl Compilation {
             self.pass(true);
             return Ok(());
         };
+        let first = self.unit.first_place(place);
+        self.begin_routine(files, first, name)
+    }
+
+    /// The routine of a header that begins at a place: one that is to be replaced is passed over.
+    fn begin_routine(&mut self, files: &Stack, first: Place, name: &Name) -> Result<(), AllocError>
+        ensures { OnOk result (work self.new ≡ header_named files.now.names first (as_name name.now) (work self.old)) }
+    {
         self.is_embedded = false;
         self.is_replaced = self.is_to_be_replaced(name);
         if self.is_replaced {
@@ -99,7 +108,6 @@ impl Compilation {
             return Ok(());
         }
         let headed = self.take_headed();
-        let first = self.unit.first_place(place);
         self.open(files, first, name, headed)
     }
 

@@ -15,6 +15,7 @@ use inf_area::Value;
 use inf_expressions::{Finding, Forest, Wanted, build, constant, judge};
 use inf_grammar::{Action, Machine, PIECE};
 use inf_output::Output;
+use inf_settings::bounds::Bounds;
 use inf_unit::tokens::SourceToken;
 use inf_unit::unit::Unit;
 use std::alloc::{AllocError, Global};
@@ -82,7 +83,11 @@ impl Condition {
     }
 
     /// What it comes to, where so many names were declared by the directives before.
-    pub(crate) fn judge(&self, declared: usize, out: &Output) -> Result<Verdict, AllocError>
+    pub(crate) fn judge<B: Bounds>(
+        &self,
+        declared: usize,
+        out: &Output<B>,
+    ) -> Result<Verdict, AllocError>
         ensures { IfOk result (λ v. v ≡ verdict_of declared out.now (condition self.now)) }
     {
         let symbols = self.unit.gathering.symbols();

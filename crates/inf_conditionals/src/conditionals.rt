@@ -16,6 +16,7 @@ use inf_expressions::Finding;
 use inf_lexer::Stack;
 use inf_output::Output;
 use inf_scanner::{Mark, Place, TokenKind};
+use inf_settings::bounds::Bounds;
 use inf_settings::setting::Setting;
 use inf_settings::settings::Settings;
 use inf_sources::open_file::Conditional;
@@ -114,10 +115,10 @@ impl Conditionals {
     }
 
     /// Takes the next token of the innermost file, and answers what becomes of it. A name has at most 32 bytes.
-    pub fn take(
+    pub fn take<B: Bounds>(
         &mut self,
         site: Site,
-        out: &Output,
+        out: &Output<B>,
         token: &SourceToken<'_>,
     ) -> Result<Filtered, AllocError>
         requires { IsSome (name_of (spelled token.now)) → length token.now.bytes.now ≤ 32 }
@@ -137,11 +138,11 @@ impl Conditionals {
     }
 
     /// Tells what there is to tell of a condition. The actions of one with which nothing is wrong appear.
-    pub fn tell(
+    pub fn tell<B: Bounds>(
         &mut self,
         files: &Stack,
         report: &mut Diagnostics,
-        out: &mut Output,
+        out: &mut Output<B>,
     ) -> Result<(), AllocError>
         ensures told { OnOk result (report.new ≡ with_said files.now.names self.old.said report.old) }
         ensures right { OnOk result (out.new ≡ with_right self.old.said out.old) }
@@ -237,11 +238,11 @@ impl Conditionals {
     }
 
     /// A token of a side that is left out.
-    fn take_in_side(
+    fn take_in_side<B: Bounds>(
         &mut self,
         side: LeftOut,
         is_quiet: bool,
-        out: &Output,
+        out: &Output<B>,
         token: &SourceToken<'_>,
     ) -> Result<Filtered, AllocError>
         requires { IsSome (name_of (spelled token.now)) → length token.now.bytes.now ≤ 32 }
@@ -291,11 +292,11 @@ impl Conditionals {
     }
 
     /// A token behind a `#` that was held back inside a directive.
-    fn take_behind_sign(
+    fn take_behind_sign<B: Bounds>(
         &mut self,
         place: Place,
         is_quiet: bool,
-        out: &Output,
+        out: &Output<B>,
         token: &SourceToken<'_>,
     ) -> Result<Filtered, AllocError>
         requires { IsSome (name_of (spelled token.now)) → length token.now.bytes.now ≤ 32 }
@@ -321,11 +322,11 @@ impl Conditionals {
     }
 
     /// A token where no side is left out and no `#` is held back, at the front of a piece or not.
-    fn offer(
+    fn offer<B: Bounds>(
         &mut self,
         is_front: bool,
         is_quiet: bool,
-        out: &Output,
+        out: &Output<B>,
         token: &SourceToken<'_>,
     ) -> Result<Filtered, AllocError>
         requires { IsSome (name_of (spelled token.now)) → length token.now.bytes.now ≤ 32 }
@@ -358,11 +359,11 @@ impl Conditionals {
     }
 
     /// A token comes to the innermost conditional directive, which was taken off.
-    fn go_on(
+    fn go_on<B: Bounds>(
         &mut self,
         pending: Pending,
         is_quiet: bool,
-        out: &Output,
+        out: &Output<B>,
         token: &SourceToken<'_>,
     ) -> Result<Filtered, AllocError>
         requires { IsSome (name_of (spelled token.now)) → length token.now.bytes.now ≤ 32 }
@@ -448,12 +449,12 @@ impl Conditionals {
     }
 
     /// A token comes to the condition of a conditional directive.
-    fn go_on_asking(
+    fn go_on_asking<B: Bounds>(
         &mut self,
         wanted: bool,
         directive: Pending,
         is_quiet: bool,
-        out: &Output,
+        out: &Output<B>,
         token: &SourceToken<'_>,
     ) -> Result<Filtered, AllocError>
         ensures { IfOk result (λ j. record { now = self.new; judged = j } ≡
@@ -484,12 +485,12 @@ impl Conditionals {
     }
 
     /// A conditional directive with a condition is whole.
-    fn decide(
+    fn decide<B: Bounds>(
         &mut self,
         wanted: bool,
         directive: Pending,
         is_quiet: bool,
-        out: &Output,
+        out: &Output<B>,
         condition: Condition,
     ) -> Result<Filtered, AllocError>
         ensures { let k = condition_of condition in IfOk result (λ j. record { now = self.new; judged = j } ≡

@@ -10,6 +10,7 @@ use inf_names::meanings::{Function as NamedFunction, Meaning};
 use inf_names::symbols::{Found, Symbols};
 use inf_output::Output;
 use inf_scanner::Place;
+use inf_settings::bounds::{Bounds, Unbounded};
 use inf_statements::operands::looked_action;
 use inf_unit::unit_tokens::{NameToken, UnitTokens};
 use std::alloc::{AllocError, Global};
@@ -64,7 +65,7 @@ fn found_operand(found: Found<Place>) -> Operand
 }
 
 /// What a name stands for, where so many names were declared by the directives before.
-fn name_operand(declared: usize, names: &Symbols<Place>, name: &[u8]) -> Operand
+fn name_operand<B: Bounds>(declared: usize, names: &Symbols<Place, B>, name: &[u8]) -> Operand
     requires { length name.now ≤ 35 }
     ensures { result ≡ name_operand declared names.now name.now }
 {
@@ -88,7 +89,12 @@ fn bytes_of<'t>(name: Option<NameToken<'t>>) -> &'t [u8]
 }
 
 /// What a leaf stands for of a condition with these tokens.
-fn leaf_operand(declared: usize, names: &Symbols<Place>, tokens: &UnitTokens, leaf: Leaf) -> Operand
+fn leaf_operand<B: Bounds>(
+    declared: usize,
+    names: &Symbols<Place, B>,
+    tokens: &UnitTokens,
+    leaf: Leaf,
+) -> Operand
     ensures { result ≡ leaf_operand declared names.now tokens.now leaf }
 {
     match leaf {
@@ -103,12 +109,12 @@ fn leaf_operand(declared: usize, names: &Symbols<Place>, tokens: &UnitTokens, le
 }
 
 /// What a leaf stands for of a condition with these tokens, behind other leaves with new actions.
-fn operand_behind(
+fn operand_behind<B: Bounds>(
     declared: usize,
-    out: &Output,
+    out: &Output<B>,
     tokens: &UnitTokens,
     leaf: Leaf,
-    ahead: &mut Symbols<Place>,
+    ahead: &mut Symbols<Place, Unbounded>,
 ) -> Result<Operand, AllocError>
     ensures { IfOk result (λ operand. (ahead.new, operand) ≡ operand_behind declared out.now tokens.now leaf ahead.old) }
 {
@@ -119,16 +125,16 @@ fn operand_behind(
 }
 
 /// What the leaves stand for of a condition with these tokens.
-pub(crate) fn operands_of(
+pub(crate) fn operands_of<B: Bounds>(
     alloc: Global,
     declared: usize,
-    out: &Output,
+    out: &Output<B>,
     tokens: &UnitTokens,
     leaves: &[Leaf],
 ) -> Result<Vec<Operand>, AllocError>
     ensures { IfOk result (λ operands. operands.items ≡ operands_of declared out.now tokens.now leaves.now) }
 {
-    let mut ahead = Symbols::new(alloc, u32::MAX, false, out.names.hashing());
+    let mut ahead = Symbols::<Place, Unbounded>::new(alloc, u32::MAX, false, out.names.hashing());
     let mut operands = Vec::with_capacity(alloc, leaves.len())?;
     for leaf in leaves {
         operands.push(operand_behind(declared, out, tokens, *leaf, &mut ahead)?)?;
@@ -137,7 +143,7 @@ pub(crate) fn operands_of(
 }
 
 /// An action appears, if there is one.
-fn add_action(name: Option<NameToken<'_>>, out: &mut Output) -> Result<(), AllocError>
+fn add_action<B: Bounds>(name: Option<NameToken<'_>>, out: &mut Output<B>) -> Result<(), AllocError>
     requires { IfSome name (λ n. length n.bytes.now ≤ 32) }
     ensures { OnOk result (out.new ≡ appeared_by (option_map named name.entry) out.old) }
 {
@@ -148,7 +154,11 @@ fn add_action(name: Option<NameToken<'_>>, out: &mut Output) -> Result<(), Alloc
 }
 
 /// The action that a leaf is of a condition with these tokens appears.
-fn add_leaf(tokens: &UnitTokens, leaf: Leaf, out: &mut Output) -> Result<(), AllocError>
+fn add_leaf<B: Bounds>(
+    tokens: &UnitTokens,
+    leaf: Leaf,
+    out: &mut Output<B>,
+) -> Result<(), AllocError>
     ensures { OnOk result (out.new ≡ action_added tokens.now leaf out.old) }
 {
     match leaf {
@@ -158,10 +168,10 @@ fn add_leaf(tokens: &UnitTokens, leaf: Leaf, out: &mut Output) -> Result<(), All
 }
 
 /// The actions among the leaves of a condition with these tokens appear.
-pub(crate) fn add_actions(
+pub(crate) fn add_actions<B: Bounds>(
     tokens: &UnitTokens,
     leaves: &[Leaf],
-    out: &mut Output,
+    out: &mut Output<B>,
 ) -> Result<(), AllocError>
     ensures { OnOk result (out.new ≡ actions_added tokens.now leaves.now out.old) }
 {

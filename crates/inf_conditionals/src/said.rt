@@ -13,6 +13,7 @@ use inf_lexer::Stack;
 use inf_output::Output;
 use inf_report::messages::{Message, Told};
 use inf_scanner::{Mark, Place};
+use inf_settings::bounds::Bounds;
 use inf_settings::setting::Setting;
 use inf_unit::messages::{Diagnostic, Diagnostics, location};
 use inf_unit::tokens::{SourceToken, is_mark, told};
@@ -54,7 +55,7 @@ impl Said {
     }
 
     /// Adds what one uses with which nothing is wrong: its actions appear.
-    pub(crate) fn add(&self, out: &mut Output) -> Result<(), AllocError>
+    pub(crate) fn add<B: Bounds>(&self, out: &mut Output<B>) -> Result<(), AllocError>
         ensures { OnOk result (out.new ≡ with_right (Some (said_of self.now)) out.old) }
     {
         match self {

@@ -10,6 +10,7 @@ use arrayvec::ArrayVec;
 use inf_expressions::{Forest, Nodes, Root, range};
 use inf_opcode::{Branch, Destination, Label, Opcode};
 use inf_output::{Output, Simple};
+use inf_settings::bounds::Bounds;
 use inf_templates::simple_of;
 use std::alloc::AllocError;
 
@@ -41,11 +42,11 @@ fn operand_in(nodes: &Nodes, place: usize) -> Simple
 
 /// A group of up to three values, as a branch.
 #[tactic(auto, unfolding(crate::specs::Cases::group_tested))]
-fn lay_group(
+fn lay_group<B: Bounds>(
     values: &[Simple],
     sense: bool,
     label: Label,
-    out: &mut Output,
+    out: &mut Output<B>,
 ) -> Result<(), AllocError>
     requires { length values.now ≤ 3 }
     ensures { OnOk result (out.new ≡ group_tested values.now sense label out.old) }
@@ -60,7 +61,12 @@ fn lay_group(
     }
 }
 
-fn lay_beside(a: Simple, b: Simple, next: Label, out: &mut Output) -> Result<(), AllocError>
+fn lay_beside<B: Bounds>(
+    a: Simple,
+    b: Simple,
+    next: Label,
+    out: &mut Output<B>,
+) -> Result<(), AllocError>
     ensures { OnOk result (out.new ≡ beside a b next out.old) }
 {
     let switched = Simple::Variable(SWITCHED);
@@ -68,7 +74,12 @@ fn lay_beside(a: Simple, b: Simple, next: Label, out: &mut Output) -> Result<(),
     out.instruct(Opcode::Jg, &[switched, b], None, to(true, next))
 }
 
-fn lay_within(a: Simple, b: Simple, here: Label, out: &mut Output) -> Result<(), AllocError>
+fn lay_within<B: Bounds>(
+    a: Simple,
+    b: Simple,
+    here: Label,
+    out: &mut Output<B>,
+) -> Result<(), AllocError>
     ensures { OnOk result (out.new ≡ within a b here out.old) }
 {
     let switched = Simple::Variable(SWITCHED);
@@ -80,13 +91,13 @@ fn lay_within(a: Simple, b: Simple, here: Label, out: &mut Output) -> Result<(),
 
 /// A range, which is the last value or not.
 #[tactic(auto, unfolding(crate::specs::Cases::range_tested))]
-fn lay_range(
+fn lay_range<B: Bounds>(
     is_last: bool,
     a: Simple,
     b: Simple,
     here: Label,
     next: Label,
-    out: &mut Output,
+    out: &mut Output<B>,
 ) -> Result<(), AllocError>
     ensures { OnOk result (out.new ≡ range_tested is_last a b here next out.old) }
 {
@@ -99,14 +110,14 @@ fn lay_range(
 
 /// What is laid for the tree at a place behind a group that is open: the group, where it takes no more.
 #[tactic(auto, unfolding(crate::specs::Cases::value_laid))]
-fn lay_value_of(
+fn lay_value_of<B: Bounds>(
     nodes: &Nodes,
     place: usize,
     is_last: bool,
     group: &[Simple],
     here: Label,
     next: Label,
-    out: &mut Output,
+    out: &mut Output<B>,
 ) -> Result<(), AllocError>
     requires { length group.now ≤ 3 }
     ensures { OnOk result (out.new ≡ value_laid (tree_at nodes.now place) is_last group.now here next out.old) }
@@ -154,12 +165,12 @@ fn are_none(roots: &[Root]) -> bool
 }
 
 /// The tests of some values: where one holds they go to a label, and where the last fails to another one.
-fn lay_values(
+fn lay_values<B: Bounds>(
     nodes: &Nodes,
     roots: &[Root],
     here: Label,
     next: Label,
-    out: &mut Output,
+    out: &mut Output<B>,
 ) -> Result<(), AllocError>
     ensures { OnOk result (out.new ≡ grouped [] (trees_from nodes.now roots.now) here next out.old) }
 {
@@ -176,7 +187,11 @@ fn lay_values(
 
 /// The tests of a case with these trees as values, where it has any: the label of the next case is given.
 #[tactic(auto, unfolding(crate::specs::Cases::case_code))]
-pub fn lay_case(next: Option<Label>, forest: &Forest, out: &mut Output) -> Result<(), AllocError>
+pub fn lay_case<B: Bounds>(
+    next: Option<Label>,
+    forest: &Forest,
+    out: &mut Output<B>,
+) -> Result<(), AllocError>
     ensures { OnOk result (out.new ≡ case_code next (map tree_in (trees_in forest.now)) out.old) }
 {
     let Some(next) = next else {

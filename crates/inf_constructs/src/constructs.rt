@@ -11,6 +11,7 @@ use inf_area::{SystemConstant, Target};
 use inf_expressions::{Forest, Nodes, Root, children_of};
 use inf_opcode::{Branch, Destination, Label, Opcode};
 use inf_output::{Items, Output, Simple};
+use inf_settings::bounds::Bounds;
 use inf_templates::{Argument, Tasks, lay_branch, lay_instruction, simple_of};
 use std::alloc::{AllocError, Global};
 use std::marker::Model;
@@ -80,7 +81,7 @@ fn to(sense: bool, label: Label) -> Branch
 }
 
 /// A construct of a kind, whose labels are handed out.
-fn with_labels(kind: Kind, out: &mut Output) -> Construct
+fn with_labels<B: Bounds>(kind: Kind, out: &mut Output<B>) -> Construct
     ensures { (result, out.new) ≡ with_labels kind out.old }
 {
     let top = out.label();
@@ -96,7 +97,7 @@ fn with_labels(kind: Kind, out: &mut Output) -> Construct
 }
 
 /// What is laid where its word was read.
-fn lay_front(construct: &Construct, out: &mut Output) -> Result<(), AllocError>
+fn lay_front<B: Bounds>(construct: &Construct, out: &mut Output<B>) -> Result<(), AllocError>
     ensures { OnOk result (out.new ≡ front construct.now.kind construct.now out.old) }
 {
     match construct.kind {
@@ -108,7 +109,7 @@ fn lay_front(construct: &Construct, out: &mut Output) -> Result<(), AllocError>
 
 /// Where its word was read.
 #[tactic(auto, unfolding(crate::specs::Constructs::opened))]
-fn open(kind: Kind, out: &mut Output) -> Result<Construct, AllocError>
+fn open<B: Bounds>(kind: Kind, out: &mut Output<B>) -> Result<Construct, AllocError>
     ensures { IfOk result (λ c. (c, out.new) ≡ opened kind out.old) }
 {
     let construct = with_labels(kind, out);
@@ -137,7 +138,7 @@ fn kind_behind(kind: Kind) -> Kind
 }
 
 /// What is laid between its parts.
-fn lay_joint(construct: &Construct, out: &mut Output) -> Result<(), AllocError>
+fn lay_joint<B: Bounds>(construct: &Construct, out: &mut Output<B>) -> Result<(), AllocError>
     ensures { OnOk result (out.new ≡ joint construct.now construct.now.kind out.old) }
 {
     match construct.kind {
@@ -153,13 +154,13 @@ fn lay_joint(construct: &Construct, out: &mut Output) -> Result<(), AllocError>
 }
 
 /// A loop over the children of the object that the tree at a place is.
-fn lay_over_children(
+fn lay_over_children<B: Bounds>(
     nodes: &Nodes,
     parent: usize,
     variable: u8,
     construct: &Construct,
     tasks: &mut Tasks,
-    out: &mut Output,
+    out: &mut Output<B>,
 ) -> Result<(), AllocError>
     ensures { OnOk result (out.new ≡ over_children (tree_at nodes.now parent) variable construct.now out.old) }
 {
@@ -176,12 +177,12 @@ fn lay_over_children(
 }
 
 /// The test of a loop over all objects, which a variable alone is not.
-fn lay_test(
+fn lay_test<B: Bounds>(
     nodes: &Nodes,
     place: usize,
     next: Label,
     tasks: &mut Tasks,
-    out: &mut Output,
+    out: &mut Output<B>,
 ) -> Result<(), AllocError>
     ensures { OnOk result (out.new ≡ tested_over (at nodes.now place).operand (at nodes.now place) next out.old) }
 {
@@ -192,13 +193,13 @@ fn lay_test(
 }
 
 /// A loop over all objects.
-fn lay_over_all(
+fn lay_over_all<B: Bounds>(
     nodes: &Nodes,
     place: usize,
     variable: u8,
     construct: &Construct,
     tasks: &mut Tasks,
-    out: &mut Output,
+    out: &mut Output<B>,
 ) -> Result<(), AllocError>
     ensures { OnOk result (out.new ≡ over_all (at nodes.now place) variable construct.now out.old) }
 {
@@ -209,13 +210,13 @@ fn lay_over_all(
 }
 
 /// What a loop goes over that the tree at a place says.
-fn lay_loop(
+fn lay_loop<B: Bounds>(
     nodes: &Nodes,
     root: Root,
     variable: u8,
     mut construct: Construct,
     tasks: &mut Tasks,
-    out: &mut Output,
+    out: &mut Output<B>,
 ) -> Result<Construct, AllocError>
     ensures { let e = tree_at nodes.now root.place in
         IfOk result (λ c. (c, out.new) ≡ looped_by (children_of e) e variable construct out.old) }
@@ -234,7 +235,12 @@ fn lay_loop(
 }
 
 /// How a loop over objects goes on.
-fn lay_loop_end(over: Over, variable: u8, top: Label, out: &mut Output) -> Result<(), AllocError>
+fn lay_loop_end<B: Bounds>(
+    over: Over,
+    variable: u8,
+    top: Label,
+    out: &mut Output<B>,
+) -> Result<(), AllocError>
     ensures { OnOk result (out.new ≡ looped_on over variable top out.old) }
 {
     match over {
@@ -253,7 +259,7 @@ fn lay_loop_end(over: Over, variable: u8, top: Label, out: &mut Output) -> Resul
 }
 
 /// The end of a case.
-fn close_case(case: Case, end: Label, out: &mut Output) -> Result<(), AllocError>
+fn close_case<B: Bounds>(case: Case, end: Label, out: &mut Output<B>) -> Result<(), AllocError>
     ensures { OnOk result (out.new ≡ case_closed case end out.old) }
 {
     match case {
@@ -267,7 +273,7 @@ fn close_case(case: Case, end: Label, out: &mut Output) -> Result<(), AllocError
 }
 
 /// The end of a `for`.
-fn close_for(construct: &Construct, out: &mut Output) -> Result<(), AllocError>
+fn close_for<B: Bounds>(construct: &Construct, out: &mut Output<B>) -> Result<(), AllocError>
     ensures { OnOk result (out.new ≡ ending construct.now Kind.For out.old) }
 {
     out.mark(construct.next)?;
@@ -280,7 +286,7 @@ fn close_for(construct: &Construct, out: &mut Output) -> Result<(), AllocError>
 
 /// Where it ends.
 #[tactic(auto, unfolding(crate::specs::Constructs::closed))]
-fn close(construct: &Construct, out: &mut Output) -> Result<(), AllocError>
+fn close<B: Bounds>(construct: &Construct, out: &mut Output<B>) -> Result<(), AllocError>
     ensures { OnOk result (out.new ≡ closed construct.now out.old) }
 {
     match construct.kind {
@@ -315,11 +321,11 @@ fn with_case(are_own: bool, case: Case, had_default: bool) -> Kind
 }
 
 /// A default begins behind an open case.
-fn enter_default(
+fn enter_default<B: Bounds>(
     are_own: bool,
     case: Case,
     mut construct: Construct,
-    out: &mut Output,
+    out: &mut Output<B>,
 ) -> Result<Construct, AllocError>
     ensures { IfOk result (λ c. (c, out.new) ≡ default_entered are_own case construct out.old) }
 {
@@ -329,12 +335,12 @@ fn enter_default(
 }
 
 /// A case of values begins behind an open case, behind a default or not.
-fn enter_values(
+fn enter_values<B: Bounds>(
     are_own: bool,
     case: Case,
     had_default: bool,
     mut construct: Construct,
-    out: &mut Output,
+    out: &mut Output<B>,
 ) -> Result<Construct, AllocError>
     ensures { IfOk result (λ c. (c, out.new) ≡ values_entered are_own case had_default construct out.old) }
 {
@@ -345,13 +351,13 @@ fn enter_values(
 }
 
 /// A case begins behind an open case, which is the default or not.
-fn enter_case(
+fn enter_case<B: Bounds>(
     are_own: bool,
     is_default: bool,
     case: Case,
     had_default: bool,
     construct: Construct,
-    out: &mut Output,
+    out: &mut Output<B>,
 ) -> Result<Construct, AllocError>
     ensures { IfOk result (λ c. (c, out.new) ≡ case_entered are_own is_default case had_default construct out.old) }
 {
@@ -364,7 +370,11 @@ fn enter_case(
 
 /// A case begins, which is the default or not.
 #[tactic(auto, unfolding(crate::specs::Constructs::entered))]
-fn enter(is_default: bool, construct: Construct, out: &mut Output) -> Result<Construct, AllocError>
+fn enter<B: Bounds>(
+    is_default: bool,
+    construct: Construct,
+    out: &mut Output<B>,
+) -> Result<Construct, AllocError>
     ensures { IfOk result (λ c. (c, out.new) ≡ entered is_default construct out.old) }
 {
     match construct.kind {
@@ -499,7 +509,7 @@ impl Constructs {
     }
 
     /// A statement of a kind begins.
-    pub fn begin(&mut self, kind: Kind, out: &mut Output) -> Result<(), AllocError>
+    pub fn begin<B: Bounds>(&mut self, kind: Kind, out: &mut Output<B>) -> Result<(), AllocError>
         ensures { OnOk result ((self.new, out.new) ≡ begun kind self.old out.old) }
     {
         let construct = open(kind, out)?;
@@ -509,7 +519,7 @@ impl Constructs {
 
     /// `else`, `until` or the first `:` of the innermost, or what a loop over objects holds begins.
     #[tactic(auto, unfolding(crate::specs::Constructs::between))]
-    pub fn go_on(&mut self, out: &mut Output) -> Result<(), AllocError>
+    pub fn go_on<B: Bounds>(&mut self, out: &mut Output<B>) -> Result<(), AllocError>
         ensures { OnOk result ((self.new, out.new) ≡ changed between self.old out.old) }
     {
         let Some(mut construct) = self.list.pop() else {
@@ -522,7 +532,11 @@ impl Constructs {
     }
 
     /// What was laid apart is the step of the innermost.
-    pub fn keep_step(&mut self, alloc: Global, out: &mut Output) -> Result<(), AllocError>
+    pub fn keep_step<B: Bounds>(
+        &mut self,
+        alloc: Global,
+        out: &mut Output<B>,
+    ) -> Result<(), AllocError>
         ensures { OnOk result ((self.new, out.new) ≡ stepped self.old out.old) }
     {
         let step = out.take_apart(alloc);
@@ -536,11 +550,11 @@ impl Constructs {
 
     /// What the innermost, a loop over objects, goes over: the first tree of a unit.
     #[tactic(auto, unfolding(crate::specs::Constructs::looped))]
-    pub fn go_over(
+    pub fn go_over<B: Bounds>(
         &mut self,
         forest: &Forest,
         tasks: &mut Tasks,
-        out: &mut Output,
+        out: &mut Output<B>,
     ) -> Result<(), AllocError>
         ensures { OnOk result ((self.new, out.new) ≡ looped_over (trees_in forest.now) self.old out.old) }
     {
@@ -557,7 +571,7 @@ impl Constructs {
     }
 
     /// Before a case: one outside of any statement is one of the routine's own.
-    pub fn begin_cases(&mut self, out: &mut Output) -> Result<(), AllocError>
+    pub fn begin_cases<B: Bounds>(&mut self, out: &mut Output<B>) -> Result<(), AllocError>
         ensures { OnOk result ((self.new, out.new) ≡ cases_begun self.old out.old) }
     {
         match self.innermost() {
@@ -595,7 +609,11 @@ impl Constructs {
     }
 
     /// A case of the innermost begins, which is the default or not.
-    pub fn enter(&mut self, is_default: bool, out: &mut Output) -> Result<(), AllocError>
+    pub fn enter<B: Bounds>(
+        &mut self,
+        is_default: bool,
+        out: &mut Output<B>,
+    ) -> Result<(), AllocError>
         ensures { OnOk result ((self.new, out.new) ≡ changed (entered is_default) self.old out.old) }
     {
         let Some(construct) = self.list.pop() else {
@@ -607,7 +625,7 @@ impl Constructs {
     }
 
     /// The innermost ends.
-    pub fn end(&mut self, out: &mut Output) -> Result<(), AllocError>
+    pub fn end<B: Bounds>(&mut self, out: &mut Output<B>) -> Result<(), AllocError>
         ensures { OnOk result ((self.new, out.new) ≡ ended self.old out.old) }
     {
         let Some(construct) = self.list.pop() else {
@@ -617,7 +635,11 @@ impl Constructs {
     }
 
     /// So many end, the innermost first.
-    pub fn end_all(&mut self, count: usize, out: &mut Output) -> Result<(), AllocError>
+    pub fn end_all<B: Bounds>(
+        &mut self,
+        count: usize,
+        out: &mut Output<B>,
+    ) -> Result<(), AllocError>
         ensures { OnOk result ((self.new, out.new) ≡ all_ended count self.old out.old) }
     {
         let mut left = count;

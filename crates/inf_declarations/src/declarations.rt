@@ -21,6 +21,7 @@ use inf_names::meanings::Meaning;
 use inf_names::spellings::Name;
 use inf_names::symbols::{DeclareFault, Found};
 use inf_report::messages::FixedLimit;
+use inf_settings::bounds::Bounds;
 use inf_statements::operands::settled;
 use inf_tables::WorldFault;
 use inf_unit::unit::order;
@@ -199,7 +200,7 @@ pub fn value_in(forest: &Forest) -> Value
 }
 
 /// What is known of a name that has an order and is declared, whether it was used before or not.
-pub fn plainly_known(compilation: &Compilation, name: &Name, order: u32) -> Declared
+pub fn plainly_known<B: Bounds>(compilation: &Compilation<B>, name: &Name, order: u32) -> Declared
     ensures { result ≡ plainly_known (as_name name.now) order (work compilation.now) }
 {
     let found = compilation.output.names.look(name.bytes());
@@ -222,8 +223,8 @@ fn declared_findings(name: &Name, kind: FixedLimit, declared: Declared) -> Findi
 }
 
 /// The end of the header of a declaration, or of a whole one, that begins at a place: what is wrong with it is told.
-pub fn end_declared(
-    compilation: &mut Compilation,
+pub fn end_declared<B: Bounds>(
+    compilation: &mut Compilation<B>,
     files: &Stack,
     first: Place,
     has_last: bool,
@@ -239,8 +240,8 @@ pub fn end_declared(
 }
 
 /// The end of a declaration that begins at a place: what is wrong with it is told.
-pub(crate) fn end_declaration(
-    compilation: &mut Compilation,
+pub(crate) fn end_declaration<B: Bounds>(
+    compilation: &mut Compilation<B>,
     files: &Stack,
     first: Place,
     name: &Name,
@@ -254,8 +255,8 @@ pub(crate) fn end_declaration(
 }
 
 /// What is wrong with a declaration of a name that has an order, beside its expression, where there are so many of its kind or not.
-pub(crate) fn name_known(
-    compilation: &Compilation,
+pub(crate) fn name_known<B: Bounds>(
+    compilation: &Compilation<B>,
     name: &Name,
     order: u32,
     are_many: bool,
@@ -276,8 +277,8 @@ pub(crate) fn name_known(
 }
 
 /// Declares the first of these names as an attribute, or as another name of one.
-pub fn attribute(
-    compilation: &mut Compilation,
+pub fn attribute<B: Bounds>(
+    compilation: &mut Compilation<B>,
     files: &Stack,
     first: Place,
     names: &[Name],
@@ -303,15 +304,15 @@ pub fn attribute(
 }
 
 /// Whether there are as many attributes as there may be.
-fn has_most_attributes(compilation: &Compilation) -> bool
+fn has_most_attributes<B: Bounds>(compilation: &Compilation<B>) -> bool
     ensures { result ≡ has_most_attributes (work compilation.now).output }
 {
     compilation.output.tables.world.attribute_count() >= MOST_ATTRIBUTES
 }
 
 /// Declares a name as an attribute.
-fn one_attribute(
-    compilation: &mut Compilation,
+fn one_attribute<B: Bounds>(
+    compilation: &mut Compilation<B>,
     files: &Stack,
     first: Place,
     name: &Name,
@@ -324,8 +325,8 @@ fn one_attribute(
 }
 
 /// The end of the declaration of an attribute, of which so much is known.
-fn end_attribute(
-    compilation: &mut Compilation,
+fn end_attribute<B: Bounds>(
+    compilation: &mut Compilation<B>,
     files: &Stack,
     first: Place,
     name: &Name,
@@ -345,15 +346,15 @@ fn end_attribute(
 }
 
 /// The number of the next attribute.
-fn attribute_number(compilation: &Compilation) -> u8
+fn attribute_number<B: Bounds>(compilation: &Compilation<B>) -> u8
     ensures { result ≡ attribute_number (work compilation.now).output }
 {
     (compilation.output.tables.world.attribute_count() % 256) as u8
 }
 
 /// Declares the name of an attribute, which is a new one where nothing is wrong with it.
-fn add_attribute(
-    compilation: &mut Compilation,
+fn add_attribute<B: Bounds>(
+    compilation: &mut Compilation<B>,
     name: &Name,
     found: Option<Finding>,
 ) -> Result<(), AllocError>
@@ -374,7 +375,7 @@ fn add_attribute(
 }
 
 /// One attribute more.
-fn new_attribute(compilation: &mut Compilation) -> Result<(), AllocError>
+fn new_attribute<B: Bounds>(compilation: &mut Compilation<B>) -> Result<(), AllocError>
     ensures { let before = work compilation.old in OnOk result
         (work compilation.new ≡ record before { output = new_attribute before.output }) }
 {
@@ -385,8 +386,8 @@ fn new_attribute(compilation: &mut Compilation) -> Result<(), AllocError>
 }
 
 /// What is wrong with a declaration of a name that has an order, and with its expression.
-pub(crate) fn valued(
-    compilation: &Compilation,
+pub(crate) fn valued<B: Bounds>(
+    compilation: &Compilation<B>,
     name: &Name,
     order: u32,
     are_many: bool,
@@ -403,7 +404,7 @@ pub(crate) fn valued(
 }
 
 /// The value of the unit's expression, whose names are used.
-pub fn value(compilation: &mut Compilation) -> Result<Value, AllocError>
+pub fn value<B: Bounds>(compilation: &mut Compilation<B>) -> Result<Value, AllocError>
     ensures { IfOk result (λ value. let s = settled_of (work compilation.old) in
         (value ≡ value_in (map tree_in (trees_at 0 Wanted.Constant s.operands (work compilation.old))))
         × (work compilation.new ≡ record (work compilation.old) { output = s.out })) }
@@ -427,7 +428,7 @@ pub fn value(compilation: &mut Compilation) -> Result<Value, AllocError>
 }
 
 /// What the last name of the unit stands for, where that is one of this kind.
-fn last_meaning(compilation: &Compilation, kind: FixedLimit) -> Option<Meaning>
+fn last_meaning<B: Bounds>(compilation: &Compilation<B>, kind: FixedLimit) -> Option<Meaning>
     ensures { result ≡ last_meaning kind (work compilation.now) }
 {
     let tokens = &compilation.unit.tokens;
@@ -436,8 +437,8 @@ fn last_meaning(compilation: &Compilation, kind: FixedLimit) -> Option<Meaning>
 }
 
 /// Declares a name as another one for what the last name of the unit stands for.
-pub(crate) fn alias(
-    compilation: &mut Compilation,
+pub(crate) fn alias<B: Bounds>(
+    compilation: &mut Compilation<B>,
     files: &Stack,
     first: Place,
     name: &Name,

@@ -25,6 +25,7 @@ use inf_names::spellings::Name;
 use inf_names::symbols::{DeclareFault, Found, ReferFault, Symbols};
 use inf_report::messages::FixedLimit;
 use inf_report::own_words::OwnWords;
+use inf_settings::bounds::Bounds;
 use inf_statements::operands::add_leaf as add_operand;
 use inf_unit::directives::{Request, weight_of};
 use inf_unit::messages::location;
@@ -36,8 +37,8 @@ use std::alloc::AllocError;
 const MOST_STUB_LOCALS: u16 = 4;
 
 /// Keeps the first of these names as that of a routine that is to be replaced, and uses it.
-pub fn replace(
-    compilation: &mut Compilation,
+pub fn replace<B: Bounds>(
+    compilation: &mut Compilation<B>,
     files: &Stack,
     first: Place,
     names: &[Name],
@@ -56,8 +57,8 @@ pub fn replace(
 
 /// Declares the first of these names as a routine of so many locals as the number behind it says, which returns 0, unless the name is
 /// declared.
-pub fn stub(
-    compilation: &mut Compilation,
+pub fn stub<B: Bounds>(
+    compilation: &mut Compilation<B>,
     files: &Stack,
     first: Place,
     names: &[Name],
@@ -73,8 +74,8 @@ pub fn stub(
 }
 
 /// Declares the first of these names as that of the routine of a `Stub`.
-fn new_stub(
-    compilation: &mut Compilation,
+fn new_stub<B: Bounds>(
+    compilation: &mut Compilation<B>,
     files: &Stack,
     first: Place,
     names: &[Name],
@@ -90,8 +91,8 @@ fn new_stub(
 }
 
 /// The routine of a `Stub`, whose name is declared.
-fn stub_routine(
-    compilation: &mut Compilation,
+fn stub_routine<B: Bounds>(
+    compilation: &mut Compilation<B>,
     files: &Stack,
     first: Place,
 ) -> Result<(), AllocError>
@@ -110,8 +111,8 @@ fn stub_routine(
 }
 
 /// Declares the first of these names as a constant, as `Constant` does, unless it is declared.
-pub fn default(
-    compilation: &mut Compilation,
+pub fn default<B: Bounds>(
+    compilation: &mut Compilation<B>,
     files: &Stack,
     first: Place,
     names: &[Name],
@@ -127,7 +128,7 @@ pub fn default(
 }
 
 /// Whether the first of these names is declared.
-fn is_first_declared(compilation: &Compilation, names: &[Name]) -> bool
+fn is_first_declared<B: Bounds>(compilation: &Compilation<B>, names: &[Name]) -> bool
     ensures { result ≡ is_first_declared (map as_name names.now) (work compilation.now).output.names }
 {
     match names.first() {
@@ -137,8 +138,8 @@ fn is_first_declared(compilation: &Compilation, names: &[Name]) -> bool
 }
 
 /// Declares the first of these names as a constant, with what its expression is, or 0.
-pub fn constant(
-    compilation: &mut Compilation,
+pub fn constant<B: Bounds>(
+    compilation: &mut Compilation<B>,
     files: &Stack,
     first: Place,
     names: &[Name],
@@ -164,7 +165,10 @@ pub fn constant(
 }
 
 /// That the file is read whose name is the text of the unit.
-pub fn inclusion(compilation: &Compilation, unit: Place) -> Result<Request, AllocError>
+pub fn inclusion<B: Bounds>(
+    compilation: &Compilation<B>,
+    unit: Place,
+) -> Result<Request, AllocError>
     ensures { IfOk result (λ a. asked a ≡ Include (quoted_in (work compilation.now).unit.tokens) unit) }
 {
     let mut text = Vec::new(compilation.alloc);
@@ -173,8 +177,8 @@ pub fn inclusion(compilation: &Compilation, unit: Place) -> Result<Request, Allo
 }
 
 /// Tells the text of the unit, by the weight that its names say.
-pub fn message(
-    compilation: &mut Compilation,
+pub fn message<B: Bounds>(
+    compilation: &mut Compilation<B>,
     files: &Stack,
     first: Place,
     names: &[Name],
@@ -196,7 +200,7 @@ pub fn message(
 /// What a constant stands for, by the tree of its expression: a known number, 0 where it has none, a string, a word, or what a name
 /// stands for
 /// that was declared before.
-fn constant_of(compilation: &Compilation, forest: &Forest) -> Option<Meaning>
+fn constant_of<B: Bounds>(compilation: &Compilation<B>, forest: &Forest) -> Option<Meaning>
     ensures { result ≡ constant_of (map tree_in (rooted_in forest.now)) (work compilation.now) }
 {
     let Some(root) = forest.roots.first() else {
@@ -209,7 +213,7 @@ fn constant_of(compilation: &Compilation, forest: &Forest) -> Option<Meaning>
 }
 
 /// What the leaf stands for that a constant's expression is: a text is the next string, and a word of the dictionary stands for itself.
-fn leaf_constant(compilation: &Compilation) -> Option<Meaning>
+fn leaf_constant<B: Bounds>(compilation: &Compilation<B>) -> Option<Meaning>
     ensures { let w = work compilation.now in result ≡ leaf_meaning w.unit.gathering.leaves w }
 {
     match compilation.unit.gathering.leaves().first() {
@@ -220,7 +224,7 @@ fn leaf_constant(compilation: &Compilation) -> Option<Meaning>
 }
 
 /// What the name stands for that a constant's expression is, where it was declared before.
-fn named_constant(compilation: &Compilation) -> Option<Meaning>
+fn named_constant<B: Bounds>(compilation: &Compilation<B>) -> Option<Meaning>
     ensures { let w = work compilation.now in
         result ≡ declared_meaning (found_in (named_leaf w.unit.tokens w.unit.gathering.leaves) w.output.names) }
 {
@@ -235,8 +239,8 @@ fn named_constant(compilation: &Compilation) -> Option<Meaning>
 }
 
 /// Declares a name as a constant with what it stands for, if that is known, and tells the first error of its directive.
-fn declare_constant(
-    compilation: &mut Compilation,
+fn declare_constant<B: Bounds>(
+    compilation: &mut Compilation<B>,
     files: &Stack,
     first: Place,
     name: &Name,
@@ -255,8 +259,8 @@ fn declare_constant(
 }
 
 /// The end of the directive of a constant, whose name was refused or not.
-fn end_constant(
-    compilation: &mut Compilation,
+fn end_constant<B: Bounds>(
+    compilation: &mut Compilation<B>,
     files: &Stack,
     first: Place,
     name: &Name,
@@ -286,7 +290,7 @@ fn constant_findings(order: u32, again: Option<Again>, finding: Option<Finding>)
 }
 
 /// Adds the text or the word that a constant's expression is.
-fn add_leaf(compilation: &mut Compilation) -> Result<(), AllocError>
+fn add_leaf<B: Bounds>(compilation: &mut Compilation<B>) -> Result<(), AllocError>
     ensures { let before = work compilation.old in OnOk result (work compilation.new ≡ record before {
       output = leaf_added before.set before.unit.tokens before.unit.gathering.leaves before.output;
     }) }
@@ -312,7 +316,7 @@ fn is_declared(found: Found<Place>) -> bool
 }
 
 /// Uses a name, unless it would be one too many.
-fn use_name(names: &mut Symbols<Place>, name: &Name) -> Result<(), AllocError>
+fn use_name<B: Bounds>(names: &mut Symbols<Place, B>, name: &Name) -> Result<(), AllocError>
     ensures { OnOk result (names.new ≡ used_name (as_name name.now) names.old) }
 {
     match names.refer(name.bytes(), name.place) {

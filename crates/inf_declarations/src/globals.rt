@@ -12,6 +12,7 @@ use inf_lexer::{Place, Stack};
 use inf_names::meanings::Meaning;
 use inf_names::spellings::Name;
 use inf_report::messages::FixedLimit;
+use inf_settings::bounds::Bounds;
 use inf_unit::unit::order;
 use std::alloc::AllocError;
 
@@ -20,8 +21,8 @@ const MOST_GLOBALS: usize = 235;
 pub(crate) const FIRST_GLOBAL: u8 = 16;
 
 /// Declares the first of these names as a global variable, with the value of the unit's expression, or 0.
-pub fn global_variable(
-    compilation: &mut Compilation,
+pub fn global_variable<B: Bounds>(
+    compilation: &mut Compilation<B>,
     files: &Stack,
     first: Place,
     names: &[Name],
@@ -38,15 +39,15 @@ pub fn global_variable(
 }
 
 /// Whether there are as many global variables as there may be.
-fn has_most_globals(compilation: &Compilation) -> bool
+fn has_most_globals<B: Bounds>(compilation: &Compilation<B>) -> bool
     ensures { result ≡ has_most_globals (work compilation.now).output }
 {
     compilation.output.tables.globals.len() >= MOST_GLOBALS
 }
 
 /// Declares a name as a global variable, with the value of the unit's expression, or 0.
-fn one_global(
-    compilation: &mut Compilation,
+fn one_global<B: Bounds>(
+    compilation: &mut Compilation<B>,
     files: &Stack,
     first: Place,
     name: &Name,
@@ -59,8 +60,8 @@ fn one_global(
 }
 
 /// The end of the declaration of a global variable, of which so much is known.
-fn end_global(
-    compilation: &mut Compilation,
+fn end_global<B: Bounds>(
+    compilation: &mut Compilation<B>,
     files: &Stack,
     first: Place,
     name: &Name,
@@ -80,8 +81,8 @@ fn end_global(
 }
 
 /// Declares the name of a variable, which is a new one with the value of the unit's expression where nothing is wrong with it.
-fn add_global(
-    compilation: &mut Compilation,
+fn add_global<B: Bounds>(
+    compilation: &mut Compilation<B>,
     name: &Name,
     found: Option<Finding>,
 ) -> Result<(), AllocError>
@@ -103,7 +104,7 @@ fn add_global(
 }
 
 /// One variable more.
-fn new_global(compilation: &mut Compilation, value: Value) -> Result<(), AllocError>
+fn new_global<B: Bounds>(compilation: &mut Compilation<B>, value: Value) -> Result<(), AllocError>
     ensures { let before = work compilation.old in OnOk result
         (work compilation.new ≡ record before { output = new_global value before.output }) }
 {

@@ -12,6 +12,7 @@ use inf_lexer::{Place, Stack};
 use inf_names::meanings::Meaning;
 use inf_names::spellings::Name;
 use inf_report::messages::FixedLimit;
+use inf_settings::bounds::Bounds;
 use inf_tables::WorldFault;
 use inf_unit::unit::order;
 use inf_unit::unit_tokens::UnitTokens;
@@ -61,8 +62,8 @@ fn property_order(tokens: &UnitTokens, is_additive: bool) -> u32
 }
 
 /// Declares the first of these names as a property, or as another name of one. The word `additive` may stand before it.
-pub fn property(
-    compilation: &mut Compilation,
+pub fn property<B: Bounds>(
+    compilation: &mut Compilation<B>,
     files: &Stack,
     first: Place,
     names: &[Name],
@@ -79,8 +80,8 @@ pub fn property(
 }
 
 /// Declares the first of these names as a property, which is additive or not.
-fn property_named(
-    compilation: &mut Compilation,
+fn property_named<B: Bounds>(
+    compilation: &mut Compilation<B>,
     files: &Stack,
     first: Place,
     is_additive: bool,
@@ -108,15 +109,15 @@ fn property_named(
 }
 
 /// Whether there are as many properties as there may be.
-fn has_most_properties(compilation: &Compilation) -> bool
+fn has_most_properties<B: Bounds>(compilation: &Compilation<B>) -> bool
     ensures { result ≡ has_most_properties (work compilation.now).output }
 {
     compilation.output.tables.world.property_count() >= MOST_PROPERTIES
 }
 
 /// Declares a name as a property, with the value of the unit's expression, or 0.
-fn one_property(
-    compilation: &mut Compilation,
+fn one_property<B: Bounds>(
+    compilation: &mut Compilation<B>,
     files: &Stack,
     first: Place,
     is_additive: bool,
@@ -131,8 +132,8 @@ fn one_property(
 }
 
 /// The end of the declaration of a property, of which so much is known.
-fn end_property(
-    compilation: &mut Compilation,
+fn end_property<B: Bounds>(
+    compilation: &mut Compilation<B>,
     files: &Stack,
     first: Place,
     is_additive: bool,
@@ -154,15 +155,15 @@ fn end_property(
 }
 
 /// The number of the next property.
-fn property_number(compilation: &Compilation) -> u8
+fn property_number<B: Bounds>(compilation: &Compilation<B>) -> u8
     ensures { result ≡ property_number (work compilation.now).output }
 {
     (FIRST_PROPERTY + compilation.output.tables.world.property_count() % 252) as u8
 }
 
 /// Declares the name of a property, which is a new one with the value of the unit's expression where nothing is wrong with it.
-fn add_property(
-    compilation: &mut Compilation,
+fn add_property<B: Bounds>(
+    compilation: &mut Compilation<B>,
     name: &Name,
     is_additive: bool,
     found: Option<Finding>,
@@ -186,8 +187,8 @@ fn add_property(
 }
 
 /// One property more, with what an object without it answers.
-fn new_property(
-    compilation: &mut Compilation,
+fn new_property<B: Bounds>(
+    compilation: &mut Compilation<B>,
     is_additive: bool,
     value: Value,
 ) -> Result<(), AllocError>

@@ -1,15 +1,17 @@
 //! The words of a story, and how they are written.
-ghost use Rattle.std.specs.Prelude.{◌≡◌, ◌<◌, ◌≤◌, ◌++◌, ◌∷◌, [], None, OnOk, OnErr, IfOk, IfNone, IsNone, MatchResult, length, unwrap_or};
+ghost use Rattle.std.specs.Prelude.{◌≡◌, ◌<◌, ◌≤◌, ◌++◌, ◌∷◌, [], None, OnOk, OnErr, IfOk, IfNone, true, IsNone, MatchResult, length, unwrap_or};
 ghost use Rattle.inf_dictionary.specs.Words.{add_fault, dictionary_bytes, entry_bytes, first_misfit, is_misfit, verb_of, with_use, word_of};
 ghost use Rattle.inf_dictionary.specs.declared.dictionary.AddFault.TheVariants.{Memory};
 ghost use Rattle.inf_dictionary.specs.Texts.{AreRising, AreWhole, texts_of};
+ghost use Rattle.inf_settings.specs.declared.setting.Setting.TheVariants as setting;
 
 use crate::places::Places;
 use crate::uses::{Word, WordUse, is_of_other_verb, joined};
 use inf_area::Area;
+use inf_settings::bounds::Bounds;
 use std::alloc::{AllocError, AllocFailed, Global};
 use std::collections::BTreeMap;
-use std::marker::Model;
+use std::marker::{Model, PhantomData};
 
 /// Why a use of a word was not added.
 #[derive(Clone, Copy, Debug, PartialEq, Eq)]
@@ -32,12 +34,14 @@ impl<T: Drop> From<AllocFailed<T>> for AddFault {
 
 /// The words that were used so far, and how many there may be.
 #[derive(Drop)]
-pub struct Dictionary {
+pub struct Dictionary<B: Bounds> {
     words: BTreeMap<[u8; 6], Word>,
     limit: usize,
+    of: PhantomData<B>,
+    ghost is_allowed: { B.allows setting.DictionaryEntries limit ≡ true },
 }
 
-impl Model for Dictionary {
+impl<B: Bounds> Model for Dictionary<B> {
     ghost use Rattle.std.specs.Prelude.{◌≤◌, length};
     ghost use Rattle.inf_dictionary.specs.Words.{Words};
     ghost use Rattle.inf_dictionary.specs.Texts.{AreRising, AreWhole, texts_of};
@@ -57,14 +61,16 @@ fn add_entry(bytes: &mut Vec<u8>, text: &[u8; 6], word: Word) -> Result<(), Allo
     bytes.extend_from_slice(&[word.flags, word.verb_byte(), 0])
 }
 
-impl Dictionary {
+impl<B: Bounds> Dictionary<B> {
     /// No words, of which there may be so many. It takes no memory until the first one comes.
-    pub fn new(alloc: Global, limit: usize) -> Dictionary
+    pub fn new(alloc: Global, limit: usize) -> Dictionary<B>
+        requires { B.allows setting.DictionaryEntries limit ≡ true }
         ensures { result ≡ record { list = []; limit = limit } }
     {
         Dictionary {
             words: BTreeMap::new(alloc),
             limit,
+            of: PhantomData,
         }
     }
 
@@ -72,6 +78,7 @@ impl Dictionary {
     pub fn len(&self) -> usize
         ensures value { result ≡ length self.now.list }
         ensures limited { result ≤ self.now.limit }
+        ensures allowed { B.allows setting.DictionaryEntries self.now.limit ≡ true }
     {
         self.words.len()
     }

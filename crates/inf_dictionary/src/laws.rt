@@ -6,6 +6,7 @@ ghost use Rattle.inf_dictionary.specs.Uses.{UseOf, said_of, with_uses};
 ghost use Rattle.inf_dictionary.specs.Words.{Words, dictionary_bytes, word_of};
 
 use crate::dictionary::Dictionary;
+use inf_settings::bounds::Bounds;
 
 /// What is known of a word behind some uses is what those of its text say of it together, in their order, whatever uses of other words
 /// stand among them.
@@ -15,14 +16,14 @@ pub fn word_of_all_uses()
 {}
 
 /// The texts of a dictionary rise, so that no text stands in it twice.
-pub fn texts_rise(dictionary: &Dictionary)
+pub fn texts_rise<B: Bounds>(dictionary: &Dictionary<B>)
     ensures { AreRising (texts_of dictionary.now.list) }
 {
     dictionary.is_in_order();
 }
 
 /// The word at a place has as many words before it as the place says, and its text is what stands at this place of what is written.
-pub fn word_at_its_place(dictionary: &Dictionary, place: usize)
+pub fn word_at_its_place<B: Bounds>(dictionary: &Dictionary<B>, place: usize)
     requires { place < length dictionary.now.list }
     ensures rank { rank_of (slice_index_or (texts_of dictionary.now.list) place []) (texts_of dictionary.now.list) ≡ place }
     ensures text { text_written (dictionary_bytes dictionary.now.list) place
@@ -33,7 +34,7 @@ pub fn word_at_its_place(dictionary: &Dictionary, place: usize)
 
 /// An interpreter that looks for a word by halves in what is written finds the place of each word that is there, which is its rank, and
 /// no other word.
-pub fn word_is_found(dictionary: &Dictionary)
+pub fn word_is_found<B: Bounds>(dictionary: &Dictionary<B>)
     ensures found { (place : ℕ) → place < length dictionary.now.list
         → found_by_halves (length dictionary.now.list) (dictionary_bytes dictionary.now.list)
         (slice_index_or (texts_of dictionary.now.list) place []) 0 (length dictionary.now.list) ≡ Some place }

@@ -19,8 +19,7 @@ use Rattle.inf_properties.specs.declared.sizes.Owner.{Owner}
 use Rattle.inf_properties.specs.declared.sizes.Owner.TheVariants as owner
 use Rattle.inf_properties.specs.declared.values.Property.{Property}
 use Rattle.inf_story.specs.Tables as story
-use Rattle.inf_tables.specs.Tables.{more, references_with}
-use Rattle.inf_tables.specs.declared.tables.Tables.{Tables}
+use Rattle.inf_tables.specs.Tables.{AllTables, more, references_with}
 use Rattle.inf_verbs.specs.Verbs.{verbs_laters}
 use Rattle.inf_verbs.proofs.Sizes.{later_routines, laters_written as verbs_written}
 use Rattle.inf_world.specs.Areas.{area_cells}
@@ -70,12 +69,12 @@ all_added n w g a v r p few =
     ∙ omega arith
 
 -- the references of the areas of a world are counted
-abbrev Counted : WorldOf → Type 0
+abbrev pub Counted : WorldOf → Type 0
 Counted w = later_count (area_cells world_area.PropertyDefaults w) + later_count (area_cells world_area.Objects w)
     + later_count (area_cells world_area.PropertyTables w) + later_count (area_cells world_area.ClassNumbers w)
     + later_count (area_cells world_area.IndividualTables w) ≡ ended_fixups w.objects + later_defaults w.declared
 
-pub limits_count_the_story : (tables : Tables) → Counted tables.world → LimitsCountTheStory tables
+pub limits_count_the_story : (tables : AllTables) → Counted tables.world → LimitsCountTheStory tables
 limits_count_the_story tables counted code main strings begun closed few =
     let finished = code.finished in
     let world = tables.world in

@@ -8,8 +8,7 @@ use Rattle.inf_link.specs.Areas.{area_of, order}
 use Rattle.inf_link.specs.declared.areas.Areas.{Areas}
 use Rattle.inf_properties.specs.declared.sizes.Owner.TheVariants as owner
 use Rattle.inf_story.specs.Tables.{areas}
-use Rattle.inf_tables.specs.Tables.{references_with}
-use Rattle.inf_tables.specs.declared.tables.Tables.{Tables}
+use Rattle.inf_tables.specs.Tables.{AllTables, references_with}
 
 -- how many numbers in some of the areas are known later
 abbrev pub later_in : List AreaName → Areas (List Cell) → ℕ
@@ -17,12 +16,12 @@ later_in [] cells = 0
 later_in (name ∷ names) cells = later_count (area_of name cells) + later_in names cells
 
 -- The limit of references looks at the references of all areas of the story, and the limit of code at the bytes of its code.
-pub record CountTheStory (code : Routines) (tables : Tables) (cells : Areas (List Cell)) : Type 0 where
+pub record CountTheStory (code : Routines) (tables : AllTables) (cells : Areas (List Cell)) : Type 0 where
   pub references : references_with (reference_count code) tables ≡ later_in order cells
   pub bytes : code_count code ≡ size_of cells.code
 
 -- Behind a source code has begun and no body of an object is open. There are no more references than numbers of 64 bits can tell.
-abbrev pub LimitsCountTheStory : Tables → Type 0
+abbrev pub LimitsCountTheStory : AllTables → Type 0
 LimitsCountTheStory tables = (code : Routines) (main : ℕ) (strings : List ℕ) → code.has_begun ≡ true
     → tables.world.body.properties.owner ≡ owner.Nothing → later_in order (areas main code.finished strings tables) ≤ 18446744073709551615
     → CountTheStory code tables (areas main code.finished strings tables)

@@ -9,6 +9,7 @@ ghost use Rattle.inf_laws.specs.Skipping.{DirectivesAreSkipped, PassedTokensDoNo
 ghost use Rattle.inf_laws.specs.Told.{TokensAreTakenOrTold, UnfitTokensAreTold};
 ghost use Rattle.inf_laws.specs.UnusedLocals.{HeadersMakeNew, UnusedAreWarned};
 
+use inf_settings::bounds::Bounds;
 use inf_tables::Tables;
 use inf_world::written_as_counted;
 
@@ -88,7 +89,7 @@ pub fn parts_are_pieces()
 {}
 
 /// What the limits of code and of references look at are the bytes of the story's code and the references of all of its areas.
-pub fn limits_count_the_story(tables: &Tables)
+pub fn limits_count_the_story<B: Bounds>(tables: &Tables<B>)
     ensures { LimitsCountTheStory tables.now }
 {
     written_as_counted(&tables.world);

@@ -6,6 +6,7 @@ use inf_assembler::{CloseFault, GrowFault, Limit, RoutineKind};
 use inf_cells::Scale;
 use inf_code::code::{Code, CodeLimits};
 use inf_opcode::{Branch, Destination, Instruction, Label, Opcode, Operand};
+use inf_settings::bounds::Unbounded;
 use std::alloc::{AllocError, Global};
 use std::process::Abort;
 use std::test::Fail;
@@ -68,26 +69,26 @@ fn routine(number: usize) -> Target {
 }
 
 /// Calls a routine with the first local.
-fn emit_call(code: &mut Code, number: usize) -> Result<(), GrowFault> {
+fn emit_call(code: &mut Code<Unbounded>, number: usize) -> Result<(), GrowFault> {
     let operands = [Operand::Later(routine(number)), Operand::Variable(1)];
     code.emit(&Instruction::new(Opcode::Call2n, &operands, None))
 }
 
 /// Returns the number of a routine.
-fn emit_return(code: &mut Code, number: usize) -> Result<(), GrowFault> {
+fn emit_return(code: &mut Code<Unbounded>, number: usize) -> Result<(), GrowFault> {
     let operands = [Operand::Later(routine(number))];
     code.emit(&Instruction::new(Opcode::Ret, &operands, None))
 }
 
 /// Adds a routine of one local, which calls a routine with it.
-fn add_whole(alloc: Global, code: &mut Code, number: usize) -> Result<(), CloseFault> {
+fn add_whole(alloc: Global, code: &mut Code<Unbounded>, number: usize) -> Result<(), CloseFault> {
     grown(code.open(alloc, 1, false))?;
     grown(emit_call(code, number))?;
     code.close(RoutineKind::Plain)
 }
 
 /// A branch where the first local is not 0.
-fn emit_branch(code: &mut Code, number: u32) -> Result<(), GrowFault> {
+fn emit_branch(code: &mut Code<Unbounded>, number: u32) -> Result<(), GrowFault> {
     let branch = Branch {
         sense: false,
         target: Destination::To(Label { number }),
@@ -109,7 +110,7 @@ fn grown(grown: Result<(), GrowFault>) -> Result<(), CloseFault> {
 fn add(
     rt: &impl Abort,
     alloc: Global,
-    code: &mut Code,
+    code: &mut Code<Unbounded>,
     addition: &Addition,
 ) -> Result<(), CloseFault> {
     match addition {
@@ -129,7 +130,13 @@ fn add(
 }
 
 /// Takes a step, at this place of a case.
-fn take(rt: &impl Abort, alloc: Global, code: &mut Code, step: &Step, at: (&str, usize)) {
+fn take(
+    rt: &impl Abort,
+    alloc: Global,
+    code: &mut Code<Unbounded>,
+    step: &Step,
+    at: (&str, usize),
+) {
     match step {
         Adds(addition) => expect(rt, &at, &add(rt, alloc, code, addition), &Ok(())),
         Refuses(addition, setting) => {
@@ -152,7 +159,13 @@ fn take(rt: &impl Abort, alloc: Global, code: &mut Code, step: &Step, at: (&str,
 }
 
 /// Takes the steps of a case in turn.
-fn take_all(rt: &impl Abort, alloc: Global, code: &mut Code, case: &str, steps: &[Step]) {
+fn take_all(
+    rt: &impl Abort,
+    alloc: Global,
+    code: &mut Code<Unbounded>,
+    case: &str,
+    steps: &[Step],
+) {
     for (place, step) in steps.iter().enumerate() {
         take(rt, alloc, code, step, (case, place));
     }
@@ -260,7 +273,7 @@ fn bytes_of(alloc: Global, area: &PagedArea) -> Result<Vec<u8>, AllocError> {
 }
 
 /// The area of some code and its fixups, where its first routine calls the place 8.
-fn handed_over(alloc: Global, code: Code) -> Result<(Vec<u8>, Refs), AddFault> {
+fn handed_over(alloc: Global, code: Code<Unbounded>) -> Result<(Vec<u8>, Refs), AddFault> {
     let mut refs = Refs::new(alloc, 100);
     let area = code.into_area(Target::Place(AreaName::Code, 8), &mut refs)?;
     Ok((bytes_of(alloc, &area)?, refs))

@@ -20,6 +20,7 @@ use inf_names::spellings::Name;
 use inf_output::Output;
 use inf_report::messages::FixedLimit;
 use inf_scanner::{Mark, TokenKind};
+use inf_settings::bounds::{Bounds, Unbounded};
 use inf_settings::setting::Setting;
 use inf_tables::{ArrayFault, ArrayKind, Arrays, Entries};
 use inf_text::{Text, TextItem};
@@ -129,7 +130,7 @@ fn bare_leaf(leaves: &[Leaf]) -> Option<usize>
 }
 
 /// No arrays but an open one, which is kept apart.
-fn apart(alloc: Global, kind: ArrayKind) -> Result<Arrays, AllocError>
+fn apart(alloc: Global, kind: ArrayKind) -> Result<Arrays<Unbounded>, AllocError>
     ensures { IfOk result (λ arrays. arrays ≡ apart kind) }
 {
     let mut arrays = Arrays::new(alloc, usize::MAX);
@@ -143,7 +144,11 @@ fn apart(alloc: Global, kind: ArrayKind) -> Result<Arrays, AllocError>
 }
 
 /// One more array of a story, with its name. Where it would pass the limit there is none.
-fn open_array(kind: ArrayKind, name: &Name, out: &mut Output) -> Result<(), AllocError>
+fn open_array<B: Bounds>(
+    kind: ArrayKind,
+    name: &Name,
+    out: &mut Output<B>,
+) -> Result<(), AllocError>
     ensures { OnOk result (out.new ≡ array_opened kind (as_name name.now) out.old) }
 {
     match out.tables.arrays.open(kind) {
@@ -162,7 +167,7 @@ fn open_array(kind: ArrayKind, name: &Name, out: &mut Output) -> Result<(), Allo
 }
 
 /// More entries of the open array of a story.
-fn add_to_story(entries: Entries<'_>, out: &mut Output) -> Result<(), AllocError>
+fn add_to_story<B: Bounds>(entries: Entries<'_>, out: &mut Output<B>) -> Result<(), AllocError>
     ensures { let a = adding_of entries.entry in OnOk result (out.new ≡ story_added (added_fault a out.old.tables.arrays) a out.old) }
 {
     match out.tables.arrays.add(entries) {
@@ -178,7 +183,7 @@ fn add_to_story(entries: Entries<'_>, out: &mut Output) -> Result<(), AllocError
 }
 
 /// More entries of an array that is kept apart.
-fn add_to_lost(entries: Entries<'_>, arrays: &mut Arrays) -> Result<(), AllocError>
+fn add_to_lost<B: Bounds>(entries: Entries<'_>, arrays: &mut Arrays<B>) -> Result<(), AllocError>
     ensures { let a = adding_of entries.entry in OnOk result (arrays.new ≡ lost_added (added_fault a arrays.old) a arrays.old) }
 {
     match arrays.add(entries) {
@@ -191,8 +196,8 @@ fn add_to_lost(entries: Entries<'_>, arrays: &mut Arrays) -> Result<(), AllocErr
 }
 
 /// Opens an array of the first of these names.
-pub fn array_named(
-    compilation: &mut Compilation,
+pub fn array_named<B: Bounds>(
+    compilation: &mut Compilation<B>,
     files: &Stack,
     first: Place,
     names: &[Name],
@@ -209,8 +214,8 @@ pub fn array_named(
 }
 
 /// Opens an array of this name.
-fn array_header(
-    compilation: &mut Compilation,
+fn array_header<B: Bounds>(
+    compilation: &mut Compilation<B>,
     files: &Stack,
     first: Place,
     name: &Name,
@@ -223,8 +228,8 @@ fn array_header(
 }
 
 /// The same, where so much is known of its name.
-fn header_with(
-    compilation: &mut Compilation,
+fn header_with<B: Bounds>(
+    compilation: &mut Compilation<B>,
     files: &Stack,
     first: Place,
     name: &Name,
@@ -247,8 +252,8 @@ fn header_with(
 }
 
 /// The array whose entries come is one of the story, or, where its header has an error, one that is kept apart.
-fn list(
-    compilation: &mut Compilation,
+fn list<B: Bounds>(
+    compilation: &mut Compilation<B>,
     kind: ArrayKind,
     name: &Name,
     found: Option<Finding>,
@@ -269,7 +274,7 @@ fn list(
 }
 
 /// The place of the text that an entry is by itself, which is alone or not.
-fn bare_text(compilation: &Compilation, is_alone: bool) -> Option<usize>
+fn bare_text<B: Bounds>(compilation: &Compilation<B>, is_alone: bool) -> Option<usize>
     ensures { result ≡ bare_text is_alone (work compilation.now) }
 {
     let gathering = &compilation.unit.gathering;
@@ -281,7 +286,10 @@ fn bare_text(compilation: &Compilation, is_alone: bool) -> Option<usize>
 }
 
 /// The characters of the text at a place of the unit.
-pub fn text_at(compilation: &Compilation, at: usize) -> Result<Option<Text>, AllocError>
+pub fn text_at<B: Bounds>(
+    compilation: &Compilation<B>,
+    at: usize,
+) -> Result<Option<Text>, AllocError>
     ensures { IfOk result (λ text. text ≡ text_at compilation.now.set compilation.now.unit.tokens at) }
 {
     match compilation.unit.tokens.get(at) {
@@ -291,7 +299,7 @@ pub fn text_at(compilation: &Compilation, at: usize) -> Result<Option<Text>, All
 }
 
 /// What is wrong with what an entry adds.
-fn added_finding(compilation: &Compilation, entries: Entries<'_>) -> Option<Finding>
+fn added_finding<B: Bounds>(compilation: &Compilation<B>, entries: Entries<'_>) -> Option<Finding>
     ensures { result ≡ added_finding (adding_of entries.entry) (work compilation.now) }
 {
     refused(if compilation.listing.is_lost {
@@ -302,8 +310,8 @@ fn added_finding(compilation: &Compilation, entries: Entries<'_>) -> Option<Find
 }
 
 /// What is wrong with the characters of an entry that is a text alone.
-fn items_finding(
-    compilation: &Compilation,
+fn items_finding<B: Bounds>(
+    compilation: &Compilation<B>,
     items: &[TextItem],
 ) -> Result<Option<Finding>, AllocError>
     ensures { IfOk result (λ f. f ≡ items_finding (variables_from items.now false) items.now (work compilation.now)) }
@@ -316,7 +324,10 @@ fn items_finding(
 }
 
 /// What is wrong with an entry that is the text at a place alone.
-fn text_finding(compilation: &Compilation, at: usize) -> Result<Option<Finding>, AllocError>
+fn text_finding<B: Bounds>(
+    compilation: &Compilation<B>,
+    at: usize,
+) -> Result<Option<Finding>, AllocError>
     ensures { let w = work compilation.now in IfOk result (λ f. f ≡ text_finding (text_at w.set w.unit.tokens at) w) }
 {
     match text_at(compilation, at)? {
@@ -326,7 +337,10 @@ fn text_finding(compilation: &Compilation, at: usize) -> Result<Option<Finding>,
 }
 
 /// The value of the unit's expression, where its names are only looked up.
-pub fn looked_value(compilation: &Compilation, operands: &[Operand]) -> Result<Value, AllocError>
+pub fn looked_value<B: Bounds>(
+    compilation: &Compilation<B>,
+    operands: &[Operand],
+) -> Result<Value, AllocError>
     requires { operands.now ≡ operands_of (work compilation.now) }
     ensures { IfOk result (λ value. value ≡ looked_value (work compilation.now)) }
 {
@@ -341,8 +355,8 @@ pub fn looked_value(compilation: &Compilation, operands: &[Operand]) -> Result<V
 }
 
 /// What is wrong with an entry, beside its expression, which is alone or not.
-fn own_entry_finding(
-    compilation: &Compilation,
+fn own_entry_finding<B: Bounds>(
+    compilation: &Compilation<B>,
     is_alone: bool,
     operands: &[Operand],
 ) -> Result<Option<Finding>, AllocError>
@@ -359,7 +373,10 @@ fn own_entry_finding(
 }
 
 /// What is wrong with an entry, which is alone or not.
-fn entry_finding(compilation: &Compilation, is_alone: bool) -> Result<Option<Finding>, AllocError>
+fn entry_finding<B: Bounds>(
+    compilation: &Compilation<B>,
+    is_alone: bool,
+) -> Result<Option<Finding>, AllocError>
     ensures { IfOk result (λ f. f ≡ entry_finding is_alone (work compilation.now)) }
 {
     let operands = compilation.operands()?;
@@ -369,7 +386,7 @@ fn entry_finding(compilation: &Compilation, is_alone: bool) -> Result<Option<Fin
 }
 
 /// More entries of the array that is read.
-fn add(compilation: &mut Compilation, entries: Entries<'_>) -> Result<(), AllocError>
+fn add<B: Bounds>(compilation: &mut Compilation<B>, entries: Entries<'_>) -> Result<(), AllocError>
     ensures { OnOk result (work compilation.new ≡ added (adding_of entries.entry) (work compilation.old)) }
 {
     if compilation.listing.is_lost {
@@ -380,7 +397,7 @@ fn add(compilation: &mut Compilation, entries: Entries<'_>) -> Result<(), AllocE
 }
 
 /// Adds the characters of the text at a place.
-fn add_text(compilation: &mut Compilation, at: usize) -> Result<(), AllocError>
+fn add_text<B: Bounds>(compilation: &mut Compilation<B>, at: usize) -> Result<(), AllocError>
     ensures { let before = work compilation.old in
         OnOk result (work compilation.new ≡ text_added (text_at before.set before.unit.tokens at) before) }
 {
@@ -392,7 +409,7 @@ fn add_text(compilation: &mut Compilation, at: usize) -> Result<(), AllocError>
 }
 
 /// Adds an entry with a value, which is alone or not.
-fn add_value(compilation: &mut Compilation, is_alone: bool) -> Result<(), AllocError>
+fn add_value<B: Bounds>(compilation: &mut Compilation<B>, is_alone: bool) -> Result<(), AllocError>
     ensures { OnOk result (work compilation.new ≡ value_added is_alone (work compilation.old)) }
 {
     let value = value(compilation)?;
@@ -400,7 +417,7 @@ fn add_value(compilation: &mut Compilation, is_alone: bool) -> Result<(), AllocE
 }
 
 /// Adds an entry with which nothing is wrong, and which is alone or not.
-fn add_entry(compilation: &mut Compilation, is_alone: bool) -> Result<(), AllocError>
+fn add_entry<B: Bounds>(compilation: &mut Compilation<B>, is_alone: bool) -> Result<(), AllocError>
     ensures { OnOk result (work compilation.new ≡ entry_added is_alone (work compilation.old)) }
 {
     match bare_text(compilation, is_alone) {
@@ -410,8 +427,8 @@ fn add_entry(compilation: &mut Compilation, is_alone: bool) -> Result<(), AllocE
 }
 
 /// The end of an entry that begins at a place, in which this was found.
-fn entry_with(
-    compilation: &mut Compilation,
+fn entry_with<B: Bounds>(
+    compilation: &mut Compilation<B>,
     files: &Stack,
     first: Place,
     is_alone: bool,
@@ -426,8 +443,8 @@ fn entry_with(
 }
 
 /// The end of an entry that begins at a place, and is alone or not.
-fn judge_entry(
-    compilation: &mut Compilation,
+fn judge_entry<B: Bounds>(
+    compilation: &mut Compilation<B>,
     files: &Stack,
     first: Place,
     is_alone: bool,
@@ -440,8 +457,8 @@ fn judge_entry(
 }
 
 /// An entry ends, before a token at a place, behind which more stands or nothing.
-pub fn end_entry(
-    compilation: &mut Compilation,
+pub fn end_entry<B: Bounds>(
+    compilation: &mut Compilation<B>,
     files: &Stack,
     place: Place,
     is_last: bool,

@@ -1,5 +1,6 @@
 //! The names that a source declares or uses.
-ghost use Rattle.std.specs.Prelude.{◌≡◌, ◌≤◌, ◌+◌, IfOk, OnOk, OnErr, MatchResult, None, Some, length, option_map};
+ghost use Rattle.std.specs.Prelude.{◌≡◌, ◌≤◌, ◌+◌, IfOk, OnOk, OnErr, MatchResult, None, Some, length, option_map, true};
+ghost use Rattle.inf_settings.specs.declared.setting.Setting.TheVariants as setting;
 
 use crate::hashing::NameHashing;
 use crate::keys::Key;
@@ -7,8 +8,9 @@ use crate::meanings::Meaning;
 use crate::system_names::system_meaning;
 use arrayvec::ArrayVec;
 use indexmap::IndexMap;
+use inf_settings::bounds::Bounds;
 use std::alloc::{AllocError, AllocFailed, Global};
-use std::marker::Model;
+use std::marker::{Model, PhantomData};
 
 /// The bytes of the longest name: 32 of one in a source, and three more behind the name of an action, whose routine is that with
 /// `Sub` at its end.
@@ -79,15 +81,17 @@ pub enum Entry<P> {
 
 /// The names that were declared or used so far, in the order in which they first came. The language's own are not among them.
 #[derive(Drop)]
-pub struct Symbols<P: Copy> {
+pub struct Symbols<P: Copy, B: Bounds> {
     entries: IndexMap<Key, Entry<P>, NameHashing>,
     declared: usize,
     limit: u32,
     is_debugging: bool,
     hashing: NameHashing,
+    of: PhantomData<B>,
+    ghost is_allowed: { B.allows setting.Symbols limit ≡ true },
 }
 
-impl<P: Copy> Model for Symbols<P> {
+impl<P: Copy, B: Bounds> Model for Symbols<P, B> {
     ghost use Rattle.std.specs.Prelude.{◌≡◌, ◌≤◌, length, map};
     ghost use Rattle.inf_names.specs.Symbols.{Table, declarations};
     ghost use Rattle.inf_names.specs.Entries.{as_named};
@@ -117,13 +121,14 @@ fn spelled(name: &[u8]) -> ArrayVec<u8, LONGEST_NAME>
     spelling
 }
 
-impl<P: Copy> Symbols<P> {
+impl<P: Copy, B: Bounds> Symbols<P, B> {
     ghost use Rattle.inf_names.specs.Symbols.{declare_fault, declare_refusal, declared_before, found_as, found_in, folded as key_of, is_full, meaning_in, no_names, number_among, number_of, refer_fault, refer_refusal, standing_at, standing_of, use_in, with_declared, with_used};
     ghost use Rattle.inf_names.specs.Entries.{standing};
 
     /// No names, of which there may be so many. With debugging the language has the name `DEBUG` from the start. It takes no
     /// memory.
-    pub fn new(alloc: Global, limit: u32, is_debugging: bool, hashing: NameHashing) -> Symbols<P>
+    pub fn new(alloc: Global, limit: u32, is_debugging: bool, hashing: NameHashing) -> Symbols<P, B>
+        requires { B.allows setting.Symbols limit ≡ true }
         ensures { result ≡ no_names limit is_debugging }
     {
         Symbols {
@@ -132,6 +137,7 @@ impl<P: Copy> Symbols<P> {
             limit,
             is_debugging,
             hashing,
+            of: PhantomData,
         }
     }
 
@@ -144,6 +150,7 @@ impl<P: Copy> Symbols<P> {
     pub fn len(&self) -> usize
         ensures count { result ≡ length self.now.names }
         ensures within { result ≤ self.now.limit }
+        ensures allowed { B.allows setting.Symbols self.now.limit ≡ true }
     {
         self.entries.len()
     }

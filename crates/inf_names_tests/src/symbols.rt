@@ -2,6 +2,7 @@
 use inf_names::hashing::NameHashing;
 use inf_names::meanings::Meaning;
 use inf_names::symbols::{DeclareFault, Found, LONGEST_NAME, ReferFault, Symbols};
+use inf_settings::bounds::Unbounded;
 use std::process::Abort;
 
 /// A file and a line.
@@ -30,7 +31,7 @@ use Asked::*;
 use Held::*;
 
 /// Asks about a name.
-fn ask(rt: &impl Abort, symbols: &mut Symbols<Place>, name: &[u8], asked: &Asked) {
+fn ask(rt: &impl Abort, symbols: &mut Symbols<Place, Unbounded>, name: &[u8], asked: &Asked) {
     assert!(rt; name.len() <= LONGEST_NAME);
     let holds = match asked {
         Declare(place, meaning, wanted) => symbols.declare(name, *place, *meaning) == *wanted,
@@ -42,14 +43,14 @@ fn ask(rt: &impl Abort, symbols: &mut Symbols<Place>, name: &[u8], asked: &Asked
 }
 
 /// Asks these in turn.
-fn ask_all(rt: &impl Abort, symbols: &mut Symbols<Place>, rows: &[(&str, Asked)]) {
+fn ask_all(rt: &impl Abort, symbols: &mut Symbols<Place, Unbounded>, rows: &[(&str, Asked)]) {
     for (name, asked) in rows {
         ask(rt, symbols, name.as_bytes(), asked);
     }
 }
 
 /// Asserts these of the names.
-fn hold_all(rt: &impl Abort, symbols: &Symbols<Place>, rows: &[Held]) {
+fn hold_all(rt: &impl Abort, symbols: &Symbols<Place, Unbounded>, rows: &[Held]) {
     for (row, held) in rows.iter().enumerate() {
         let holds = match held {
             NoUse(number) => symbols.use_at(*number).is_none(),
@@ -70,7 +71,12 @@ const COUNTED: [(&str, Asked); 4] = [
 
 #[test]
 fn counts_what_is_declared(rt: HostRuntime) {
-    let mut symbols: Symbols<Place> = Symbols::new(rt.alloc(), 10, false, NameHashing::new(b""));
+    let mut symbols: Symbols<Place, Unbounded> = Symbols::new(
+        rt.alloc(),
+        10,
+        false,
+        NameHashing::new(b""),
+    );
     ask_all(&rt, &mut symbols, &COUNTED);
     hold_all(&rt, &symbols, &[Counts(3, 3)]);
 }
@@ -95,7 +101,12 @@ const DECLARED_AGAIN: [(&str, Asked); 7] = [
 
 #[test]
 fn finds_the_first_declaration(rt: HostRuntime) {
-    let mut symbols: Symbols<Place> = Symbols::new(rt.alloc(), 10, false, NameHashing::new(b""));
+    let mut symbols: Symbols<Place, Unbounded> = Symbols::new(
+        rt.alloc(),
+        10,
+        false,
+        NameHashing::new(b""),
+    );
     ask_all(&rt, &mut symbols, &DECLARED_AGAIN);
     let held = [HasMeaning(0, Some(Meaning::Object(5))), NoUse(0)];
     hold_all(&rt, &symbols, &held);
@@ -123,7 +134,12 @@ const HELD_IN_ORDER: [Held; 5] = [
 
 #[test]
 fn keeps_the_first_uses_in_order(rt: HostRuntime) {
-    let mut symbols: Symbols<Place> = Symbols::new(rt.alloc(), 10, false, NameHashing::new(b""));
+    let mut symbols: Symbols<Place, Unbounded> = Symbols::new(
+        rt.alloc(),
+        10,
+        false,
+        NameHashing::new(b""),
+    );
     ask_all(&rt, &mut symbols, &USED_IN_ORDER);
     hold_all(&rt, &symbols, &HELD_IN_ORDER);
 }
@@ -139,7 +155,12 @@ const DECLARED_IN_ORDER: [(&str, Asked); 4] = [
 /// Where there are several declarations, a name is there from its own on.
 #[test]
 fn tells_what_was_declared_before(rt: HostRuntime) {
-    let mut symbols: Symbols<Place> = Symbols::new(rt.alloc(), 10, false, NameHashing::new(b""));
+    let mut symbols: Symbols<Place, Unbounded> = Symbols::new(
+        rt.alloc(),
+        10,
+        false,
+        NameHashing::new(b""),
+    );
     ask_all(&rt, &mut symbols, &DECLARED_IN_ORDER);
     for (name, first) in [("a", 1), ("b", 2), ("c", 3), ("d", 6), ("Nothing", 0)] {
         for n in 0..6 {
@@ -173,7 +194,12 @@ const LIMITED: [(&str, Asked); 9] = [
 
 #[test]
 fn has_a_limit(rt: HostRuntime) {
-    let mut symbols: Symbols<Place> = Symbols::new(rt.alloc(), 2, false, NameHashing::new(b""));
+    let mut symbols: Symbols<Place, Unbounded> = Symbols::new(
+        rt.alloc(),
+        2,
+        false,
+        NameHashing::new(b""),
+    );
     ask_all(&rt, &mut symbols, &LIMITED);
     hold_all(&rt, &symbols, &[Counts(2, 2)]);
 }
@@ -181,7 +207,12 @@ fn has_a_limit(rt: HostRuntime) {
 /// Names of which only the last letter is another.
 #[test]
 fn takes_the_longest_name(rt: HostRuntime) {
-    let mut symbols: Symbols<Place> = Symbols::new(rt.alloc(), 3, false, NameHashing::new(b""));
+    let mut symbols: Symbols<Place, Unbounded> = Symbols::new(
+        rt.alloc(),
+        3,
+        false,
+        NameHashing::new(b""),
+    );
     let name = &[b'N'; LONGEST_NAME];
     ask(&rt, &mut symbols, name, &Refer((0, 1), Ok(Some(0))));
     let shorter = &[b'n'; LONGEST_NAME - 1];
@@ -190,7 +221,7 @@ fn takes_the_longest_name(rt: HostRuntime) {
 }
 
 /// Declares or uses the name of a line. Answers whether its growth was refused.
-fn is_refused(symbols: &mut Symbols<Place>, name: &[u8; 2], line: u32) -> bool {
+fn is_refused(symbols: &mut Symbols<Place, Unbounded>, name: &[u8; 2], line: u32) -> bool {
     if line % 3 == 0 {
         matches!(symbols.refer(name, (0, line)), Err(ReferFault::Memory))
     } else {
@@ -202,7 +233,12 @@ fn is_refused(symbols: &mut Symbols<Place>, name: &[u8; 2], line: u32) -> bool {
 /// Each growth refused in turn leaves the names as they were.
 #[test]
 fn refused_growths_change_nothing(rt: HostRuntime) {
-    let mut symbols: Symbols<Place> = Symbols::new(rt.alloc(), 100, false, NameHashing::new(b""));
+    let mut symbols: Symbols<Place, Unbounded> = Symbols::new(
+        rt.alloc(),
+        100,
+        false,
+        NameHashing::new(b""),
+    );
     for line in 0..100u32 {
         let name = [b'a' + (line / 26) as u8, b'a' + (line % 26) as u8];
         let before = (symbols.len(), symbols.declared());

@@ -249,7 +249,7 @@ begins_of s o serial name was before after there begun k = record {
 }
 
 -- a session at the front of the main source
-pub begun_is : (s : Sources) (o : Choices) (name : List ℕ) (old now : Openings) (x : Session) →
+pub begun_is : {B : Type 0} (s : Sources) (o : Choices) (name : List ℕ) (old now : Openings) (x : Session B) →
     nesting s old now x.open_files ≡ main_opened o.set (most_quoted o) s name
     → standing x.progress ≡ begun_with o x.open_files.nest.names → x.is_over ≡ false → x.conditionals ≡ no_conditions o.settings → x.quoted
     ≡ 0 → state s old now x [] ≡ start s o name

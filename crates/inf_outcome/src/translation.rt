@@ -18,6 +18,7 @@ use inf_session::ending::no_file;
 use inf_session::faults::{Fault, unread};
 use inf_session::session::Session;
 use inf_session::setup::Setup;
+use inf_settings::bounds::{Bounds, Unbounded};
 use inf_settings::setting::Setting;
 use inf_sinks::sinks::Sink;
 use inf_sources::open_files::OpenFiles;
@@ -70,7 +71,7 @@ pub fn translate<F: Files, M: Sink>(
             return Err(unread(alloc, name));
         }
     };
-    let session = match Session::new(alloc, setup, open_files) {
+    let session = match Session::<Unbounded>::new(alloc, setup, open_files) {
         Ok(session) => session,
         Err(open_files) => {
             open_files.close(files);
@@ -83,8 +84,8 @@ pub fn translate<F: Files, M: Sink>(
 }
 
 /// Reads all that is still to be read, and ends the compilation. The files that are still open then are given back.
-fn read_out<F: Files, M: Sink>(
-    mut session: Session<'_>,
+fn read_out<F: Files, M: Sink, B: Bounds>(
+    mut session: Session<'_, B>,
     files: &mut F,
     serial: &[u8; 6],
     messages: &mut M,

@@ -1,3 +1,2 @@
-pub mod Keeping
 pub mod Limits
 pub mod Proper

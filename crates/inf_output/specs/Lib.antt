@@ -1,5 +1,4 @@
 pub mod Actions
-pub mod Limits
 pub mod Operands
 pub mod Strings
 pub mod Output

@@ -36,11 +36,10 @@ use Rattle.inf_output.specs.declared.items.Item.{Item}
 use Rattle.inf_output.specs.declared.items.Item.TheVariants.{Instruction, Mark}
 use Rattle.inf_output.specs.declared.operands.Simple.{Simple}
 use Rattle.inf_output.specs.declared.operands.Simple.TheVariants.{Known, Variable, Later}
-use Rattle.inf_output.specs.declared.output.Output.{Output}
 use Rattle.inf_output.specs.declared.output.Past.{Past}
 use Rattle.inf_output.specs.declared.veneer.Veneer.{Veneer}
 use Rattle.inf_output.specs.Operands.{written}
-use Rattle.inf_output.specs.Strings.{fits, with_string}
+use Rattle.inf_output.specs.Strings.{StringArea, fits, with_string}
 use Rattle.inf_dictionary.specs.declared.dictionary.AddFault.{AddFault as WordFault}
 use Rattle.inf_dictionary.specs.declared.dictionary.AddFault.TheVariants as word_fault
 use Rattle.inf_dictionary.specs.declared.uses.WordUse.{WordUse}
@@ -48,15 +47,22 @@ use Rattle.inf_dictionary.specs.Texts.{Text}
 use Rattle.inf_dictionary.specs.Words.{add_fault, with_use, word_of}
 use Rattle.inf_settings.specs.Settings.{place_of}
 use Rattle.inf_tables.specs.LowStrings.{low_fits, low_size, with_low}
-use Rattle.inf_tables.specs.declared.tables.Tables.{Tables}
-use Rattle.inf_tables.specs.Tables.{references}
+use Rattle.inf_tables.specs.Tables.{AllTables, references}
 use Rattle.inf_output.specs.Veneer.{name_of}
 
 -- What is laid: the routines of the story, its strings, its tables, the names, the actions that appeared, the place of the first token of
 -- the unit at hand, the number of the next label of the
 -- routine, what is left of each limit once one was passed, and the items of code that is kept apart, if there is such code.
-abbrev pub Out : Type 0
-Out = Output
+pub record Out : Type 0 where
+  pub code : Routines
+  pub strings : StringArea
+  pub tables : AllTables
+  pub names : Table Place
+  pub seen : Table Place
+  pub first : Place
+  pub next : ℕ
+  pub past : Option Past
+  pub kept : Option (List Item)
 
 abbrev pub Code : Type 0
 Code = Out → Out
@@ -248,7 +254,7 @@ passed_table limit o = record o { past = Some (table_passed limit (past_of o)) }
 abbrev pub low_string_at : Out → Target
 low_string_at o = target.Place area.LowStrings (low_size o.tables.low_strings)
 
-abbrev pub with_low_strings : List ℕ → Tables → Tables
+abbrev pub with_low_strings : List ℕ → AllTables → AllTables
 with_low_strings text tables = record tables { low_strings = with_low text tables.low_strings }
 
 abbrev pub with_low_text_by : Bool → List ℕ → Code
@@ -258,7 +264,7 @@ with_low_text_by false text o = passed_table setting.LowStrings o
 abbrev pub with_low_text : List ℕ → Code
 with_low_text text o = with_low_text_by (low_fits text o.tables.low_strings) text o
 
-abbrev pub with_dictionary : Text → WordUse → Bool → Tables → Tables
+abbrev pub with_dictionary : Text → WordUse → Bool → AllTables → AllTables
 with_dictionary text how is_plural tables = record tables { dictionary = with_use text how is_plural tables.dictionary }
 
 -- A word is used. Where it would be one too many it is not, and the limit is passed; nor where it is one of another verb's.

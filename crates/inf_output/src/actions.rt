@@ -7,6 +7,7 @@ use arrayvec::ArrayVec;
 use inf_names::meanings::Meaning;
 use inf_names::symbols::{DeclareFault, Found, LONGEST_NAME};
 use inf_scanner::Place;
+use inf_settings::bounds::Bounds;
 use inf_settings::setting::Setting;
 use inf_tables::ActionFault;
 use std::alloc::AllocError;
@@ -64,7 +65,7 @@ fn routine_of(found: Option<(Found<Place>, Option<usize>)>) -> Option<usize>
     }
 }
 
-impl Output {
+impl<B: Bounds> Output<B> {
     /// The number of the fake action with a key.
     fn fake_number(&self, key: &[u8]) -> Option<u16>
         requires { length key.now ≤ 35 }

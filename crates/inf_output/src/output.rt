@@ -21,9 +21,11 @@ use inf_names::meanings::Meaning;
 use inf_names::symbols::{DeclareFault, Found, ReferFault, Symbols};
 use inf_opcode::{Branch, Counts, Instruction, Label, Opcode, Operand, instruction_counts};
 use inf_scanner::Place;
+use inf_settings::bounds::{Bounds, Unbounded};
 use inf_settings::setting::Setting;
 use inf_tables::{Tables, WordFault, WordUse};
 use std::alloc::{AllocError, Global};
+use std::marker::Model;
 
 /// What is left of each limit, one of which was passed; nothing of those that were.
 #[derive(Clone, Copy, Debug, PartialEq, Eq)]
@@ -44,13 +46,13 @@ pub struct Past {
 
 /// What the units of a routine are laid into.
 #[derive(Drop)]
-pub struct Output {
-    pub code: Code,
-    pub strings: Strings,
-    pub tables: Tables,
-    pub names: Symbols<Place>,
+pub struct Output<B: Bounds> {
+    pub code: Code<B>,
+    pub strings: Strings<B>,
+    pub tables: Tables<B>,
+    pub names: Symbols<Place, B>,
     /// The actions that appeared, but fake ones: each is declared by its name behind two signs, with its number.
-    pub seen: Symbols<Place>,
+    pub seen: Symbols<Place, Unbounded>,
     /// The place of the first token of the unit at hand, where routines of the veneer are used.
     pub first: Place,
     /// The number of the next label of the routine at hand.
@@ -59,6 +61,24 @@ pub struct Output {
     pub past: Option<Past>,
     /// The items of code that is kept apart, which comes later: what is laid goes there.
     pub kept: Option<Items>,
+}
+
+impl<B: Bounds> Model for Output<B> {
+    ghost use Rattle.inf_output.specs.Output.{Out};
+
+    ghost Value = { Out };
+
+    ghost view = { λ o. record {
+      code = o.code;
+      strings = o.strings;
+      tables = o.tables;
+      names = o.names;
+      seen = o.seen;
+      first = o.first;
+      next = o.next;
+      past = o.past;
+      kept = o.kept;
+    } };
 }
 
 /// So much more of a limit.
@@ -101,7 +121,7 @@ fn first_table(passed: Option<Setting>, limit: Setting) -> Setting
 
 impl Past {
     /// What is left beside some code.
-    fn whole(code: &Code) -> Past
+    fn whole<B: Bounds>(code: &Code<B>) -> Past
         ensures { result ≡ whole code.now }
     {
         Past {
@@ -236,16 +256,16 @@ fn found(found: Found<Place>, number: Option<usize>) -> Simple
     }
 }
 
-impl Output {
+impl<B: Bounds> Output<B> {
     /// An output for some code, strings, tables and names, of which no routine was begun.
     pub fn new(
-        code: Code,
-        strings: Strings,
-        tables: Tables,
-        names: Symbols<Place>,
-        seen: Symbols<Place>,
+        code: Code<B>,
+        strings: Strings<B>,
+        tables: Tables<B>,
+        names: Symbols<Place, B>,
+        seen: Symbols<Place, Unbounded>,
         first: Place,
-    ) -> Output
+    ) -> Output<B>
         ensures { result
             ≡ record {
               code = code;

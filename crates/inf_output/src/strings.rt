@@ -1,23 +1,27 @@
 //! The strings of a story.
-ghost use Rattle.std.specs.Prelude.{◌≡◌, ◌≤◌, IfOk, if◌then◌else◌, length};
+ghost use Rattle.std.specs.Prelude.{◌≡◌, ◌≤◌, IfOk, if◌then◌else◌, length, true};
 ghost use Rattle.inf_output.specs.Strings.{fits, with_string};
+ghost use Rattle.inf_settings.specs.declared.setting.Setting.TheVariants as setting;
 
 use inf_area::{Area, PagedArea};
 use inf_cells::Scale;
+use inf_settings::bounds::Bounds;
 use std::alloc::{AllocError, Global};
-use std::marker::Model;
+use std::marker::{Model, PhantomData};
 
 /// The packed texts of a story's strings, one behind the other in the order in which they came, each filled up with zeros to a packed
 /// address
 /// (Z-Machine Standard 1.1, section 1.2.3).
 #[derive(Drop)]
-pub struct Strings {
+pub struct Strings<B: Bounds> {
     area: PagedArea,
     limit: usize,
     scale: Scale,
+    of: PhantomData<B>,
+    ghost is_allowed: { B.allows setting.Strings limit ≡ true },
 }
 
-impl Model for Strings {
+impl<B: Bounds> Model for Strings<B> {
     ghost use Rattle.std.specs.Prelude.{◌≤◌, length};
     ghost use Rattle.inf_output.specs.Strings.{StringArea};
 
@@ -28,18 +32,20 @@ impl Model for Strings {
     ghost invariant = { λ strings. length strings.area ≤ strings.limit };
 }
 
-impl Strings {
+impl<B: Bounds> Strings<B> {
     ghost use Rattle.inf_output.specs.Strings.{no_strings};
 
     /// None, of at most so many bytes, in a story whose packed addresses are multiplied by this. They take no memory until the first one
     /// comes.
-    pub fn new(alloc: Global, limit: usize, scale: Scale) -> Strings
+    pub fn new(alloc: Global, limit: usize, scale: Scale) -> Strings<B>
+        requires { B.allows setting.Strings limit ≡ true }
         ensures { result ≡ no_strings limit scale }
     {
         Strings {
             area: PagedArea::new(alloc),
             limit,
             scale,
+            of: PhantomData,
         }
     }
 
@@ -47,6 +53,7 @@ impl Strings {
     pub fn len(&self) -> usize
         ensures value { result ≡ length self.now.bytes }
         ensures few { result ≤ self.now.limit }
+        ensures allowed { B.allows setting.Strings self.now.limit ≡ true }
     {
         self.area.len()
     }

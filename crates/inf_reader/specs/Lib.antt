@@ -3,4 +3,3 @@ pub mod Reading
 pub mod Pieces
 pub mod Standing
 pub mod Handing
-pub mod Limits

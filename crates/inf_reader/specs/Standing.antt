@@ -7,5 +7,5 @@ use Rattle.inf_reader.specs.declared.progress.Progress.{Progress}
 abbrev pub reading : Reader → Reading
 reading r = record { mode = r.mode; stack = r.machine }
 
-abbrev pub standing : Progress → ReaderState
+abbrev pub standing : {B : Type 0} → Progress B → ReaderState
 standing p = record { reading = reading p.reader; work = work p.work }

@@ -7,4 +7,4 @@ pub mod reader;
 pub mod recovery;
 mod tokens;
 
-pub use laws::{limits_stay, pieces_begin};
+pub use laws::pieces_begin;

@@ -1,5 +1,6 @@
 //! What is read of a source, and what was compiled of it: token by token.
 ghost use Rattle.std.specs.Prelude.{◌≡◌, [], IfOk, OnOk};
+ghost use Rattle.inf_settings.specs.Bounds.{Allows};
 ghost use Rattle.inf_report.specs.Meant.{located};
 ghost use Rattle.inf_unit.specs.Tokens.{spelled};
 ghost use Rattle.inf_reader.specs.Handing.{hash};
@@ -18,6 +19,7 @@ use inf_lexer::{Place, Stack};
 use inf_names::hashing::NameHashing;
 use inf_report::messages::{Kind, Location};
 use inf_scanner::{Mark, TokenKind};
+use inf_settings::bounds::Bounds;
 use inf_settings::settings::Settings;
 use inf_syntax::Action;
 use inf_text::CharSet;
@@ -27,15 +29,15 @@ use std::alloc::{AllocError, Global};
 
 /// How far a source was read, and what was compiled of it.
 #[derive(Drop)]
-pub struct Progress {
+pub struct Progress<B: Bounds> {
     alloc: Global,
     pub reader: Reader,
     /// The actions on the way to the token at hand.
     actions: Vec<Action>,
-    pub work: Compilation,
+    pub work: Compilation<B>,
 }
 
-impl Progress {
+impl<B: Bounds> Progress<B> {
     ghost use Rattle.inf_reader.specs.Handing.{handed_as, judged_taken, site_of};
     ghost use Rattle.inf_reader.specs.Reading.{bad, begun_stand, has_ended_at, judged, piece_begun, read_at, step};
     ghost use Rattle.inf_reader.specs.Standing.{reading, standing};
@@ -48,7 +50,8 @@ impl Progress {
         set: CharSet,
         settings: &Settings,
         hashing: NameHashing,
-    ) -> Result<Progress, AllocError>
+    ) -> Result<Progress<B>, AllocError>
+        requires { Allows B.allows settings.now }
         ensures { IfOk result (λ progress. standing progress ≡ begun_stand set settings.now) }
     {
         Ok(Progress {

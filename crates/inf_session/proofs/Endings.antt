@@ -17,13 +17,13 @@ use Rattle.inf_unit.specs.Messages.{FileNames, Reported, with_closing, with_fata
 use Rattle.inf_unit.specs.Names.{main_of, with_all_undeclared}
 use Rattle.inf_output.specs.Output.{Out}
 use Rattle.inf_output.specs.Strings.{StringArea}
-use Rattle.inf_tables.specs.declared.tables.Tables.{Tables}
 use Rattle.inf_report.specs.Messages.{StoryTooLong}
 use Rattle.inf_report.specs.Reports.{closing}
 use Rattle.inf_session.specs.declared.ending.Outcome.{Outcome as CodeOutcome}
 use Rattle.inf_session.specs.Ending.{Outcome, begun, fields_of, finished, first_line, is_clean, laid, linked, named, refused, seen}
 use Rattle.inf_session.specs.Session.{first_place}
 use Rattle.inf_session.specs.declared.compiled.Status.TheVariants as status
+use Rattle.inf_tables.specs.Tables.{AllTables}
 
 -- the most bytes of a story fit a number of four bytes
 pub most_is_small : (s : Scale) → most_bytes s % 4294967296 ≡ most_bytes s
@@ -41,7 +41,7 @@ told_is_finished serial files w told result same given =
 
 -- A story that would be too long for its version, as it is told.
 pub longest_told : {E : Type 0} (serial : List ℕ) (files : FileNames) (main : ℕ) (names : List Value) (code : Routines)
-    (strings : StringArea) (tables : Tables) (r : Reported)
+    (strings : StringArea) (tables : AllTables) (r : Reported)
     (s : Scale) (bytes : List ℕ) (most : ℕ) (fault : LinkFault)
     (result : Result CodeOutcome E) → s ≡ code.scale → bytes ≡ strings.bytes → most ≡ most_bytes s → fault ≡ link_fault.StoryTooLong
     → (fault ≡ link_fault.Memory) ⊎ (too_long (record { release = 1; serial = serial; scale = s }) main code.finished bytes tables ≡ Some
@@ -65,13 +65,13 @@ abbrev HasNone : Outcome → Type 0
 HasNone e = e.status ≡ status.Errors → e.story ≡ None
 
 linked_none : (serial : List ℕ) (files : FileNames) (main : ℕ) (names : List Value) (code : Routines) (strings : StringArea)
-    (tables : Tables) (r : Reported) (long : Option LinkFault) → HasNone (linked serial files main names code strings tables r long)
+    (tables : AllTables) (r : Reported) (long : Option LinkFault) → HasNone (linked serial files main names code strings tables r long)
 linked_none serial files main names code strings tables r None = λ e. cc
 linked_none serial files main names code strings tables r (Some link_fault.ReadableTooLong) = λ _. refl
 linked_none serial files main names code strings tables r (Some link_fault.StoryTooLong) = λ _. refl
 linked_none serial files main names code strings tables r (Some link_fault.Memory) = λ _. refl
 
-named_none : (serial : List ℕ) (files : FileNames) (main : ℕ) (code : Routines) (strings : StringArea) (tables : Tables) (r : Reported)
+named_none : (serial : List ℕ) (files : FileNames) (main : ℕ) (code : Routines) (strings : StringArea) (tables : AllTables) (r : Reported)
     (names : Option (List Value)) → HasNone (named serial files main code strings tables r names)
 named_none serial files main code strings tables r None = λ _. refl
 named_none serial files main code strings tables r (Some names) =
@@ -117,14 +117,14 @@ abbrev EndsSo : Outcome → Type 0
 EndsSo e = e.status ≡ status.Success → IsClean e.messages
 
 linked_clean : (serial : List ℕ) (files : FileNames) (main : ℕ) (names : List Value) (code : Routines) (strings : StringArea)
-    (tables : Tables) (r : Reported) → is_clean r ≡ true → (long : Option LinkFault) → EndsSo
+    (tables : AllTables) (r : Reported) → is_clean r ≡ true → (long : Option LinkFault) → EndsSo
     (linked serial files main names code strings tables r long)
 linked_clean serial files main names code strings tables r clean None = λ _. closes_clean r clean
 linked_clean serial files main names code strings tables r clean (Some link_fault.ReadableTooLong) = λ e. cc
 linked_clean serial files main names code strings tables r clean (Some link_fault.StoryTooLong) = λ e. cc
 linked_clean serial files main names code strings tables r clean (Some link_fault.Memory) = λ e. cc
 
-named_clean : (serial : List ℕ) (files : FileNames) (main : ℕ) (code : Routines) (strings : StringArea) (tables : Tables) (r : Reported) →
+named_clean : (serial : List ℕ) (files : FileNames) (main : ℕ) (code : Routines) (strings : StringArea) (tables : AllTables) (r : Reported) →
     is_clean r ≡ true → (names : Option (List Value)) → EndsSo (named serial files main code strings tables r names)
 named_clean serial files main code strings tables r clean None = λ e. cc
 named_clean serial files main code strings tables r clean (Some names) = linked_clean serial files main names code strings tables r clean

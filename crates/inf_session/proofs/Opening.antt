@@ -34,9 +34,9 @@ included_opens sources o unit text set limit conditionals is_system (Opens name)
 included_opens sources o unit text set limit conditionals is_system (OpensNone why) s = ap (λ (n : Nesting). n.openings) (sym (none_opened unit text why s))
 
 -- it was tried
-pub tried : (sources : Sources) (o : Choices) (unit : Place) (text : List ℕ) (set : CharSet) (limit : ℕ)
+pub tried : {B : Type 0} (sources : Sources) (o : Choices) (unit : Place) (text : List ℕ) (set : CharSet) (limit : ℕ)
     (conditionals : List Conditional) (is_system : Bool) (start old new : Openings)
-    (before : Session) (after : Open)
+    (before : Session B) (after : Open)
     → nesting sources start new after
     ≡ nested_by set limit sources conditionals is_system (inclusion sources o.directories text (nesting sources start old before.open_files))
     (nesting sources start old before.open_files)
@@ -47,7 +47,7 @@ tried sources o unit text set limit conditionals is_system start old new before 
     (state sources start old before told))
 
 -- it could not be tried, or its file is one too many
-pub in_vain : (sources : Sources) (o : Choices) (unit : Place) (text : List ℕ) (start old : Openings) (before : Session)
+pub in_vain : {B : Type 0} (sources : Sources) (o : Choices) (unit : Place) (text : List ℕ) (start old : Openings) (before : Session B)
     (openings : List (List ℕ))
     → OpenedInVain vain.Device (inclusion sources o.directories text (nesting sources start old before.open_files))
     (nesting sources start old before.open_files) openings

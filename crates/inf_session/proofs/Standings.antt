@@ -178,7 +178,7 @@ turn_cut sources o was mid now old new lines front rest first next out cut takes
 }
 
 -- The sources and the choices stay what they were.
-pub as_before : (s t : Sources) (o p : Choices) (start now after : Openings) (before next : Session) → t ≡ s → p ≡ o
+pub as_before : {B : Type 0} (s t : Sources) (o p : Choices) (start now after : Openings) (before next : Session B) → t ≡ s → p ≡ o
     → ((told : List ℕ) → state t start after next told ≡ followed t p (state t start now before told))
     → (told : List ℕ) → state s start after next told ≡ followed s o (state s start now before told)
 as_before s t o p start now after before next e f h told =

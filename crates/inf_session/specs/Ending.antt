@@ -8,7 +8,6 @@ use Rattle.inf_link.specs.declared.link.LinkFault.{LinkFault}
 use Rattle.inf_link.specs.declared.link.LinkFault.TheVariants as link_fault
 use Rattle.inf_output.specs.Output.{Out}
 use Rattle.inf_output.specs.Strings.{StringArea}
-use Rattle.inf_tables.specs.declared.tables.Tables.{Tables}
 use Rattle.inf_report.specs.Messages.{Location, NoMain, NoSource, NotConstant, ReadableTooLong, StoryTooLong}
 use Rattle.inf_story.specs.Names.{values_of}
 use Rattle.inf_story.specs.Stories.{story, too_long}
@@ -19,6 +18,7 @@ use Rattle.inf_session.specs.Session.{first_place}
 use Rattle.inf_session.specs.declared.ending.Outcome.{Outcome as CodeOutcome}
 use Rattle.inf_session.specs.declared.compiled.Status.{Status}
 use Rattle.inf_session.specs.declared.compiled.Status.TheVariants as status
+use Rattle.inf_tables.specs.Tables.{AllTables}
 
 -- what is written and answered
 pub record Outcome : Type 0 where
@@ -44,7 +44,7 @@ fields_of serial code = record { release = 1; serial = serial; scale = code.scal
 -- The story of the code, the strings and the tables, in which a routine is called first and names are these: or why it is too long, which
 -- is a fatal error. What can be read is
 -- looked at first.
-abbrev pub linked : List ℕ → FileNames → ℕ → List Value → Routines → StringArea → Tables → Reported → Option LinkFault → Outcome
+abbrev pub linked : List ℕ → FileNames → ℕ → List Value → Routines → StringArea → AllTables → Reported → Option LinkFault → Outcome
 linked serial files main names code strings tables r None =
     record {
       messages = (with_closing r).lines;
@@ -58,7 +58,7 @@ linked serial files main names code strings tables r (Some link_fault.StoryTooLo
 linked serial files main names code strings tables r (Some link_fault.Memory) = refused r
 
 -- A name of a kind that is no number in a story is an error.
-abbrev pub named : List ℕ → FileNames → ℕ → Routines → StringArea → Tables → Reported → Option (List Value) → Outcome
+abbrev pub named : List ℕ → FileNames → ℕ → Routines → StringArea → AllTables → Reported → Option (List Value) → Outcome
 named serial files main code strings tables r None = refused (with_error (first_line files) (first_line files) NotConstant r)
 named serial files main code strings tables r (Some names) =
     linked serial files main names code strings tables r (too_long (fields_of serial code) main code.finished strings.bytes tables)
@@ -66,10 +66,14 @@ named serial files main code strings tables r (Some names) =
 abbrev pub laid : List ℕ → FileNames → ℕ → Out → Reported → Outcome
 laid serial files main o r = named serial files main o.code o.strings o.tables r (values_of o.names.names)
 
+-- the ending of a source with its first routine: a story, unless an error was found
+abbrev pub begun_from : List ℕ → FileNames → ℕ → Out → Reported → Outcome
+begun_from serial files main o r = if is_clean r then laid serial files main o r else refused r
+
 -- the ending of a source that was read: without its first routine it has an error
 abbrev pub begun : List ℕ → FileNames → Out → Reported → Option ℕ → Outcome
 begun serial files o r None = refused (with_error (first_line files) (first_line files) NoMain r)
-begun serial files o r (Some main) = if is_clean r then laid serial files main o r else refused r
+begun serial files o r (Some main) = begun_from serial files main o r
 
 -- The names are told that were used and never declared.
 abbrev pub finished_with : List ℕ → FileNames → Compilation → Outcome

@@ -12,13 +12,8 @@ use Rattle.inf_files.specs.Files.{Openings, Sources}
 use Rattle.inf_sources.specs.Open.{nesting}
 use Rattle.inf_settings.specs.Settings.{number_of}
 use Rattle.inf_settings.specs.declared.setting.Setting.{Setting}
-use Rattle.inf_settings.specs.declared.setting.Setting.TheVariants.{ExpressionNodes, Labels, LowStrings, Objects, PropertyTables, References, Strings, Symbols}
+use Rattle.inf_settings.specs.declared.setting.Setting.TheVariants.{ExpressionNodes, Labels, LowStrings, Objects, PropertyTables, References}
 use Rattle.inf_settings.specs.declared.settings.Settings.{Settings}
-use Rattle.inf_compilation.specs.Actions.{limits_of}
-use Rattle.inf_output.specs.Limits.{TableBounds, bounds, table_bounds}
-use Rattle.inf_tables.specs.Tables.{no_tables}
-use Rattle.inf_code.specs.declared.code.CodeLimits.{CodeLimits}
-use Rattle.inf_actions.specs.Limits.{SameLimits}
 use Rattle.inf_compilation.specs.Works.{work as work_of}
 use Rattle.inf_reader.specs.Reading.{has_ended_at}
 use Rattle.inf_reader.specs.Standing.{reading, standing}
@@ -29,7 +24,7 @@ use Rattle.inf_session.specs.declared.session.Step.{Step}
 use Rattle.inf_session.specs.declared.session.Step.TheVariants as step
 
 -- The openings were these before the main source was opened, and are these now; these messages were written.
-abbrev pub state : Sources → Openings → Openings → Session → List ℕ → State
+abbrev pub state : {B : Type 0} → Sources → Openings → Openings → Session B → List ℕ → State
 state sources start now s told = record {
   nesting = nesting sources start now s.open_files;
   conditions = s.conditionals;
@@ -41,20 +36,16 @@ state sources start now s told = record {
 }
 
 -- nothing more is read
-abbrev pub ended : Session → Bool
+abbrev pub ended : {B : Type 0} → Session B → Bool
 ended s = s.is_over || has_ended_at (standing s.progress)
 
 -- files are opened with the set and the limit that were chosen
-abbrev pub IsSet : Session → Type 0
+abbrev pub IsSet : {B : Type 0} → Session B → Type 0
 IsSet s = (s.open_files.nest.set ≡ s.setup.set) × (s.open_files.nest.limit ≡ most_quoted (chosen s.setup))
 
 -- a fatal message came
-abbrev pub is_fatal : Session → Bool
+abbrev pub is_fatal : {B : Type 0} → Session B → Bool
 is_fatal s = (standing s.progress).work.report.counts.is_over
-
--- what may stand in tables
-abbrev pub bounds_of : Settings → CodeLimits × ℕ × TableBounds
-bounds_of settings = (limits_of settings, number_of Strings settings, table_bounds (no_tables settings))
 
 -- that the first four objects and the first low string alone pass no setting
 abbrev pub HasObjects : Settings → Type 0
@@ -62,35 +53,28 @@ HasObjects settings =
     (4 ≤ number_of Objects settings) × (30 ≤ number_of PropertyTables settings) × (2 ≤ number_of LowStrings settings) ×
     (4 ≤ number_of References settings)
 
--- What the settings bound stands under them: the names, the code, the strings, the tables, the quoted tokens, and, unless a fatal message
--- came, the first
--- four objects.
-abbrev pub IsBounded : Session → Type 0
+-- What holds of the settings wherever a source is read: no quoted token so far was longer than it may be, and, unless a fatal message
+-- came, there is room for the first four objects.
+abbrev pub IsBounded : {B : Type 0} → Session B → Type 0
 IsBounded s =
     let settings = (chosen s.setup).settings in
-    (s.progress.work.output.names.limit ≡ number_of Symbols settings)
-    × ((bounds s.progress.work.output ≡ bounds_of settings)
-    × ((s.quoted ≤ most_quoted (chosen s.setup)) × (is_fatal s ≡ false → HasObjects settings)))
+    (s.quoted ≤ most_quoted (chosen s.setup)) × (is_fatal s ≡ false → HasObjects settings)
 
 -- each count is at most the number of its setting
 abbrev pub AreWithin : List ℕ → List Setting → Settings → Type 0
 AreWithin (n ∷ counts) (s ∷ bounding) settings = (n ≤ number_of s settings) × AreWithin counts bounding settings
 AreWithin _ _ settings = Unit {0}
 
--- nothing more than before is bounded, and by the same
-abbrev pub SameBounds : Session → Session → Type 0
-SameBounds before after = SameLimits (work_of before.progress.work) (work_of after.progress.work) × (after.quoted ≡ before.quoted)
-
 -- between two directives, and in no conditional one
-abbrev pub resting : Session → Bool
+abbrev pub resting : {B : Type 0} → Session B → Bool
 resting s = (site_of (reading s.progress.reader)).is_between && is_none_pending s.conditionals.pending
 
 -- at the end of a part
-abbrev pub parted : Session → Bool
+abbrev pub parted : {B : Type 0} → Session B → Bool
 parted s = ended s || ((site_of (reading s.progress.reader)).is_between && may_part s.conditionals)
 
 -- what a step came to that ended here: a fatal message; or nothing, where nothing was to be read any more; or a part
-abbrev pub came_to : Bool → Session → Step
+abbrev pub came_to : {B : Type 0} → Bool → Session B → Step
 came_to had_ended s = if is_fatal s then step.Fatal else if had_ended then step.End else step.More
 
 -- How much there is so far of what each setting bounds, in the order of the settings: the longest quoted token, the tokens of the longest
@@ -98,7 +82,7 @@ came_to had_ended s = if is_fatal s then step.Fatal else if had_ended then step.
 -- most labels of a routine, the words, objects, verbs and actions, the bytes of grammar, properties, arrays, low strings, code and strings,
 -- and the references; of
 -- tokens, labels and references at most as many as there may be.
-abbrev pub held : Session → List ℕ
+abbrev pub held : {B : Type 0} → Session B → List ℕ
 held s =
     let settings = (chosen s.setup).settings in
     let w = s.progress.work in

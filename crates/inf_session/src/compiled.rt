@@ -10,6 +10,7 @@ use crate::ending::{Outcome, finish};
 use crate::faults::Fault;
 use inf_compilation::compilation::Compilation;
 use inf_lexer::Stack;
+use inf_settings::bounds::Bounds;
 use inf_sinks::sinks::{Sink, write_whole};
 use std::alloc::Global;
 
@@ -30,11 +31,11 @@ pub struct Compiled {
 }
 
 /// Ends the compilation of sources that were read, and writes its last messages.
-pub(crate) fn conclude<M: Sink>(
+pub(crate) fn conclude<M: Sink, B: Bounds>(
     alloc: Global,
     names: &Stack,
     serial: &[u8; 6],
-    work: Compilation,
+    work: Compilation<B>,
     messages: &mut M,
 ) -> Result<Compiled, Fault>
     ensures ok { IfOk result (λ compiled. Delivers (finished serial.now names.now.names (work_of work)) compiled

@@ -7,7 +7,7 @@ ghost use Rattle.inf_unit.specs.Messages.{with_closing, with_error, with_fatal};
 ghost use Rattle.inf_unit.specs.Names.{main_of, with_all_undeclared};
 ghost use Rattle.inf_compilation.specs.Actions.{begun_at};
 ghost use Rattle.inf_compilation.specs.Works.{work as work_of};
-ghost use Rattle.inf_session.specs.Ending.{begun, fields_of, finished, first_line, is_clean, laid, linked, missing, named, refused, seen};
+ghost use Rattle.inf_session.specs.Ending.{begun, begun_from, fields_of, finished, first_line, is_clean, laid, linked, missing, named, refused, seen};
 ghost use Rattle.inf_session.specs.Session.{first_place};
 
 use crate::compiled::Status;
@@ -20,6 +20,7 @@ use inf_link::HeaderFields;
 use inf_names::symbols::Symbols;
 use inf_output::{Output, Strings};
 use inf_report::messages::{Location, Message};
+use inf_settings::bounds::Bounds;
 use inf_story::{LinkFault, Story, story, values_of};
 use inf_tables::Tables;
 use inf_unit::messages::{Diagnostics, location};
@@ -43,11 +44,11 @@ pub(crate) const FIRST_LINE: Place = Place { file: 0, line: 1 };
 
 /// Ends the compilation of a source that was read. Code begins, unless it has begun. A name that was used and never declared is
 /// an error, and that there is no routine `Main`. A story comes only where no error was found.
-pub(crate) fn finish(
+pub(crate) fn finish<B: Bounds>(
     alloc: Global,
     files: &Stack,
     serial: &[u8; 6],
-    mut work: Compilation,
+    mut work: Compilation<B>,
 ) -> Result<Outcome, AllocError>
     ensures { IfOk result (λ t. seen t ≡ finished serial.now files.now.names (work_of work)) }
 {
@@ -56,7 +57,7 @@ pub(crate) fn finish(
 }
 
 /// Begins code, unless it has begun, and tells each name that was used and never declared.
-fn tell_last(files: &Stack, work: &mut Compilation) -> Result<(), AllocError>
+fn tell_last<B: Bounds>(files: &Stack, work: &mut Compilation<B>) -> Result<(), AllocError>
     ensures { let begun = begun_at files.now.names first_place (work_of work.old) in
         OnOk result (work_of work.new ≡ record begun { report = with_all_undeclared files.now.names begun.output.names.names begun.report }) }
 {
@@ -65,17 +66,30 @@ fn tell_last(files: &Stack, work: &mut Compilation) -> Result<(), AllocError>
 }
 
 /// Ends a compilation of which all is told but that there is no routine `Main`.
-fn finish_told(
+fn finish_told<B: Bounds>(
     alloc: Global,
     files: &Stack,
     serial: &[u8; 6],
-    work: Compilation,
+    work: Compilation<B>,
 ) -> Result<Outcome, AllocError>
     ensures { IfOk result (λ t. seen t ≡ begun serial.now files.now.names work.output work.report (main_of work.output.names)) }
 {
-    let Some(main) = main_of(&work.output.names) else {
-        return failed(files, report_of(work), &Message::NoMain);
-    };
+    match main_of(&work.output.names) {
+        Some(main) => finish_from(alloc, files, serial, main, work),
+        None => failed(files, report_of(work), &Message::NoMain),
+    }
+}
+
+/// Ends a compilation of which all is told, whose first routine is at this place in the code.
+fn finish_from<B: Bounds>(
+    alloc: Global,
+    files: &Stack,
+    serial: &[u8; 6],
+    main: usize,
+    work: Compilation<B>,
+) -> Result<Outcome, AllocError>
+    ensures { IfOk result (λ t. seen t ≡ begun_from serial.now files.now.names main work.output work.report) }
+{
     if !is_clean(&work.report) {
         return refused(report_of(work));
     }
@@ -117,7 +131,7 @@ fn given_up(
 }
 
 /// What was told in some work.
-fn report_of(work: Compilation) -> Diagnostics
+fn report_of<B: Bounds>(work: Compilation<B>) -> Diagnostics
     ensures { result ≡ work.report }
 {
     work.report
@@ -125,14 +139,14 @@ fn report_of(work: Compilation) -> Diagnostics
 
 /// What a story is made of beside its code.
 #[derive(Drop)]
-struct Contents {
-    names: Symbols<Place>,
-    strings: Strings,
-    tables: Tables,
+struct Contents<B: Bounds> {
+    names: Symbols<Place, B>,
+    strings: Strings<B>,
+    tables: Tables<B>,
 }
 
 /// The code of some work, what a story has beside it, and what was told in it.
-fn parts_of(work: Compilation) -> (Code, Contents, Diagnostics)
+fn parts_of<B: Bounds>(work: Compilation<B>) -> (Code<B>, Contents<B>, Diagnostics)
     ensures { (result.0 ≡ work.output.code) × (result.1.names ≡ work.output.names) × (result.1.strings ≡ work.output.strings)
         × (result.1.tables ≡ work.output.tables) × (result.2 ≡ work.report) }
 {
@@ -155,12 +169,12 @@ fn parts_of(work: Compilation) -> (Code, Contents, Diagnostics)
 /// Ends the compilation of a source without an error, in which the routine at a place is called first. A name that is no number in a story
 /// is an
 /// error.
-fn laid(
+fn laid<B: Bounds>(
     alloc: Global,
     files: &Stack,
     serial: &[u8; 6],
     main: usize,
-    work: Compilation,
+    work: Compilation<B>,
 ) -> Result<Outcome, AllocError>
     ensures { IfOk result (λ t. seen t ≡ laid serial.now files.now.names main work.output work.report) }
 {
@@ -170,14 +184,14 @@ fn laid(
 }
 
 /// Ends it with the story in which names are these values. Without them one of the names is no number in a story, which is an error.
-fn named(
+fn named<B: Bounds>(
     alloc: Global,
     files: &Stack,
     serial: [u8; 6],
     main: usize,
     names: Option<Vec<Value>>,
-    code: Code,
-    contents: Contents,
+    code: Code<B>,
+    contents: Contents<B>,
     report: Diagnostics,
 ) -> Result<Outcome, AllocError>
     ensures { IfOk result (λ t. seen t ≡ named serial files.now.names main code contents.strings contents.tables report
@@ -198,14 +212,14 @@ fn most_of(scale: Scale) -> u32
 }
 
 /// Ends it with its story. One that would be too long is a fatal error.
-fn linked(
+fn linked<B: Bounds>(
     alloc: Global,
     files: &Stack,
     serial: [u8; 6],
     main: usize,
     names: Vec<Value>,
-    code: Code,
-    contents: Contents,
+    code: Code<B>,
+    contents: Contents<B>,
     report: Diagnostics,
 ) -> Result<Outcome, AllocError>
     ensures { let strings = contents.strings in let tables = contents.tables in

@@ -10,13 +10,13 @@ ghost use Rattle.inf_session.specs.Choices.{chosen, most_quoted};
 ghost use Rattle.inf_session.specs.Faults.{Caused, IfRead};
 ghost use Rattle.inf_session.specs.Delivered.{Appends, Delivers, EndsClean, TakesFront};
 ghost use Rattle.inf_session.specs.Ending.{finished};
+ghost use Rattle.inf_settings.specs.Bounds.{Allows, AllowsOnly};
 ghost use Rattle.inf_settings.specs.Settings.{all_settings};
-ghost use Rattle.inf_actions.specs.Limits.{SameLimits};
 ghost use Rattle.inf_compilation.specs.Works.{work as work_of};
 ghost use Rattle.inf_session.specs.Leading.{CutsShort, GivenUp, NotTried, OpensAll, OpensWithin, StopsFor, StopsAtInclusion, StopsInToken, Writes};
 ghost use Rattle.inf_conditionals.specs.Open.{no_conditions};
 ghost use Rattle.inf_session.specs.Session.{begun_with, followed, carried_out, included, left, part, quoted_behind, quoted_bytes, rested, run, stepped, turn};
-ghost use Rattle.inf_session.specs.Standing.{AreWithin, IsBounded, IsSet, SameBounds, came_to, ended, held, is_fatal, parted, resting, state};
+ghost use Rattle.inf_session.specs.Standing.{AreWithin, IsBounded, IsSet, came_to, ended, held, is_fatal, parted, resting, state};
 ghost use Rattle.inf_unit.specs.Tokens.{spelled};
 ghost use Rattle.inf_session.specs.Weights.{GoesOn, room, weight};
 
@@ -31,6 +31,7 @@ use inf_reader::progress::Progress;
 use inf_reader::recovery::Recovery;
 use inf_report::messages::Message;
 use inf_scanner::{BadToken, TokenKind};
+use inf_settings::bounds::Bounds;
 use inf_settings::setting::Setting;
 use inf_sinks::sinks::Sink;
 use inf_sources::IncludeFault;
@@ -42,12 +43,12 @@ use std::alloc::{AllocError, Global};
 
 /// The reading of a main source and of the files that it includes, and what was compiled of them so far.
 #[derive(Drop)]
-pub struct Session<'a> {
+pub struct Session<'a, B: Bounds> {
     alloc: Global,
     setup: Setup<'a>,
     pub open_files: OpenFiles,
     conditionals: Conditionals,
-    pub progress: Progress,
+    pub progress: Progress<B>,
     /// Whether a directive has ended all reading.
     is_over: bool,
     /// The bytes between the quotes of the longest quoted token so far.
@@ -65,13 +66,14 @@ pub enum Step {
     Fatal,
 }
 
-impl<'a> Session<'a> {
+impl<'a, B: Bounds> Session<'a, B> {
     /// At the front of the main source, of which nothing was read yet. Where there is no memory the files are given back.
     pub fn new(
         alloc: Global,
         setup: Setup<'a>,
         open_files: OpenFiles,
-    ) -> Result<Session<'a>, OpenFiles>
+    ) -> Result<Session<'a, B>, OpenFiles>
+        requires { Allows B.allows setup.settings.now }
         ensures files { IfOk result (λ session. session.open_files ≡ open_files) }
         ensures standing { IfOk result (λ session. standing session.progress ≡ begun_with (chosen setup.entry)
             session.open_files.nest.names) }
@@ -276,7 +278,8 @@ impl<'a> Session<'a> {
     /// fatal message came.
     pub fn held(&self) -> [usize; 15]
         ensures counts { result ≡ held self.now }
-        ensures within { IsBounded self.now → is_fatal self.now ≡ false → AreWithin result all_settings (chosen self.now.setup).settings }
+        ensures within { let settings = (chosen self.now.setup).settings in
+            AllowsOnly B.allows settings → IsBounded self.now → is_fatal self.now ≡ false → AreWithin result all_settings settings }
     {
         let settings = self.setup.settings;
         let work = &self.progress.work;
@@ -325,7 +328,6 @@ impl<'a> Session<'a> {
         ensures goes { OnOk result (self.new.open_files.lexer.has_failed ≡ false) }
         ensures setup { self.new.setup ≡ self.old.setup }
         ensures set { IsSet self.new }
-        ensures limits { OnOk result (SameLimits (work_of self.old.progress.work) (work_of self.new.progress.work)) }
         ensures longest { let most = most_quoted (chosen self.old.setup) in self.old.quoted ≤ most → OnOk result (self.new.quoted ≤ most) }
         ensures fault { IfErr result (λ fault. Caused fault (λ name. IsUnreadable F.Files files.old files.new self.old.open_files
             self.new.open_files)
@@ -361,7 +363,6 @@ impl<'a> Session<'a> {
         ensures same { (self.new.open_files.nest ≡ self.old.open_files.nest) × (self.new.open_files.outer ≡ self.old.open_files.outer) }
         ensures setup { (self.new.setup ≡ self.old.setup) × (self.new.is_over ≡ self.old.is_over) }
         ensures few { OnOk result (self.new.open_files.lexer.window.given ≤ 16777216) }
-        ensures limits { OnOk result (SameLimits (work_of self.old.progress.work) (work_of self.new.progress.work)) }
         ensures longest { let most = self.old.open_files.nest.limit in self.old.quoted ≤ most → OnOk result (self.new.quoted ≤ most) }
         ensures stops { Honestly F.Files files.old self.old.open_files (λ start.
             IfErr result (λ fault. IfRead fault (λ name. (told : List ℕ) → StopsInToken (Rose (F.faults files.old) (F.faults files.new))
@@ -416,7 +417,7 @@ impl<'a> Session<'a> {
         ensures goes { OnOk result (self.new.open_files.lexer.has_failed ≡ false) }
         ensures setup { self.new.setup ≡ self.old.setup }
         ensures set { IsSet self.new }
-        ensures stays { OnOk result (SameBounds self.old self.new) }
+        ensures quoted { OnOk result (self.new.quoted ≡ self.old.quoted) }
         ensures fault { IfErr result (λ fault. Caused fault (λ name. IsUnreadable F.Files files.old files.new self.old.open_files
             self.new.open_files) ⊥) }
         ensures stops { Honestly F.Files files.old self.old.open_files (λ start.
@@ -449,7 +450,7 @@ impl<'a> Session<'a> {
         ensures goes { OnOk result (self.new.open_files.lexer.has_failed ≡ false) }
         ensures setup { self.new.setup ≡ self.old.setup }
         ensures set { IsSet self.new }
-        ensures stays { OnOk result (SameBounds self.old self.new) }
+        ensures quoted { OnOk result (self.new.quoted ≡ self.old.quoted) }
         ensures fault { IfErr result (λ fault. Caused fault (λ name. IsUnreadable F.Files files.old files.new self.old.open_files
             self.new.open_files) ⊥) }
         ensures stops { Honestly F.Files files.old self.old.open_files (λ start.
@@ -484,7 +485,7 @@ impl<'a> Session<'a> {
         ensures ends { ended self.old ≡ true → ended self.new ≡ true }
         ensures files { self.new.open_files ≡ self.old.open_files }
         ensures setup { self.new.setup ≡ self.old.setup }
-        ensures stays { OnOk result (SameBounds self.old self.new) }
+        ensures quoted { OnOk result (self.new.quoted ≡ self.old.quoted) }
     {
         if self.has_ended() || !self.is_resting() {
             return Ok(());
@@ -513,7 +514,7 @@ impl<'a> Session<'a> {
         ensures goes { OnOk result (self.new.open_files.lexer.has_failed ≡ false) }
         ensures setup { self.new.setup ≡ self.old.setup }
         ensures set { IsSet self.new }
-        ensures stays { OnOk result (SameBounds self.old self.new) }
+        ensures quoted { OnOk result (self.new.quoted ≡ self.old.quoted) }
         ensures fault { IfErr result (λ fault. Caused fault (λ name. IsUnreadable F.Files files.old files.new self.old.open_files
             self.new.open_files) ⊥) }
         ensures stops { Honestly F.Files files.old self.old.open_files (λ start. IfErr result (λ fault. IfRead fault (λ name.
@@ -559,7 +560,7 @@ impl<'a> Session<'a> {
         ensures goes { self.old.open_files.lexer.has_failed ≡ false → self.new.open_files.lexer.has_failed ≡ false }
         ensures setup { self.new.setup ≡ self.old.setup }
         ensures set { IsSet self.new }
-        ensures stays { OnOk result (SameBounds self.old self.new) }
+        ensures quoted { OnOk result (self.new.quoted ≡ self.old.quoted) }
         ensures fits { StaysFit F.Files files.old files.new self.old.open_files }
     {
         self.conditionals

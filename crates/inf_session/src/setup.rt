@@ -1,5 +1,6 @@
 //! What the words of a command choose for a compilation.
 ghost use Rattle.std.specs.Prelude.{◌≡◌, IfOk};
+ghost use Rattle.inf_settings.specs.Bounds.{Allows};
 ghost use Rattle.inf_reader.specs.Standing.{standing};
 ghost use Rattle.inf_session.specs.Choices.{chosen};
 ghost use Rattle.inf_session.specs.Session.{begun_with, tables_full};
@@ -8,6 +9,7 @@ use crate::ending::FIRST_LINE;
 use inf_lexer::Stack;
 use inf_names::hashing::NameHashing;
 use inf_reader::progress::Progress;
+use inf_settings::bounds::Bounds;
 use inf_settings::setting::Setting;
 use inf_settings::settings::Settings;
 use inf_text::CharSet;
@@ -38,7 +40,12 @@ pub struct Setup<'a> {
 impl Setup<'_> {
     /// What there is before the first token of a main source, the first of these files. A setting that the first
     /// four objects or the first low string alone would pass is told at its first line, and ends the compilation.
-    pub(crate) fn begin(&self, alloc: Global, files: &Stack) -> Result<Progress, AllocError>
+    pub(crate) fn begin<B: Bounds>(
+        &self,
+        alloc: Global,
+        files: &Stack,
+    ) -> Result<Progress<B>, AllocError>
+        requires { Allows B.allows self.now.settings.now }
         ensures { IfOk result (λ progress. standing progress ≡ begun_with (chosen self.now) files.now.names) }
     {
         let mut report = Diagnostics::new(alloc, self.has_warnings);

@@ -1,3 +1,4 @@
 pub mod Settings
 pub mod Words
 pub mod Assignments
+pub mod Bounds

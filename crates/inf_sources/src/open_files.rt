@@ -202,6 +202,7 @@ impl OpenFiles {
         ensures kept { IfOk result (λ included. (included ≡ Included.Entered → ⊥) →
             (self.new ≡ self.old) × ((conditionals.new ≡ conditionals.old) × (is_system.new ≡ is_system.old))) }
         ensures err { OnErr result (self.new ≡ self.old) }
+        ensures unmoved { OnErr result ((conditionals.new ≡ conditionals.old) × (is_system.new ≡ is_system.old)) }
         ensures goes { OnOk result (self.new.lexer.has_failed ≡ false) }
         ensures settings { (self.new.nest.set ≡ self.old.nest.set) × (self.new.nest.limit ≡ self.old.nest.limit) }
         ensures cause { IsErrOf result IncludeFault.Device → Rose (F.faults files.old) (F.faults files.new)

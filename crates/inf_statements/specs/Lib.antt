@@ -4,4 +4,3 @@ pub mod Printing
 pub mod Assembly
 pub mod Effects
 pub mod Sites
-pub mod Limits

@@ -18,6 +18,7 @@ use inf_names::symbols::Symbols;
 use inf_opcode::{Branch, Destination, Label, MOST_OPERANDS, Opcode, OpcodeRow};
 use inf_output::{Output, Simple};
 use inf_scanner::Place;
+use inf_settings::bounds::Bounds;
 use inf_templates::simple_of;
 use inf_text::CharSet;
 use inf_unit::items::Item;
@@ -49,10 +50,10 @@ pub(crate) struct Line<'a> {
 }
 
 /// The label of a name that is used.
-pub(crate) fn labelled(
+pub(crate) fn labelled<B: Bounds>(
     name: &[u8],
     labels: &mut Labels,
-    out: &mut Output,
+    out: &mut Output<B>,
 ) -> Result<Label, AllocError>
     requires { length name.now ≤ 32 }
     ensures { IfOk result (λ label. ((label, labels.new), out.new) ≡ labelled name.now labels.old out.old) }
@@ -62,10 +63,10 @@ pub(crate) fn labelled(
 }
 
 /// The label of a name whose place is given.
-pub(crate) fn placed(
+pub(crate) fn placed<B: Bounds>(
     name: &[u8],
     labels: &mut Labels,
-    out: &mut Output,
+    out: &mut Output<B>,
 ) -> Result<Label, AllocError>
     requires { length name.now ≤ 32 }
     ensures { IfOk result (λ label. ((label, labels.new), out.new) ≡ placed name.now labels.old out.old) }
@@ -199,7 +200,7 @@ fn stored_in(operand: Operand) -> Option<u8>
 }
 
 /// The variable of a name in which a line stores: `sp` is the stack, where no local has this name.
-fn store_variable(locals: &Locals, names: &Symbols<Place>, name: &[u8]) -> Option<u8>
+fn store_variable<B: Bounds>(locals: &Locals, names: &Symbols<Place, B>, name: &[u8]) -> Option<u8>
     requires { length name.now ≤ 32 }
     ensures { result ≡ store_variable (listed locals.now) names.now name.now }
 {
@@ -212,7 +213,7 @@ fn store_variable(locals: &Locals, names: &Symbols<Place>, name: &[u8]) -> Optio
 
 impl Line<'_> {
     /// The variable in which it stores, if it does. One that is none is an error of the line.
-    fn store(&self, names: &Symbols<Place>) -> Option<u8>
+    fn store<B: Bounds>(&self, names: &Symbols<Place, B>) -> Option<u8>
         ensures there { is_some result ≡ is_some self.now.ends.store }
         ensures value { result ≡ store_of (listed self.now.locals.now) names.now self.now.tokens.now self.now.ends.store }
     {
@@ -222,7 +223,7 @@ impl Line<'_> {
     }
 
     /// What is wrong with the name of the variable in which it stores.
-    fn store_finding(&self, names: &Symbols<Place>) -> Option<Finding>
+    fn store_finding<B: Bounds>(&self, names: &Symbols<Place, B>) -> Option<Finding>
         ensures { result ≡ store_finding (listed self.now.locals.now) names.now self.now.tokens.now self.now.ends.store }
     {
         let at = self.ends.store?;
@@ -233,9 +234,9 @@ impl Line<'_> {
     }
 
     /// What is wrong with its opcode, with what it has, or with where it stores. It begins at a place among its tokens.
-    pub(crate) fn finding(
+    pub(crate) fn finding<B: Bounds>(
         &self,
-        names: &Symbols<Place>,
+        names: &Symbols<Place, B>,
         begun: usize,
         nodes: &Nodes,
         roots: &[Root],
@@ -274,10 +275,10 @@ fn operands_in(nodes: &Nodes, roots: &[Root]) -> ArrayVec<Simple, MOST_OPERANDS>
 }
 
 /// Where a branch goes, by the name behind `?`.
-fn destination(
+fn destination<B: Bounds>(
     name: &[u8],
     labels: &mut Labels,
-    out: &mut Output,
+    out: &mut Output<B>,
 ) -> Result<Destination, AllocError>
     requires { length name.now ≤ 32 }
     ensures { (sense : Bool) → IfOk result (λ to.
@@ -294,10 +295,10 @@ fn destination(
 
 /// The branch of a line, if it has one.
 #[tactic(auto, unfolding(crate::specs::Assembly::branched))]
-fn branch_of(
+fn branch_of<B: Bounds>(
     line: Line<'_>,
     labels: &mut Labels,
-    out: &mut Output,
+    out: &mut Output<B>,
 ) -> Result<Option<Branch>, AllocError>
     ensures value { IfOk result (λ branch. ((branch, labels.new), out.new) ≡ branched line.entry.tokens.now line.entry.ends.branch
         labels.old out.old) }
@@ -312,13 +313,13 @@ fn branch_of(
 
 /// The instruction of some trees whose first names a variable.
 #[tactic(auto, using(crate::proofs::Fitting::takes_others))]
-fn lay_naming(
+fn lay_naming<B: Bounds>(
     opcode: Opcode,
     nodes: &Nodes,
     roots: &[Root],
     store: Option<u8>,
     branch: Option<Branch>,
-    out: &mut Output,
+    out: &mut Output<B>,
 ) -> Result<(), AllocError>
     requires few { length roots.now ≤ 8 }
     requires takes { TakesVariable opcode (length roots.now - 1) (is_some store) (is_some branch) }
@@ -334,14 +335,14 @@ fn lay_naming(
 
 /// The instruction of some trees, whose first names a variable or not.
 #[tactic(auto, using(crate::proofs::Fitting::takes_count), unfolding(crate::specs::Assembly::instructed))]
-fn lay_parts(
+fn lay_parts<B: Bounds>(
     names_variable: bool,
     opcode: Opcode,
     nodes: &Nodes,
     roots: &[Root],
     store: Option<u8>,
     branch: Option<Branch>,
-    out: &mut Output,
+    out: &mut Output<B>,
 ) -> Result<(), AllocError>
     requires few { length roots.now ≤ 8 }
     requires named { names_variable ≡ true → TakesVariable opcode (length roots.now - 1) (is_some store) (is_some branch) }
@@ -357,13 +358,13 @@ fn lay_parts(
 
 /// The instruction of some trees, with what its opcode takes beside them.
 #[tactic(auto, using(crate::proofs::Fitting::few_roots))]
-fn lay_instructed(
+fn lay_instructed<B: Bounds>(
     line: Line<'_>,
     opcode: Opcode,
     nodes: &Nodes,
     roots: &[Root],
     labels: &mut Labels,
-    out: &mut Output,
+    out: &mut Output<B>,
 ) -> Result<(), AllocError>
     requires jumps { (row_of opcode).jumps ≡ false }
     requires text { (row_of opcode).has_text ≡ false }
@@ -400,7 +401,11 @@ fn printing_of(opcode: Opcode) -> Option<Opcode>
 }
 
 /// The text of an opcode that prints one.
-fn lay_text(line: Line<'_>, opcode: Opcode, out: &mut Output) -> Result<(), AllocError>
+fn lay_text<B: Bounds>(
+    line: Line<'_>,
+    opcode: Opcode,
+    out: &mut Output<B>,
+) -> Result<(), AllocError>
     ensures { OnOk result (out.new ≡ some_printed line.entry.set line.entry.tokens.now opcode line.entry.ends.text out.old) }
 {
     let Some(at) = line.ends.text else {
@@ -413,7 +418,11 @@ fn lay_text(line: Line<'_>, opcode: Opcode, out: &mut Output) -> Result<(), Allo
 }
 
 /// A jump to the label of a name.
-fn lay_jump(line: Line<'_>, labels: &mut Labels, out: &mut Output) -> Result<(), AllocError>
+fn lay_jump<B: Bounds>(
+    line: Line<'_>,
+    labels: &mut Labels,
+    out: &mut Output<B>,
+) -> Result<(), AllocError>
     ensures { OnOk result ((labels.new, out.new) ≡ jumped_on line.entry.tokens.now line.entry.ends.jump labels.old out.old) }
 {
     let Some(at) = line.ends.jump else {
@@ -425,13 +434,13 @@ fn lay_jump(line: Line<'_>, labels: &mut Labels, out: &mut Output) -> Result<(),
 
 /// A line of an opcode that takes what it has.
 #[tactic(auto, using(crate::proofs::Fitting::fits_as_row))]
-fn lay_fit(
+fn lay_fit<B: Bounds>(
     line: Line<'_>,
     opcode: Opcode,
     nodes: &Nodes,
     roots: &[Root],
     labels: &mut Labels,
-    out: &mut Output,
+    out: &mut Output<B>,
 ) -> Result<(), AllocError>
     requires { fits opcode (trees_from nodes.now roots.now) line.ends ≡ true }
     ensures { OnOk result ((labels.new, out.new)
@@ -450,13 +459,13 @@ fn lay_fit(
 
 /// A line without an error.
 #[tactic(auto, unfolding(crate::specs::Assembly::line_laid))]
-pub(crate) fn lay_line(
+pub(crate) fn lay_line<B: Bounds>(
     line: Line<'_>,
     opcode: Option<Opcode>,
     nodes: &Nodes,
     roots: &[Root],
     labels: &mut Labels,
-    out: &mut Output,
+    out: &mut Output<B>,
 ) -> Result<(), AllocError>
     ensures { OnOk result ((labels.new, out.new)
         ≡ line_laid line.entry.set (listed line.entry.locals.now) line.entry.tokens.now opcode line.entry.ends

@@ -24,6 +24,7 @@ use inf_names::symbols::Symbols;
 use inf_opcode::{Label, Opcode};
 use inf_output::Output;
 use inf_scanner::Place;
+use inf_settings::bounds::Bounds;
 use inf_templates::Tasks;
 use inf_text::{CharSet, Text, pack};
 use inf_unit::items::Item;
@@ -152,9 +153,9 @@ impl Site<'_> {
     }
 
     /// What is wrong with an assembly line beside its operands, by their trees, with names that are only looked up.
-    pub fn line_finding(
+    pub fn line_finding<B: Bounds>(
         &self,
-        names: &Symbols<Place>,
+        names: &Symbols<Place, B>,
         nodes: &Nodes,
         roots: &[Root],
     ) -> Option<Finding>
@@ -176,12 +177,12 @@ impl Site<'_> {
     }
 
     /// The code of a statement that has no named label.
-    fn lay_code(
+    fn lay_code<B: Bounds>(
         &self,
         statement: Statement,
         forest: &Forest,
         tasks: &mut Tasks,
-        out: &mut Output,
+        out: &mut Output<B>,
     ) -> Result<(), AllocError>
         ensures { OnOk result (out.new ≡ statement_code (site self.now) (map tree_in (trees_in forest.now)) statement out.old) }
     {
@@ -216,11 +217,11 @@ impl Site<'_> {
     }
 
     /// `string`, with the text that it has.
-    fn lay_string(
+    fn lay_string<B: Bounds>(
         &self,
         forest: &Forest,
         tasks: &mut Tasks,
-        out: &mut Output,
+        out: &mut Output<B>,
     ) -> Result<(), AllocError>
         ensures { OnOk result (out.new ≡ string_changed (last_text (site self.now)) (map tree_in (trees_in forest.now)) out.old) }
     {
@@ -245,7 +246,11 @@ impl Site<'_> {
     }
 
     /// A jump to the label of its name.
-    fn lay_jump(&self, labels: &mut Labels, out: &mut Output) -> Result<(), AllocError>
+    fn lay_jump<B: Bounds>(
+        &self,
+        labels: &mut Labels,
+        out: &mut Output<B>,
+    ) -> Result<(), AllocError>
         ensures { OnOk result ((labels.new, out.new) ≡ jump_laid (name_behind (site self.now)) labels.old out.old) }
     {
         let label = labelled(self.name(), labels, out)?;
@@ -253,7 +258,11 @@ impl Site<'_> {
     }
 
     /// The place of the label of its name.
-    fn lay_place(&self, labels: &mut Labels, out: &mut Output) -> Result<(), AllocError>
+    fn lay_place<B: Bounds>(
+        &self,
+        labels: &mut Labels,
+        out: &mut Output<B>,
+    ) -> Result<(), AllocError>
         ensures { OnOk result ((labels.new, out.new) ≡ place_laid (name_behind (site self.now)) labels.old out.old) }
     {
         let label = placed(self.name(), labels, out)?;
@@ -262,13 +271,13 @@ impl Site<'_> {
 
     /// What a statement without an error does.
     #[tactic(auto, unfolding(crate::specs::Effects::statement_laid))]
-    pub fn lay(
+    pub fn lay<B: Bounds>(
         &self,
         statement: Statement,
         forest: &Forest,
         labels: &mut Labels,
         tasks: &mut Tasks,
-        out: &mut Output,
+        out: &mut Output<B>,
     ) -> Result<(), AllocError>
         ensures { OnOk result ((labels.new, out.new)
             ≡ statement_laid (site self.now) statement (map tree_in (trees_in forest.now)) labels.old out.old) }

@@ -13,6 +13,7 @@ use inf_names::meanings::{Function as NamedFunction, Meaning};
 use inf_names::symbols::{Found, Symbols};
 use inf_output::{Output, action_key};
 use inf_scanner::{DictionaryWord, Place};
+use inf_settings::bounds::{Bounds, Unbounded};
 use inf_tables::WordUse;
 use inf_text::{CharSet, pack};
 use inf_unit::items::Item;
@@ -87,7 +88,11 @@ fn found_operand(found: Found<Place>, number: Option<usize>) -> Operand
 
 /// What a name stands for, which is only looked up. A local hides it.
 #[inline(always)]
-pub(crate) fn looked_name(locals: &Locals, names: &Symbols<Place>, name: &[u8]) -> Operand
+pub(crate) fn looked_name<B: Bounds>(
+    locals: &Locals,
+    names: &Symbols<Place, B>,
+    name: &[u8],
+) -> Operand
     requires { length name.now ≤ 35 }
     ensures { result ≡ looked_name (listed locals.now) names.now name.now }
 {
@@ -108,7 +113,7 @@ pub(crate) fn is_stack(name: &[u8], local: Option<u8>) -> bool
 }
 
 /// What a name stands for that is an operand of an assembly line by itself, and is only looked up.
-fn looked_alone(locals: &Locals, names: &Symbols<Place>, name: &[u8]) -> Operand
+fn looked_alone<B: Bounds>(locals: &Locals, names: &Symbols<Place, B>, name: &[u8]) -> Operand
     requires { length name.now ≤ 35 }
     ensures { result ≡ looked_alone (listed locals.now) names.now name.now }
 {
@@ -127,7 +132,12 @@ fn word_operand(word: DictionaryWord) -> Operand
 }
 
 /// What a leaf of a unit with these tokens stands for, where its name is only looked up: a text is some string.
-fn looked(locals: &Locals, names: &Symbols<Place>, tokens: &UnitTokens, leaf: Leaf) -> Operand
+fn looked<B: Bounds>(
+    locals: &Locals,
+    names: &Symbols<Place, B>,
+    tokens: &UnitTokens,
+    leaf: Leaf,
+) -> Operand
     ensures { result ≡ looked (listed locals.now) names.now tokens.now leaf }
 {
     match leaf {
@@ -149,10 +159,10 @@ fn word_sum(a: usize, b: usize) -> u16
 }
 
 /// The number of an action that did not appear and is only looked up, which other such ones may come ahead of.
-fn new_action(
+fn new_action<B: Bounds>(
     name: NameToken<'_>,
-    out: &Output,
-    ahead: &mut Symbols<Place>,
+    out: &Output<B>,
+    ahead: &mut Symbols<Place, Unbounded>,
 ) -> Result<u16, AllocError>
     requires { length name.bytes.now ≤ 32 }
     ensures { IfOk result (λ number. (ahead.new, number) ≡ new_action (named name.entry) out.now ahead.old) }
@@ -166,10 +176,10 @@ fn new_action(
 
 /// The number of an action that is only looked up: its own, or, where it did not appear, the next one behind those that were looked up
 /// before. No name has the number 0.
-pub fn looked_action(
+pub fn looked_action<B: Bounds>(
     name: Option<NameToken<'_>>,
-    out: &Output,
-    ahead: &mut Symbols<Place>,
+    out: &Output<B>,
+    ahead: &mut Symbols<Place, Unbounded>,
 ) -> Result<Operand, AllocError>
     requires { IfSome name (λ n. length n.bytes.now ≤ 32) }
     ensures { IfOk result (λ operand. (ahead.new, operand) ≡ looked_action (option_map named name.entry) out.now ahead.old) }
@@ -184,7 +194,10 @@ pub fn looked_action(
 }
 
 /// The number of an action, which appears.
-fn settled_action(name: Option<NameToken<'_>>, out: &mut Output) -> Result<Operand, AllocError>
+fn settled_action<B: Bounds>(
+    name: Option<NameToken<'_>>,
+    out: &mut Output<B>,
+) -> Result<Operand, AllocError>
     requires { IfSome name (λ n. length n.bytes.now ≤ 32) }
     ensures { IfOk result (λ operand. (out.new, operand) ≡ settled_action (option_map named name.entry) out.old) }
 {
@@ -196,12 +209,12 @@ fn settled_action(name: Option<NameToken<'_>>, out: &mut Output) -> Result<Opera
 
 /// What a leaf of a unit with these tokens stands for, where its name is only looked up, behind new actions.
 #[inline(always)]
-fn looked_leaf(
+fn looked_leaf<B: Bounds>(
     locals: &Locals,
-    out: &Output,
+    out: &Output<B>,
     tokens: &UnitTokens,
     leaf: Leaf,
-    ahead: &mut Symbols<Place>,
+    ahead: &mut Symbols<Place, Unbounded>,
 ) -> Result<Operand, AllocError>
     ensures { IfOk result (λ operand. (ahead.new, operand) ≡ looked_leaf (listed locals.now) out.now tokens.now leaf ahead.old) }
 {
@@ -212,16 +225,16 @@ fn looked_leaf(
 }
 
 /// What the leaves of a unit with these tokens stand for, where their names are only looked up.
-pub fn all_looked(
+pub fn all_looked<B: Bounds>(
     alloc: Global,
     locals: &Locals,
-    out: &Output,
+    out: &Output<B>,
     tokens: &UnitTokens,
     leaves: &[Leaf],
 ) -> Result<Vec<Operand>, AllocError>
     ensures { IfOk result (λ operands. operands.items ≡ all_looked (listed locals.now) out.now tokens.now leaves.now) }
 {
-    let mut ahead = Symbols::new(alloc, u32::MAX, false, out.names.hashing());
+    let mut ahead = Symbols::<Place, Unbounded>::new(alloc, u32::MAX, false, out.names.hashing());
     let mut operands = Vec::with_capacity(alloc, leaves.len())?;
     for leaf in leaves {
         operands.push(looked_leaf(locals, out, tokens, *leaf, &mut ahead)?)?;
@@ -241,10 +254,10 @@ fn settled_as(found: Option<(Found<Place>, Option<usize>)>) -> Operand
 
 /// What a name stands for, which is used, where it is no local.
 #[inline(always)]
-fn settled_name(
+fn settled_name<B: Bounds>(
     locals: &Locals,
     name: Option<NameToken<'_>>,
-    out: &mut Output,
+    out: &mut Output<B>,
 ) -> Result<Operand, AllocError>
     requires { IfSome name (λ n. length n.bytes.now ≤ 32) }
     ensures { IfOk result (λ operand. (out.new, operand) ≡ settled_name (listed locals.now) (option_map named name.entry) out.old) }
@@ -259,11 +272,11 @@ fn settled_name(
 }
 
 /// What a name stands for that is an operand of an assembly line by itself, and is used.
-fn settled_alone(
+fn settled_alone<B: Bounds>(
     locals: &Locals,
     tokens: &UnitTokens,
     at: usize,
-    out: &mut Output,
+    out: &mut Output<B>,
 ) -> Result<Operand, AllocError>
     ensures { IfOk result (λ operand. (out.new, operand) ≡ settled_alone (listed locals.now) tokens.now at out.old) }
 {
@@ -275,12 +288,12 @@ fn settled_alone(
 }
 
 /// What the text at a place of these tokens is, in a character set: a string of the story, which is added.
-fn settled_text(
+fn settled_text<B: Bounds>(
     alloc: Global,
     set: CharSet,
     tokens: &UnitTokens,
     at: usize,
-    out: &mut Output,
+    out: &mut Output<B>,
 ) -> Result<Operand, AllocError>
     ensures { IfOk result (λ operand. (out.new, operand) ≡ settled_text (text_at set tokens.now at) out.old) }
 {
@@ -296,7 +309,7 @@ fn settled_text(
 }
 
 /// What a word of the dictionary is, which is used.
-fn settled_word(word: DictionaryWord, out: &mut Output) -> Result<Operand, AllocError>
+fn settled_word<B: Bounds>(word: DictionaryWord, out: &mut Output<B>) -> Result<Operand, AllocError>
     ensures { IfOk result (λ operand. (out.new, operand) ≡ settled_word word out.old) }
 {
     out.word(word.text, WordUse::Other, word.is_plural)?;
@@ -304,12 +317,12 @@ fn settled_word(word: DictionaryWord, out: &mut Output) -> Result<Operand, Alloc
 }
 
 /// What leaves add to a story that are texts, words or actions.
-pub fn add_leaf(
+pub fn add_leaf<B: Bounds>(
     alloc: Global,
     set: CharSet,
     tokens: &UnitTokens,
     leaves: &[Leaf],
-    out: &mut Output,
+    out: &mut Output<B>,
 ) -> Result<(), AllocError>
     ensures { OnOk result (out.new ≡ leaf_added set tokens.now leaves.now out.old) }
 {
@@ -320,12 +333,12 @@ pub fn add_leaf(
 }
 
 /// What a leaf adds to a story that is a text, a word or an action.
-fn add_one(
+fn add_one<B: Bounds>(
     alloc: Global,
     set: CharSet,
     tokens: &UnitTokens,
     leaf: Leaf,
-    out: &mut Output,
+    out: &mut Output<B>,
 ) -> Result<(), AllocError>
     ensures { OnOk result (out.new ≡ one_added set tokens.now leaf out.old) }
 {
@@ -346,13 +359,13 @@ fn add_one(
 
 /// What a leaf of a unit with these tokens stands for, whose name or word is used, and whose text is added.
 #[inline(always)]
-fn settled_leaf(
+fn settled_leaf<B: Bounds>(
     alloc: Global,
     set: CharSet,
     locals: &Locals,
     tokens: &UnitTokens,
     leaf: Leaf,
-    out: &mut Output,
+    out: &mut Output<B>,
 ) -> Result<Operand, AllocError>
     ensures { IfOk result (λ operand. (out.new, operand) ≡ settled_leaf set (listed locals.now) tokens.now leaf out.old) }
 {
@@ -369,13 +382,13 @@ fn settled_leaf(
 }
 
 /// What the leaves of a unit with these tokens stand for, from left to right, whose names and words are used and whose texts are added.
-pub fn settled(
+pub fn settled<B: Bounds>(
     alloc: Global,
     set: CharSet,
     locals: &Locals,
     tokens: &UnitTokens,
     leaves: &[Leaf],
-    out: &mut Output,
+    out: &mut Output<B>,
 ) -> Result<Vec<Operand>, AllocError>
     ensures { let before : Settled = record { out = out.old; operands = [] } in
         IfOk result (λ operands. record { out = out.new; operands = operands.items } ≡ settled set (listed locals.now) tokens.now leaves.now

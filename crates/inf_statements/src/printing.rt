@@ -10,6 +10,7 @@ use crate::statements::{lay_one, plain, rest};
 use inf_expressions::{Forest, Nodes, Root};
 use inf_opcode::{Instruction, Opcode};
 use inf_output::{Output, Veneer};
+use inf_settings::bounds::Bounds;
 use inf_templates::{Argument, Tasks, lay_call, lay_routine_call};
 use inf_text::{CharSet, pack};
 use inf_unit::items::{Item, PrintRule};
@@ -18,13 +19,13 @@ use inf_unit::unit_tokens::UnitTokens;
 use std::alloc::{AllocError, Global};
 
 /// The instruction that prints a text that is a token of the unit (Z-Machine Standard 1.1, section 4.8).
-pub(crate) fn print_text(
+pub(crate) fn print_text<B: Bounds>(
     alloc: Global,
     set: CharSet,
     tokens: &UnitTokens,
     at: usize,
     opcode: Opcode,
-    out: &mut Output,
+    out: &mut Output<B>,
 ) -> Result<(), AllocError>
     requires { PrintsText opcode }
     ensures { OnOk result (out.new ≡ printed opcode (text_at set tokens.now at) out.old) }
@@ -52,7 +53,7 @@ fn text_opcode(returns: bool, others: &[Item]) -> Opcode
 }
 
 /// What ends a statement that returns and printed something other than a text last.
-fn end_items(ends: bool, out: &mut Output) -> Result<(), AllocError>
+fn end_items<B: Bounds>(ends: bool, out: &mut Output<B>) -> Result<(), AllocError>
     ensures { OnOk result (out.new ≡ ended ends out.old) }
 {
     if !ends {
@@ -63,11 +64,11 @@ fn end_items(ends: bool, out: &mut Output) -> Result<(), AllocError>
 }
 
 /// The first of some trees is called with the second.
-fn call_with(
+fn call_with<B: Bounds>(
     nodes: &Nodes,
     roots: &[Root],
     tasks: &mut Tasks,
-    out: &mut Output,
+    out: &mut Output<B>,
 ) -> Result<(), AllocError>
     ensures { OnOk result (out.new ≡ called_with (trees_from nodes.now roots.now) out.old) }
 {
@@ -88,12 +89,12 @@ fn call_with(
 }
 
 /// A routine of the veneer is called with the first of some trees.
-fn call_veneer(
+fn call_veneer<B: Bounds>(
     veneer: Veneer,
     nodes: &Nodes,
     roots: &[Root],
     tasks: &mut Tasks,
-    out: &mut Output,
+    out: &mut Output<B>,
 ) -> Result<(), AllocError>
     ensures { OnOk result (out.new ≡ veneer_called veneer (trees_from nodes.now roots.now) out.old) }
 {
@@ -108,12 +109,12 @@ fn call_veneer(
 
 /// A value by a rule.
 #[tactic(auto, unfolding(crate::specs::Printing::rule_code))]
-fn print_by(
+fn print_by<B: Bounds>(
     rule: PrintRule,
     nodes: &Nodes,
     roots: &[Root],
     tasks: &mut Tasks,
-    out: &mut Output,
+    out: &mut Output<B>,
 ) -> Result<(), AllocError>
     ensures { OnOk result (out.new ≡ rule_code rule (trees_from nodes.now roots.now) out.old) }
 {
@@ -168,14 +169,14 @@ pub(crate) struct Printing<'a> {
 }
 
 /// One item, with others behind it.
-fn print_item(
+fn print_item<B: Bounds>(
     printing: Printing<'_>,
     item: Item,
     others: &[Item],
     nodes: &Nodes,
     roots: &[Root],
     tasks: &mut Tasks,
-    out: &mut Output,
+    out: &mut Output<B>,
 ) -> Result<(), AllocError>
     ensures { OnOk result (out.new
         ≡ item_code printing.entry.set printing.entry.tokens.now printing.entry.returns others.now item (trees_from nodes.now roots.now)
@@ -200,12 +201,12 @@ fn print_item(
 }
 
 /// What is printed, in order.
-pub(crate) fn print_items(
+pub(crate) fn print_items<B: Bounds>(
     printing: Printing<'_>,
     items: &[Item],
     forest: &Forest,
     tasks: &mut Tasks,
-    out: &mut Output,
+    out: &mut Output<B>,
 ) -> Result<(), AllocError>
     ensures { OnOk result (out.new
         ≡ items_printed printing.entry.set printing.entry.tokens.now printing.entry.returns false items.now

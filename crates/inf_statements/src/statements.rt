@@ -16,6 +16,7 @@ use inf_expressions::{Forest, Nodes, Root};
 use inf_opcode::{Label, Opcode};
 use inf_output::{Output, Simple, Veneer};
 use inf_scanner::{Mark, TokenKind};
+use inf_settings::bounds::Bounds;
 use inf_templates::{
     Argument, Tasks, lay_alone, lay_branch, lay_instruction, lay_routine_call, lay_value, simple_of,
 };
@@ -153,7 +154,7 @@ pub(crate) fn statement_in(tokens: &UnitTokens, begun: usize, items: &[Item]) ->
 }
 
 /// An instruction of an opcode alone.
-pub(crate) fn plain(opcode: Opcode, out: &mut Output) -> Result<(), AllocError>
+pub(crate) fn plain<B: Bounds>(opcode: Opcode, out: &mut Output<B>) -> Result<(), AllocError>
     requires { Takes opcode 0 false false }
     ensures { OnOk result (out.new ≡ plain opcode out.old) }
 {
@@ -171,12 +172,12 @@ pub(crate) fn rest(roots: &[Root]) -> &[Root]
 }
 
 /// An instruction of the first of some trees as its operand.
-pub(crate) fn lay_one(
+pub(crate) fn lay_one<B: Bounds>(
     opcode: Opcode,
     nodes: &Nodes,
     roots: &[Root],
     tasks: &mut Tasks,
-    out: &mut Output,
+    out: &mut Output<B>,
 ) -> Result<(), AllocError>
     requires { Takes opcode 1 false false }
     ensures { OnOk result (out.new ≡ one_worked opcode (trees_from nodes.now roots.now) out.old) }
@@ -191,10 +192,10 @@ pub(crate) fn lay_one(
 }
 
 /// An expression without result.
-pub fn lay_expression(
+pub fn lay_expression<B: Bounds>(
     forest: &Forest,
     tasks: &mut Tasks,
-    out: &mut Output,
+    out: &mut Output<B>,
 ) -> Result<(), AllocError>
     ensures { OnOk result (out.new ≡ alone (map tree_in (trees_in forest.now)) out.old) }
 {
@@ -205,11 +206,11 @@ pub fn lay_expression(
 }
 
 /// A branch where an expression is not true.
-fn lay_unless(
+fn lay_unless<B: Bounds>(
     forest: &Forest,
     label: Label,
     tasks: &mut Tasks,
-    out: &mut Output,
+    out: &mut Output<B>,
 ) -> Result<(), AllocError>
     ensures { OnOk result (out.new ≡ unless (map tree_in (trees_in forest.now)) label out.old) }
 {
@@ -220,11 +221,11 @@ fn lay_unless(
 }
 
 /// A branch, where something that has a condition is open, where an expression is not true.
-pub fn lay_test(
+pub fn lay_test<B: Bounds>(
     label: Option<Label>,
     forest: &Forest,
     tasks: &mut Tasks,
-    out: &mut Output,
+    out: &mut Output<B>,
 ) -> Result<(), AllocError>
     ensures { OnOk result (out.new ≡ tested label (map tree_in (trees_in forest.now)) out.old) }
 {
@@ -235,7 +236,11 @@ pub fn lay_test(
 }
 
 /// What is switched on goes to its variable.
-pub fn lay_switched(forest: &Forest, tasks: &mut Tasks, out: &mut Output) -> Result<(), AllocError>
+pub fn lay_switched<B: Bounds>(
+    forest: &Forest,
+    tasks: &mut Tasks,
+    out: &mut Output<B>,
+) -> Result<(), AllocError>
     ensures { OnOk result (out.new ≡ switched (map tree_in (trees_in forest.now)) out.old) }
 {
     match forest.roots.first() {
@@ -245,7 +250,7 @@ pub fn lay_switched(forest: &Forest, tasks: &mut Tasks, out: &mut Output) -> Res
 }
 
 /// Returns what is simple: a number that is known as 1 or 0 has an instruction of its own.
-fn return_simple(operand: Simple, out: &mut Output) -> Result<(), AllocError>
+fn return_simple<B: Bounds>(operand: Simple, out: &mut Output<B>) -> Result<(), AllocError>
     ensures { (m : Meaning) → OnOk result (out.new ≡ returned_by (Some operand) m out.old) }
 {
     match operand {
@@ -256,10 +261,10 @@ fn return_simple(operand: Simple, out: &mut Output) -> Result<(), AllocError>
 }
 
 /// Returns the first of some trees; 1 where there is none. What needs code is returned from the stack.
-pub(crate) fn lay_return(
+pub(crate) fn lay_return<B: Bounds>(
     forest: &Forest,
     tasks: &mut Tasks,
-    out: &mut Output,
+    out: &mut Output<B>,
 ) -> Result<(), AllocError>
     ensures { OnOk result (out.new ≡ returned (map tree_in (trees_in forest.now)) out.old) }
 {
@@ -274,10 +279,10 @@ pub(crate) fn lay_return(
 }
 
 /// `move`: the first of some trees goes into the second.
-pub(crate) fn lay_move(
+pub(crate) fn lay_move<B: Bounds>(
     forest: &Forest,
     tasks: &mut Tasks,
-    out: &mut Output,
+    out: &mut Output<B>,
 ) -> Result<(), AllocError>
     ensures { OnOk result (out.new ≡ moved (map tree_in (trees_in forest.now)) out.old) }
 {
@@ -299,10 +304,10 @@ pub(crate) fn lay_move(
 }
 
 /// `spaces`: so many as the first of some trees says.
-pub(crate) fn lay_spaces(
+pub(crate) fn lay_spaces<B: Bounds>(
     forest: &Forest,
     tasks: &mut Tasks,
-    out: &mut Output,
+    out: &mut Output<B>,
 ) -> Result<(), AllocError>
     ensures { OnOk result (out.new ≡ spaced (map tree_in (trees_in forest.now)) out.old) }
 {
@@ -316,12 +321,12 @@ pub(crate) fn lay_spaces(
 }
 
 /// The string variable whose number is the first of some trees becomes a low string: its place among the abbreviations is written.
-fn set_string(
+fn set_string<B: Bounds>(
     low: Target,
     nodes: &Nodes,
     roots: &[Root],
     tasks: &mut Tasks,
-    out: &mut Output,
+    out: &mut Output<B>,
 ) -> Result<(), AllocError>
     ensures { OnOk result (out.new ≡ string_set low (trees_from nodes.now roots.now) out.old) }
 {
@@ -339,11 +344,11 @@ fn set_string(
 }
 
 /// `string`: the string variable whose number is the first of some trees becomes a new low string of these bytes.
-pub(crate) fn lay_string(
+pub(crate) fn lay_string<B: Bounds>(
     packed: &[u8],
     forest: &Forest,
     tasks: &mut Tasks,
-    out: &mut Output,
+    out: &mut Output<B>,
 ) -> Result<(), AllocError>
     ensures { OnOk result (out.new ≡ string_of packed.now (map tree_in (trees_in forest.now)) out.old) }
 {
@@ -352,11 +357,11 @@ pub(crate) fn lay_string(
 }
 
 /// A call of the routine that processes actions.
-fn lay_process(
+fn lay_process<B: Bounds>(
     arguments: &[Argument],
     nodes: &Nodes,
     tasks: &mut Tasks,
-    out: &mut Output,
+    out: &mut Output<B>,
 ) -> Result<(), AllocError>
     ensures { OnOk result (out.new ≡ processed (parts_of nodes.now arguments.now) out.old) }
 {
@@ -364,12 +369,12 @@ fn lay_process(
 }
 
 /// An action with a noun, or with two.
-fn lay_action_on(
+fn lay_action_on<B: Bounds>(
     action: Argument,
     nouns: &[Root],
     nodes: &Nodes,
     tasks: &mut Tasks,
-    out: &mut Output,
+    out: &mut Output<B>,
 ) -> Result<(), AllocError>
     ensures { OnOk result (out.new ≡ action_on (part_of nodes.now action) (trees_from nodes.now nouns.now) out.old) }
 {
@@ -384,10 +389,10 @@ fn lay_action_on(
 }
 
 /// An action: a call of a routine of the veneer with the trees.
-pub(crate) fn lay_action(
+pub(crate) fn lay_action<B: Bounds>(
     forest: &Forest,
     tasks: &mut Tasks,
-    out: &mut Output,
+    out: &mut Output<B>,
 ) -> Result<(), AllocError>
     ensures { OnOk result (out.new ≡ action_laid (map tree_in (trees_in forest.now)) out.old) }
 {
@@ -411,13 +416,13 @@ fn attribute_opcode(item: Item) -> Opcode
 }
 
 /// The first of some trees is an attribute that an object is given or that is taken from it.
-fn lay_attribute(
+fn lay_attribute<B: Bounds>(
     opcode: Opcode,
     object: Argument,
     nodes: &Nodes,
     roots: &[Root],
     tasks: &mut Tasks,
-    out: &mut Output,
+    out: &mut Output<B>,
 ) -> Result<(), AllocError>
     requires { Takes opcode 2 false false }
     ensures { OnOk result (out.new ≡ attribute_code opcode (part_of nodes.now object) (trees_from nodes.now roots.now) out.old) }
@@ -432,13 +437,13 @@ fn lay_attribute(
 }
 
 /// Attributes that an object is given or that are taken from it, one by one.
-fn lay_attributes(
+fn lay_attributes<B: Bounds>(
     object: Argument,
     items: &[Item],
     nodes: &Nodes,
     roots: &[Root],
     tasks: &mut Tasks,
-    out: &mut Output,
+    out: &mut Output<B>,
 ) -> Result<(), AllocError>
     ensures { OnOk result (out.new ≡ attributes_given (part_of nodes.now object) items.now (trees_from nodes.now roots.now) out.old) }
 {
@@ -461,11 +466,11 @@ fn are_several(items: &[Item]) -> bool
 }
 
 /// `give`: the first of some trees is an object. With several attributes one that needs code is worked out first.
-pub(crate) fn lay_give(
+pub(crate) fn lay_give<B: Bounds>(
     items: &[Item],
     forest: &Forest,
     tasks: &mut Tasks,
-    out: &mut Output,
+    out: &mut Output<B>,
 ) -> Result<(), AllocError>
     ensures { OnOk result (out.new ≡ attributes_changed items.now (map tree_in (trees_in forest.now)) out.old) }
 {
@@ -501,7 +506,7 @@ pub(crate) fn style_of(name: &[u8]) -> Option<u16>
 }
 
 /// `style`: the style of a name.
-pub(crate) fn lay_style(name: &[u8], out: &mut Output) -> Result<(), AllocError>
+pub(crate) fn lay_style<B: Bounds>(name: &[u8], out: &mut Output<B>) -> Result<(), AllocError>
     ensures { OnOk result (out.new ≡ styled name.now out.old) }
 {
     match style_of(name) {
@@ -511,7 +516,10 @@ pub(crate) fn lay_style(name: &[u8], out: &mut Output) -> Result<(), AllocError>
 }
 
 /// A jump to a label, if there is one.
-pub(crate) fn lay_jump(label: Option<Label>, out: &mut Output) -> Result<(), AllocError>
+pub(crate) fn lay_jump<B: Bounds>(
+    label: Option<Label>,
+    out: &mut Output<B>,
+) -> Result<(), AllocError>
     ensures { OnOk result (out.new ≡ jumped_to label out.old) }
 {
     match label {

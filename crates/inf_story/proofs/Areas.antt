@@ -11,8 +11,8 @@ use Rattle.inf_dictionary.specs.Words.{dictionary_bytes}
 use Rattle.inf_link.specs.Areas.{area_of}
 use Rattle.inf_link.specs.FillingLaws.{cells_fixups}
 use Rattle.inf_story.specs.Tables.{areas, low_strings, three_spaces}
-use Rattle.inf_tables.specs.declared.tables.Tables.{Tables}
 use Rattle.inf_text.specs.Packing.{packed, longest, character_zs}
+use Rattle.inf_tables.specs.Tables.{AllTables}
 
 -- lists that are put behind others, one after the other
 abbrev put : List Fixup → List (List Fixup) → List Fixup
@@ -48,10 +48,10 @@ all_written fixups = put_all [] (written fixups)
 none_low : (behind : List ℕ) → [] ≡ fixups_of area.LowStrings 0 (low_strings behind)
 none_low behind = sym (fixups_of-known area.LowStrings 0 (three_spaces ++ behind))
 
-abbrev fixups_in : ℕ → List Cell → List ℕ → Tables → AreaName → List Fixup
+abbrev fixups_in : ℕ → List Cell → List ℕ → AllTables → AreaName → List Fixup
 fixups_in main finished strings tables name = fixups_of name 0 (area_of name (areas main finished strings tables))
 
-pub all_fixups : (main : ℕ) (finished : List Cell) (strings : List ℕ) (tables : Tables)
+pub all_fixups : (main : ℕ) (finished : List Cell) (strings : List ℕ) (tables : AllTables)
     → put [] (written (fixups_in main finished strings tables)) ≡ cells_fixups (areas main finished strings tables)
 all_fixups main finished strings tables =
     let fixups = fixups_in main finished strings tables in

@@ -16,9 +16,9 @@ use Rattle.inf_link.specs.Targets.{Lookup}
 use Rattle.inf_link.proofs.CellLaws.{cells_in_order, sizes-cells}
 use Rattle.inf_story.specs.Stories.{story, too_long}
 use Rattle.inf_story.specs.Tables.{areas, looked_up}
-use Rattle.inf_tables.specs.declared.tables.Tables.{Tables}
+use Rattle.inf_tables.specs.Tables.{AllTables}
 
-pub is_story : (fields : HeaderFields) (main : ℕ) (names : List Value) (finished : List Cell) (strings : List ℕ) (tables : Tables)
+pub is_story : (fields : HeaderFields) (main : ℕ) (names : List Value) (finished : List Cell) (strings : List ℕ) (tables : AllTables)
     (contents : Areas (List ℕ)) (fixups : List Fixup) (targets : Lookup)
     → contents ≡ cells_contents (areas main finished strings tables) → fixups ≡ cells_fixups (areas main finished strings tables) → targets
     ≡ looked_up names tables
@@ -31,7 +31,7 @@ is_story fields main names finished strings tables contents fixups targets are_c
     ∙ ap (λ lists. linked (cells_contents cells) (cells_fixups cells) lists fields) are_targets
     ∙ cells_in_order cells (looked_up names tables) fields
 
-pub is_too_long : (fields : HeaderFields) (main : ℕ) (finished : List Cell) (strings : List ℕ) (tables : Tables) (contents : Areas (List ℕ))
+pub is_too_long : (fields : HeaderFields) (main : ℕ) (finished : List Cell) (strings : List ℕ) (tables : AllTables) (contents : Areas (List ℕ))
     → contents ≡ cells_contents (areas main finished strings tables)
     → too_long_by (lengths contents) fields.scale ≡ too_long fields main finished strings tables
 unfolding too_long

@@ -12,9 +12,9 @@ use Rattle.inf_link.proofs.CellLaws.{sizes-numbered}
 use Rattle.inf_link.proofs.StoryLaws.{stories_tell_themselves}
 use Rattle.inf_story.specs.Stories.{story}
 use Rattle.inf_story.specs.Tables.{areas, looked_up}
-use Rattle.inf_tables.specs.declared.tables.Tables.{Tables}
+use Rattle.inf_tables.specs.Tables.{AllTables}
 
-pub story_tells : (fields : HeaderFields) (main : ℕ) (names : List Value) (finished : List Cell) (strings : List ℕ) (tables : Tables) →
+pub story_tells : (fields : HeaderFields) (main : ℕ) (names : List Value) (finished : List Cell) (strings : List ℕ) (tables : AllTables) →
     length fields.serial ≡ 6
     → TellsItself fields.scale (map_of (cells_sizes (areas main finished strings tables)) fields.scale).end
     (story fields main names finished strings tables)

@@ -7,13 +7,13 @@ use Rattle.inf_link.specs.declared.link.LinkFault.{LinkFault}
 use Rattle.inf_link.specs.FillingLaws.{cells_sizes, cells_story}
 use Rattle.inf_link.specs.MemoryMaps.{too_long as too_long_by}
 use Rattle.inf_story.specs.Tables.{areas, looked_up}
-use Rattle.inf_tables.specs.declared.tables.Tables.{Tables}
+use Rattle.inf_tables.specs.Tables.{AllTables}
 
 -- The story of the finished routines of a source, its strings and its tables: the routine at a place of the code is called first, and names
 -- are these.
-unfoldable pub story : HeaderFields → ℕ → List Value → List Cell → List ℕ → Tables → List ℕ
+unfoldable pub story : HeaderFields → ℕ → List Value → List Cell → List ℕ → AllTables → List ℕ
 story fields main names finished strings tables = cells_story (areas main finished strings tables) (looked_up names tables) fields
 
 -- why there is none, if so
-unfoldable pub too_long : HeaderFields → ℕ → List Cell → List ℕ → Tables → Option LinkFault
+unfoldable pub too_long : HeaderFields → ℕ → List Cell → List ℕ → AllTables → Option LinkFault
 too_long fields main finished strings tables = too_long_by (cells_sizes (areas main finished strings tables)) fields.scale

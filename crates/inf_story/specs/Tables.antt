@@ -14,13 +14,13 @@ use Rattle.inf_dictionary.specs.Texts.{texts_of}
 use Rattle.inf_dictionary.specs.Words.{dictionary_bytes}
 use Rattle.inf_link.specs.declared.areas.Areas.{Areas}
 use Rattle.inf_link.specs.Targets.{Lookup}
-use Rattle.inf_tables.specs.declared.tables.Tables.{Tables}
 use Rattle.inf_text.specs.Packing.{packed}
 use Rattle.inf_verbs.specs.Routines.{routines_cells}
 use Rattle.inf_verbs.specs.Verbs.{grammar_cells, places_of}
 use Rattle.inf_world.specs.Areas.{all_objects, area_cells, individual_places_from, table_places_from}
 use Rattle.inf_world.specs.World.{object_count}
 use Rattle.inf_world.specs.declared.kinds.WorldArea.TheVariants as world_area
+use Rattle.inf_tables.specs.Tables.{AllTables}
 
 -- the first low string, three spaces (section 3.3), and those behind it
 unfoldable pub three_spaces : List ℕ
@@ -35,7 +35,7 @@ abbreviations = values_cells (replicate 96 (value.Known 32))
 
 -- All areas: those of the tables of a source, the finished routines, of which the first routine calls the one at a place, and the bytes of
 -- the strings.
-abbrev pub areas : ℕ → List Cell → List ℕ → Tables → Areas (List Cell)
+abbrev pub areas : ℕ → List Cell → List ℕ → AllTables → Areas (List Cell)
 areas main finished strings tables = record {
   low_strings = low_strings tables.low_strings.bytes;
   abbreviations = abbreviations;
@@ -55,7 +55,7 @@ areas main finished strings tables = record {
 }
 
 -- what targets are looked up in, with what the names are; the number of the last object is how many there are
-abbrev pub looked_up : List Value → Tables → Lookup
+abbrev pub looked_up : List Value → AllTables → Lookup
 looked_up names tables = record {
   names = names;
   property_tables = table_places_from 0 0 (all_objects tables.world.objects);

@@ -7,6 +7,7 @@ use inf_area::{AreaName, Target, Value};
 use inf_names::meanings::Meaning;
 use inf_names::symbols::Symbols;
 use inf_scanner::Place;
+use inf_settings::bounds::Bounds;
 use std::alloc::{AllocError, Global};
 
 /// What a name is in a story, by what it stands for: a number, a place in an area, or a word of the dictionary. Nothing for what is no
@@ -35,14 +36,17 @@ fn value_of(meaning: Meaning) -> Option<Value>
 }
 
 /// What the name of a number is.
-fn value_at(names: &Symbols<Place>, number: usize) -> Option<Value>
+fn value_at<B: Bounds>(names: &Symbols<Place, B>, number: usize) -> Option<Value>
     ensures { result ≡ value_by (meaning_in (standing_at number names.now.names)) }
 {
     value_of(names.meaning_at(number)?)
 }
 
 /// What each name is in the story, in order; or nothing where one of them is none, as one that was not declared.
-pub fn values_of(alloc: Global, names: &Symbols<Place>) -> Result<Option<Vec<Value>>, AllocError>
+pub fn values_of<B: Bounds>(
+    alloc: Global,
+    names: &Symbols<Place, B>,
+) -> Result<Option<Vec<Value>>, AllocError>
     ensures { IfOk result (λ values. option_map (λ v. v.items) values ≡ values_of names.now.names) }
 {
     let mut values = Vec::with_capacity(alloc, names.len())?;

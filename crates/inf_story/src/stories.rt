@@ -7,6 +7,7 @@ use crate::tables::{areas, targets};
 use inf_area::{PagedArea, Refs, Value};
 use inf_code::code::Code;
 use inf_link::{HeaderFields, Link, LinkFault, Story};
+use inf_settings::bounds::Bounds;
 use inf_tables::Tables;
 use std::alloc::Global;
 
@@ -14,14 +15,14 @@ use std::alloc::Global;
 ///
 /// Refuses first where code would begin at an address over 65,534, then where the story would be longer than one of its version may
 /// be, and else only where no memory is left.
-pub fn story(
+pub fn story<B: Bounds>(
     alloc: Global,
     fields: HeaderFields,
     main: usize,
     names: Vec<Value>,
-    code: Code,
+    code: Code<B>,
     strings: PagedArea,
-    tables: Tables,
+    tables: Tables<B>,
 ) -> Result<Story, LinkFault>
     ensures bytes { IfOk result (λ s. s.bytes ≡ story fields main names.items code.finished strings tables) }
     ensures fault { let long = too_long fields main code.finished strings tables in
@@ -31,14 +32,14 @@ pub fn story(
 }
 
 /// The same, of tables that are kept.
-fn linked(
+fn linked<B: Bounds>(
     alloc: Global,
     fields: HeaderFields,
     main: usize,
     names: Vec<Value>,
-    code: Code,
+    code: Code<B>,
     strings: PagedArea,
-    tables: &Tables,
+    tables: &Tables<B>,
 ) -> Result<Story, LinkFault>
     ensures bytes { IfOk result (λ s. s.bytes ≡ story fields main names.items code.finished strings tables.now) }
     ensures fault { let long = too_long fields main code.finished strings tables.now in

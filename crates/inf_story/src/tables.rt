@@ -18,6 +18,7 @@ use inf_area::{Area, AreaName, PagedArea, Refs, Target, Value};
 use inf_cells::{Cells, append_cells};
 use inf_code::code::Code;
 use inf_link::{Areas, Targets};
+use inf_settings::bounds::Bounds;
 use inf_tables::{
     Actions, Arrays, Dictionary, Globals, LowStrings, ParsingRoutines, Tables, Verbs, World,
     WorldArea,
@@ -34,7 +35,7 @@ const NO_ABBREVIATION: Value = Value::Known(32);
 
 /// The low strings: the first one and those behind it.
 #[tactic(auto, using(crate::proofs::Areas::low_are))]
-fn low_strings(alloc: Global, behind: &LowStrings) -> Result<PagedArea, AllocError>
+fn low_strings<B: Bounds>(alloc: Global, behind: &LowStrings<B>) -> Result<PagedArea, AllocError>
     ensures { IfOk result (λ area. area ≡ bytes_of (low_strings behind.now.bytes)) }
 {
     let mut area = PagedArea::new(alloc);
@@ -68,9 +69,9 @@ fn abbreviations(alloc: Global, refs: &mut Refs) -> Result<PagedArea, AllocError
 }
 
 /// An area of the world.
-fn world_area(
+fn world_area<B: Bounds>(
     alloc: Global,
-    world: &World,
+    world: &World<B>,
     which: WorldArea,
     refs: &mut Refs,
 ) -> Result<PagedArea, AllocError>
@@ -99,7 +100,11 @@ fn globals(alloc: Global, globals: &Globals, refs: &mut Refs) -> Result<PagedAre
 }
 
 /// The arrays.
-fn arrays(alloc: Global, arrays: &Arrays, refs: &mut Refs) -> Result<PagedArea, AllocError>
+fn arrays<B: Bounds>(
+    alloc: Global,
+    arrays: &Arrays<B>,
+    refs: &mut Refs,
+) -> Result<PagedArea, AllocError>
     ensures bytes { IfOk result (λ area. area ≡ bytes_of (arrays_cells (all_of arrays.now))) }
     ensures fixups { OnOk result (refs.new
         ≡ with_fixups (refs.old.list ++ fixups_of AreaName.Arrays 0 (arrays_cells (all_of arrays.now))) refs.old) }
@@ -112,7 +117,11 @@ fn arrays(alloc: Global, arrays: &Arrays, refs: &mut Refs) -> Result<PagedArea, 
 }
 
 /// The lines of the verbs.
-fn grammar(alloc: Global, verbs: &Verbs, refs: &mut Refs) -> Result<PagedArea, AllocError>
+fn grammar<B: Bounds>(
+    alloc: Global,
+    verbs: &Verbs<B>,
+    refs: &mut Refs,
+) -> Result<PagedArea, AllocError>
     ensures bytes { IfOk result (λ area. area ≡ bytes_of (grammar_cells verbs.now.list)) }
     ensures fixups { OnOk result (refs.new
         ≡ with_fixups (refs.old.list ++ fixups_of AreaName.Grammar 0 (grammar_cells verbs.now.list)) refs.old) }
@@ -125,7 +134,11 @@ fn grammar(alloc: Global, verbs: &Verbs, refs: &mut Refs) -> Result<PagedArea, A
 }
 
 /// The routines of the actions.
-fn actions(alloc: Global, actions: &Actions, refs: &mut Refs) -> Result<PagedArea, AllocError>
+fn actions<B: Bounds>(
+    alloc: Global,
+    actions: &Actions<B>,
+    refs: &mut Refs,
+) -> Result<PagedArea, AllocError>
     ensures bytes { IfOk result (λ area. area ≡ bytes_of (routines_cells actions.now.routines)) }
     ensures fixups { OnOk result (refs.new
         ≡ with_fixups (refs.old.list ++ fixups_of AreaName.Actions 0 (routines_cells actions.now.routines)) refs.old) }
@@ -156,7 +169,7 @@ fn parsing_routines(
 
 /// The dictionary.
 #[tactic(auto, using(crate::proofs::Areas::known_bytes))]
-fn dictionary(alloc: Global, words: &Dictionary) -> Result<PagedArea, AllocError>
+fn dictionary<B: Bounds>(alloc: Global, words: &Dictionary<B>) -> Result<PagedArea, AllocError>
     ensures { IfOk result (λ area. area ≡ bytes_of (known (dictionary_bytes words.now.list))) }
 {
     let mut area = PagedArea::new(alloc);
@@ -165,7 +178,7 @@ fn dictionary(alloc: Global, words: &Dictionary) -> Result<PagedArea, AllocError
 }
 
 /// The code, whose first routine calls the one at a place.
-fn code(code: Code, main: usize, refs: &mut Refs) -> Result<PagedArea, AllocError>
+fn code<B: Bounds>(code: Code<B>, main: usize, refs: &mut Refs) -> Result<PagedArea, AllocError>
     ensures bytes { IfOk result (λ area. area ≡ bytes_of (code_cells (Target.Place AreaName.Code main) code.finished)) }
     ensures fixups { OnOk result (refs.new
         ≡ with_fixups (refs.old.list ++ fixups_of AreaName.Code 0 (code_cells (Target.Place AreaName.Code main) code.finished)) refs.old) }
@@ -200,9 +213,9 @@ fn no_areas(alloc: Global) -> Areas<PagedArea>
 }
 
 /// Puts what belongs to the world into its areas.
-fn put_world(
+fn put_world<B: Bounds>(
     alloc: Global,
-    world: &World,
+    world: &World<B>,
     areas: &mut Areas<PagedArea>,
     refs: &mut Refs,
 ) -> Result<(), AllocError>
@@ -229,9 +242,9 @@ fn put_world(
 }
 
 /// Puts variables, arrays, the grammar and the dictionary into their areas.
-fn put_lists(
+fn put_lists<B: Bounds>(
     alloc: Global,
-    tables: &Tables,
+    tables: &Tables<B>,
     areas: &mut Areas<PagedArea>,
     refs: &mut Refs,
 ) -> Result<(), AllocError>
@@ -261,12 +274,12 @@ fn put_lists(
 
 /// All areas, with the fixups of all: there are none yet.
 #[tactic(auto, using(crate::proofs::Areas::all_fixups, crate::proofs::Areas::known_bytes))]
-pub(crate) fn areas(
+pub(crate) fn areas<B: Bounds>(
     alloc: Global,
     main: usize,
-    routines: Code,
+    routines: Code<B>,
     strings: PagedArea,
-    tables: &Tables,
+    tables: &Tables<B>,
     refs: &mut Refs,
 ) -> Result<Areas<PagedArea>, AllocError>
     requires none { refs.old.list ≡ [] }
@@ -284,10 +297,10 @@ pub(crate) fn areas(
 }
 
 /// What targets are looked up in, with what the names are.
-pub(crate) fn targets(
+pub(crate) fn targets<B: Bounds>(
     alloc: Global,
     names: Vec<Value>,
-    tables: &Tables,
+    tables: &Tables<B>,
 ) -> Result<Targets, AllocError>
     ensures { IfOk result (λ targets. lookup targets ≡ looked_up names.items tables.now) }
 {

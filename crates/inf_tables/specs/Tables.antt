@@ -1,22 +1,35 @@
 -- The tables of a story, as far as its source told them.
-use Rattle.std.specs.Prelude.{ℕ, ◌+◌, ◌-◌, min, [], length}
+use Rattle.std.specs.Prelude.{ℕ, List, ◌+◌, ◌-◌, min, [], length}
 use Rattle.inf_settings.specs.Settings.{number_of}
 use Rattle.inf_settings.specs.declared.setting.Setting.TheVariants as setting
 use Rattle.inf_settings.specs.declared.settings.Settings.{Settings}
-use Rattle.inf_arrays.specs.Arrays.{all_of, arrays_laters, no_arrays}
+use Rattle.inf_area.specs.declared.targets.Value.{Value}
+use Rattle.inf_arrays.specs.Arrays.{AllArrays, all_of, arrays_laters, no_arrays}
 use Rattle.inf_arrays.specs.Kinds.{laters}
-use Rattle.inf_verbs.specs.Verbs.{verbs_laters}
-use Rattle.inf_world.specs.World.{fixups_now, no_world}
+use Rattle.inf_dictionary.specs.Words.{Words}
+use Rattle.inf_verbs.specs.Routines.{AllActions}
+use Rattle.inf_verbs.specs.Verbs.{AllVerbs, verbs_laters}
+use Rattle.inf_world.specs.World.{WorldOf, fixups_now, no_world}
 use Rattle.inf_world.specs.declared.kinds.Limits.{Limits}
-use Rattle.inf_tables.specs.LowStrings.{no_low_strings}
-use Rattle.inf_tables.specs.declared.tables.Tables.{Tables}
+use Rattle.inf_tables.specs.LowStrings.{LowArea, no_low_strings}
+
+-- one of each table
+pub record AllTables : Type 0 where
+  pub dictionary : Words
+  pub arrays : AllArrays
+  pub globals : List Value
+  pub world : WorldOf
+  pub verbs : AllVerbs
+  pub actions : AllActions
+  pub parsing : List ℕ
+  pub low_strings : LowArea
 
 -- what there may be of the world
 abbrev pub world_limits : Settings → Limits
 world_limits settings = record { objects = number_of setting.Objects settings; property_bytes = number_of setting.PropertyTables settings }
 
 -- of a source that told nothing yet
-abbrev pub no_tables : Settings → Tables
+abbrev pub no_tables : Settings → AllTables
 no_tables settings = record {
   dictionary = record { list = []; limit = number_of setting.DictionaryEntries settings };
   arrays = no_arrays (number_of setting.Arrays settings);
@@ -37,11 +50,11 @@ more count other = min (count + other) 18446744073709551615
 -- arrays, addresses of verbs' lines and of prepositions, and one for each action and each routine that parses. The addresses of the tables
 -- of the first
 -- four objects are not counted here: code keeps as many back from its limit.
-abbrev pub references : Tables → ℕ
+abbrev pub references : AllTables → ℕ
 references t =
     more (more (more (fixups_now t.world - 4) (laters t.globals)) (arrays_laters (all_of t.arrays)))
     (more (verbs_laters t.verbs.list) (more (length t.actions.routines) (length t.parsing)))
 
 -- with so many others
-abbrev pub references_with : ℕ → Tables → ℕ
+abbrev pub references_with : ℕ → AllTables → ℕ
 references_with others t = more others (references t)

@@ -1,9 +1,11 @@
 //! The low strings of a story.
-ghost use Rattle.std.specs.Prelude.{◌≡◌, ◌≤◌, IfOk, if◌then◌else◌, max};
+ghost use Rattle.std.specs.Prelude.{◌≡◌, ◌≤◌, IfOk, if◌then◌else◌, max, true};
 ghost use Rattle.inf_tables.specs.LowStrings.{low_fits, low_size, with_low};
+ghost use Rattle.inf_settings.specs.declared.setting.Setting.TheVariants as setting;
 
+use inf_settings::bounds::Bounds;
 use std::alloc::{AllocError, Global};
-use std::marker::Model;
+use std::marker::{Model, PhantomData};
 
 /// The bytes of the first low string, three spaces, which each story has.
 const FIRST_BYTES: usize = 2;
@@ -12,12 +14,14 @@ const FIRST_BYTES: usize = 2;
 /// among them. Each is of
 /// whole words, so it begins at an even address (Z-Machine Standard 1.1, sections 1.2.2 and 3.3).
 #[derive(Drop)]
-pub struct LowStrings {
+pub struct LowStrings<B: Bounds> {
     bytes: Vec<u8>,
     limit: usize,
+    of: PhantomData<B>,
+    ghost is_allowed: { B.allows setting.LowStrings limit ≡ true },
 }
 
-impl Model for LowStrings {
+impl<B: Bounds> Model for LowStrings<B> {
     ghost use Rattle.std.specs.Prelude.{◌≤◌, ◌+◌, length, max};
     ghost use Rattle.inf_tables.specs.LowStrings.{LowArea};
 
@@ -28,16 +32,18 @@ impl Model for LowStrings {
     ghost invariant = { λ low. 2 + length low.bytes.items ≤ max 2 low.limit };
 }
 
-impl LowStrings {
+impl<B: Bounds> LowStrings<B> {
     ghost use Rattle.inf_tables.specs.LowStrings.{no_low_strings};
 
     /// None but the first one, of at most so many bytes with it. They take no memory until the next one comes.
-    pub fn new(alloc: Global, limit: usize) -> LowStrings
+    pub fn new(alloc: Global, limit: usize) -> LowStrings<B>
+        requires { B.allows setting.LowStrings limit ≡ true }
         ensures { result ≡ no_low_strings limit }
     {
         LowStrings {
             bytes: Vec::new(alloc),
             limit,
+            of: PhantomData,
         }
     }
 
@@ -45,6 +51,7 @@ impl LowStrings {
     pub fn len(&self) -> usize
         ensures value { result ≡ low_size self.now }
         ensures few { result ≤ max 2 self.now.limit }
+        ensures allowed { B.allows setting.LowStrings self.now.limit ≡ true }
     {
         FIRST_BYTES + self.bytes.len()
     }

@@ -1,39 +1,63 @@
 //! One of each table.
-ghost use Rattle.std.specs.Prelude.{◌≡◌};
+ghost use Rattle.std.specs.Prelude.{◌≡◌, true};
+ghost use Rattle.inf_settings.specs.declared.setting.Setting.TheVariants as setting;
+ghost use Rattle.inf_settings.specs.Bounds.{Allows};
 ghost use Rattle.inf_tables.specs.Tables.{more, no_tables, references, references_with, world_limits};
 
 use crate::low_strings::LowStrings;
 use inf_arrays::{Arrays, Globals};
 use inf_dictionary::Dictionary;
+use inf_settings::bounds::Bounds;
 use inf_settings::setting::Setting;
 use inf_settings::settings::Settings;
 use inf_verbs::{Actions, ParsingRoutines, Verbs};
 use inf_world::{Limits, World};
 use std::alloc::Global;
+use std::marker::Model;
 
 /// The references of each story: the addresses of the property tables of its first four objects.
 const FIRST_REFERENCES: usize = 4;
 
 /// The tables of a story so far.
 #[derive(Drop)]
-pub struct Tables {
-    pub dictionary: Dictionary,
-    pub arrays: Arrays,
+pub struct Tables<B: Bounds> {
+    pub dictionary: Dictionary<B>,
+    pub arrays: Arrays<B>,
     pub globals: Globals,
-    pub world: World,
-    pub verbs: Verbs,
-    pub actions: Actions,
+    pub world: World<B>,
+    pub verbs: Verbs<B>,
+    pub actions: Actions<B>,
     pub parsing: ParsingRoutines,
-    pub low_strings: LowStrings,
+    pub low_strings: LowStrings<B>,
+}
+
+impl<B: Bounds> Model for Tables<B> {
+    ghost use Rattle.inf_tables.specs.Tables.{AllTables};
+
+    ghost Value = { AllTables };
+
+    ghost view = { λ t. record {
+      dictionary = t.dictionary;
+      arrays = t.arrays;
+      globals = t.globals;
+      world = t.world;
+      verbs = t.verbs;
+      actions = t.actions;
+      parsing = t.parsing;
+      low_strings = t.low_strings;
+    } };
 }
 
 /// What there may be of the world.
-fn world_limits(settings: &Settings) -> Limits
-    ensures { result ≡ world_limits settings.now }
+fn world_limits<B: Bounds>(settings: &Settings) -> Limits
+    requires { Allows B.allows settings.now }
+    ensures value { result ≡ world_limits settings.now }
+    ensures objects { B.allows setting.Objects result.objects ≡ true }
+    ensures bytes { B.allows setting.PropertyTables result.property_bytes ≡ true }
 {
     Limits {
-        objects: settings.of(Setting::Objects),
-        property_bytes: settings.of(Setting::PropertyTables),
+        objects: settings.bound::<B>(Setting::Objects),
+        property_bytes: settings.bound::<B>(Setting::PropertyTables),
     }
 }
 
@@ -45,26 +69,30 @@ fn more(count: usize, other: usize) -> usize
     count.saturating_add(other)
 }
 
-impl Tables {
+impl<B: Bounds> Tables<B> {
     /// Tables of a source that told nothing yet: the world has its first four objects. Of each there may be as much as the settings say.
     /// They
     /// take no memory.
-    pub fn new(alloc: Global, settings: &Settings) -> Tables
+    pub fn new(alloc: Global, settings: &Settings) -> Tables<B>
+        requires { Allows B.allows settings.now }
         ensures { result ≡ no_tables settings.now }
     {
         Tables {
-            dictionary: Dictionary::new(alloc, settings.of(Setting::DictionaryEntries) as usize),
-            arrays: Arrays::new(alloc, settings.of(Setting::Arrays) as usize),
+            dictionary: Dictionary::new(
+                alloc,
+                settings.bound::<B>(Setting::DictionaryEntries) as usize,
+            ),
+            arrays: Arrays::new(alloc, settings.bound::<B>(Setting::Arrays) as usize),
             globals: Globals::new(alloc),
-            world: World::new(alloc, world_limits(settings)),
+            world: World::new(alloc, world_limits::<B>(settings)),
             verbs: Verbs::new(
                 alloc,
-                settings.of(Setting::Verbs) as usize,
-                settings.of(Setting::GrammarLines) as usize,
+                settings.bound::<B>(Setting::Verbs) as usize,
+                settings.bound::<B>(Setting::GrammarLines) as usize,
             ),
-            actions: Actions::new(alloc, settings.of(Setting::Actions) as usize),
+            actions: Actions::new(alloc, settings.bound::<B>(Setting::Actions) as usize),
             parsing: ParsingRoutines::new(alloc),
-            low_strings: LowStrings::new(alloc, settings.of(Setting::LowStrings) as usize),
+            low_strings: LowStrings::new(alloc, settings.bound::<B>(Setting::LowStrings) as usize),
         }
     }
 

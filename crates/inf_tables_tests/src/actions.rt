@@ -1,11 +1,16 @@
 //! Actions and parsing routines.
 use crate::words::{number_at, repeated, word};
 use crate::writing::Written;
+use inf_settings::bounds::Unbounded;
 use inf_verbs::{Actions, ParsingRoutines};
 use std::alloc::{AllocError, Global};
 
 /// What comes of a command to actions.
-fn obey(alloc: Global, actions: &mut Actions, command: &str) -> Result<String, AllocError> {
+fn obey(
+    alloc: Global,
+    actions: &mut Actions<Unbounded>,
+    command: &str,
+) -> Result<String, AllocError> {
     match word(command, 0) {
         "add" => match actions.add(number_at(command, 1)) {
             Ok(number) => format!(in alloc; "{number}"),

@@ -2,6 +2,7 @@
 use crate::words::{bytes_of, number_at, repeated, value_of, word};
 use crate::writing::Written;
 use inf_arrays::{ArrayFault, ArrayKind, Arrays, Globals};
+use inf_settings::bounds::Unbounded;
 use std::alloc::{AllocError, Global};
 
 /// A kind by its name.
@@ -23,7 +24,7 @@ fn told_of(alloc: Global, outcome: Result<(), ArrayFault>) -> Result<String, All
 }
 
 /// What is written.
-fn write(alloc: Global, arrays: &Arrays, command: &str) -> Result<String, AllocError> {
+fn write(alloc: Global, arrays: &Arrays<Unbounded>, command: &str) -> Result<String, AllocError> {
     let mut written = Written::new(alloc, command)?;
     let flat = arrays.write(&mut written.flat.area, &mut written.flat.refs);
     let paged = arrays.write(&mut written.paged.area, &mut written.paged.refs);
@@ -31,7 +32,7 @@ fn write(alloc: Global, arrays: &Arrays, command: &str) -> Result<String, AllocE
 }
 
 /// What comes of entries of the open array.
-fn add(alloc: Global, arrays: &mut Arrays, command: &str) -> Result<String, AllocError> {
+fn add(alloc: Global, arrays: &mut Arrays<Unbounded>, command: &str) -> Result<String, AllocError> {
     if !arrays.is_open() {
         return String::from_str(alloc, "no array");
     }
@@ -44,7 +45,11 @@ fn add(alloc: Global, arrays: &mut Arrays, command: &str) -> Result<String, Allo
 }
 
 /// What comes of an array that is opened.
-fn open(alloc: Global, arrays: &mut Arrays, command: &str) -> Result<String, AllocError> {
+fn open(
+    alloc: Global,
+    arrays: &mut Arrays<Unbounded>,
+    command: &str,
+) -> Result<String, AllocError> {
     match arrays.open(kind_of(word(command, 1))) {
         Ok(place) => format!(in alloc; "{place}"),
         Err(fault) => format!(in alloc; "{fault:?}"),
@@ -52,7 +57,11 @@ fn open(alloc: Global, arrays: &mut Arrays, command: &str) -> Result<String, All
 }
 
 /// What comes of a command.
-fn obey(alloc: Global, arrays: &mut Arrays, command: &str) -> Result<String, AllocError> {
+fn obey(
+    alloc: Global,
+    arrays: &mut Arrays<Unbounded>,
+    command: &str,
+) -> Result<String, AllocError> {
     match word(command, 0) {
         "open" => open(alloc, arrays, command),
         "size" => format!(in alloc; "{}", arrays.size()),

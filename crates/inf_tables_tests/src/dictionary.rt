@@ -3,6 +3,7 @@ use crate::words::{number, number_at, repeated, text_of, word};
 use crate::writing::Written;
 use inf_cells::WriteFault;
 use inf_dictionary::{Dictionary, WordUse};
+use inf_settings::bounds::Unbounded;
 use std::alloc::{AllocError, Global};
 
 /// What a word is used as.
@@ -29,7 +30,11 @@ fn texts_of(alloc: Global, command: &str) -> Result<Vec<[u8; 6]>, AllocError> {
 }
 
 /// What comes of a use.
-fn add(alloc: Global, words: &mut Dictionary, command: &str) -> Result<String, AllocError> {
+fn add(
+    alloc: Global,
+    words: &mut Dictionary<Unbounded>,
+    command: &str,
+) -> Result<String, AllocError> {
     let text = text_of(word(command, 1));
     match words.add(text, use_of(word(command, 2)), word(command, 3) == "plural") {
         Ok(()) => String::from_str(alloc, "ok"),
@@ -38,7 +43,11 @@ fn add(alloc: Global, words: &mut Dictionary, command: &str) -> Result<String, A
 }
 
 /// What is written.
-fn write(alloc: Global, words: &Dictionary, command: &str) -> Result<String, AllocError> {
+fn write(
+    alloc: Global,
+    words: &Dictionary<Unbounded>,
+    command: &str,
+) -> Result<String, AllocError> {
     let mut written = Written::new(alloc, command)?;
     let flat = words
         .write(alloc, &mut written.flat.area)
@@ -50,7 +59,11 @@ fn write(alloc: Global, words: &Dictionary, command: &str) -> Result<String, All
 }
 
 /// How many words stand before each of some texts.
-fn ranks(alloc: Global, words: &Dictionary, command: &str) -> Result<String, AllocError> {
+fn ranks(
+    alloc: Global,
+    words: &Dictionary<Unbounded>,
+    command: &str,
+) -> Result<String, AllocError> {
     let places = words.places(alloc)?;
     let mut told = String::new(alloc);
     for text in texts_of(alloc, command)?.as_slice() {
@@ -61,7 +74,11 @@ fn ranks(alloc: Global, words: &Dictionary, command: &str) -> Result<String, All
 }
 
 /// What comes of a command.
-fn obey(alloc: Global, words: &mut Dictionary, command: &str) -> Result<String, AllocError> {
+fn obey(
+    alloc: Global,
+    words: &mut Dictionary<Unbounded>,
+    command: &str,
+) -> Result<String, AllocError> {
     let text = text_of(word(command, 1));
     match word(command, 0) {
         "use" => add(alloc, words, command),

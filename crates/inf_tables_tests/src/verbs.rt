@@ -1,6 +1,7 @@
 //! Verbs and their lines.
 use crate::words::{number, number_at, repeated, text_of, word};
 use crate::writing::Written;
+use inf_settings::bounds::Unbounded;
 use inf_verbs::{LineToken, Noun, Place, Verbs};
 use std::alloc::{AllocError, Global};
 
@@ -84,7 +85,11 @@ fn tokens_of(alloc: Global, command: &str) -> Result<Vec<LineToken>, AllocError>
 }
 
 /// What comes of a line of a verb.
-fn add_line(alloc: Global, verbs: &mut Verbs, command: &str) -> Result<String, AllocError> {
+fn add_line(
+    alloc: Global,
+    verbs: &mut Verbs<Unbounded>,
+    command: &str,
+) -> Result<String, AllocError> {
     let number = (number_at(command, 1) % 256) as u8;
     if number as usize >= verbs.len() {
         return String::from_str(alloc, "no verb");
@@ -105,7 +110,11 @@ fn add_line(alloc: Global, verbs: &mut Verbs, command: &str) -> Result<String, A
 }
 
 /// What comes of a verb that is extended.
-fn extend(alloc: Global, verbs: &mut Verbs, command: &str) -> Result<String, AllocError> {
+fn extend(
+    alloc: Global,
+    verbs: &mut Verbs<Unbounded>,
+    command: &str,
+) -> Result<String, AllocError> {
     let number = (number_at(command, 1) % 256) as u8;
     if number as usize >= verbs.len() {
         return String::from_str(alloc, "no verb");
@@ -115,7 +124,7 @@ fn extend(alloc: Global, verbs: &mut Verbs, command: &str) -> Result<String, All
 }
 
 /// What is written.
-fn write(alloc: Global, verbs: &Verbs, command: &str) -> Result<String, AllocError> {
+fn write(alloc: Global, verbs: &Verbs<Unbounded>, command: &str) -> Result<String, AllocError> {
     let mut written = Written::new(alloc, command)?;
     let flat = verbs.write(&mut written.flat.area, &mut written.flat.refs);
     let paged = verbs.write(&mut written.paged.area, &mut written.paged.refs);
@@ -123,7 +132,7 @@ fn write(alloc: Global, verbs: &Verbs, command: &str) -> Result<String, AllocErr
 }
 
 /// What comes of a command.
-fn obey(alloc: Global, verbs: &mut Verbs, command: &str) -> Result<String, AllocError> {
+fn obey(alloc: Global, verbs: &mut Verbs<Unbounded>, command: &str) -> Result<String, AllocError> {
     match word(command, 0) {
         "add" => match verbs.add() {
             Ok(number) => format!(in alloc; "{number}"),

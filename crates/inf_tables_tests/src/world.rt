@@ -2,6 +2,7 @@
 use crate::words::{bytes_of, number, number_at, repeated, value_of, word};
 use crate::writing::Written;
 use inf_area::Value;
+use inf_settings::bounds::Unbounded;
 use inf_world::{AddFault, Limits, Parent, ShortName, World, WorldArea};
 use std::alloc::{AllocError, Global};
 
@@ -46,7 +47,11 @@ fn first_of(command: &str) -> Option<Value> {
 }
 
 /// What comes of a declaration or a header that has a number.
-fn declare(alloc: Global, world: &mut World, command: &str) -> Result<String, AllocError> {
+fn declare(
+    alloc: Global,
+    world: &mut World<Unbounded>,
+    command: &str,
+) -> Result<String, AllocError> {
     let outcome = match word(command, 0) {
         "attribute" => world.declare_attribute(),
         "property" => {
@@ -68,7 +73,7 @@ fn declare(alloc: Global, world: &mut World, command: &str) -> Result<String, Al
 }
 
 /// What comes of an entry of a body, of its end, or of a header in error.
-fn entered(world: &mut World, command: &str) -> Result<(), AddFault> {
+fn entered(world: &mut World<Unbounded>, command: &str) -> Result<(), AddFault> {
     let number = number_at(command, 1);
     match word(command, 0) {
         "lost" => world.begin_lost(),
@@ -86,7 +91,7 @@ fn entered(world: &mut World, command: &str) -> Result<(), AddFault> {
 }
 
 /// What comes of it, in words.
-fn enter(alloc: Global, world: &mut World, command: &str) -> Result<String, AllocError> {
+fn enter(alloc: Global, world: &mut World<Unbounded>, command: &str) -> Result<String, AllocError> {
     match entered(world, command) {
         Ok(()) => String::from_str(alloc, "ok"),
         Err(fault) => format!(in alloc; "{fault:?}"),
@@ -94,7 +99,7 @@ fn enter(alloc: Global, world: &mut World, command: &str) -> Result<String, Allo
 }
 
 /// What is written.
-fn write(alloc: Global, world: &World, command: &str) -> Result<String, AllocError> {
+fn write(alloc: Global, world: &World<Unbounded>, command: &str) -> Result<String, AllocError> {
     let area = area_of(word(command, 4));
     let mut written = Written::new(alloc, command)?;
     let flat = world.write(area, &mut written.flat.area, &mut written.flat.refs);
@@ -103,7 +108,7 @@ fn write(alloc: Global, world: &World, command: &str) -> Result<String, AllocErr
 }
 
 /// What comes of a command.
-fn obey(alloc: Global, world: &mut World, command: &str) -> Result<String, AllocError> {
+fn obey(alloc: Global, world: &mut World<Unbounded>, command: &str) -> Result<String, AllocError> {
     match word(command, 0) {
         "attribute" | "property" | "individual" | "class" | "object" => {
             declare(alloc, world, command)

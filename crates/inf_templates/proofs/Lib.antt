@@ -2,4 +2,3 @@ pub mod Cuts
 pub mod Groups
 pub mod Given
 pub mod Examples
-pub mod Keeping

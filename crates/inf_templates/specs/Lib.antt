@@ -1,4 +1,3 @@
-pub mod Limits
 pub mod Meaning
 pub mod Parts
 pub mod Tasks

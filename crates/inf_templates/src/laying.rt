@@ -21,14 +21,15 @@ use arrayvec::ArrayVec;
 use inf_expressions::{Node, Nodes, Operation, Relative, Single, Step, Test};
 use inf_opcode::{Label, MOST_OPERANDS, Opcode};
 use inf_output::{Output, Simple, Veneer};
+use inf_settings::bounds::Bounds;
 use std::alloc::AllocError;
 
 /// An operand goes to the stack, unless it is simple.
-fn evaluate(
+fn evaluate<B: Bounds>(
     nodes: &Nodes,
     argument: Argument,
     tasks: &mut Tasks,
-    out: &mut Output,
+    out: &mut Output<B>,
 ) -> Result<(), AllocError>
     ensures code { OnOk result (Leads nodes.now (task_code nodes.now (task.Evaluate argument)) tasks.old tasks.new out.old out.new) }
     ensures less { OnOk result (WeighsUnder nodes.now (weight nodes.now (task.Evaluate argument)) tasks.old tasks.new) }
@@ -104,13 +105,13 @@ fn few_operands(nodes: &Nodes, few: Few) -> ArrayVec<Simple, MOST_OPERANDS>
 }
 
 /// The instruction of an operation.
-fn compute(
+fn compute<B: Bounds>(
     nodes: &Nodes,
     operation: Operation,
     a: usize,
     b: usize,
     d: u8,
-    out: &mut Output,
+    out: &mut Output<B>,
 ) -> Result<(), AllocError>
     ensures { OnOk result (out.new ≡ worked_code nodes.now (worked.Compute operation a b d) out.old) }
 {
@@ -119,13 +120,13 @@ fn compute(
 }
 
 /// An object that is found.
-fn find(
+fn find<B: Bounds>(
     nodes: &Nodes,
     relative: Relative,
     a: usize,
     d: u8,
     label: Label,
-    out: &mut Output,
+    out: &mut Output<B>,
 ) -> Result<(), AllocError>
     ensures { OnOk result (out.new ≡ worked_code nodes.now (worked.Find relative a d label) out.old) }
 {
@@ -139,14 +140,14 @@ fn find(
 }
 
 /// A test for equality with three.
-fn three(
+fn three<B: Bounds>(
     nodes: &Nodes,
     x: Simple,
     b: usize,
     c: usize,
     d: usize,
     label: Label,
-    out: &mut Output,
+    out: &mut Output<B>,
 ) -> Result<(), AllocError>
     ensures { OnOk result (out.new ≡ worked_code nodes.now (worked.Three x b c d label) out.old) }
 {
@@ -160,13 +161,13 @@ fn three(
 }
 
 /// A place in memory gets a value.
-fn store(
+fn store<B: Bounds>(
     nodes: &Nodes,
     memory: Memory,
     a: usize,
     b: usize,
     c: usize,
-    out: &mut Output,
+    out: &mut Output<B>,
 ) -> Result<(), AllocError>
     ensures { OnOk result (out.new ≡ worked_code nodes.now (worked.Store memory a b c) out.old) }
 {
@@ -179,7 +180,7 @@ fn store(
 }
 
 /// A step of a place in memory.
-fn step_in_memory(
+fn step_in_memory<B: Bounds>(
     nodes: &Nodes,
     before: bool,
     step: Step,
@@ -187,7 +188,7 @@ fn step_in_memory(
     a: usize,
     b: usize,
     store: Option<u8>,
-    out: &mut Output,
+    out: &mut Output<B>,
 ) -> Result<(), AllocError>
     ensures { OnOk result (out.new ≡ worked_code nodes.now (worked.StepInMemory before step memory a b store) out.old) }
 {
@@ -201,14 +202,14 @@ fn step_in_memory(
 }
 
 /// A test with any of a list, of whose members one instruction takes the first.
-fn any(
+fn any<B: Bounds>(
     nodes: &Nodes,
     test: Test,
     a: Argument,
     list: usize,
     sense: bool,
     label: Label,
-    out: &mut Output,
+    out: &mut Output<B>,
 ) -> Result<(), AllocError>
     ensures { OnOk result (out.new ≡ worked_code nodes.now (worked.Any test a list sense label) out.old) }
 {
@@ -220,12 +221,12 @@ fn any(
 
 /// A call with a list of arguments.
 #[tactic(auto, using(crate::proofs::Cuts::calling_given))]
-fn call(
+fn call<B: Bounds>(
     nodes: &Nodes,
     f: usize,
     list: usize,
     store: Option<u8>,
-    out: &mut Output,
+    out: &mut Output<B>,
 ) -> Result<(), AllocError>
     ensures { OnOk result (out.new ≡ worked_code nodes.now (worked.Call f list store) out.old) }
 {
@@ -235,13 +236,13 @@ fn call(
 
 /// A call of a property of an object.
 #[tactic(auto, using(crate::proofs::Cuts::calling_routine_given))]
-fn message(
+fn message<B: Bounds>(
     nodes: &Nodes,
     a: usize,
     b: usize,
     list: usize,
     store: Option<u8>,
-    out: &mut Output,
+    out: &mut Output<B>,
 ) -> Result<(), AllocError>
     ensures { OnOk result (out.new ≡ worked_code nodes.now (worked.Message a b list store) out.old) }
 {
@@ -253,11 +254,11 @@ fn message(
 }
 
 /// A call of the first of a list.
-fn indirect(
+fn indirect<B: Bounds>(
     nodes: &Nodes,
     list: usize,
     store: Option<u8>,
-    out: &mut Output,
+    out: &mut Output<B>,
 ) -> Result<(), AllocError>
     ensures { OnOk result (out.new ≡ worked_code nodes.now (worked.Indirect list store) out.old) }
 {
@@ -268,7 +269,11 @@ fn indirect(
 }
 
 /// An instruction whose parts are worked out.
-fn work(nodes: &Nodes, instruction: Worked, out: &mut Output) -> Result<(), AllocError>
+fn work<B: Bounds>(
+    nodes: &Nodes,
+    instruction: Worked,
+    out: &mut Output<B>,
+) -> Result<(), AllocError>
     ensures { OnOk result (out.new ≡ worked_code nodes.now instruction out.old) }
 {
     match instruction {
@@ -303,7 +308,12 @@ fn work(nodes: &Nodes, instruction: Worked, out: &mut Output) -> Result<(), Allo
 }
 
 /// One task, which is done or makes others.
-fn step(nodes: &Nodes, task: Task, tasks: &mut Tasks, out: &mut Output) -> Result<(), AllocError>
+fn step<B: Bounds>(
+    nodes: &Nodes,
+    task: Task,
+    tasks: &mut Tasks,
+    out: &mut Output<B>,
+) -> Result<(), AllocError>
     ensures code { OnOk result (Leads nodes.now (task_code nodes.now task) tasks.old tasks.new out.old out.new) }
     ensures less { OnOk result (WeighsUnder nodes.now (weight nodes.now task) tasks.old tasks.new) }
 {
@@ -330,7 +340,11 @@ fn step(nodes: &Nodes, task: Task, tasks: &mut Tasks, out: &mut Output) -> Resul
 }
 
 /// What is left is laid, until nothing is left.
-pub(crate) fn lay_all(nodes: &Nodes, tasks: &mut Tasks, out: &mut Output) -> Result<(), AllocError>
+pub(crate) fn lay_all<B: Bounds>(
+    nodes: &Nodes,
+    tasks: &mut Tasks,
+    out: &mut Output<B>,
+) -> Result<(), AllocError>
     ensures { OnOk result (out.new ≡ tasks_code nodes.now tasks.old out.old) }
 {
     while let Some(task) = tasks.next() {

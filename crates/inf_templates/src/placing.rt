@@ -10,6 +10,7 @@ use arrayvec::ArrayVec;
 use inf_expressions::{Operation, Relative, Single, Step, Test};
 use inf_opcode::{Branch, Destination, Label, MOST_OPERANDS, Opcode};
 use inf_output::{Output, Simple, Veneer};
+use inf_settings::bounds::Bounds;
 use std::alloc::AllocError;
 
 /// The most arguments of a call.
@@ -26,7 +27,7 @@ pub(crate) fn to(sense: bool, label: Label) -> Option<Branch>
 }
 
 /// A simple value goes to a variable or the stack.
-pub(crate) fn put(operand: Simple, d: u8, out: &mut Output) -> Result<(), AllocError>
+pub(crate) fn put<B: Bounds>(operand: Simple, d: u8, out: &mut Output<B>) -> Result<(), AllocError>
     ensures { OnOk result (out.new ≡ put operand d out.old) }
 {
     if d == STACK {
@@ -37,18 +38,18 @@ pub(crate) fn put(operand: Simple, d: u8, out: &mut Output) -> Result<(), AllocE
 }
 
 /// A variable's value goes to another one or the stack.
-pub(crate) fn load(variable: u8, d: u8, out: &mut Output) -> Result<(), AllocError>
+pub(crate) fn load<B: Bounds>(variable: u8, d: u8, out: &mut Output<B>) -> Result<(), AllocError>
     ensures { OnOk result (out.new ≡ load variable d out.old) }
 {
     out.instruct_naming(Opcode::Load, variable, &[], Some(d), None)
 }
 
 /// A branch where the truth of an operand is this.
-pub(crate) fn jump_zero(
+pub(crate) fn jump_zero<B: Bounds>(
     operand: Simple,
     sense: bool,
     label: Label,
-    out: &mut Output,
+    out: &mut Output<B>,
 ) -> Result<(), AllocError>
     ensures { OnOk result (out.new ≡ jump_zero operand sense label out.old) }
 {
@@ -56,7 +57,11 @@ pub(crate) fn jump_zero(
 }
 
 /// A step of a variable.
-pub(crate) fn stepping(step: Step, variable: u8, out: &mut Output) -> Result<(), AllocError>
+pub(crate) fn stepping<B: Bounds>(
+    step: Step,
+    variable: u8,
+    out: &mut Output<B>,
+) -> Result<(), AllocError>
     ensures { OnOk result (out.new ≡ stepping step variable out.old) }
 {
     match step {
@@ -93,11 +98,11 @@ pub(crate) fn cut<T>(list: &[T], most: usize) -> &[T]
 
 /// A call.
 #[tactic(auto, unfolding(crate::specs::Parts::calling))]
-pub(crate) fn calling(
+pub(crate) fn calling<B: Bounds>(
     routine: Simple,
     arguments: &[Simple],
     store: Option<u8>,
-    out: &mut Output,
+    out: &mut Output<B>,
 ) -> Result<(), AllocError>
     ensures { OnOk result (out.new ≡ calling routine arguments.now store out.old) }
 {
@@ -112,11 +117,11 @@ pub(crate) fn calling(
 
 /// A call of a routine of the veneer.
 #[tactic(auto, unfolding(crate::specs::Parts::calling_routine))]
-pub(crate) fn calling_routine(
+pub(crate) fn calling_routine<B: Bounds>(
     veneer: Veneer,
     arguments: &[Simple],
     store: Option<u8>,
-    out: &mut Output,
+    out: &mut Output<B>,
 ) -> Result<(), AllocError>
     ensures { OnOk result (out.new ≡ calling_routine veneer arguments.now store out.old) }
 {
@@ -207,10 +212,10 @@ pub(crate) fn leaves_new(before: bool) -> Simple
 }
 
 /// A place in memory gets a value.
-pub(crate) fn stored(
+pub(crate) fn stored<B: Bounds>(
     memory: Memory,
     operands: &[Simple; 3],
-    out: &mut Output,
+    out: &mut Output<B>,
 ) -> Result<(), AllocError>
     ensures { OnOk result (out.new ≡ stored memory operands.now out.old) }
 {
@@ -222,12 +227,12 @@ pub(crate) fn stored(
 }
 
 /// An instruction that branches.
-fn branching(
+fn branching<B: Bounds>(
     opcode: Opcode,
     operands: &[Simple],
     sense: bool,
     label: Label,
-    out: &mut Output,
+    out: &mut Output<B>,
 ) -> Result<(), AllocError>
     requires { Takes opcode (length operands.now) false true }
     ensures { OnOk result (out.new ≡ branching opcode operands.now sense label out.old) }
@@ -236,12 +241,12 @@ fn branching(
 }
 
 /// A test by a routine of the veneer.
-fn asking(
+fn asking<B: Bounds>(
     veneer: Veneer,
     operands: &[Simple],
     sense: bool,
     label: Label,
-    out: &mut Output,
+    out: &mut Output<B>,
 ) -> Result<(), AllocError>
     ensures { OnOk result (out.new ≡ asking veneer operands.now sense label out.old) }
 {
@@ -250,12 +255,12 @@ fn asking(
 }
 
 /// A test of some operands, as a branch where its truth is this.
-pub(crate) fn compared(
+pub(crate) fn compared<B: Bounds>(
     test: Test,
     operands: &[Simple],
     sense: bool,
     label: Label,
-    out: &mut Output,
+    out: &mut Output<B>,
 ) -> Result<(), AllocError>
     requires enough { 2 ≤ length operands.now }
     requires few { length operands.now ≤ most_compared test }

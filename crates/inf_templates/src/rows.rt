@@ -17,15 +17,16 @@ use crate::testing::test_branch;
 use inf_expressions::{Binary, Node, Nodes, PropertyPart, Relative, Step, Unary};
 use inf_opcode::Label;
 use inf_output::{Output, Simple, Veneer};
+use inf_settings::bounds::Bounds;
 use std::alloc::AllocError;
 
 /// A tree with its value in a variable.
-pub(crate) fn value(
+pub(crate) fn value<B: Bounds>(
     nodes: &Nodes,
     place: usize,
     to: u8,
     tasks: &mut Tasks,
-    out: &mut Output,
+    out: &mut Output<B>,
 ) -> Result<(), AllocError>
     ensures code { OnOk result (Leads nodes.now (task_code nodes.now (task.Value place to)) tasks.old tasks.new out.old out.new) }
     ensures less { OnOk result (WeighsUnder nodes.now (weight nodes.now (task.Value place to)) tasks.old tasks.new) }
@@ -38,13 +39,13 @@ pub(crate) fn value(
 }
 
 /// An operator of one part, with its value in a variable.
-fn one_value(
+fn one_value<B: Bounds>(
     nodes: &Nodes,
     op: Unary,
     a: usize,
     to: u8,
     tasks: &mut Tasks,
-    out: &mut Output,
+    out: &mut Output<B>,
 ) -> Result<(), AllocError>
     ensures code { OnOk result (Leads nodes.now ((one op (at nodes.now a)).value to) tasks.old tasks.new out.old out.new) }
     ensures less { OnOk result (WeighsUnder nodes.now (18 + load_at nodes.now a) tasks.old tasks.new) }
@@ -72,14 +73,14 @@ fn one_value(
 }
 
 /// An operator of two parts, with its value in a variable.
-fn two_value(
+fn two_value<B: Bounds>(
     nodes: &Nodes,
     op: Binary,
     a: usize,
     b: usize,
     to: u8,
     tasks: &mut Tasks,
-    out: &mut Output,
+    out: &mut Output<B>,
 ) -> Result<(), AllocError>
     ensures code { let code = (two op (at nodes.now a) (at nodes.now b)).value to in
         OnOk result (Leads nodes.now code tasks.old tasks.new out.old out.new) }
@@ -116,11 +117,11 @@ fn two_value(
 }
 
 /// A tree without result.
-pub(crate) fn alone(
+pub(crate) fn alone<B: Bounds>(
     nodes: &Nodes,
     place: usize,
     tasks: &mut Tasks,
-    out: &mut Output,
+    out: &mut Output<B>,
 ) -> Result<(), AllocError>
     ensures code { OnOk result (Leads nodes.now (task_code nodes.now (task.Alone place)) tasks.old tasks.new out.old out.new) }
     ensures less { OnOk result (WeighsUnder nodes.now (weight nodes.now (task.Alone place)) tasks.old tasks.new) }
@@ -151,13 +152,13 @@ pub(crate) fn alone(
 }
 
 /// A tree as a branch to a label where its truth is this.
-pub(crate) fn branch(
+pub(crate) fn branch<B: Bounds>(
     nodes: &Nodes,
     place: usize,
     sense: bool,
     label: Label,
     tasks: &mut Tasks,
-    out: &mut Output,
+    out: &mut Output<B>,
 ) -> Result<(), AllocError>
     ensures code { let code = task_code nodes.now (task.Branch place sense label) in
         OnOk result (Leads nodes.now code tasks.old tasks.new out.old out.new) }
@@ -203,7 +204,7 @@ pub(crate) fn branch(
 }
 
 /// What stands behind the branch of a condition whose value is wanted: 1 where it does not go to the label that is answered, and else 0.
-fn truth(d: u8, tasks: &mut Tasks, out: &mut Output) -> Result<Label, AllocError>
+fn truth<B: Bounds>(d: u8, tasks: &mut Tasks, out: &mut Output<B>) -> Result<Label, AllocError>
     ensures code { IfOk result (λ fails. (trees : List Tree) →
         Puts trees (truth_behind fails (next_label (record out.old { next = behind out.old.next })) d) tasks.old tasks.new) }
     ensures less { OnOk result ((trees : List Tree) → WeighsUnder trees 6 tasks.old tasks.new) }
@@ -248,13 +249,13 @@ fn leaf_branch(
 
 /// `&&` as a branch.
 #[tactic(auto, unfolding(crate::specs::Meaning::and_branch))]
-fn and_branch(
+fn and_branch<B: Bounds>(
     a: usize,
     b: usize,
     sense: bool,
     label: Label,
     tasks: &mut Tasks,
-    out: &mut Output,
+    out: &mut Output<B>,
 ) -> Result<(), AllocError>
     ensures code { OnOk result ((trees : List Tree) →
         Leads trees (and_branch (at trees a) (at trees b) sense label) tasks.old tasks.new out.old out.new) }
@@ -269,13 +270,13 @@ fn and_branch(
 
 /// `||` as a branch.
 #[tactic(auto, unfolding(crate::specs::Meaning::or_branch))]
-fn or_branch(
+fn or_branch<B: Bounds>(
     a: usize,
     b: usize,
     sense: bool,
     label: Label,
     tasks: &mut Tasks,
-    out: &mut Output,
+    out: &mut Output<B>,
 ) -> Result<(), AllocError>
     ensures code { OnOk result ((trees : List Tree) →
         Leads trees (or_branch (at trees a) (at trees b) sense label) tasks.old tasks.new out.old out.new) }
@@ -289,13 +290,13 @@ fn or_branch(
 }
 
 /// Two trees of which the first decides where its truth is not `sense`.
-fn both(
+fn both<B: Bounds>(
     a: usize,
     b: usize,
     sense: bool,
     label: Label,
     tasks: &mut Tasks,
-    out: &mut Output,
+    out: &mut Output<B>,
 ) -> Result<(), AllocError>
     ensures code { OnOk result ((trees : List Tree) →
         Leads trees (both (at trees a) (at trees b) sense label) tasks.old tasks.new out.old out.new) }
@@ -509,12 +510,12 @@ fn property(
 
 /// An object that an instruction finds.
 #[tactic(auto, unfolding(crate::specs::Meaning::related))]
-fn related(
+fn related<B: Bounds>(
     relative: Relative,
     a: usize,
     to: u8,
     tasks: &mut Tasks,
-    out: &mut Output,
+    out: &mut Output<B>,
 ) -> Result<(), AllocError>
     ensures code { OnOk result ((trees : List Tree) →
         Leads trees (related (related_opcode relative) (part (at trees a)) to) tasks.old tasks.new out.old out.new) }

@@ -13,16 +13,17 @@ use arrayvec::ArrayVec;
 use inf_expressions::Nodes;
 use inf_opcode::{Branch, Label, MOST_OPERANDS, Opcode};
 use inf_output::{Output, Simple, Veneer};
+use inf_settings::bounds::Bounds;
 use std::alloc::AllocError;
 
 /// The tree at a place is laid without result.
 ///
 /// It is refused only for want of memory, as the other calls are.
-pub fn lay_alone(
+pub fn lay_alone<B: Bounds>(
     tasks: &mut Tasks,
     nodes: &Nodes,
     place: usize,
-    out: &mut Output,
+    out: &mut Output<B>,
 ) -> Result<(), AllocError>
     ensures { OnOk result (out.new ≡ (at nodes.now place).alone out.old) }
 {
@@ -30,12 +31,12 @@ pub fn lay_alone(
 }
 
 /// The tree at a place is laid with its value in a variable, of which 0 is the stack.
-pub fn lay_value(
+pub fn lay_value<B: Bounds>(
     tasks: &mut Tasks,
     nodes: &Nodes,
     place: usize,
     variable: u8,
-    out: &mut Output,
+    out: &mut Output<B>,
 ) -> Result<(), AllocError>
     ensures { OnOk result (out.new ≡ (at nodes.now place).value variable out.old) }
 {
@@ -43,13 +44,13 @@ pub fn lay_value(
 }
 
 /// The tree at a place is laid as a branch to a label where its truth is `sense`.
-pub fn lay_branch(
+pub fn lay_branch<B: Bounds>(
     tasks: &mut Tasks,
     nodes: &Nodes,
     place: usize,
     sense: bool,
     label: Label,
-    out: &mut Output,
+    out: &mut Output<B>,
 ) -> Result<(), AllocError>
     ensures { OnOk result (out.new ≡ (at nodes.now place).branch sense label out.old) }
 {
@@ -57,14 +58,14 @@ pub fn lay_branch(
 }
 
 /// An instruction of some parts is laid, none of whose operands names a variable; its opcode takes so many, the store and the branch.
-pub fn lay_instruction(
+pub fn lay_instruction<B: Bounds>(
     tasks: &mut Tasks,
     nodes: &Nodes,
     opcode: Opcode,
     arguments: &[Argument],
     store: Option<u8>,
     branch: Option<Branch>,
-    out: &mut Output,
+    out: &mut Output<B>,
 ) -> Result<(), AllocError>
     requires { Takes opcode (length arguments.now) (is_some store) (is_some branch) }
     ensures { OnOk result (out.new ≡ worked opcode (parts_of nodes.now arguments.now) store branch out.old) }
@@ -76,13 +77,13 @@ pub fn lay_instruction(
 
 /// A call is laid, with its result in a variable if it is wanted. Of the arguments the first seven are given.
 #[tactic(auto, using(crate::proofs::Cuts::calling_given))]
-pub fn lay_call(
+pub fn lay_call<B: Bounds>(
     tasks: &mut Tasks,
     nodes: &Nodes,
     routine: Argument,
     arguments: &[Argument],
     store: Option<u8>,
-    out: &mut Output,
+    out: &mut Output<B>,
 ) -> Result<(), AllocError>
     ensures { OnOk result (out.new ≡ call (part_of nodes.now routine) (parts_of nodes.now arguments.now) store out.old) }
 {
@@ -94,13 +95,13 @@ pub fn lay_call(
 
 /// A call of a routine of the veneer is laid, with its result in a variable if it is wanted. Of the arguments the first seven are given.
 #[tactic(auto, using(crate::proofs::Cuts::calling_routine_given))]
-pub fn lay_routine_call(
+pub fn lay_routine_call<B: Bounds>(
     tasks: &mut Tasks,
     nodes: &Nodes,
     veneer: Veneer,
     arguments: &[Argument],
     store: Option<u8>,
-    out: &mut Output,
+    out: &mut Output<B>,
 ) -> Result<(), AllocError>
     ensures { OnOk result (out.new ≡ call_routine veneer (parts_of nodes.now arguments.now) store out.old) }
 {
@@ -110,7 +111,12 @@ pub fn lay_routine_call(
 }
 
 /// A task is laid with all that it makes.
-fn lay(tasks: &mut Tasks, nodes: &Nodes, task: Task, out: &mut Output) -> Result<(), AllocError>
+fn lay<B: Bounds>(
+    tasks: &mut Tasks,
+    nodes: &Nodes,
+    task: Task,
+    out: &mut Output<B>,
+) -> Result<(), AllocError>
     ensures { OnOk result (out.new ≡ tasks_code nodes.now (task ∷ []) out.old) }
 {
     tasks.clear();
@@ -120,11 +126,11 @@ fn lay(tasks: &mut Tasks, nodes: &Nodes, task: Task, out: &mut Output) -> Result
 
 /// Parts that are not simple go to the stack, from the last to the first.
 #[tactic(auto, using(crate::proofs::Given::evaluated_last))]
-fn evaluate_all(
+fn evaluate_all<B: Bounds>(
     tasks: &mut Tasks,
     nodes: &Nodes,
     arguments: &[Argument],
-    out: &mut Output,
+    out: &mut Output<B>,
 ) -> Result<(), AllocError>
     ensures { OnOk result (out.new ≡ evaluated (parts_of nodes.now arguments.now) out.old) }
 {

@@ -12,11 +12,12 @@ use crate::tasks::{Argument, Task, Tasks, Worked};
 use inf_expressions::{Nodes, Test};
 use inf_opcode::Label;
 use inf_output::{Output, Simple};
+use inf_settings::bounds::Bounds;
 use std::alloc::AllocError;
 
 /// A test of a tree against a list, as a branch to a label where its truth is this.
 #[tactic(auto, unfolding(crate::specs::Meaning::test_branch))]
-pub(crate) fn test_branch(
+pub(crate) fn test_branch<B: Bounds>(
     nodes: &Nodes,
     test: Test,
     a: usize,
@@ -24,7 +25,7 @@ pub(crate) fn test_branch(
     sense: bool,
     label: Label,
     tasks: &mut Tasks,
-    out: &mut Output,
+    out: &mut Output<B>,
 ) -> Result<(), AllocError>
     ensures code { let code = test_branch test (at nodes.now a) (at nodes.now list) sense label in
         OnOk result (Leads nodes.now code tasks.old tasks.new out.old out.new) }

@@ -6,6 +6,7 @@ use inf_expressions::{
 };
 use inf_names::symbols::Symbols;
 use inf_scanner::Place;
+use inf_settings::bounds::Unbounded;
 use std::alloc::{AllocError, Global};
 
 /// Where all tokens stand.
@@ -96,7 +97,7 @@ fn operator(word: &str) -> Option<Symbol> {
 }
 
 /// What a name stands for that is known later.
-fn later(names: &mut Symbols<Place>, name: &str) -> Operand {
+fn later(names: &mut Symbols<Place, Unbounded>, name: &str) -> Operand {
     if name.len() > 35 {
         return Operand::Unknown;
     }
@@ -107,7 +108,7 @@ fn later(names: &mut Symbols<Place>, name: &str) -> Operand {
 }
 
 /// What a leaf stands for.
-fn operand(names: &mut Symbols<Place>, word: &str) -> Operand {
+fn operand(names: &mut Symbols<Place, Unbounded>, word: &str) -> Operand {
     if let Some(function) = function(word) {
         return Operand::Function(function);
     }
@@ -123,7 +124,7 @@ fn operand(names: &mut Symbols<Place>, word: &str) -> Operand {
 /// The trees of some words.
 pub(crate) fn trees(
     alloc: Global,
-    names: &mut Symbols<Place>,
+    names: &mut Symbols<Place, Unbounded>,
     spelled: &str,
 ) -> Result<Forest, AllocError> {
     let mut symbols = Vec::new(alloc);

@@ -11,6 +11,7 @@ use inf_names::symbols::Symbols;
 use inf_opcode::Opcode;
 use inf_output::{Output, Simple, Strings, Veneer};
 use inf_scanner::Place;
+use inf_settings::bounds::Unbounded;
 use inf_settings::settings::Settings;
 use inf_tables::Tables;
 use inf_templates::{
@@ -22,7 +23,7 @@ use std::alloc::{AllocError, Global};
 #[derive(Drop)]
 struct Laying {
     tasks: Tasks,
-    out: Output,
+    out: Output<Unbounded>,
 }
 
 impl Laying {
@@ -169,7 +170,11 @@ fn argument(forest: &Forest, number: usize) -> Argument {
 }
 
 /// Adds the names that were used.
-fn add_names(alloc: Global, told: &mut String, names: &Symbols<Place>) -> Result<(), AllocError> {
+fn add_names(
+    alloc: Global,
+    told: &mut String,
+    names: &Symbols<Place, Unbounded>,
+) -> Result<(), AllocError> {
     told.push_str("; names")?;
     for number in 0..names.len() {
         if let Some((spelled, _)) = names.use_at(number) {
@@ -183,7 +188,7 @@ fn add_names(alloc: Global, told: &mut String, names: &Symbols<Place>) -> Result
 }
 
 /// What stands for names: from 1000 on in hexadecimal digits.
-fn numbers(alloc: Global, names: &Symbols<Place>) -> Result<Vec<u16>, AllocError> {
+fn numbers(alloc: Global, names: &Symbols<Place, Unbounded>) -> Result<Vec<u16>, AllocError> {
     let mut numbers = Vec::new(alloc);
     let mut number: u16 = 0x1000;
     for _ in 0..names.len() {
@@ -194,7 +199,7 @@ fn numbers(alloc: Global, names: &Symbols<Place>) -> Result<Vec<u16>, AllocError
 }
 
 /// The area of some code, with the numbers of names in their places.
-fn filled(alloc: Global, code: Code, numbers: &[u16]) -> Result<PagedArea, AllocError> {
+fn filled(alloc: Global, code: Code<Unbounded>, numbers: &[u16]) -> Result<PagedArea, AllocError> {
     let mut refs = Refs::new(alloc, usize::MAX);
     let Ok(mut area) = code.into_area(Target::Place(AreaName::Code, 8), &mut refs) else {
         return Err(AllocError);
@@ -213,7 +218,7 @@ fn filled(alloc: Global, code: Code, numbers: &[u16]) -> Result<PagedArea, Alloc
 /// Tells of some bytes and names.
 fn told_bytes(
     alloc: Global,
-    names: &Symbols<Place>,
+    names: &Symbols<Place, Unbounded>,
     area: &PagedArea,
 ) -> Result<String, AllocError> {
     let mut told = String::from_str(alloc, "bytes")?;
@@ -223,14 +228,22 @@ fn told_bytes(
 }
 
 /// Tells of the bytes of closed routines, and of their names.
-fn told_area(alloc: Global, names: &Symbols<Place>, code: Code) -> Result<String, AllocError> {
+fn told_area(
+    alloc: Global,
+    names: &Symbols<Place, Unbounded>,
+    code: Code<Unbounded>,
+) -> Result<String, AllocError> {
     let numbers = numbers(alloc, names)?;
     let area = filled(alloc, code, &numbers)?;
     told_bytes(alloc, names, &area)
 }
 
 /// Closes the routine, and tells of its bytes and names.
-fn told_closed(alloc: Global, names: Symbols<Place>, mut code: Code) -> Result<String, AllocError> {
+fn told_closed(
+    alloc: Global,
+    names: Symbols<Place, Unbounded>,
+    mut code: Code<Unbounded>,
+) -> Result<String, AllocError> {
     match code.close(RoutineKind::Plain) {
         Ok(()) => told_area(alloc, &names, code),
         Err(fault) => format!(in alloc; "{fault:?}"),
@@ -238,7 +251,7 @@ fn told_closed(alloc: Global, names: Symbols<Place>, mut code: Code) -> Result<S
 }
 
 /// The same, unless a limit was passed.
-fn told_of(alloc: Global, out: Output) -> Result<String, AllocError> {
+fn told_of(alloc: Global, out: Output<Unbounded>) -> Result<String, AllocError> {
     match out.full() {
         Some(limit) => format!(in alloc; "Full({limit:?})"),
         None => told_closed(alloc, out.names, out.code),
@@ -246,7 +259,11 @@ fn told_of(alloc: Global, out: Output) -> Result<String, AllocError> {
 }
 
 /// An output with some names, for as many labels, bytes and references as a way says.
-fn output_for(alloc: Global, way: &str, names: Symbols<Place>) -> Result<Output, AllocError> {
+fn output_for(
+    alloc: Global,
+    way: &str,
+    names: Symbols<Place, Unbounded>,
+) -> Result<Output<Unbounded>, AllocError> {
     let limits = CodeLimits {
         labels: number_or(way, 3, 1_000),
         code: number_or(way, 4, 262_144),

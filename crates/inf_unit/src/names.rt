@@ -1,5 +1,6 @@
 //! The names of a source, and the routine with which its story begins.
 ghost use Rattle.std.specs.Prelude.{◌≡◌, OnOk};
+ghost use Rattle.inf_settings.specs.Bounds.{Allows};
 ghost use Rattle.inf_unit.specs.Names.{main_of, no_symbols, routine_of, with_all_undeclared};
 
 use crate::messages::{Diagnostics, location};
@@ -8,19 +9,25 @@ use inf_names::hashing::NameHashing;
 use inf_names::meanings::Meaning;
 use inf_names::symbols::{Found, Symbols};
 use inf_report::messages::Message;
+use inf_settings::bounds::Bounds;
 use inf_settings::setting::Setting;
 use inf_settings::settings::Settings;
 use std::alloc::{AllocError, Global};
 
 /// No names, of which there may be as many as the settings say. It takes no memory until the first one comes.
-pub fn no_symbols(alloc: Global, settings: &Settings, hashing: NameHashing) -> Symbols<Place>
+pub fn no_symbols<B: Bounds>(
+    alloc: Global,
+    settings: &Settings,
+    hashing: NameHashing,
+) -> Symbols<Place, B>
+    requires { Allows B.allows settings.now }
     ensures { result ≡ no_symbols settings.now }
 {
-    Symbols::new(alloc, settings.of(Setting::Symbols), false, hashing)
+    Symbols::new(alloc, settings.bound::<B>(Setting::Symbols), false, hashing)
 }
 
 /// The place of the routine with which a story begins, in bytes from the front of the code.
-pub fn main_of(names: &Symbols<Place>) -> Option<usize>
+pub fn main_of<B: Bounds>(names: &Symbols<Place, B>) -> Option<usize>
     ensures { result ≡ main_of names.now }
 {
     match names.look(b"main") {
@@ -40,8 +47,8 @@ fn routine_of(meaning: Meaning) -> Option<usize>
 }
 
 /// Tells each name that was used and never declared, where it was first used.
-pub fn tell_undeclared(
-    names: &Symbols<Place>,
+pub fn tell_undeclared<B: Bounds>(
+    names: &Symbols<Place, B>,
     files: &Stack,
     messages: &mut Diagnostics,
 ) -> Result<(), AllocError>

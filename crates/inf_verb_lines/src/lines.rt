@@ -14,6 +14,7 @@ use inf_names::spellings::Name;
 use inf_names::symbols::{Found, Symbols};
 use inf_output::Output;
 use inf_scanner::{DictionaryWord, Mark, TokenKind};
+use inf_settings::bounds::Bounds;
 use inf_settings::setting::Setting;
 use inf_tables::{LineFault, LineToken, Noun, WordUse};
 use inf_unit::unit::{next_place, order};
@@ -128,7 +129,7 @@ fn is_lone_name(noun: Option<Noun>, found: Found<Place>) -> bool
 }
 
 /// Whether a name can stand where it does in a line.
-fn is_right(named: Named, name: &[u8], names: &Symbols<Place>) -> bool
+fn is_right<B: Bounds>(named: Named, name: &[u8], names: &Symbols<Place, B>) -> bool
     requires { length name.now ≤ 32 }
     ensures { result ≡ is_right named name.now names.now }
 {
@@ -151,7 +152,11 @@ fn wrong_unless(is_right: bool, at: usize) -> Option<Finding>
 }
 
 /// What is wrong with the token at a place of a line.
-fn token_finding(tokens: &UnitTokens, at: usize, names: &Symbols<Place>) -> Option<Finding>
+fn token_finding<B: Bounds>(
+    tokens: &UnitTokens,
+    at: usize,
+    names: &Symbols<Place, B>,
+) -> Option<Finding>
     ensures { result ≡ token_finding tokens.now at names.now }
 {
     match tokens.name_at(at) {
@@ -161,7 +166,11 @@ fn token_finding(tokens: &UnitTokens, at: usize, names: &Symbols<Place>) -> Opti
 }
 
 /// The least of what is wrong with the tokens of a line before a place.
-fn tokens_finding(end: usize, tokens: &UnitTokens, names: &Symbols<Place>) -> Option<Finding>
+fn tokens_finding<B: Bounds>(
+    end: usize,
+    tokens: &UnitTokens,
+    names: &Symbols<Place, B>,
+) -> Option<Finding>
     ensures { result ≡ tokens_finding end tokens.now names.now }
 {
     let mut found = None;
@@ -184,7 +193,10 @@ fn preposition(tokens: &UnitTokens, at: usize, word: DictionaryWord) -> LineToke
 }
 
 /// The number of the parsing routine of a name, which is used.
-fn parsing_routine(name: Option<NameToken<'_>>, out: &mut Output) -> Result<u16, AllocError>
+fn parsing_routine<B: Bounds>(
+    name: Option<NameToken<'_>>,
+    out: &mut Output<B>,
+) -> Result<u16, AllocError>
     requires { IfSome name (λ n. length n.bytes.now ≤ 32) }
     ensures { IfOk result (λ number. (out.new, number) ≡ parsing_routine (option_map named_token name.entry) out.old) }
 {
@@ -198,11 +210,11 @@ fn parsing_routine(name: Option<NameToken<'_>>, out: &mut Output) -> Result<u16,
 }
 
 /// The token that a name is by itself: a noun, an attribute or a routine, which is used.
-fn lone_by(
+fn lone_by<B: Bounds>(
     noun: Option<Noun>,
     attribute: Option<u8>,
     name: Option<NameToken<'_>>,
-    out: &mut Output,
+    out: &mut Output<B>,
 ) -> Result<Option<LineToken>, AllocError>
     requires { IfSome name (λ n. length n.bytes.now ≤ 32) }
     ensures { IfOk result (λ token. (out.new, token) ≡ lone_by noun attribute (option_map named_token name.entry) out.old) }
@@ -215,10 +227,10 @@ fn lone_by(
 }
 
 /// The token that the name at a place of a line is by itself.
-fn lone_token(
+fn lone_token<B: Bounds>(
     tokens: &UnitTokens,
     at: usize,
-    out: &mut Output,
+    out: &mut Output<B>,
 ) -> Result<Option<LineToken>, AllocError>
     ensures { IfOk result (λ token. (out.new, token) ≡ lone_token tokens.now at out.old) }
 {
@@ -228,11 +240,11 @@ fn lone_token(
 }
 
 /// The token that the name at a place of a line is; one before a sign is none.
-fn name_token(
+fn name_token<B: Bounds>(
     named: Named,
     tokens: &UnitTokens,
     at: usize,
-    out: &mut Output,
+    out: &mut Output<B>,
 ) -> Result<Option<LineToken>, AllocError>
     ensures { IfOk result (λ token. (out.new, token) ≡ name_token named tokens.now at out.old) }
 {
@@ -251,10 +263,10 @@ fn name_token(
 }
 
 /// The token that stands at a place of a line, which is used; signs are none.
-fn line_token(
+fn line_token<B: Bounds>(
     tokens: &UnitTokens,
     at: usize,
-    out: &mut Output,
+    out: &mut Output<B>,
 ) -> Result<Option<LineToken>, AllocError>
     ensures { IfOk result (λ token. (out.new, token) ≡ line_token tokens.now at out.old) }
 {
@@ -279,10 +291,10 @@ fn add_token(token: Option<LineToken>, line: &mut Vec<LineToken>) -> Result<(), 
 }
 
 /// The token at a place of a line is the next one of it, and is used.
-fn add_next(
+fn add_next<B: Bounds>(
     tokens: &UnitTokens,
     at: usize,
-    out: &mut Output,
+    out: &mut Output<B>,
     line: &mut Vec<LineToken>,
 ) -> Result<(), AllocError>
     ensures { OnOk result ((out.new, line.new.items) ≡ with_next (line_token tokens.now at out.old) line.old.items) }
@@ -292,11 +304,11 @@ fn add_next(
 }
 
 /// The tokens that stand before a place of a line, which are used.
-fn line_tokens(
+fn line_tokens<B: Bounds>(
     alloc: Global,
     end: usize,
     tokens: &UnitTokens,
-    out: &mut Output,
+    out: &mut Output<B>,
 ) -> Result<Vec<LineToken>, AllocError>
     ensures { IfOk result (λ line. (out.new, line.items) ≡ line_tokens end tokens.now out.old) }
 {
@@ -330,7 +342,7 @@ fn arrow_in(tokens: &UnitTokens) -> usize
 }
 
 /// The number of the action of a name, which appears there.
-fn action_by(name: Option<NameToken<'_>>, out: &mut Output) -> Result<u16, AllocError>
+fn action_by<B: Bounds>(name: Option<NameToken<'_>>, out: &mut Output<B>) -> Result<u16, AllocError>
     requires { IfSome name (λ n. length n.bytes.now ≤ 32) }
     ensures { IfOk result (λ number. (out.new, number) ≡ action_by (option_map named_token name.entry) out.old) }
 {
@@ -348,13 +360,13 @@ fn is_reverse(tokens: &UnitTokens, arrow: usize) -> bool
 }
 
 /// A line of the verb of a number, if there is one.
-fn one_line(
+fn one_line<B: Bounds>(
     number: u8,
     place: LinePlace,
     action: u16,
     is_reverse: bool,
     line: &[LineToken],
-    out: &mut Output,
+    out: &mut Output<B>,
 ) -> Result<(), AllocError>
     ensures { let l : LineOf = record { action = action; is_reverse = is_reverse; tokens = line.now } in
         OnOk result (out.new ≡ one_line number place l out.old) }
@@ -377,12 +389,12 @@ fn one_line(
 }
 
 /// A line of the verb whose lines are read, if its header had no error.
-fn keep_line(
+fn keep_line<B: Bounds>(
     extending: Extending,
     action: u16,
     is_reverse: bool,
     line: &[LineToken],
-    out: &mut Output,
+    out: &mut Output<B>,
 ) -> Result<(), AllocError>
     ensures { let l : LineOf = record { action = action; is_reverse = is_reverse; tokens = line.now } in
         OnOk result (out.new ≡ line_kept extending l out.old) }
@@ -394,12 +406,12 @@ fn keep_line(
 }
 
 /// What stands behind the tokens of a line: an arrow and an action, which appears there. The line is one of the verb whose lines are read.
-fn add_behind(
+fn add_behind<B: Bounds>(
     extending: Extending,
     tokens: &UnitTokens,
     arrow: usize,
     line: &[LineToken],
-    out: &mut Output,
+    out: &mut Output<B>,
 ) -> Result<(), AllocError>
     ensures { OnOk result (out.new ≡ line_behind extending tokens.now arrow (out.old, line.now)) }
 {
@@ -408,12 +420,12 @@ fn add_behind(
 }
 
 /// A line with which nothing is wrong: what it names is used, and where its verb has no error it is one of its lines.
-fn add_line(
+fn add_line<B: Bounds>(
     alloc: Global,
     extending: Extending,
     tokens: &UnitTokens,
     arrow: usize,
-    out: &mut Output,
+    out: &mut Output<B>,
 ) -> Result<(), AllocError>
     ensures { OnOk result (out.new ≡ line_added extending tokens.now arrow out.old) }
 {
@@ -422,8 +434,8 @@ fn add_line(
 }
 
 /// What a line does with which nothing is wrong, whose action stands behind an arrow.
-fn lay_line(
-    compilation: &mut Compilation,
+fn lay_line<B: Bounds>(
+    compilation: &mut Compilation<B>,
     found: Option<Finding>,
     arrow: usize,
 ) -> Result<(), AllocError>
@@ -442,8 +454,8 @@ fn lay_line(
 }
 
 /// The same at the end of a line that begins at a place, of which this was found.
-fn end_found(
-    compilation: &mut Compilation,
+fn end_found<B: Bounds>(
+    compilation: &mut Compilation<B>,
     files: &Stack,
     first: Place,
     found: Option<Finding>,
@@ -455,22 +467,29 @@ fn end_found(
     end_of_verb(compilation, files, first, found)
 }
 
+/// What is wrong with the tokens of a line whose action stands behind an arrow.
+fn line_finding<B: Bounds>(compilation: &Compilation<B>, arrow: usize) -> Option<Finding>
+    ensures { let w = work compilation.now in result ≡ tokens_finding arrow w.unit.tokens w.output.names }
+{
+    tokens_finding(arrow, &compilation.unit.tokens, &compilation.output.names)
+}
+
 /// A line that begins at a place, and whose action stands behind an arrow.
-fn judge_line(
-    compilation: &mut Compilation,
+fn judge_line<B: Bounds>(
+    compilation: &mut Compilation<B>,
     files: &Stack,
     first: Place,
     arrow: usize,
 ) -> Result<(), AllocError>
     ensures { OnOk result (work compilation.new ≡ line_judged files.now.names first arrow (work compilation.old)) }
 {
-    let found = tokens_finding(arrow, &compilation.unit.tokens, &compilation.output.names);
+    let found = line_finding(compilation, arrow);
     end_found(compilation, files, first, found, arrow)
 }
 
 /// A line ends, before a token at a place.
-pub fn end_line(
-    compilation: &mut Compilation,
+pub fn end_line<B: Bounds>(
+    compilation: &mut Compilation<B>,
     files: &Stack,
     place: Place,
 ) -> Result<(), AllocError>

@@ -16,6 +16,7 @@ use inf_names::spellings::Name;
 use inf_output::Output;
 use inf_report::messages::FixedLimit;
 use inf_scanner::{DictionaryWord, Mark, TokenKind};
+use inf_settings::bounds::Bounds;
 use inf_settings::setting::Setting;
 use inf_tables::{VerbFault, WordUse};
 use inf_unit::tokens::is_mark;
@@ -161,7 +162,7 @@ fn verb_head(tokens: &UnitTokens) -> VerbHead
 }
 
 /// The number of the verb whose word stands at a place.
-fn verb_named(tokens: &UnitTokens, at: usize, out: &Output) -> Option<u8>
+fn verb_named<B: Bounds>(tokens: &UnitTokens, at: usize, out: &Output<B>) -> Option<u8>
     ensures { result ≡ verb_named tokens.now at out.now }
 {
     match word_at(tokens, at) {
@@ -181,14 +182,14 @@ fn no_verb_finding(at: usize, verb: Option<u8>) -> Option<Finding>
 }
 
 /// Whether there are as many verbs as there may be.
-fn has_most_verbs(out: &Output) -> bool
+fn has_most_verbs<B: Bounds>(out: &Output<B>) -> bool
     ensures { result ≡ has_most_verbs out.now }
 {
     out.tables.verbs.len() >= MOST_VERBS
 }
 
 /// Whether a verb has this number.
-pub(crate) fn has_verb(number: u8, out: &Output) -> bool
+pub(crate) fn has_verb<B: Bounds>(number: u8, out: &Output<B>) -> bool
     ensures value { result ≡ has_verb number out.now }
     ensures there { result ≡ true → number < length out.now.tables.verbs.list }
 {
@@ -196,7 +197,11 @@ pub(crate) fn has_verb(number: u8, out: &Output) -> bool
 }
 
 /// What is wrong with the verb that gets words: behind a sign none is named, or there are too many for another one.
-fn like_finding(like: Option<usize>, tokens: &UnitTokens, out: &Output) -> Option<Finding>
+fn like_finding<B: Bounds>(
+    like: Option<usize>,
+    tokens: &UnitTokens,
+    out: &Output<B>,
+) -> Option<Finding>
     ensures { result ≡ like_finding like tokens.now out.now }
 {
     match like {
@@ -245,11 +250,11 @@ fn misfit_finding(first: usize, place: Option<usize>) -> Option<Finding>
 }
 
 /// What is wrong with the words of a header.
-fn words_finding(
+fn words_finding<B: Bounds>(
     alloc: Global,
     head: VerbHead,
     tokens: &UnitTokens,
-    out: &Output,
+    out: &Output<B>,
 ) -> Result<Option<Finding>, AllocError>
     ensures { IfOk result (λ f. f ≡ words_finding head tokens.now out.now) }
 {
@@ -259,11 +264,11 @@ fn words_finding(
 }
 
 /// What is wrong with the header of `Verb`.
-fn head_finding(
+fn head_finding<B: Bounds>(
     alloc: Global,
     head: VerbHead,
     tokens: &UnitTokens,
-    out: &Output,
+    out: &Output<B>,
 ) -> Result<Option<Finding>, AllocError>
     ensures { IfOk result (λ f. f ≡ head_finding head tokens.now out.now) }
 {
@@ -272,7 +277,7 @@ fn head_finding(
 }
 
 /// There would be more verbs, or lines, than this limit allows. Nobody asks any more which verb words are of.
-fn pass_verb(limit: Setting, out: &mut Output) -> Opened
+fn pass_verb<B: Bounds>(limit: Setting, out: &mut Output<B>) -> Opened
     ensures { (out.new, result) ≡ verb_passed limit out.old }
 {
     out.pass_table(limit);
@@ -283,7 +288,7 @@ fn pass_verb(limit: Setting, out: &mut Output) -> Opened
 }
 
 /// A new verb, whose lines follow. Where there would be too many that limit is passed.
-fn new_verb(out: &mut Output) -> Result<Opened, AllocError>
+fn new_verb<B: Bounds>(out: &mut Output<B>) -> Result<Opened, AllocError>
     ensures { IfOk result (λ opened. (out.new, opened) ≡ new_verb out.old) }
 {
     match out.tables.verbs.add() {
@@ -302,10 +307,10 @@ fn new_verb(out: &mut Output) -> Result<Opened, AllocError>
 }
 
 /// The verb that gets the words of a header: one that is named behind a sign, or a new one.
-fn begin_verb(
+fn begin_verb<B: Bounds>(
     like: Option<usize>,
     tokens: &UnitTokens,
-    out: &mut Output,
+    out: &mut Output<B>,
 ) -> Result<Opened, AllocError>
     ensures { IfOk result (λ opened. (out.new, opened) ≡ verb_begun like tokens.now out.old) }
 {
@@ -330,10 +335,10 @@ fn verb_use(number: u8, is_meta: bool) -> WordUse
 }
 
 /// A word is used, if there is one.
-pub fn use_word(
+pub fn use_word<B: Bounds>(
     word: Option<DictionaryWord>,
     word_use: WordUse,
-    out: &mut Output,
+    out: &mut Output<B>,
 ) -> Result<(), AllocError>
     ensures { OnOk result (out.new ≡ word_used word word_use out.old) }
 {
@@ -344,11 +349,11 @@ pub fn use_word(
 }
 
 /// The words before a place are used.
-fn use_words(
+fn use_words<B: Bounds>(
     end: usize,
     tokens: &UnitTokens,
     word_use: WordUse,
-    out: &mut Output,
+    out: &mut Output<B>,
 ) -> Result<(), AllocError>
     ensures { OnOk result (out.new ≡ words_used end tokens.now word_use out.old) }
 {
@@ -359,11 +364,11 @@ fn use_words(
 }
 
 /// The word at a place is used as one of a verb, if there is a place.
-fn use_like(
+fn use_like<B: Bounds>(
     like: Option<usize>,
     tokens: &UnitTokens,
     number: u8,
-    out: &mut Output,
+    out: &mut Output<B>,
 ) -> Result<(), AllocError>
     ensures { OnOk result (out.new ≡ like_used like tokens.now number out.old) }
 {
@@ -374,11 +379,11 @@ fn use_like(
 }
 
 /// A verb gets the words of a header, if there is one.
-fn give_words(
+fn give_words<B: Bounds>(
     verb: Option<u8>,
     head: VerbHead,
     tokens: &UnitTokens,
-    out: &mut Output,
+    out: &mut Output<B>,
 ) -> Result<(), AllocError>
     ensures { OnOk result (out.new ≡ words_given verb head tokens.now out.old) }
 {
@@ -390,10 +395,10 @@ fn give_words(
 }
 
 /// A verb gets the words of a header with which nothing is wrong. Answers the verb whose lines follow.
-fn open_verb(
+fn open_verb<B: Bounds>(
     head: VerbHead,
     tokens: &UnitTokens,
-    out: &mut Output,
+    out: &mut Output<B>,
 ) -> Result<Option<u8>, AllocError>
     ensures { IfOk result (λ lines. (out.new, lines) ≡ verb_opened head tokens.now out.old) }
 {
@@ -416,7 +421,11 @@ fn place_named(name: &[u8]) -> LinePlace
 }
 
 /// Further lines of the verb of a number go to a place, if there is one.
-fn extend_lines(number: u8, place: LinePlace, out: &mut Output) -> Result<(), AllocError>
+fn extend_lines<B: Bounds>(
+    number: u8,
+    place: LinePlace,
+    out: &mut Output<B>,
+) -> Result<(), AllocError>
     ensures { OnOk result (out.new ≡ lines_extended number place out.old) }
 {
     if has_verb(number, out) {
@@ -427,11 +436,11 @@ fn extend_lines(number: u8, place: LinePlace, out: &mut Output) -> Result<(), Al
 }
 
 /// Further lines of a verb go to a place, and the word by which it is named is used.
-fn extend_verb(
+fn extend_verb<B: Bounds>(
     verb: Option<u8>,
     place: LinePlace,
     word: Option<DictionaryWord>,
-    out: &mut Output,
+    out: &mut Output<B>,
 ) -> Result<(), AllocError>
     ensures { OnOk result (out.new ≡ verb_extended verb place word out.old) }
 {
@@ -450,8 +459,8 @@ fn lines_of(verb: Option<u8>, place: LinePlace) -> Extending
 }
 
 /// The end of a unit of a verb that begins at a place.
-pub(crate) fn end_of_verb(
-    compilation: &mut Compilation,
+pub(crate) fn end_of_verb<B: Bounds>(
+    compilation: &mut Compilation<B>,
     files: &Stack,
     first: Place,
     found: Option<Finding>,
@@ -462,8 +471,8 @@ pub(crate) fn end_of_verb(
 }
 
 /// Opens the verb of a header, unless something is wrong with it.
-fn open_header(
-    compilation: &mut Compilation,
+fn open_header<B: Bounds>(
+    compilation: &mut Compilation<B>,
     found: Option<Finding>,
     head: VerbHead,
 ) -> Result<(), AllocError>
@@ -480,8 +489,8 @@ fn open_header(
 }
 
 /// The header of `Verb`, in which this stands.
-fn verb_header_with(
-    compilation: &mut Compilation,
+fn verb_header_with<B: Bounds>(
+    compilation: &mut Compilation<B>,
     files: &Stack,
     first: Place,
     head: VerbHead,
@@ -499,8 +508,8 @@ fn verb_header_with(
 }
 
 /// The header of `Verb`.
-pub fn verb_header(
-    compilation: &mut Compilation,
+pub fn verb_header<B: Bounds>(
+    compilation: &mut Compilation<B>,
     files: &Stack,
     first: Place,
 ) -> Result<(), AllocError>
@@ -511,8 +520,8 @@ pub fn verb_header(
 }
 
 /// The header of `Extend`, which names a verb at a place among its tokens, or none.
-fn extend_with(
-    compilation: &mut Compilation,
+fn extend_with<B: Bounds>(
+    compilation: &mut Compilation<B>,
     files: &Stack,
     first: Place,
     at: usize,
@@ -528,8 +537,8 @@ fn extend_with(
 }
 
 /// The header of `Extend`.
-pub fn extend_header(
-    compilation: &mut Compilation,
+pub fn extend_header<B: Bounds>(
+    compilation: &mut Compilation<B>,
     files: &Stack,
     first: Place,
 ) -> Result<(), AllocError>
@@ -542,8 +551,8 @@ pub fn extend_header(
 }
 
 /// Declares a name as a fake action.
-fn one_fake(
-    compilation: &mut Compilation,
+fn one_fake<B: Bounds>(
+    compilation: &mut Compilation<B>,
     files: &Stack,
     first: Place,
     name: &Name,
@@ -557,8 +566,8 @@ fn one_fake(
 }
 
 /// Declares the first of these names as a fake action.
-pub fn fake_action(
-    compilation: &mut Compilation,
+pub fn fake_action<B: Bounds>(
+    compilation: &mut Compilation<B>,
     files: &Stack,
     first: Place,
     names: &[Name],

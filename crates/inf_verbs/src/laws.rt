@@ -6,6 +6,7 @@ ghost use Rattle.inf_verbs.specs.Verbs.{VerbOf, extended, grammar_cells, lines_o
 ghost use Rattle.inf_verbs.specs.declared.verbs.Place.TheVariants.{First, Last, Replace};
 
 use crate::verbs::Verbs;
+use inf_settings::bounds::Bounds;
 
 /// The lines of a verb behind some more: those of `Extend first` stand before the old ones, those of `last` behind them, those of
 /// `replace` in their place, each in their own order.
@@ -19,7 +20,7 @@ pub fn lines_as_told()
 {}
 
 /// What is written has as many bytes as it counts, and behind the place of a verb that is handed out stand its lines.
-pub fn verb_at_its_place(verbs: &Verbs, number: usize)
+pub fn verb_at_its_place<B: Bounds>(verbs: &Verbs<B>, number: usize)
     requires { number < length verbs.now.list }
     ensures size { length (bytes_of (grammar_cells verbs.now.list)) ≡ verbs_size verbs.now.list }
     ensures lines { drop (slice_index_or (places_of verbs.now.list) number 0) (bytes_of (grammar_cells verbs.now.list))

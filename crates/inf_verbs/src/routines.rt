@@ -1,17 +1,19 @@
 //! Routines that a grammar names, by number.
-ghost use Rattle.std.specs.Prelude.{◌≡◌, ◌<◌, ◌≤◌, ◌+◌, ◌++◌, ◌%◌, [], None, OnOk, OnErr, IfOk, IfErr, MatchResult, length, unwrap_or};
+ghost use Rattle.std.specs.Prelude.{◌≡◌, ◌<◌, ◌≤◌, ◌+◌, ◌++◌, ◌%◌, [], None, OnOk, OnErr, IfOk, IfErr, MatchResult, length, unwrap_or, true};
 ghost use Rattle.inf_area.specs.Fixups.{with_fixups};
 ghost use Rattle.inf_area.specs.declared.targets.AreaName.TheVariants as area_name;
 ghost use Rattle.inf_cells.specs.Cells.{bytes_of, fixups_of};
 ghost use Rattle.inf_cells.specs.declared.cells.WriteFault.TheVariants as write_fault;
 ghost use Rattle.inf_verbs.specs.Routines.{action_fault, number_in, number_of, routines_cells, with_action, with_fake, with_routine};
 ghost use Rattle.inf_verbs.specs.declared.routines.ActionFault.TheVariants.{Memory};
+ghost use Rattle.inf_settings.specs.declared.setting.Setting.TheVariants as setting;
 
 use indexmap::IndexSet;
 use inf_area::{Area, AreaName, Refs, Target};
 use inf_cells::{Cells, WriteFault, append_cells};
+use inf_settings::bounds::Bounds;
 use std::alloc::{AllocError, AllocFailed, Global};
-use std::marker::Model;
+use std::marker::{Model, PhantomData};
 
 // The number of the first action that has no routine.
 const FIRST_FAKE: u16 = 4096;
@@ -37,14 +39,16 @@ impl<T: Drop> From<AllocFailed<T>> for ActionFault {
 ///
 /// An action is told by the number that its routine has among the names of the source. A fake action has no routine.
 #[derive(Drop)]
-pub struct Actions {
+pub struct Actions<B: Bounds> {
     alloc: Global,
     routines: IndexSet<usize>,
     fakes: u16,
     limit: usize,
+    of: PhantomData<B>,
+    ghost is_allowed: { B.allows setting.Actions limit ≡ true },
 }
 
-impl Model for Actions {
+impl<B: Bounds> Model for Actions<B> {
     ghost use Rattle.std.specs.Prelude.{◌≤◌, length};
     ghost use Rattle.inf_verbs.specs.Routines.{AllActions};
 
@@ -55,9 +59,10 @@ impl Model for Actions {
     ghost invariant = { λ a. length a.routines.keys ≤ a.limit };
 }
 
-impl Actions {
+impl<B: Bounds> Actions<B> {
     /// No actions, of which there may be so many beside fake ones. It takes no memory until the first one comes.
-    pub fn new(alloc: Global, limit: usize) -> Actions
+    pub fn new(alloc: Global, limit: usize) -> Actions<B>
+        requires { B.allows setting.Actions limit ≡ true }
         ensures { result ≡ record { routines = []; fakes = 0; limit = limit } }
     {
         Actions {
@@ -65,6 +70,7 @@ impl Actions {
             routines: IndexSet::new(alloc),
             fakes: 0,
             limit,
+            of: PhantomData,
         }
     }
 
@@ -72,6 +78,7 @@ impl Actions {
     pub fn len(&self) -> usize
         ensures value { result ≡ length self.now.routines }
         ensures limited { result ≤ self.now.limit }
+        ensures allowed { B.allows setting.Actions self.now.limit ≡ true }
     {
         self.routines.len()
     }

@@ -1,5 +1,5 @@
 //! Verbs, line by line.
-ghost use Rattle.std.specs.Prelude.{◌≡◌, ◌<◌, ◌≤◌, ◌+◌, ◌*◌, ◌++◌, ◌^◌, [], None, OnOk, OnErr, IfOk, IfErr, IfNone, MatchResult, length, unwrap_or};
+ghost use Rattle.std.specs.Prelude.{◌≡◌, ◌<◌, ◌≤◌, ◌+◌, ◌*◌, ◌++◌, ◌^◌, [], None, OnOk, OnErr, IfOk, IfErr, IfNone, MatchResult, length, unwrap_or, true};
 ghost use Rattle.inf_area.specs.Fixups.{with_fixups};
 ghost use Rattle.inf_area.specs.declared.targets.AreaName.TheVariants as area_name;
 ghost use Rattle.inf_cells.specs.Cells.{bytes_of, fixups_of};
@@ -7,13 +7,15 @@ ghost use Rattle.inf_cells.specs.declared.cells.WriteFault.TheVariants as write_
 ghost use Rattle.inf_verbs.specs.Verbs.{add_fault, address_cells, grammar_cells, line_fault_of, parts_cells, places_of, verb_at, verbs_laters, verbs_size, with_extended, with_line_of, with_verb};
 ghost use Rattle.inf_verbs.specs.declared.verbs.LineFault.TheVariants as line_fault;
 ghost use Rattle.inf_verbs.specs.declared.verbs.VerbFault.TheVariants as verb_fault;
+ghost use Rattle.inf_settings.specs.declared.setting.Setting.TheVariants as setting;
 
 use crate::lines::{Line, LineToken, prepositions};
 use crate::verb::Verb;
 use inf_area::{Area, AreaName, Refs, Target};
 use inf_cells::{Cells, WriteFault, append_cells};
+use inf_settings::bounds::Bounds;
 use std::alloc::{AllocError, AllocFailed, Global};
-use std::marker::Model;
+use std::marker::{Model, PhantomData};
 
 // The most verbs that a word can tell.
 const MOST: usize = 255;
@@ -68,8 +70,8 @@ impl From<AllocError> for LineFault {
 }
 
 /// The verbs of a story so far with their lines, how many there may be, and how many bytes they may have.
-#[derive(Debug, Drop)]
-pub struct Verbs {
+#[derive(Drop)]
+pub struct Verbs<B: Bounds> {
     alloc: Global,
     verbs: Vec<Verb>,
     // The bytes of all, and how many numbers in them are known later.
@@ -77,9 +79,12 @@ pub struct Verbs {
     later: usize,
     limit: usize,
     space: usize,
+    of: PhantomData<B>,
+    ghost verbs_allowed: { B.allows setting.Verbs limit ≡ true },
+    ghost bytes_allowed: { B.allows setting.GrammarLines space ≡ true },
 }
 
-impl Model for Verbs {
+impl<B: Bounds> Model for Verbs<B> {
     ghost use Rattle.std.specs.Prelude.{◌≡◌, ◌≤◌, length};
     ghost use Rattle.inf_verbs.specs.Verbs.{AllVerbs, verbs_laters, verbs_size};
 
@@ -91,9 +96,11 @@ impl Model for Verbs {
         × (length v.verbs.items ≤ 255) × (length v.verbs.items ≤ v.limit) × (v.size ≤ v.space) };
 }
 
-impl Verbs {
+impl<B: Bounds> Verbs<B> {
     /// No verbs, of which there may be so many, with so many bytes of grammar. It takes no memory until the first one comes.
-    pub fn new(alloc: Global, limit: usize, space: usize) -> Verbs
+    pub fn new(alloc: Global, limit: usize, space: usize) -> Verbs<B>
+        requires verbs { B.allows setting.Verbs limit ≡ true }
+        requires bytes { B.allows setting.GrammarLines space ≡ true }
         ensures { result ≡ record { list = []; limit = limit; space = space } }
     {
         Verbs {
@@ -103,6 +110,7 @@ impl Verbs {
             later: 0,
             limit,
             space,
+            of: PhantomData,
         }
     }
 
@@ -110,6 +118,7 @@ impl Verbs {
     pub fn len(&self) -> usize
         ensures value { result ≡ length self.now.list }
         ensures limited { result ≤ self.now.limit }
+        ensures allowed { B.allows setting.Verbs self.now.limit ≡ true }
         ensures byte { result ≤ 255 }
     {
         self.verbs.len()
@@ -119,6 +128,7 @@ impl Verbs {
     pub fn size(&self) -> usize
         ensures value { result ≡ verbs_size self.now.list }
         ensures limited { result ≤ self.now.space }
+        ensures allowed { B.allows setting.GrammarLines self.now.space ≡ true }
     {
         self.size
     }

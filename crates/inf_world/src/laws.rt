@@ -7,9 +7,10 @@ ghost use Rattle.inf_world.specs.declared.kinds.WorldArea.TheVariants as area;
 
 use crate::totals::totals;
 use crate::world::{SYSTEM_OBJECTS, World};
+use inf_settings::bounds::Bounds;
 
 /// At a place that is told for an object, whose number is one more, stands its property table, and at the other its individual table.
-pub fn table_at_its_place(world: &World, number: usize)
+pub fn table_at_its_place<B: Bounds>(world: &World<B>, number: usize)
     requires { number < length (all_objects world.now.objects) }
     ensures table { drop (slice_index_or (table_places_from 0 0 (all_objects world.now.objects)) number 0)
         (bytes_of (area_cells area.PropertyTables world.now))
@@ -21,7 +22,7 @@ pub fn table_at_its_place(world: &World, number: usize)
 
 /// The tables of all objects have as many bytes as these count, but for what classes hold in none; and all areas have as many numbers
 /// that are known later as are counted.
-pub fn written_as_counted(world: &World)
+pub fn written_as_counted<B: Bounds>(world: &World<B>)
     ensures bytes { length (bytes_of (area_cells area.PropertyTables world.now)) + length
         (bytes_of (area_cells area.IndividualTables world.now))
         + held_bytes world.now.objects ≡ ended_bytes world.now.objects }

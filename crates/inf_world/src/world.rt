@@ -8,6 +8,7 @@ ghost use Rattle.inf_world.specs.Objects.{IsReached, arrows_of, is_object, lates
 ghost use Rattle.inf_world.specs.World.{AreHung, IsRefused, attribute_fault, bytes_now, class_header_fault, class_of_fault, fixups_now, full_fault, further_value_fault, given_property_fault, individual_fault, kind_of, lost_given, lost_given_fault, lost_header_fault, no_body_fault, no_world, object_count, object_header_fault, property_fault, room_of, set_attribute_fault, with_attribute, with_body, with_class_header, with_class_of, with_end, with_further_value, with_given_property, with_individual, with_lost_header, with_lost_property, with_object_header, with_properties, with_property, with_set_attribute};
 ghost use Rattle.inf_world.specs.Faults.{given_fault};
 ghost use Rattle.inf_world.specs.declared.faults.AddFault.TheVariants.{Memory};
+ghost use Rattle.inf_settings.specs.declared.setting.Setting.TheVariants as setting;
 
 use crate::faults::{AddFault, Limit, Misfit, Setting, told_fault};
 use crate::kept::{class_of, later_defaults, note_latest, push_object};
@@ -15,8 +16,9 @@ use crate::kinds::{Declared, Limits, Parent};
 use inf_area::Value;
 use inf_objects::{ATTRIBUTES, Body, Object, ShortName};
 use inf_properties::{Owner, Room};
+use inf_settings::bounds::Bounds;
 use std::alloc::{AllocError, Global};
-use std::marker::Model;
+use std::marker::{Model, PhantomData};
 
 /// The objects `Class`, `Object`, `Routine` and `String` are there from the start.
 pub(crate) const SYSTEM_OBJECTS: usize = 4;
@@ -48,7 +50,7 @@ const LOST_ROOM: Room = Room {
 /// Attributes number from 0, properties from 4 (1 is `name`), individual properties from 64, objects and classes from 5. What stands
 /// with the number 0 because its declaration was in error gives nothing as a parent or a class; as a property it is one like others.
 #[derive(Drop)]
-pub struct World {
+pub struct World<B: Bounds> {
     alloc: Global,
     limits: Limits,
     attributes: usize,
@@ -62,9 +64,12 @@ pub struct World {
     // What the tables of all objects have whose bodies ended.
     bytes: usize,
     fixups: usize,
+    of: PhantomData<B>,
 }
 
-impl Model for World {
+impl<B: Bounds> Model for World<B> {
+    ghost use Rattle.std.specs.Prelude.{◌≡◌, true};
+    ghost use Rattle.inf_settings.specs.declared.setting.Setting.TheVariants as setting;
     ghost use Rattle.inf_world.specs.World.{IsWorld, WorldOf};
 
     ghost Value = { WorldOf };
@@ -87,12 +92,15 @@ impl Model for World {
       objects = w.objects.items;
       is_open = w.is_open;
       body = w.body;
-    }) w.latest.items w.bytes w.fixups };
+    }) w.latest.items w.bytes w.fixups
+        × (B.allows setting.Objects w.limits.objects ≡ true) × (B.allows setting.PropertyTables w.limits.property_bytes ≡ true) };
 }
 
-impl World {
+impl<B: Bounds> World<B> {
     /// A world with the first four objects. It takes no memory.
-    pub fn new(alloc: Global, limits: Limits) -> World
+    pub fn new(alloc: Global, limits: Limits) -> World<B>
+        requires objects { B.allows setting.Objects limits.objects ≡ true }
+        requires bytes { B.allows setting.PropertyTables limits.property_bytes ≡ true }
         ensures { result ≡ no_world limits }
     {
         World {
@@ -107,6 +115,7 @@ impl World {
             latest: Vec::new(alloc),
             bytes: SYSTEM_BYTES,
             fixups: SYSTEM_OBJECTS,
+            of: PhantomData,
         }
     }
 
@@ -587,6 +596,7 @@ impl World {
     pub fn object_count(&self) -> usize
         ensures value { result ≡ object_count self.now }
         ensures limited { result ≤ max 4 self.now.limits.objects }
+        ensures allowed { B.allows setting.Objects self.now.limits.objects ≡ true }
     {
         let count = SYSTEM_OBJECTS + self.objects.len();
         match self.body.properties.owner() {
@@ -600,6 +610,7 @@ impl World {
     pub fn property_bytes(&self) -> usize
         ensures value { result ≡ bytes_now self.now }
         ensures limited { result ≤ max 30 self.now.limits.property_bytes }
+        ensures allowed { B.allows setting.PropertyTables self.now.limits.property_bytes ≡ true }
     {
         self.bytes + self.body.bytes()
     }

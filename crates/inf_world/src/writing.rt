@@ -12,9 +12,10 @@ use crate::totals::{individual_places, table_places, totals};
 use crate::world::{SYSTEM_OBJECTS, World};
 use inf_area::{Area, Refs};
 use inf_cells::{Cells, WriteFault, append_cells};
+use inf_settings::bounds::Bounds;
 use std::alloc::AllocError;
 
-impl World {
+impl<B: Bounds> World<B> {
     /// How many numbers in an area are known later, and so how many fixups are written with it. An open body is no part of it.
     #[tactic(auto, using(crate::proofs::Joining::all_defaults_later, crate::proofs::Joining::all_objects_later, crate::proofs::Joining::all_classes_later))]
     pub fn later_count(&self, which: WorldArea) -> usize

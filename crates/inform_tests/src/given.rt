@@ -9,6 +9,7 @@ use inf_files::files::{Files, OpenFault, ReadFault};
 use inf_files::memory_files::MemoryFiles;
 use inf_session::session::Session;
 use inf_session::setup::Setup;
+use inf_settings::bounds::Unbounded;
 use inf_settings::setting::Setting;
 use inf_settings::settings::Settings;
 use inf_sinks::memory_sink::MemorySink;
@@ -88,7 +89,7 @@ impl Files for Counted {
 /// A session with its devices.
 #[derive(Drop)]
 struct Run<'a> {
-    session: Session<'a>,
+    session: Session<'a, Unbounded>,
     files: Counted,
     messages: MemorySink,
 }
@@ -107,7 +108,7 @@ fn begin<'a>(
     alloc: Global,
     settings: &'a Settings,
     files: &mut Counted,
-) -> Result<Session<'a>, Fail>
+) -> Result<Session<'a, Unbounded>, Fail>
     ensures is_open { IfOk result (λ session. length session.open_files.outer < length files.new.files.openings.open_places) }
     ensures goes { IfOk result (λ session. session.open_files.lexer.has_failed ≡ false) }
     ensures set { IfOk result (λ session. IsSet session) }

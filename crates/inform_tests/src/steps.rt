@@ -8,6 +8,7 @@ use inf_files::memory_files::MemoryFiles;
 use inf_session::compiled::Compiled;
 use inf_session::session::{Session, Step};
 use inf_session::setup::Setup;
+use inf_settings::bounds::Unbounded;
 use inf_settings::setting::Setting;
 use inf_settings::settings::Settings;
 use inf_sinks::memory_sink::MemorySink;
@@ -47,7 +48,7 @@ const FIVE: &str = "t.inf(1): Error: Syntax error at \"5\"\n";
 /// A session with its devices.
 #[derive(Drop)]
 struct Run<'a> {
-    session: Session<'a>,
+    session: Session<'a, Unbounded>,
     files: MemoryFiles,
     messages: MemorySink,
 }
@@ -156,7 +157,7 @@ fn begin<'a>(
     alloc: Global,
     settings: &'a Settings,
     files: &mut MemoryFiles,
-) -> Result<Session<'a>, Fail>
+) -> Result<Session<'a, Unbounded>, Fail>
     ensures is_open { IfOk result (λ session. length session.open_files.outer < length files.new.openings.open_places) }
     ensures goes { IfOk result (λ session. session.open_files.lexer.has_failed ≡ false) }
     ensures set { IfOk result (λ session. IsSet session) }

@@ -5,6 +5,6 @@ use Rattle.inf_actions.proofs.acting.act_each.Given as goal
 
 -- the actions that are left lead from here to where all lead
 abbrev pub invariant-loop-action : goal.invariant-loop-action
-invariant-loop-action l =
+invariant-loop-action g l =
     acted l.files.names l.place (drop l.action-index l.actions) (work l.compilation) ≡ acted l.files.names l.place l.actions
     (work l.fn.compilation)

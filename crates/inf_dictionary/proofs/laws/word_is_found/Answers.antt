@@ -10,7 +10,7 @@ use Rattle.inf_dictionary.proofs.Wholes.{text_at, behind_head}
 use Rattle.inf_dictionary.proofs.laws.word_is_found.Goals as goal
 
 pub returns-clause-found : goal.returns-clause-found
-returns-clause-found c = λ place h.
+returns-clause-found g c = λ place h.
     let words = c.args.dictionary.now.list in
     let same : length (texts_of words) ≡ length words = length-map words (λ e. e.0) in
     let are : (k : ℕ) → k < length (texts_of words) → text_written (dictionary_bytes words) k ≡ slice_index_or (texts_of words) k []
@@ -19,7 +19,7 @@ returns-clause-found c = λ place h.
     (length words) 0 (length words) (omega arith) h (omega (arith, same)) (omega arith)
 
 pub returns-clause-absent : goal.returns-clause-absent
-returns-clause-absent c = λ text none.
+returns-clause-absent g c = λ text none.
     let words = c.args.dictionary.now.list in
     let same : length (texts_of words) ≡ length words = length-map words (λ e. e.0) in
     none_found (dictionary_bytes words) text (texts_of words)

@@ -2,7 +2,7 @@ use Rattle.inf_session.proofs.Endings.{longest_told}
 use Rattle.inf_session.proofs.ending.linked.Goals as goal
 
 pub returns-in-Err-StoryTooLong : goal.returns-in-Err-StoryTooLong
-returns-in-Err-StoryTooLong c =
+returns-in-Err-StoryTooLong g c =
     let err = c.in-Err-StoryTooLong in
     let told = c.given_up-in-Err-StoryTooLong in
     longest_told c.args.serial c.args.files.now.names c.args.main c.args.names.items c.args.code c.args.contents.strings

@@ -5,7 +5,7 @@ use Rattle.inf_session.specs.Ending.{named, seen}
 use Rattle.inf_session.proofs.ending.named.Goals as goal
 
 pub returns-in-None : goal.returns-in-None
-returns-in-None c =
+returns-in-None g c =
     let a = c.args in
     subst (λ (v : Option (List Value)). IfOk c.failed.result
     (λ t. seen t ≡ named a.serial a.files.now.names a.main a.code a.contents.strings a.contents.tables a.report v))

@@ -5,7 +5,7 @@ use Rattle.inf_statements.proofs.operands.settled.Given as goal
 
 -- what was settled so far leads, with the leaves that are left, to what all lead to
 abbrev pub invariant-loop-leaf : goal.invariant-loop-leaf
-invariant-loop-leaf l =
+invariant-loop-leaf g l =
     let now : Settled = record { out = l.out; operands = l.operands.items } in
     let first : Settled = record { out = l.fn.out; operands = [] } in
     settled l.set (listed l.locals) l.tokens (drop l.leaf-index l.leaves) now ≡ settled l.set (listed l.locals) l.tokens l.leaves first

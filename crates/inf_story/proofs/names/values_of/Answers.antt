@@ -7,7 +7,7 @@ use Rattle.inf_story.proofs.NameSteps.{behind, behind_one, value_step}
 use Rattle.inf_story.proofs.names.values_of.Goals as goal
 
 pub returns-in_default : goal.returns-in_default
-returns-in_default c =
+returns-in_default g c =
     let names = c.args.names.now.names in
     let number = c.loop-number.number in
     let done = c.loop-number.values.items in
@@ -17,7 +17,7 @@ returns-in_default c =
     sym (ap (λ v. behind done (with_value v rest)) none) ∙ sym (ap (behind done) (value_step names number within)) ∙ c.loop-number.invariant
 
 pub loop-number-preserved : goal.loop-number-preserved
-loop-number-preserved c =
+loop-number-preserved g c =
     let names = c.args.names.now.names in
     let number = c.loop-number.number in
     let done = c.loop-number.values.items in

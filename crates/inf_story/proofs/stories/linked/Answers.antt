@@ -11,7 +11,7 @@ use Rattle.inf_story.proofs.Linked.{is_story, is_too_long, told}
 use Rattle.inf_story.proofs.stories.linked.Goals as goal
 
 pub returns-clause-bytes : goal.returns-clause-bytes
-returns-clause-bytes c =
+returns-clause-bytes g c =
     let finished = c.args.code.finished in
     let same = ap (λ l. linked (contents (λ area. area) l.areas) l.refs.list (lookup l.targets) l.fields) c.new.ensures
     ∙ is_story c.args.fields c.args.main c.args.names.items finished c.args.strings c.args.tables.now _ _ _ c.in_ok-areas.ensures.bytes
@@ -19,7 +19,7 @@ returns-clause-bytes c =
     subst (λ bytes. IfOk c.link.result (λ s. s.bytes ≡ bytes)) same c.link.ensures.bytes
 
 pub returns-clause-fault : goal.returns-clause-fault
-returns-clause-fault c =
+returns-clause-fault g c =
     let same = ap (λ l. too_long_by (lengths (contents (λ area. area) l.areas)) l.fields.scale) c.new.ensures
     ∙ is_too_long c.args.fields c.args.main c.args.code.finished c.args.strings c.args.tables.now _ c.in_ok-areas.ensures.bytes in
     let Tells : Option LinkFault → Type 0 =

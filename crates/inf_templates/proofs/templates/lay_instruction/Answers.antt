@@ -10,7 +10,7 @@ use Rattle.inf_templates.proofs.Given.{operands_all, operands_len}
 use Rattle.inf_templates.proofs.templates.lay_instruction.Goals as goal
 
 pub instruct-requires : goal.instruct-requires
-instruct-requires c =
+instruct-requires g c =
     let nodes = c.args.nodes.now in
     let arguments = c.args.arguments.now in
     let few : length arguments ≤ c.from.result =
@@ -21,7 +21,7 @@ instruct-requires c =
     c.requires
 
 pub returns : goal.returns
-returns c =
+returns g c =
     let nodes = c.args.nodes.now in
     let arguments = c.args.arguments.now in
     let few : length arguments ≤ c.from.result =

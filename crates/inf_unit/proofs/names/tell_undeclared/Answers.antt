@@ -11,7 +11,7 @@ use Rattle.inf_unit.proofs.names.tell_undeclared.Goals as goal
 use Rattle.inf_unit.proofs.names.tell_undeclared.Goals.{in-Some+in_ok-error, in_default}
 
 pub loop-number-preserved : goal.loop-number-preserved
-loop-number-preserved c =
+loop-number-preserved g c =
     let files = c.args.files.now.names in
     let names = c.args.names.now.names in
     let number = c.loop-number.number in

@@ -4,4 +4,4 @@ use Rattle.inf_verb_lines.proofs.lines.tokens_finding.Given as goal
 
 -- what was found is the least of what is wrong before this place
 abbrev pub invariant-loop-at : goal.invariant-loop-at
-invariant-loop-at l = l.found ≡ tokens_finding l.at l.tokens l.names
+invariant-loop-at g l = l.found ≡ tokens_finding l.at l.tokens l.names

@@ -7,7 +7,7 @@ use Rattle.inf_world.proofs.Joining.{all_bytes, all_classes_later, all_defaults_
 use Rattle.inf_world.proofs.laws.written_as_counted.Goals as goal
 
 pub returns-clause-bytes : goal.returns-clause-bytes
-returns-clause-bytes c =
+returns-clause-bytes g c =
     let objects = c.args.world.now.objects in
     let same = c.objects-objects.ensures.value in
     let totals = c.totals-totals.ensures in
@@ -25,7 +25,7 @@ returns-clause-bytes c =
     )
 
 pub returns-clause-later : goal.returns-clause-later
-returns-clause-later c =
+returns-clause-later g c =
     let objects = c.args.world.now.objects in
     let same = c.objects-objects.ensures.value in
     let totals = c.totals-totals.ensures in

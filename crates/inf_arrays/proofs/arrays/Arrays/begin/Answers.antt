@@ -6,7 +6,7 @@ use Rattle.inf_arrays.specs.Listing.{listed, seen}
 use Rattle.inf_arrays.proofs.arrays.Arrays.begin.Goals as goal
 
 pub invariant_of-self : goal.invariant_of-self
-invariant_of-self c =
+invariant_of-self g c =
     let closed = map listed c.self.inside.closed.items in
     let none = ap (λ a. a.open_one) c.self.view_is ∙ c.requires.none in
     let room = subst (λ a. arrays_size (all_of a) + count_size c.args.kind ≤ a.limit) (sym c.self.view_is) c.requires.room in

@@ -7,7 +7,7 @@ use Rattle.inf_code.proofs.Full.{bytes_are}
 use Rattle.inf_code.proofs.code.Code.bytes.Goals as goal
 
 pub returns : goal.returns
-returns c =
+returns g c =
     let inside = c.self.inside in
     let routine = c.in-Some.field-0 in
     let is : IsCode inside.limits inside.finished inside.refs inside.area (Some routine) =

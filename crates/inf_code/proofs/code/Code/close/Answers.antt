@@ -11,7 +11,7 @@ use Rattle.inf_code.proofs.Ends.{is_first, told_first, told_lost, zeros_none, ze
 use Rattle.inf_code.proofs.code.Code.close.Goals as goal
 
 pub returns-then-self-clause-fault : goal.returns-then-self-clause-fault
-returns-then-self-clause-fault c =
+returns-then-self-clause-fault g c =
     let inside = c.self.inside in
     let routine = c.in-Some.routine in
     let kind = c.args.kind in
@@ -38,7 +38,7 @@ returns-then-self-clause-fault c =
     (told_lost c.close_lost.result _ told)
 
 pub returns-in-Err-clause-fault : goal.returns-in-Err-clause-fault
-returns-in-Err-clause-fault c =
+returns-in-Err-clause-fault g c =
     let inside = c.self.inside in
     let routine = c.in-Some.routine in
     let kind = c.args.kind in
@@ -64,7 +64,7 @@ returns-in-Err-clause-fault c =
     (told_first _ _ c.in-Err.fault (subst Tells first c.in-Err.ensures.fault))
 
 pub invariant_of-self-2 : goal.invariant_of-self-2
-invariant_of-self-2 c =
+invariant_of-self-2 g c =
     let inside = c.self.inside in
     let routine = c.in-Some.routine in
     let some : inside.routine ≡ Some routine = sym c.take.ensures.value ∙ c.in-Some.is in
@@ -80,7 +80,7 @@ invariant_of-self-2 c =
     (subst (λ n. IsCode inside.limits n listed whole c.take.new.self) (sym c.len-self-inside.ensures.value) none, c.self.invariant.1)
 
 pub returns-clause-ok : goal.returns-clause-ok
-returns-clause-ok c =
+returns-clause-ok g c =
     let inside = c.self.inside in
     let routine = c.in-Some.routine in
     let kind = c.args.kind in
@@ -117,7 +117,7 @@ returns-clause-ok c =
     ∙ ap (with_closed kind) c.self.view_is
 
 pub returns-in-Err-fill_up-clause-fault : goal.returns-in-Err-fill_up-clause-fault
-returns-in-Err-fill_up-clause-fault c =
+returns-in-Err-fill_up-clause-fault g c =
     let inside = c.self.inside in
     let routine = c.in-Some.routine in
     let kind = c.args.kind in
@@ -148,7 +148,7 @@ returns-in-Err-fill_up-clause-fault c =
     (zeros_told _ inside.limits.code _ c.in-Err-fill_up.fault _ (sym first ∙ c.in-Ok.ensures.fault) same c.in-Err-fill_up.ensures.fault)
 
 pub returns-clause-fault : goal.returns-clause-fault
-returns-clause-fault c =
+returns-clause-fault g c =
     let inside = c.self.inside in
     let routine = c.in-Some.routine in
     let kind = c.args.kind in

@@ -11,7 +11,7 @@ use Rattle.inf_code.proofs.Full.{full_is, lists}
 use Rattle.inf_code.proofs.code.Code.emit.Goals as goal
 
 pub invariant_of-self-2 : goal.invariant_of-self-2
-invariant_of-self-2 c =
+invariant_of-self-2 g c =
     let inside = c.self.inside in
     let is : IsCode inside.limits inside.finished inside.refs inside.area (Some c.in-Some.routine) =
     subst (IsCode inside.limits inside.finished inside.refs inside.area) c.in-Some.is c.self.invariant.0 in (
@@ -23,7 +23,7 @@ invariant_of-self-2 c =
     )
 
 pub returns-clause-fault : goal.returns-clause-fault
-returns-clause-fault c =
+returns-clause-fault g c =
     let inside = c.self.inside in
     let parts = parts_of c.args.instruction.now in
     let is : IsCode inside.limits inside.finished inside.refs inside.area (Some c.in-Some.routine) =

@@ -11,7 +11,7 @@ use Rattle.inf_code.proofs.Full.{code_is_free}
 use Rattle.inf_code.proofs.code.Code.open.Goals as goal
 
 pub returns-in-Some-clause-fault : goal.returns-in-Some-clause-fault
-returns-in-Some-clause-fault c =
+returns-in-Some-clause-fault g c =
     let inside = c.self.inside in
     let count = size_finished inside.limits inside.finished inside.refs inside.area inside.routine c.self.invariant.0 in
     let same =
@@ -19,7 +19,7 @@ returns-in-Some-clause-fault c =
     ap refusal (sym c.in-Some.is ∙ c.full_opened.ensures ∙ same)
 
 pub returns-in_err-routine-clause-fault : goal.returns-in_err-routine-clause-fault
-returns-in_err-routine-clause-fault c =
+returns-in_err-routine-clause-fault g c =
     let inside = c.self.inside in
     let bound = inside.limits in
     let count = size_finished bound inside.finished inside.refs inside.area inside.routine c.self.invariant.0 in
@@ -36,7 +36,7 @@ returns-in_err-routine-clause-fault c =
     rw (p.1, p.2) (c.in_err-routine.ensures.fault ∙ ap refusal (ap Full cut ∙ free ∙ sym none ∙ same))
 
 pub returns-clause-fault : goal.returns-clause-fault
-returns-clause-fault c =
+returns-clause-fault g c =
     let inside = c.self.inside in
     let count = size_finished inside.limits inside.finished inside.refs inside.area inside.routine c.self.invariant.0 in
     let same =

@@ -6,13 +6,13 @@ use Rattle.inf_code.proofs.Full.{later_stands_for}
 use Rattle.inf_code.proofs.code.Code.references.Goals as goal
 
 pub overflow_add-result : goal.overflow_add-result
-overflow_add-result c = omega (arith, c.len.ensures.limited, c.self.invariant.0.limit)
+overflow_add-result g c = omega (arith, c.len.ensures.limited, c.self.invariant.0.limit)
 
 pub overflow_add-result-else-self : goal.overflow_add-result-else-self
-overflow_add-result-else-self c = omega (arith, c.len-else-self.ensures.limited, c.self.invariant.0.limit)
+overflow_add-result-else-self g c = omega (arith, c.len-else-self.ensures.limited, c.self.invariant.0.limit)
 
 pub returns-then-self : goal.returns-then-self
-returns-then-self c =
+returns-then-self g c =
     let inside = c.self.inside in
     let cells = source_cells inside.finished inside.refs inside.area in
     let count =
@@ -21,7 +21,7 @@ returns-then-self c =
     ap (λ n. 5 + n) count ∙ ap (λ b. cond b 5 4 + later_count cells) (sym c.if-self.true) ∙ ap reference_count c.self.view_is
 
 pub returns-else-self : goal.returns-else-self
-returns-else-self c =
+returns-else-self g c =
     let inside = c.self.inside in
     let cells = source_cells inside.finished inside.refs inside.area in
     let count =

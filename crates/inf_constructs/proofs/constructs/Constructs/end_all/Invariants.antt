@@ -4,7 +4,7 @@ use Rattle.inf_constructs.specs.Constructs.{all_ended}
 use Rattle.inf_constructs.proofs.constructs.Constructs.end_all.Given as goal
 
 abbrev pub decreases-loop-left : goal.decreases-loop-left
-decreases-loop-left l = l.left
+decreases-loop-left g l = l.left
 
 abbrev pub invariant-loop-left : goal.invariant-loop-left
-invariant-loop-left l = all_ended l.left l.self l.out ≡ all_ended l.count l.fn.self l.fn.out
+invariant-loop-left g l = all_ended l.left l.self l.out ≡ all_ended l.count l.fn.self l.fn.out

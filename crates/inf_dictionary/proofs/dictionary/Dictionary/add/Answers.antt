@@ -5,7 +5,7 @@ use Rattle.inf_dictionary.specs.Texts.{AreWhole, texts_of}
 use Rattle.inf_dictionary.proofs.dictionary.Dictionary.add.Goals as goal
 
 pub invariant_of-self-2 : goal.invariant_of-self-2
-invariant_of-self-2 c =
+invariant_of-self-2 g c =
     let six : length c.args.text ≡ 6 = search rules in
     let bound : length c.insert.new.self.entries ≤ c.self.inside.limit = grind (arith, common_steps) in (
       bound,

@@ -3,7 +3,6 @@ use Rattle.inf_opcode.proofs.Growing.{on_err}
 use Rattle.inf_session.specs.Choices.{chosen}
 use Rattle.inf_session.specs.Session.{State}
 use Rattle.inf_session.specs.Standing.{state}
-use Rattle.inf_session.proofs.Bounds.{bounds_then}
 use Rattle.inf_session.proofs.Opening.{followed_within}
 use Rattle.inf_sources.specs.Open.{opened_since}
 use Rattle.inf_sources.proofs.Calls.{went_as}
@@ -26,10 +25,6 @@ returns-in_err-carry_out-clause-opened g c = λ honest start nested.
     (followed_within s (chosen c.args.self.now.setup) (state s start (files.openings c.args.files.now) c.args.self.now)
     (opened_since start (files.openings c.carry_out.new.files))
     (c.in_err-carry_out.ensures.opened honest start nested))
-
-pub returns-clause-stays : goal.returns-clause-stays
-returns-clause-stays g c =
-    bounds_then c.args.self.now c.carry_out.new.self c.rest.new.self c.in_ok-carry_out.ensures.stays c.in_ok-rest.ensures.stays
 
 pub returns-in_err-rest-clause-went : goal.returns-in_err-rest-clause-went
 returns-in_err-rest-clause-went g c = went_as g.F.Files c.args.files.now c.carry_out.new.files c.args.self.now.open_files

@@ -1,4 +1,4 @@
-use Rattle.std.proofs.Common.{List, refl, ap, drop, length, map, sym, ◌∙◌}
+use Rattle.std.proofs.Common.{List, ap, drop, length, map, ◌∙◌}
 use Rattle.inf_conditionals.specs.Ends.{file_told}
 use Rattle.inf_files.specs.Files.{Opening}
 use Rattle.inf_sources.specs.Open.{nesting, waits}

@@ -5,8 +5,6 @@ use Rattle.inf_lexer.proofs.Candidates.{rose_earlier}
 use Rattle.inf_sources.specs.Open.{opened_since}
 use Rattle.inf_sources.specs.Calls.{IsUnreadable}
 use Rattle.inf_sources.proofs.Calls.{fit_then, unreadable_then, went_then}
-use Rattle.inf_compilation.specs.Works.{work as work_of}
-use Rattle.inf_actions.proofs.Limits.{same_then}
 use Rattle.inf_session.specs.Choices.{Choices, chosen, most_quoted}
 use Rattle.inf_session.specs.Faults.{Caused, IfRead}
 use Rattle.inf_session.specs.Leading.{CutsShort, GivenUp, OpensWithin, StopsFor, Writes}
@@ -47,7 +45,6 @@ loop-self-init g c =
       is_open = c.turn.ensures.is_open;
       goes = took.goes;
       set = c.turn.ensures.set;
-      limits = took.limits;
       longest = took.longest;
       setup = c.turn.ensures.setup;
       fits = took.fits;
@@ -103,8 +100,6 @@ loop-self-preserved g c =
       is_open = c.turn-in-loop-self.ensures.is_open;
       goes = took.goes;
       set = c.turn-in-loop-self.ensures.set;
-      limits = same_then (work_of c.args.self.now.progress.work) (work_of c.loop-self.self.progress.work)
-          (work_of c.turn-in-loop-self.new.self.progress.work) inv.limits took.limits;
       longest = λ few. subst (λ (p : Setup). c.turn-in-loop-self.new.self.quoted ≤ most_quoted (chosen p)) inv.setup
           (took.longest (subst (λ (p : Setup). c.loop-self.self.quoted ≤ most_quoted (chosen p)) (sym inv.setup) (inv.longest few)));
       setup = c.turn-in-loop-self.ensures.setup ∙ inv.setup;
@@ -293,7 +288,7 @@ pub returns-clause-bounded : goal.returns-clause-bounded
 returns-clause-bounded g c = λ bounded.
     let inv = c.loop-self.invariant in
     let going : ended c.args.self.now ≡ false = sym c.has_ended.ensures ∙ c.if-has_ended.false in
-    bounded_still c.args.self.now c.loop-self.self inv.setup inv.limits inv.longest going bounded
+    bounded_still c.args.self.now c.loop-self.self inv.setup inv.longest going bounded
 
 pub returns-clause-came : goal.returns-clause-came
 returns-clause-came g c =

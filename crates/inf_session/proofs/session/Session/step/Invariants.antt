@@ -1,7 +1,5 @@
 use Rattle.std.proofs.Common.{◌≡◌, ℕ, ◌<◌, ◌≤◌, ◌⊎◌, true, false, length, cond, suc}
 use Rattle.inf_sources.specs.Calls.{Honestly, StaysFit, Went}
-use Rattle.inf_actions.specs.Limits.{SameLimits}
-use Rattle.inf_compilation.specs.Works.{work as work_of}
 use Rattle.inf_session.specs.Choices.{chosen, most_quoted}
 use Rattle.inf_session.specs.Delivered.{Appends}
 use Rattle.inf_session.specs.Leading.{Writes}
@@ -27,7 +25,6 @@ invariant-loop-self g l =
       is_open : length l.self.open_files.outer < files.depth l.files;
       goes : l.self.open_files.lexer.has_failed ≡ false;
       set : IsSet l.self;
-      limits : SameLimits (work_of l.fn.self.progress.work) (work_of l.self.progress.work);
       longest : l.fn.self.quoted ≤ most_quoted (chosen l.fn.self.setup) → l.self.quoted ≤ most_quoted (chosen l.fn.self.setup);
       setup : l.self.setup ≡ l.fn.self.setup;
       fits : StaysFit files l.fn.files l.files l.fn.self.open_files;

@@ -6,9 +6,7 @@ use Rattle.inf_sources.specs.declared.open_file.OpenFile.{OpenFile}
 use Rattle.inf_sources.proofs.Places.{files_are}
 use Rattle.inf_session.specs.Leading.{StopsInToken}
 use Rattle.inf_sources.specs.Quoted.{is_quoted_kind}
-use Rattle.inf_output.specs.Limits.{bounds}
 use Rattle.inf_output.specs.Output.{Out}
-use Rattle.inf_reader.proofs.Limits.{judged_taken_same, said_same}
 use Rattle.inf_session.proofs.Bounds.{quoted_within}
 use Rattle.inf_session.proofs.Standings.{read_caused}
 use Rattle.inf_reader.specs.Reading.{ReaderState, is_mode_ended}
@@ -64,18 +62,6 @@ returns-in-Err-Read-clause-stops g c = λ honest start nested.
       name_is = is ∙ c.innermost.ensures.file ∙ ap (λ (n : Nest). unwrap_or (slice_get n.names after.lexer.file) []) same.0
           ∙ ap (λ (k : ℕ). unwrap_or (slice_get before.nest.names k) []) same.1.1;
     }) c.unread.ensures
-
-pub returns-clause-limits : goal.returns-clause-limits
-returns-clause-limits g c =
-    let token = c.in-Ok.token in
-    let same = judged_taken_same c.names-2.result.now.names (spelled_as token.kind c.spelling.result.now token.place) c.in_ok-judged.judged
-    (reporting (standing c.args.self.now.progress) c.tell.new.report c.tell.new.out) in
-    let added = c.in_ok-tell.ensures.right in
-    let kept = said_same c.take.new.self.said c.args.self.now.progress.work.output in
-    let is = c.in_ok-take_judged.ensures in (
-      ap (λ (s : ReaderState). s.work.output.names.limit) is ∙ same.0 ∙ ap (λ (o : Out). o.names.limit) added ∙ kept.0,
-      ap (λ (s : ReaderState). bounds s.work.output) is ∙ same.1 ∙ ap bounds added ∙ kept.1,
-    )
 
 pub returns-clause-longest : goal.returns-clause-longest
 returns-clause-longest g c = λ before.

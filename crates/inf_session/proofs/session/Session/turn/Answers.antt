@@ -7,12 +7,10 @@ use Rattle.inf_sources.specs.Calls.{IsUnreadable}
 use Rattle.inf_sources.proofs.Calls.{fit_then, unreadable_then, went_then}
 use Rattle.inf_unit.specs.Messages.{Reported}
 use Rattle.inf_reader.specs.Reading.{is_mode_ended}
-use Rattle.inf_actions.proofs.Limits.{same_then}
 use Rattle.inf_session.specs.Choices.{Choices, chosen, most_quoted}
 use Rattle.inf_session.specs.Faults.{Caused, IfRead}
 use Rattle.inf_session.specs.Leading.{OpensWithin, StopsFor, StopsAtInclusion, StopsInToken}
 use Rattle.inf_session.specs.Session.{State, followed, stepped}
-use Rattle.inf_compilation.specs.Works.{work as work_of}
 use Rattle.inf_session.proofs.Opening.{turned_within}
 use Rattle.inf_session.specs.Standing.{state}
 use Rattle.inf_session.proofs.Delivering.{appends_none}
@@ -174,17 +172,11 @@ returns-in_err-follow-clause-stops g c = λ honest start nested.
     (ap chosen c.in_ok-take_token.ensures.setup.0)
     (subst (λ (x : Sources). StopsAtInclusion later x p (state x start here mid told) opened name) went.sources (h told)))))) asked
 
-pub returns-clause-limits : goal.returns-clause-limits
-returns-clause-limits g c =
-    same_then (work_of c.args.self.now.progress.work) (work_of c.take_token.new.self.progress.work)
-    (work_of c.follow.new.self.progress.work) c.in_ok-take_token.ensures.limits
-    c.in_ok-follow.ensures.stays.0
-
 pub returns-clause-longest : goal.returns-clause-longest
 returns-clause-longest g c = λ few.
     let most = most_quoted (chosen c.args.self.now.setup) in
     let limit = c.requires.set.1 in
-    subst (λ n. n ≤ most) (sym c.in_ok-follow.ensures.stays.1)
+    subst (λ n. n ≤ most) (sym c.in_ok-follow.ensures.quoted)
     (subst (λ n. c.take_token.new.self.quoted ≤ n) limit
     (c.in_ok-take_token.ensures.longest (subst (λ n. c.args.self.now.quoted ≤ n) (sym limit) few)))
 

@@ -5,7 +5,7 @@ use Rattle.inf_verbs.specs.Verbs.{AllVerbs}
 use Rattle.inf_verbs.proofs.verbs.Verbs.add_line.Goals as goal
 
 pub add-requires-clause-bytes : goal.add-requires-clause-bytes
-add-requires-clause-bytes c =
+add-requires-clause-bytes g c =
     let xs = c.self.inside.verbs.items in
     let within : c.args.number < length xs = subst (λ (a : AllVerbs). c.args.number < length a.list) (sym c.self.view_is) c.requires in
     omega (
@@ -18,7 +18,7 @@ add-requires-clause-bytes c =
     )
 
 pub add-requires-clause-tokens : goal.add-requires-clause-tokens
-add-requires-clause-tokens c =
+add-requires-clause-tokens g c =
     let xs = c.self.inside.verbs.items in
     let within : c.args.number < length xs = subst (λ (a : AllVerbs). c.args.number < length a.list) (sym c.self.view_is) c.requires in
     omega (
@@ -33,7 +33,7 @@ add-requires-clause-tokens c =
     )
 
 pub overflow_add-self-2 : goal.overflow_add-self-2
-overflow_add-self-2 c =
+overflow_add-self-2 g c =
     let xs = c.self.inside.verbs.items in
     omega (
       arith,
@@ -47,7 +47,7 @@ overflow_add-self-2 c =
     )
 
 pub invariant_of-self-2 : goal.invariant_of-self-2
-invariant_of-self-2 c =
+invariant_of-self-2 g c =
     let xs = c.self.inside.verbs.items in
     let within : c.args.number < length xs = subst (λ (a : AllVerbs). c.args.number < length a.list) (sym c.self.view_is) c.requires in
     let s = 3 + 3 * length c.args.tokens.now in

@@ -4,13 +4,13 @@ use Rattle.inf_verbs.specs.Verbs.{AllVerbs}
 use Rattle.inf_verbs.proofs.verbs.Verbs.extend.Goals as goal
 
 pub overflow_sub-self : goal.overflow_sub-self
-overflow_sub-self c =
+overflow_sub-self g c =
     let xs = c.self.inside.verbs.items in
     let within : c.args.number < length xs = subst (λ (a : AllVerbs). c.args.number < length a.list) (sym c.self.view_is) c.requires in
     omega (arith, bytes_fit xs c.args.number c.index-old.result.now within c.index-old.ensures, c.self.invariant.0, c.size-size.ensures)
 
 pub overflow_sub-self-2 : goal.overflow_sub-self-2
-overflow_sub-self-2 c =
+overflow_sub-self-2 g c =
     let xs = c.self.inside.verbs.items in
     let within : c.args.number < length xs = subst (λ (a : AllVerbs). c.args.number < length a.list) (sym c.self.view_is) c.requires in
     omega (
@@ -21,7 +21,7 @@ overflow_sub-self-2 c =
     )
 
 pub invariant_of-self-2 : goal.invariant_of-self-2
-invariant_of-self-2 c =
+invariant_of-self-2 g c =
     let xs = c.self.inside.verbs.items in
     let within : c.args.number < length xs = subst (λ (a : AllVerbs). c.args.number < length a.list) (sym c.self.view_is) c.requires in
     rw c.size-size.ensures (rw c.size.ensures (rw c.later_count-later.ensures (rw c.later_count.ensures

@@ -9,7 +9,7 @@ use Rattle.inf_world.proofs.Counting.{class_fault_is, refused_as, told_by}
 use Rattle.inf_world.proofs.world.World.join_class.Goals as goal
 
 pub returns-in_err-name_class-clause-fault : goal.returns-in_err-name_class-clause-fault
-returns-in_err-name_class-clause-fault c =
+returns-in_err-name_class-clause-fault g c =
     let i = c.self.inside in
     let w : WorldOf = record {
       limits = i.limits;
@@ -29,7 +29,7 @@ returns-in_err-name_class-clause-fault c =
     class_fault_is w number class c.if-not-self.false c.if-number-eq0.false is in
     let refused : class_refused (join_fault number class (room_beside w) w.body) f =
     subst (λ n. class_refused (join_fault number class (record { others = n; limit = i.limits.property_bytes }) i.body) f)
-    c.self.invariant.bytes_are c.in_err-name_class.ensures.fault in
+    c.self.invariant.0.bytes_are c.in_err-name_class.ensures.fault in
     let told : IsRefused (class_of_fault number w) (given_fault f) =
     subst (λ o. IsRefused o (given_fault f)) (sym found) (refused_as (join_fault number class (room_beside w) w.body) f refused) in
     told_by c.from_residual.result (λ x. class_of_fault number c.args.self.now ≡ None) (IsRefused (class_of_fault number c.args.self.now))

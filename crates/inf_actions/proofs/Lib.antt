@@ -1,4 +1,0 @@
-pub mod ArrayLimits
-pub mod Bounds
-pub mod Limits
-pub mod VerbLimits
