@@ -64,7 +64,7 @@ struct Array {
 pub struct Arrays<B: Bounds> {
     alloc: Global,
     closed: Vec<Array>,
-    open: Option<Array>,
+    growing: Option<Array>,
     // The bytes of all, and how many of their entries are known later.
     size: usize,
     later: usize,
@@ -81,9 +81,9 @@ impl<B: Bounds> Model for Arrays<B> {
 
     ghost use Rattle.inf_arrays.specs.Listing.{seen};
 
-    ghost view = { λ a. seen a.closed.items a.open a.limit };
+    ghost view = { λ a. seen a.closed.items a.growing a.limit };
 
-    ghost invariant = { λ a. (a.size ≡ arrays_size (all_of (seen a.closed.items a.open a.limit))) × (a.later ≡ arrays_laters (all_of (seen a.closed.items a.open a.limit))) × (a.later ≤ a.size) ×
+    ghost invariant = { λ a. (a.size ≡ arrays_size (all_of (seen a.closed.items a.growing a.limit))) × (a.later ≡ arrays_laters (all_of (seen a.closed.items a.growing a.limit))) × (a.later ≤ a.size) ×
         (a.size ≤ a.limit) };
 }
 
@@ -145,7 +145,7 @@ impl<B: Bounds> Arrays<B> {
         Arrays {
             alloc,
             closed: Vec::new(alloc),
-            open: None,
+            growing: None,
             size: 0,
             later: 0,
             limit,
@@ -173,7 +173,7 @@ impl<B: Bounds> Arrays<B> {
     pub fn is_open(&self) -> bool
         ensures { result ≡ is_some self.now.open_one }
     {
-        self.open.is_some()
+        self.growing.is_some()
     }
 
     /// Opens an array behind the others. Answers where it begins: how many bytes those before it have.
@@ -205,7 +205,7 @@ impl<B: Bounds> Arrays<B> {
             kind,
             entries: Vec::new(self.alloc),
         };
-        self.open = Some(array);
+        self.growing = Some(array);
         self.size += kind.count_size();
     }
 
@@ -214,9 +214,9 @@ impl<B: Bounds> Arrays<B> {
         ensures ok { OnOk result (self.new ≡ closed_one self.old) }
         ensures err { OnErr result (self.new ≡ self.old) }
     {
-        if let Some(array) = self.open.take() {
+        if let Some(array) = self.growing.take() {
             if let Err(refused) = self.closed.push(array) {
-                self.open = Some(refused.value);
+                self.growing = Some(refused.value);
                 return Err(AllocError);
             }
         }
@@ -233,7 +233,7 @@ impl<B: Bounds> Arrays<B> {
         ensures fault { let fault = entries_fault (value ∷ []) self.old in
             MatchResult result (λ _. fault ≡ None) (λ refused. refused ≡ unwrap_or fault Memory) }
     {
-        if self.open.is_none() {
+        if self.growing.is_none() {
             return Ok(());
         }
         if let Some(fault) = self.fault(1, is_byte(value)) {
@@ -255,7 +255,7 @@ impl<B: Bounds> Arrays<B> {
         if count == 0 {
             return Err(ArrayFault::NoEntries);
         }
-        if self.open.is_none() {
+        if self.growing.is_none() {
             return Ok(());
         }
         if let Some(fault) = self.fault(count as usize, true) {
@@ -275,7 +275,7 @@ impl<B: Bounds> Arrays<B> {
         ensures fault { let fault = characters_fault text.now self.old in
             MatchResult result (λ _. fault ≡ None) (λ refused. refused ≡ unwrap_or fault Memory) }
     {
-        if self.open.is_none() {
+        if self.growing.is_none() {
             return Ok(());
         }
         if let Some(fault) = self.fault(text.len(), true) {
@@ -319,7 +319,7 @@ impl<B: Bounds> Arrays<B> {
         requires { added < 2 ^ 63 }
         ensures { result ≡ fault_by added fit self.now }
     {
-        if self.open.is_none() {
+        if self.growing.is_none() {
             return None;
         }
         self.fault(added, fit)
@@ -332,7 +332,7 @@ impl<B: Bounds> Arrays<B> {
         ensures value { result ≡ fault_by added fit self.now }
         ensures room { IfNone result (HasRoom added self.now) }
     {
-        let array = self.open.as_ref()?;
+        let array = self.growing.as_ref()?;
         if let Some(fault) = misfit_by(array.kind, array.entries.len(), added, fit) {
             return Some(fault);
         }
@@ -348,7 +348,7 @@ impl<B: Bounds> Arrays<B> {
         ensures ok { OnOk result (self.new ≡ with_entries values.now self.old) }
         ensures err { OnErr result (self.new ≡ self.old) }
     {
-        if let Some(array) = &mut self.open {
+        if let Some(array) = &mut self.growing {
             array.entries.extend_from_slice(values)?;
             self.size += array.kind.entry_size() * values.len();
             self.later += array.kind.laters(values);
@@ -388,7 +388,7 @@ impl<B: Bounds> Arrays<B> {
         ensures { IfOk result (λ cells. cells ≡ arrays_cells (all_of self.now)) }
     {
         let mut cells = cells_of(self.alloc, &self.closed)?;
-        add_open(&mut cells, &self.open)?;
+        add_open(&mut cells, &self.growing)?;
         Ok(cells)
     }
 }

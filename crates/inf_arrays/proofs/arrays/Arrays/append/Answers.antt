@@ -8,9 +8,9 @@ pub invariant_of-self-in-Some : goal.invariant_of-self-in-Some
 invariant_of-self-in-Some g c =
     let a = listed c.in-Some.array in
     let n = length c.args.values.now in
-    let room : HasRoom n (seen c.self.inside.closed.items c.self.inside.open c.self.inside.limit) = subst (HasRoom n) (sym c.self.view_is) c.requires in
-    let room_in : RoomIn (option_map listed (Some c.in-Some.array)) n (seen c.self.inside.closed.items c.self.inside.open c.self.inside.limit) =
-    subst (λ o. RoomIn (option_map listed o) n (seen c.self.inside.closed.items c.self.inside.open c.self.inside.limit)) c.in-Some.is room in
+    let room : HasRoom n (seen c.self.inside.closed.items c.self.inside.growing c.self.inside.limit) = subst (HasRoom n) (sym c.self.view_is) c.requires in
+    let room_in : RoomIn (option_map listed (Some c.in-Some.array)) n (seen c.self.inside.closed.items c.self.inside.growing c.self.inside.limit) =
+    subst (λ o. RoomIn (option_map listed o) n (seen c.self.inside.closed.items c.self.inside.growing c.self.inside.limit)) c.in-Some.is room in
     rw c.in_ok-extend_from_slice.ensures.items (grown_stands (map listed c.self.inside.closed.items) a c.args.values.now c.self.inside.size
     c.self.inside.later c.self.inside.limit _ _
     (search rules) (search rules) (search rules) (omega (arith, room_in, c.self.invariant.0)) (search rules) (search rules) (search rules))
