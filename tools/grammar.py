@@ -248,6 +248,11 @@ def action(part):
     return ACTIONS.get(name) or "".join(word.capitalize() for word in re.split("[-:]", name))
 
 
+def keyword(word):
+    """The name of a word: `print_ret` is PrintRet."""
+    return "".join(part.capitalize() for part in word.split("_"))
+
+
 def snake(name):
     return re.sub(r"(?<!^)(?=[A-Z])", "_", name).lower()
 
@@ -282,9 +287,14 @@ class Tables:
 
     def words_spec(self):
         listed = "\n".join(f'    {"∷ " if at else ""}codes "{word}"' for at, word in enumerate(self.page.words))
+        keywords = "\n".join(f'    {"∷ " if at else ""}keyword.{keyword(word)}' for at, word in enumerate(self.page.words))
         return ("-- The words that the grammar knows, in the order of the alphabet. Made from docs/grammar.txt.\n"
-                "use Rattle.std.specs.Prelude.{ℕ, List, [], ◌∷◌, codes}\n\n"
-                "abbrev pub words : List (List ℕ)\nwords =\n" + listed + "\n    ∷ []\n")
+                "use Rattle.std.specs.Prelude.{ℕ, List, [], ◌∷◌, codes}\n"
+                "use Rattle.inf_syntax.specs.declared.words.Keyword.{Keyword}\n"
+                "use Rattle.inf_syntax.specs.declared.words.Keyword.TheVariants as keyword\n\n"
+                "abbrev pub words : List (List ℕ)\nwords =\n" + listed + "\n    ∷ []\n\n"
+                "-- as they are told apart\n"
+                "unfoldable pub keywords : List Keyword\nkeywords =\n" + keywords + "\n    ∷ []\n")
 
     def set_term(self, name):
         if name[0] == '"':
@@ -400,10 +410,16 @@ class Tables:
 
     def words_code(self):
         words = "".join(f'    b"{word}",\n' for word in self.page.words)
+        variants = "".join(f"    {keyword(word)},\n" for word in self.page.words)
+        count = len(self.page.words)
         return ("//! The words that the grammar knows, and where to look for one. Made from docs/grammar.txt.\n\n"
+                "/// A word that the grammar knows.\n"
+                "#[derive(Clone, Copy, Debug, PartialEq, Eq)]\npub enum Keyword {\n" + variants + "}\n\n"
                 "/// The words, in the order of the alphabet.\n"
-                f"pub(crate) static WORDS: [&[u8]; {len(self.page.words)}] = [\n{words}];\n"
-                + static("SLOTS", f"The place of the word with each slot: {len(self.page.words)} where there is none.", "u8",
+                f"pub(crate) static WORDS: [&[u8]; {count}] = [\n{words}];\n"
+                + static("KEYWORDS", "The same as they are told apart.", "Keyword",
+                         [f"Keyword::{keyword(word)}" for word in self.page.words], 5)
+                + static("SLOTS", f"The place of the word with each slot: {count} where there is none.", "u8",
                          [str(place) for place in self.word_slots()], 26))
 
     def word_slots(self):

@@ -6,7 +6,7 @@ use Rattle.inf_unit.specs.Directives.{Include, End, directive_of, weight_of}
 use Rattle.inf_unit.specs.declared.directives.Directive.{Directive}
 use Rattle.inf_unit.specs.declared.directives.Directive.TheVariants as directive
 use Rattle.inf_unit.specs.Messages.{FileNames, location, with_words}
-use Rattle.inf_unit.specs.Units.{first_place, names_in, quoted_in}
+use Rattle.inf_unit.specs.Units.{directive_word, first_place, names_in, quoted_in}
 use Rattle.inf_compilation.specs.Actions.{Compilation, begun_at, constant, passed, replace, stub, words_of}
 use Rattle.inf_declarations.specs.Declarations.{attribute, global_variable, property}
 use Rattle.inf_verb_lines.specs.Verbs.{fake_action}
@@ -30,7 +30,7 @@ carried_out directive.SystemFile files first names w = passed true (record w { i
 -- a directive ends, which begins with the name of its word; code begins with it, unless it has begun
 abbrev pub directive_of_names : FileNames → Place → List Name → Compilation → Compilation
 directive_of_names files first [] w = passed true w
-directive_of_names files first (word ∷ names) w = begun_at files first (carried_out (directive_of word.bytes) files first names w)
+directive_of_names files first (word ∷ names) w = begun_at files first (carried_out (directive_of (directive_word w.unit.tokens)) files first names w)
 
 abbrev pub directive_end : FileNames → Place → Compilation → Compilation
 directive_end files place w = directive_of_names files (first_place w.unit.tokens place) (names_in w.unit.tokens) w

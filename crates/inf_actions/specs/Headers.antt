@@ -1,10 +1,11 @@
 -- The headers of directives that have entries, bodies or lines.
-use Rattle.std.specs.Prelude.{ℕ, List, [], ◌∷◌, codes, false, if◌then◌else◌}
-use Rattle.std.specs.Str.{str_eq_ignore_ascii_case}
+use Rattle.std.specs.Prelude.{List, [], ◌∷◌, false, Option, Some}
 use Rattle.inf_scanner.specs.declared.tokens.Place.{Place}
 use Rattle.inf_names.specs.Spellings.{Name}
 use Rattle.inf_unit.specs.Messages.{FileNames}
-use Rattle.inf_unit.specs.Units.{first_place, names_in}
+use Rattle.inf_syntax.specs.declared.words.Keyword.{Keyword}
+use Rattle.inf_syntax.specs.declared.words.Keyword.TheVariants as keyword
+use Rattle.inf_unit.specs.Units.{directive_word, first_place, names_in}
 use Rattle.inf_compilation.specs.Actions.{Compilation, passed}
 use Rattle.inf_bodies.specs.Objects.{class_header, object_header}
 use Rattle.inf_verb_lines.specs.Verbs.{extend_header, verb_header}
@@ -17,12 +18,12 @@ class_named files first [] w = passed false w
 class_named files first (name ∷ names) w = class_header files first name w
 
 -- A directive that has a header is told by its word; one of an object begins with its own word or with that of a class.
-abbrev pub heading_of : List ℕ → Heading
-heading_of word =
-    if str_eq_ignore_ascii_case word (codes "array") then heading.Array else
-    if str_eq_ignore_ascii_case word (codes "class") then heading.Class else
-    if str_eq_ignore_ascii_case word (codes "verb") then heading.Verb else
-    if str_eq_ignore_ascii_case word (codes "extend") then heading.Extend else heading.Object
+abbrev pub heading_of : Option Keyword → Heading
+heading_of (Some keyword.Array) = heading.Array
+heading_of (Some keyword.Class) = heading.Class
+heading_of (Some keyword.Verb) = heading.Verb
+heading_of (Some keyword.Extend) = heading.Extend
+heading_of _ = heading.Object
 
 abbrev pub header_as : Heading → FileNames → Place → List Name → Compilation → Compilation
 header_as heading.Array files first names w = array_named files first names w
@@ -33,7 +34,7 @@ header_as heading.Extend files first names w = extend_header files first w
 
 abbrev pub header_of : FileNames → Place → List Name → Compilation → Compilation
 header_of files first [] w = passed false w
-header_of files first (word ∷ names) w = header_as (heading_of word.bytes) files first names w
+header_of files first (word ∷ names) w = header_as (heading_of (directive_word w.unit.tokens)) files first names w
 
 abbrev pub header_ended : FileNames → Place → Compilation → Compilation
 header_ended files place w = header_of files (first_place w.unit.tokens place) (names_in w.unit.tokens) w

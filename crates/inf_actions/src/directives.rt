@@ -28,12 +28,13 @@ pub(crate) fn end_directive<B: Bounds>(
     ensures { OnOk result (work compilation.new ≡ directive_end files.now.names place (work compilation.old)) }
 {
     let names = compilation.unit.tokens.names(compilation.alloc)?;
-    let Some((word, names)) = names.split_first() else {
+    let Some((_, names)) = names.split_first() else {
         compilation.pass(true);
         return Ok(());
     };
     let first = compilation.unit.first_place(place);
-    carry_out(compilation, directive_of(word.bytes()), files, first, names)?;
+    let directive = directive_of(compilation.unit.tokens.directive_word());
+    carry_out(compilation, directive, files, first, names)?;
     compilation.begin(files, first)
 }
 

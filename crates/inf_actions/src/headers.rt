@@ -11,6 +11,7 @@ use inf_lexer::{Place, Stack};
 use inf_listings::arrays::array_named;
 use inf_names::spellings::Name;
 use inf_settings::bounds::Bounds;
+use inf_syntax::Keyword;
 use inf_verb_lines::verbs::{extend_header, verb_header};
 use std::alloc::AllocError;
 
@@ -25,19 +26,15 @@ pub enum Heading {
 }
 
 /// What a directive with a header declares, told by its word. An object may have the name of a class for it.
-fn heading_of(word: &[u8]) -> Heading
-    ensures { result ≡ heading_of word.now }
+fn heading_of(word: Option<Keyword>) -> Heading
+    ensures { result ≡ heading_of word }
 {
-    if word.eq_ignore_ascii_case(b"array") {
-        Heading::Array
-    } else if word.eq_ignore_ascii_case(b"class") {
-        Heading::Class
-    } else if word.eq_ignore_ascii_case(b"verb") {
-        Heading::Verb
-    } else if word.eq_ignore_ascii_case(b"extend") {
-        Heading::Extend
-    } else {
-        Heading::Object
+    match word {
+        Some(Keyword::Array) => Heading::Array,
+        Some(Keyword::Class) => Heading::Class,
+        Some(Keyword::Verb) => Heading::Verb,
+        Some(Keyword::Extend) => Heading::Extend,
+        _ => Heading::Object,
     }
 }
 
@@ -64,13 +61,10 @@ fn header_of<B: Bounds>(
     ensures { OnOk result (work compilation.new ≡ header_of files.now.names first (map as_name names.now) (work compilation.old)) }
 {
     match names.split_first() {
-        Some((word, names)) => header_as(
-            compilation,
-            heading_of(word.bytes()),
-            files,
-            first,
-            names,
-        ),
+        Some((_, names)) => {
+            let heading = heading_of(compilation.unit.tokens.directive_word());
+            header_as(compilation, heading, files, first, names)
+        }
         None => {
             compilation.pass(false);
             Ok(())

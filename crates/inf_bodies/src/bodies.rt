@@ -19,7 +19,7 @@ use inf_output::Output;
 use inf_scanner::Mark;
 use inf_settings::bounds::Bounds;
 use inf_tables::WorldFault;
-use inf_unit::tokens::is_mark;
+use inf_unit::kinds::is_mark;
 use inf_unit::unit::order;
 use inf_unit::unit_tokens::UnitTokens;
 use std::alloc::AllocError;

@@ -22,7 +22,7 @@ use inf_scanner::{Mark, TokenKind};
 use inf_settings::bounds::Bounds;
 use inf_tables::WordUse;
 use inf_text::{Mode, Text, dict_word};
-use inf_unit::tokens::is_mark;
+use inf_unit::kinds::is_mark;
 use inf_unit::unit::order;
 use inf_unit::unit_tokens::UnitTokens;
 use std::alloc::AllocError;

@@ -41,7 +41,7 @@ use Rattle.inf_unit.specs.Directives.{Request, Nothing}
 use Rattle.inf_unit.specs.Messages.{FileNames, Diagnostic, Reported, location, nothing_reported, with_error, with_fatal, with_fault, with_full, with_warning}
 use Rattle.inf_unit.specs.Names.{no_symbols}
 use Rattle.inf_unit.specs.Tokens.{SourceToken, number_of}
-use Rattle.inf_unit.specs.Units.{Unit, bytes_at, first_place, kind_at, long_at, name_order, names_in, no_unit, outer_tokens, over, quoted_in, short_name_of, taken as unit_taken}
+use Rattle.inf_unit.specs.Units.{Unit, bytes_at, first_place, kind_at, long_at, name_order, names_in, no_unit, outer_tokens, over, quoted_in, taken as unit_taken}
 use Rattle.inf_output.specs.Strings.{no_strings}
 use Rattle.inf_tables.specs.Tables.{no_tables}
 use Rattle.inf_output.specs.Output.{Code, Out, begun, closed, declared, full, opened, referred}
@@ -228,7 +228,7 @@ opening_checked files w = opening_checked_at w.opening files w
 abbrev pub cut : FileNames → Compilation → Compilation
 cut files w = opening_checked files (sized files (given_up (body_ended (record w { unit = record w.unit { is_sure = true } }))))
 
--- whether a token is the name of a class
+-- whether a token with these bytes is the name of a class
 abbrev pub names_class_of : Meaning → Bool
 names_class_of (meaning.Class number) = true
 names_class_of _ = false
@@ -239,12 +239,9 @@ names_class (found.System m) = false
 names_class found.Used = false
 names_class found.Unknown = false
 
-abbrev pub is_class_name : Option Name → Table Place → Bool
-is_class_name None names = false
-is_class_name (Some n) names = names_class (found_in n.bytes names)
-
-abbrev pub is_class : SourceToken → Compilation → Bool
-is_class t w = is_class_name (short_name_of t) w.output.names
+abbrev pub is_class : TokenKind → List ℕ → Compilation → Bool
+is_class kind.Name bytes w = names_class (found_in bytes w.output.names)
+is_class _ bytes w = false
 
 -- Expressions of the unit at hand
 

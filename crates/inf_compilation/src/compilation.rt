@@ -1,8 +1,9 @@
 //! What the actions of the grammar do: they gather what a unit has, which acts at its end.
 ghost use Rattle.std.specs.Prelude.{IfOk, None, OnOk, false, true, ◌<◌, ◌≡◌, ◌≤◌};
 ghost use Rattle.inf_settings.specs.Bounds.{Allows};
+ghost use Rattle.inf_unit.specs.Atoms.{is_short};
 ghost use Rattle.inf_unit.specs.Messages.{location};
-ghost use Rattle.inf_unit.specs.Tokens.{spelled};
+ghost use Rattle.inf_unit.specs.Spelled.{spelled};
 ghost use Rattle.inf_compilation.specs.Actions.{names_class, no_output};
 
 use crate::findings::{Findings, NOWHERE};
@@ -14,7 +15,6 @@ use inf_lexer::{Place, Stack};
 use inf_names::hashing::NameHashing;
 use inf_names::locals::Locals;
 use inf_names::meanings::Meaning;
-use inf_names::spellings::MOST_NAME_BYTES;
 use inf_names::symbols::{Found, Symbols};
 use inf_output::{Output, Strings};
 use inf_report::messages::Message;
@@ -187,14 +187,13 @@ impl<B: Bounds> Compilation<B> {
         })
     }
 
-    /// Whether a token is the name of a class.
-    pub fn is_class(&self, token: &SourceToken<'_>) -> bool
-        ensures { result ≡ is_class (spelled token.now) (work self.now) }
+    /// Whether a token with these bytes is the name of a class. A name has at most 32 bytes.
+    pub fn is_class(&self, kind: TokenKind, bytes: &[u8]) -> bool
+        requires { is_short kind bytes.now ≡ true }
+        ensures { result ≡ is_class kind bytes.now (work self.now) }
     {
-        match token.kind {
-            TokenKind::Name if token.bytes.len() <= MOST_NAME_BYTES => {
-                names_class(self.output.names.look(token.bytes))
-            }
+        match kind {
+            TokenKind::Name => names_class(self.output.names.look(bytes)),
             _ => false,
         }
     }

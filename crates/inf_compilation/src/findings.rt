@@ -15,7 +15,6 @@ use inf_names::symbols::DeclareFault;
 use inf_report::messages::{FixedLimit, Message, Told};
 use inf_statements::effects::{GIVEN_TWICE, MISPLACED_DEFAULT, NOTHING_TO_LEAVE, WRONG_OPCODE};
 use inf_unit::messages::{Diagnostic, location};
-use inf_unit::tokens::told;
 use inf_unit::unit_tokens::UnitTokens;
 
 /// The number of the message that a name was declared before, and of the one that it is used before its declaration.
@@ -57,7 +56,7 @@ pub fn blame_of<'t>(tokens: &'t UnitTokens, finding: Finding) -> Diagnostic<'t>
     match tokens.get(finding.order as usize) {
         Some(token) => Diagnostic {
             place: token.place,
-            message: message_of(finding.number, told(&token), token.bytes),
+            message: message_of(finding.number, token.told(), token.bytes),
         },
         None => Diagnostic {
             place: NOWHERE,

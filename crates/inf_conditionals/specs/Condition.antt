@@ -15,9 +15,8 @@ use Rattle.inf_expressions.specs.Rooted.{Rooted}
 use Rattle.inf_expressions.specs.Trees.{Tree, Leaf}
 use Rattle.inf_expressions.specs.Units.{judged, trees_of}
 use Rattle.inf_output.specs.Output.{Out}
-use Rattle.inf_unit.specs.Tokens.{SourceToken}
+use Rattle.inf_unit.specs.Tokens.{SourceToken, atom_of}
 use Rattle.inf_unit.specs.Units.{Unit, acted, no_unit, taken}
-use Rattle.inf_conditionals.specs.Atoms.{atom_of}
 use Rattle.inf_conditionals.specs.Operands.{operands_of}
 use Rattle.inf_conditionals.specs.declared.condition.Verdict.{Verdict}
 

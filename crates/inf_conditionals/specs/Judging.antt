@@ -10,7 +10,7 @@ use Rattle.inf_machine.specs.Machine.{fits}
 use Rattle.inf_grammar.specs.Language.{grammar, known}
 use Rattle.inf_names.specs.Symbols.{declared_before}
 use Rattle.inf_output.specs.Output.{Out}
-use Rattle.inf_unit.specs.Tokens.{SourceToken, is_end, is_mark}
+use Rattle.inf_unit.specs.Tokens.{SourceToken, atom_of, is_end, is_mark, keyword}
 use Rattle.inf_unit.specs.Units.{outer_tokens}
 use Rattle.inf_conditionals.specs.declared.condition.Verdict.{Verdict}
 use Rattle.inf_conditionals.specs.declared.filtered.Forwarded.TheVariants as handed
@@ -23,7 +23,6 @@ use Rattle.inf_conditionals.specs.declared.pending.Effect.{Effect}
 use Rattle.inf_conditionals.specs.declared.pending.Effect.TheVariants as effect
 use Rattle.inf_conditionals.specs.declared.pending.Pending.{Pending}
 use Rattle.inf_conditionals.specs.declared.words.ConditionalWord.{ConditionalWord}
-use Rattle.inf_conditionals.specs.Atoms.{atom_of}
 use Rattle.inf_conditionals.specs.Condition.{Condition, condition_begun, condition_took, is_whole, verdict_of}
 use Rattle.inf_conditionals.specs.Said.{Said, too_much, told_by}
 use Rattle.inf_conditionals.specs.Words.{awaits_of, word_of}
@@ -163,7 +162,7 @@ asked (k ∷ conditions) wanted is_quiet o t p c = offered_condition wanted is_q
 
 -- a token comes to a directive that waits so; the conditions are those without it
 abbrev pub awaited : Awaits → Bool → Out → SourceToken → Pending → Conditions → Behind
-awaited awaits.Word is_quiet o t p c = behind_front (word_of t) t p c
+awaited awaits.Word is_quiet o t p c = behind_front (word_of (keyword t)) t p c
 awaited (awaits.Name if_declared) is_quiet o t p c = named t.kind t.bytes if_declared o p c
 awaited (awaits.Condition wanted) is_quiet o t p c = asked c.conditions wanted is_quiet o t p c
 awaited (awaits.End e) is_quiet o t p c = if is_mark mark.Semicolon t.kind then effected e is_quiet p c else unfit c
@@ -182,7 +181,7 @@ at_front (Some word) t c = begun word t t.place false c
 
 -- a token where no side is left out and no `#` is held back, at the front of a piece or not
 abbrev pub offered_to : List Pending → Bool → Bool → Out → SourceToken → Conditions → Behind
-offered_to [] is_front is_quiet o t c = if is_front then at_front (word_of t) t c else kept c
+offered_to [] is_front is_quiet o t c = if is_front then at_front (word_of (keyword t)) t c else kept c
 offered_to (p ∷ pending) is_front is_quiet o t c = awaited p.awaits is_quiet o t p (record c { pending = pending })
 
 abbrev pub offered : Bool → Bool → Out → SourceToken → Conditions → Behind
@@ -226,13 +225,13 @@ passed_by (Some word) t side c = word_passed word t.place side c
 abbrev pub in_side : Bool → Out → SourceToken → LeftOut → Conditions → Behind
 in_side is_quiet o t side c =
     if is_end t.kind then offered false is_quiet o t (record c { left_out = None; sign = None })
-    else passed (passed_by (word_of t) t side c)
+    else passed (passed_by (word_of (keyword t)) t side c)
 
 -- Any token
 
 abbrev pub judged_by : Option LeftOut → Option Place → Site → Out → SourceToken → Conditions → Behind
 judged_by (Some side) sign site o t c = in_side site.is_quiet o t side c
-judged_by None (Some place) site o t c = behind_sign (word_of t) place site.is_quiet o t c
+judged_by None (Some place) site o t c = behind_sign (word_of (keyword t)) place site.is_quiet o t c
 judged_by None None site o t c = offered (site.is_between && is_none_pending c.pending) site.is_quiet o t c
 
 abbrev pub judged : Site → Out → SourceToken → Conditions → Behind

@@ -1,4 +1,3 @@
-pub mod Atoms
 pub mod Operands
 pub mod Condition
 pub mod Said

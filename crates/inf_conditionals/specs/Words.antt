@@ -1,21 +1,22 @@
 -- The words of conditional directives.
-use Rattle.std.specs.Prelude.{codes, true, false, if◌then◌else◌, Option, Some, None}
+use Rattle.std.specs.Prelude.{true, false, Option, Some, None}
 use Rattle.inf_conditionals.specs.declared.pending.Awaits.{Awaits}
 use Rattle.inf_conditionals.specs.declared.pending.Awaits.TheVariants as awaits
 use Rattle.inf_conditionals.specs.declared.pending.Effect.TheVariants as effect
 use Rattle.inf_conditionals.specs.declared.words.ConditionalWord.{ConditionalWord}
 use Rattle.inf_conditionals.specs.declared.words.ConditionalWord.TheVariants as word
-use Rattle.inf_unit.specs.Tokens.{SourceToken, is_word}
+use Rattle.inf_syntax.specs.declared.words.Keyword.{Keyword}
+use Rattle.inf_syntax.specs.declared.words.Keyword.TheVariants as keyword
 
--- the word that a token is, if it is one
-abbrev pub word_of : SourceToken → Option ConditionalWord
-word_of t =
-    if is_word (codes "ifdef") t then Some word.Ifdef else
-    if is_word (codes "ifndef") t then Some word.Ifndef else
-    if is_word (codes "iftrue") t then Some word.Iftrue else
-    if is_word (codes "iffalse") t then Some word.Iffalse else
-    if is_word (codes "ifnot") t then Some word.Ifnot else
-    if is_word (codes "endif") t then Some word.Endif else None
+-- the word of a conditional directive that a word of the grammar is, if it is one
+abbrev pub word_of : Option Keyword → Option ConditionalWord
+word_of (Some keyword.Ifdef) = Some word.Ifdef
+word_of (Some keyword.Ifndef) = Some word.Ifndef
+word_of (Some keyword.Iftrue) = Some word.Iftrue
+word_of (Some keyword.Iffalse) = Some word.Iffalse
+word_of (Some keyword.Ifnot) = Some word.Ifnot
+word_of (Some keyword.Endif) = Some word.Endif
+word_of _ = None
 
 -- what a directive with this word waits for next
 abbrev pub awaits_of : ConditionalWord → Awaits

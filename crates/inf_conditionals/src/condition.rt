@@ -1,15 +1,14 @@
 //! The condition of a conditional directive.
 ghost use Rattle.std.specs.Prelude.{◌≡◌, IfOk, OnOk, map, true};
 ghost use Rattle.inf_conditionals.specs.Condition.{all_acted, condition_begun, condition_took, finding_by, is_true_by, is_whole, number_of, tree_in, verdict_of};
-ghost use Rattle.inf_conditionals.specs.Atoms.{atom_of};
 ghost use Rattle.inf_conditionals.specs.Meant.{condition};
 ghost use Rattle.inf_expressions.specs.Forests.{trees_in};
 ghost use Rattle.inf_grammar.specs.Language.{grammar, known};
 ghost use Rattle.inf_machine.specs.Machine.{fits};
 ghost use Rattle.inf_unit.specs.AtHand.{unit as unit_of};
-ghost use Rattle.inf_unit.specs.Tokens.{spelled};
+ghost use Rattle.inf_unit.specs.Spelled.{spelled};
+ghost use Rattle.inf_unit.specs.Tokens.{atom_of};
 
-use crate::atoms::atom_at;
 use crate::operands::operands_of;
 use inf_area::Value;
 use inf_expressions::{Finding, Forest, Wanted, build, constant, judge};
@@ -67,7 +66,7 @@ impl Condition {
             (condition self.old)) }
     {
         self.actions.clear();
-        if !self.machine.read(atom_at(token, false), &mut self.actions)? {
+        if !self.machine.read(token.atom(), &mut self.actions)? {
             return Ok(false);
         }
         act_all(self.actions.as_slice(), &mut self.unit)?;

@@ -2,8 +2,8 @@
 ghost use Rattle.std.specs.Prelude.{◌≡◌, ◌≤◌, [], length, IfOk, OnOk, IsSome, Some, false, is_none, not, option_map, reverse, true};
 ghost use Rattle.inf_conditionals.specs.Open.{turned_first};
 ghost use Rattle.inf_conditionals.specs.Words.{word_of};
-ghost use Rattle.inf_unit.specs.Tokens.{name_of};
-ghost use Rattle.inf_unit.specs.Tokens.{spelled};
+ghost use Rattle.inf_unit.specs.Tokens.{keyword};
+ghost use Rattle.inf_unit.specs.Spelled.{spelled};
 
 use crate::condition::Condition;
 use crate::ends::tell_all;
@@ -20,8 +20,9 @@ use inf_settings::bounds::Bounds;
 use inf_settings::setting::Setting;
 use inf_settings::settings::Settings;
 use inf_sources::open_file::Conditional;
+use inf_unit::kinds::{is_end, is_mark};
 use inf_unit::messages::Diagnostics;
-use inf_unit::tokens::{SourceToken, is_end, is_mark};
+use inf_unit::tokens::SourceToken;
 use std::alloc::{AllocError, Global};
 use std::marker::Model;
 use std::mem;
@@ -114,14 +115,13 @@ impl Conditionals {
             && !is_mark(token.kind, Mark::Hash)
     }
 
-    /// Takes the next token of the innermost file, and answers what becomes of it. A name has at most 32 bytes.
+    /// Takes the next token of the innermost file, and answers what becomes of it.
     pub fn take<B: Bounds>(
         &mut self,
         site: Site,
         out: &Output<B>,
         token: &SourceToken<'_>,
     ) -> Result<Filtered, AllocError>
-        requires { IsSome (name_of (spelled token.now)) → length token.now.bytes.now ≤ 32 }
         ensures { IfOk result (λ j. record { now = self.new; judged = j } ≡ judged site out.now (spelled token.now) self.old) }
     {
         if self.keeps(site, token) {
@@ -245,7 +245,6 @@ impl Conditionals {
         out: &Output<B>,
         token: &SourceToken<'_>,
     ) -> Result<Filtered, AllocError>
-        requires { IsSome (name_of (spelled token.now)) → length token.now.bytes.now ≤ 32 }
         ensures { IfOk result (λ j. record { now = self.new; judged = j } ≡ in_side is_quiet out.now (spelled token.now) side self.old) }
     {
         if is_end(token.kind) {
@@ -253,7 +252,7 @@ impl Conditionals {
             self.sign = None;
             return self.offer(false, is_quiet, out, token);
         }
-        if let Some(word) = word_of(token) {
+        if let Some(word) = word_of(token.keyword()) {
             self.pass_word(word, token.place, side)?;
             return Ok(NONE);
         }
@@ -299,12 +298,11 @@ impl Conditionals {
         out: &Output<B>,
         token: &SourceToken<'_>,
     ) -> Result<Filtered, AllocError>
-        requires { IsSome (name_of (spelled token.now)) → length token.now.bytes.now ≤ 32 }
         ensures { IfOk result (λ j. record { now = self.new; judged = j } ≡
-            behind_sign (word_of (spelled token.now)) place is_quiet out.now (spelled token.now) self.old) }
+            behind_sign (word_of (keyword (spelled token.now))) place is_quiet out.now (spelled token.now) self.old) }
     {
         self.sign = None;
-        if let Some(word) = word_of(token) {
+        if let Some(word) = word_of(token.keyword()) {
             return self.begin(word, token, place, true);
         }
         let handed = if self.pending.is_empty() {
@@ -329,7 +327,6 @@ impl Conditionals {
         out: &Output<B>,
         token: &SourceToken<'_>,
     ) -> Result<Filtered, AllocError>
-        requires { IsSome (name_of (spelled token.now)) → length token.now.bytes.now ≤ 32 }
         ensures { IfOk result (λ j. record { now = self.new; judged = j } ≡ offered is_front is_quiet out.now (spelled token.now) self.old) }
     {
         if is_mark(token.kind, Mark::Hash) {
@@ -340,7 +337,7 @@ impl Conditionals {
             return self.go_on(pending, is_quiet, out, token);
         }
         if is_front {
-            if let Some(word) = word_of(token) {
+            if let Some(word) = word_of(token.keyword()) {
                 return self.begin(word, token, token.place, false);
             }
         }
@@ -366,7 +363,6 @@ impl Conditionals {
         out: &Output<B>,
         token: &SourceToken<'_>,
     ) -> Result<Filtered, AllocError>
-        requires { IsSome (name_of (spelled token.now)) → length token.now.bytes.now ≤ 32 }
         ensures { IfOk result (λ j. record { now = self.new; judged = j } ≡
             awaited pending.awaits is_quiet out.now (spelled token.now) pending self.old) }
     {
@@ -395,9 +391,9 @@ impl Conditionals {
         token: &SourceToken<'_>,
     ) -> Result<Filtered, AllocError>
         ensures { IfOk result (λ j. record { now = self.new; judged = j } ≡
-            behind_front (word_of (spelled token.now)) (spelled token.now) pending self.old) }
+            behind_front (word_of (keyword (spelled token.now))) (spelled token.now) pending self.old) }
     {
-        if let Some(word) = word_of(token) {
+        if let Some(word) = word_of(token.keyword()) {
             return self.begin(word, token, pending.place, pending.is_inner);
         }
         Ok(Filtered {
@@ -420,8 +416,7 @@ impl Conditionals {
         ensures { IfOk result (λ j. record { now = self.new; judged = j } ≡ begun word (spelled token.now) place is_inner self.old) }
     {
         if let Awaits::Condition(wanted) = word.awaits() {
-            let first = SourceToken { place, ..*token };
-            return self.begin_asking(wanted, &first, is_inner);
+            return self.begin_asking(wanted, &token.at(place), is_inner);
         }
         self.wait(place, is_inner, word.awaits())?;
         Ok(NONE)

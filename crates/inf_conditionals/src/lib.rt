@@ -4,7 +4,6 @@
 //! edition, section 38.
 #![tactic(auto)]
 
-pub mod atoms;
 pub mod condition;
 pub mod conditionals;
 pub mod ends;

@@ -2,7 +2,7 @@
 ghost use Rattle.std.specs.Prelude.{◌≡◌, OnOk, None, Some, if◌then◌else◌, option_map};
 ghost use Rattle.inf_report.specs.Meant.{meant, named};
 ghost use Rattle.inf_unit.specs.Diagnostics.{blamed};
-ghost use Rattle.inf_unit.specs.Tokens.{spelled};
+ghost use Rattle.inf_unit.specs.Spelled.{spelled};
 ghost use Rattle.inf_conditionals.specs.Meant.{condition as condition_of, said_of};
 ghost use Rattle.inf_conditionals.specs.Said.{blame_of, message_of, too_deep, too_much, with_right, with_said};
 
@@ -15,8 +15,9 @@ use inf_report::messages::{Message, Told};
 use inf_scanner::{Mark, Place};
 use inf_settings::bounds::Bounds;
 use inf_settings::setting::Setting;
+use inf_unit::kinds::is_mark;
 use inf_unit::messages::{Diagnostic, Diagnostics, location};
-use inf_unit::tokens::{SourceToken, is_mark, told};
+use inf_unit::tokens::SourceToken;
 use std::alloc::AllocError;
 
 /// How deep brackets may stand in one another.
@@ -104,7 +105,7 @@ fn blame_of<'t>(directive: Place, condition: &'t Condition, finding: Finding) ->
     match condition.unit.tokens.get(finding.order as usize) {
         Some(token) => Diagnostic {
             place: token.place,
-            message: message_of(finding.number, told(&token)),
+            message: message_of(finding.number, token.told()),
         },
         None => Diagnostic {
             place: directive,

@@ -2,10 +2,9 @@
 ghost use Rattle.std.specs.Prelude.{◌≡◌};
 ghost use Rattle.inf_conditionals.specs.Open.{ends_at, levels_behind};
 ghost use Rattle.inf_conditionals.specs.Words.{awaits_of, word_of};
-ghost use Rattle.inf_unit.specs.Tokens.{spelled};
 
 use crate::pending::{Awaits, Effect};
-use inf_unit::tokens::{SourceToken, is_word};
+use inf_syntax::Keyword;
 
 /// The word that begins a conditional directive.
 #[derive(Clone, Copy, Debug, PartialEq, Eq)]
@@ -18,24 +17,18 @@ pub enum ConditionalWord {
     Endif,
 }
 
-/// The word of a conditional directive that a token is, if it is one.
-pub fn word_of(token: &SourceToken<'_>) -> Option<ConditionalWord>
-    ensures { result ≡ word_of (spelled token.now) }
+/// The word of a conditional directive that a word of the grammar is, if it is one.
+pub fn word_of(keyword: Option<Keyword>) -> Option<ConditionalWord>
+    ensures { result ≡ word_of keyword }
 {
-    if is_word(token, b"ifdef") {
-        Some(ConditionalWord::Ifdef)
-    } else if is_word(token, b"ifndef") {
-        Some(ConditionalWord::Ifndef)
-    } else if is_word(token, b"iftrue") {
-        Some(ConditionalWord::Iftrue)
-    } else if is_word(token, b"iffalse") {
-        Some(ConditionalWord::Iffalse)
-    } else if is_word(token, b"ifnot") {
-        Some(ConditionalWord::Ifnot)
-    } else if is_word(token, b"endif") {
-        Some(ConditionalWord::Endif)
-    } else {
-        None
+    match keyword? {
+        Keyword::Ifdef => Some(ConditionalWord::Ifdef),
+        Keyword::Ifndef => Some(ConditionalWord::Ifndef),
+        Keyword::Iftrue => Some(ConditionalWord::Iftrue),
+        Keyword::Iffalse => Some(ConditionalWord::Iffalse),
+        Keyword::Ifnot => Some(ConditionalWord::Ifnot),
+        Keyword::Endif => Some(ConditionalWord::Endif),
+        _ => None,
     }
 }
 

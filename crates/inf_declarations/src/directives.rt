@@ -29,7 +29,7 @@ use inf_settings::bounds::Bounds;
 use inf_statements::operands::add_leaf as add_operand;
 use inf_unit::directives::{Request, weight_of};
 use inf_unit::messages::location;
-use inf_unit::tokens::number_of;
+use inf_unit::kinds::number_of;
 use inf_unit::unit_tokens::UnitTokens;
 use std::alloc::AllocError;
 

@@ -44,7 +44,7 @@ site_of r = record { is_between = reads r.mode && is_empty r.stack; is_quiet = s
 
 -- a `#` at a place
 abbrev pub hash : Place → SourceToken
-hash place = record { kind = kind.Mark mark.Hash; bytes = codes "#"; place = place }
+hash place = record { kind = kind.Mark mark.Hash; bytes = codes "#"; place = place; is_class = false }
 
 -- a token that does not fit a conditional is the bad one of the piece at hand, and where one was told it is passed over
 abbrev pub unfit_in : Recovery → FileNames → SourceToken → ReaderState → ReaderState

@@ -1,6 +1,6 @@
 -- The pieces of a source.
 use Rattle.std.specs.Prelude.{◌≡◌, ℕ, List, [], ◌∷◌, take, Bool, false, Some}
-use Rattle.inf_unit.specs.Tokens.{SourceToken}
+use Rattle.inf_unit.specs.Tokens.{SourceToken, atom_of}
 use Rattle.inf_report.specs.Messages.{Message}
 use Rattle.inf_syntax.specs.declared.actions.Action.{Action}
 use Rattle.inf_machine.specs.declared.symbols.Symbol.{Symbol}
@@ -8,9 +8,8 @@ use Rattle.inf_machine.specs.declared.symbols.Symbol.TheVariants.{Rule}
 use Rattle.inf_machine.specs.Grammar.{Event, IsText, Begins}
 use Rattle.inf_grammar.specs.Language.{grammar, known}
 use Rattle.inf_machine.specs.Machine.{fits}
-use Rattle.inf_conditionals.specs.Atoms.{atom_as}
 use Rattle.inf_reader.specs.Tests.{fault_of}
-use Rattle.inf_compilation.specs.Actions.{Compilation, is_class, piece_begun as work_begun}
+use Rattle.inf_compilation.specs.Actions.{Compilation, piece_begun as work_begun}
 use Rattle.inf_reader.specs.Reading.{Reading, piece_rule, piece_begun}
 
 -- Tokens that the grammar sees so are a piece: a text of its rule for pieces.
@@ -38,8 +37,7 @@ work_by (_ ∷ _) w = w
 -- A token that is faulty by itself fits nowhere.
 abbrev pub FaultyTokensFitNothing : Type 0
 FaultyTokensFitNothing =
-    (t : SourceToken) (is_class : Bool) (m : Message) (stack : List (Symbol Action)) → fault_of t ≡ Some m → fits grammar known
-    (atom_as is_class t) stack ≡ false
+    (t : SourceToken) (m : Message) (stack : List (Symbol Action)) → fault_of t ≡ Some m → fits grammar known (atom_of t) stack ≡ false
 
 -- A piece begins one, and so does each front of what begins one.
 abbrev pub PiecesBegin : Type 0

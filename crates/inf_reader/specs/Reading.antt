@@ -11,16 +11,15 @@ use Rattle.inf_report.specs.Messages.{Location, Message, kind_of}
 use Rattle.inf_report.specs.declared.messages.Kind.{Kind}
 use Rattle.inf_report.specs.declared.messages.Kind.TheVariants as weight
 use Rattle.inf_unit.specs.Messages.{FileNames, Reported, location, with_error, with_fatal}
-use Rattle.inf_unit.specs.Tokens.{SourceToken, is_end, is_mark}
+use Rattle.inf_unit.specs.Tokens.{SourceToken, atom_of, is_end, is_mark}
 use Rattle.inf_syntax.specs.declared.actions.Action.{Action}
 use Rattle.inf_machine.specs.declared.symbols.Symbol.{Symbol}
 use Rattle.inf_machine.specs.declared.symbols.Symbol.TheVariants.{Rule}
 use Rattle.inf_machine.specs.Machine.{fits, taken}
 use Rattle.inf_grammar.specs.Routines.{is_in_routine}
 use Rattle.inf_grammar.specs.Language.{grammar, known}
-use Rattle.inf_compilation.specs.Actions.{Compilation, cut, is_class, no_work, piece_begun as work_begun, took as work_took}
+use Rattle.inf_compilation.specs.Actions.{Compilation, cut, no_work, piece_begun as work_begun, took as work_took}
 use Rattle.inf_actions.specs.Acting.{all_acted}
-use Rattle.inf_conditionals.specs.Atoms.{atom_as}
 use Rattle.inf_reader.specs.Tests.{complaint_of}
 use Rattle.inf_reader.specs.declared.recovery.Recovery.{Recovery}
 use Rattle.inf_reader.specs.declared.recovery.Recovery.TheVariants as mode
@@ -89,12 +88,12 @@ bad files t r w =
 -- A token that fits is taken: first the actions on the way to it act.
 abbrev pub took : FileNames → SourceToken → Reading → Compilation → ReaderState
 took files t r w =
-    let n = taken grammar known (atom_as (is_class t w) t) r.stack in
+    let n = taken grammar known (atom_of t) r.stack in
     record { reading = record { mode = r.mode; stack = n.left }; work = work_took files t (all_acted files t.place n.actions w) }
 
 -- a token of a piece is taken where it fits; else it is the bad one
 abbrev pub judged : FileNames → SourceToken → Reading → Compilation → ReaderState
-judged files t r w = if fits grammar known (atom_as (is_class t w) t) r.stack then took files t r w else bad files t r w
+judged files t r w = if fits grammar known (atom_of t) r.stack then took files t r w else bad files t r w
 
 -- the rule of the pieces
 abbrev pub piece_rule : ℕ

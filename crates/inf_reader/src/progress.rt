@@ -2,7 +2,7 @@
 ghost use Rattle.std.specs.Prelude.{◌≡◌, [], IfOk, OnOk};
 ghost use Rattle.inf_settings.specs.Bounds.{Allows};
 ghost use Rattle.inf_report.specs.Meant.{located};
-ghost use Rattle.inf_unit.specs.Tokens.{spelled};
+ghost use Rattle.inf_unit.specs.Spelled.{spelled};
 ghost use Rattle.inf_reader.specs.Handing.{hash};
 ghost use Rattle.inf_reader.specs.Reading.{with_complaint};
 ghost use Rattle.inf_reader.specs.Tests.{complaint_of};
@@ -12,7 +12,6 @@ use crate::recovery::{Recovery, passed};
 use crate::tokens::complaint_of;
 use inf_actions::acting::{act_all, cut};
 use inf_compilation::compilation::Compilation;
-use inf_conditionals::atoms::atom_at;
 use inf_conditionals::ends::tell_lone;
 use inf_conditionals::filtered::{Filtered, Forwarded, Site};
 use inf_lexer::{Place, Stack};
@@ -23,8 +22,9 @@ use inf_settings::bounds::Bounds;
 use inf_settings::settings::Settings;
 use inf_syntax::Action;
 use inf_text::CharSet;
+use inf_unit::kinds::is_end;
 use inf_unit::messages::{Diagnostics, location};
-use inf_unit::tokens::{SourceToken, is_end};
+use inf_unit::tokens::SourceToken;
 use std::alloc::{AllocError, Global};
 
 /// How far a source was read, and what was compiled of it.
@@ -183,11 +183,7 @@ impl<B: Bounds> Progress<B> {
             OnOk result (standing self.new
             ≡ judged files.now.names (spelled token.now) before (work self.old.work)) }
     {
-        let is_class = self.work.is_class(token);
-        if !self
-            .reader
-            .read(atom_at(token, is_class), &mut self.actions)?
-        {
+        if !self.reader.read(token.atom(), &mut self.actions)? {
             return self.bad(files, token);
         }
         act_all(&mut self.work, files, token.place, self.actions.as_slice())?;
@@ -209,11 +205,7 @@ impl<B: Bounds> Progress<B> {
 fn hash(place: Place) -> SourceToken<'static>
     ensures { spelled result ≡ hash place }
 {
-    SourceToken {
-        kind: TokenKind::Mark(Mark::Hash),
-        bytes: b"#",
-        place,
-    }
+    SourceToken::new(TokenKind::Mark(Mark::Hash), b"#", place, false)
 }
 
 /// Tells what is wrong with a token at a line: a text that is too long ends the compilation.

@@ -2,7 +2,8 @@ ghost use Rattle.std.specs.Prelude.{◌≡◌};
 ghost use Rattle.inf_reader.specs.Reading.{passed};
 
 use inf_scanner::Mark;
-use inf_unit::tokens::{SourceToken, is_end, is_mark};
+use inf_unit::kinds::{is_end, is_mark};
+use inf_unit::tokens::SourceToken;
 
 /// How the next token of a source is read.
 #[derive(Clone, Copy, Debug, PartialEq, Eq)]

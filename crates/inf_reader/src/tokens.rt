@@ -1,12 +1,12 @@
 ghost use Rattle.std.specs.Prelude.{◌≡◌};
 ghost use Rattle.inf_reader.specs.Tests.{complaint_of, message_of};
-ghost use Rattle.inf_unit.specs.Tokens.{spelled};
+ghost use Rattle.inf_unit.specs.Spelled.{spelled};
 ghost use Rattle.inf_report.specs.Meant.{meant};
 
 use inf_report::messages::Message;
 use inf_scanner::{BadToken, TokenKind};
 use inf_settings::setting::Setting;
-use inf_unit::tokens::{SourceToken, told};
+use inf_unit::tokens::SourceToken;
 
 /// What a bad token is blamed for.
 fn message_of(bad: BadToken) -> Message<'static>
@@ -29,6 +29,6 @@ pub fn complaint_of<'t>(token: &SourceToken<'t>) -> Message<'t>
 {
     match token.kind {
         TokenKind::Bad(bad) => message_of(bad),
-        _ => Message::Syntax(told(token)),
+        _ => Message::Syntax(token.told()),
     }
 }

@@ -18,7 +18,7 @@ use Rattle.inf_sources.specs.Cursors.{Cursor, behind, read}
 use Rattle.inf_sources.specs.Inclusions.{Inclusion, Nesting, Opens, OpensNone, Waiting, inclusion, main_opened, resumed, with_opened}
 use Rattle.inf_sources.specs.declared.open_files.Included.{Included}
 use Rattle.inf_sources.specs.declared.open_files.Included.TheVariants as answer
-use Rattle.inf_compilation.specs.Actions.{Compilation}
+use Rattle.inf_compilation.specs.Actions.{Compilation, is_class}
 use Rattle.inf_unit.specs.Directives.{Request, Nothing, Include, End}
 use Rattle.inf_settings.specs.Settings.{number_of}
 use Rattle.inf_settings.specs.declared.setting.Setting.{Setting}
@@ -87,9 +87,15 @@ stand_of s = record { reading = s.reading; work = s.work }
 abbrev pub has_ended : State → Bool
 has_ended s = s.is_over || has_ended_at (stand_of s)
 
--- the next token of the innermost file
-abbrev pub token_of : Cursor → SourceToken
-token_of c = let r = read c in record { kind = r.kind; bytes = r.kept.bytes; place = record { file = c.file; line = r.line } }
+-- the next token of the innermost file, which may be the name of a class at the front of a piece
+abbrev pub token_of : State → SourceToken
+token_of s =
+    let r = read s.nesting.cursor in record {
+      kind = r.kind;
+      bytes = r.kept.bytes;
+      place = record { file = s.nesting.cursor.file; line = r.line };
+      is_class = (site_of s.reading).is_between && is_class r.kind r.kept.bytes s.work;
+    }
 
 -- how many bytes stand between the quotes of a token that has such: of one that is too long as many as it may have
 abbrev pub quoted_of_kind : TokenKind → List ℕ → ℕ
@@ -115,7 +121,7 @@ quoted_behind site j t quoted =
 -- the conditionals say what becomes of it, and what there is to tell of a condition, and the reader takes what is handed on
 abbrev pub stepped : State → State
 stepped s =
-    let t = token_of s.nesting.cursor in
+    let t = token_of s in
     let b = judged (site_of s.reading) s.work.output t s.conditions in
     let n = judged_taken s.nesting.names t b.judged (said_told b.now.said s.nesting.names (stand_of s)) in
     record {

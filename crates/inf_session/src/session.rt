@@ -17,7 +17,7 @@ ghost use Rattle.inf_session.specs.Leading.{CutsShort, GivenUp, NotTried, OpensA
 ghost use Rattle.inf_conditionals.specs.Open.{no_conditions};
 ghost use Rattle.inf_session.specs.Session.{begun_with, followed, carried_out, included, left, part, quoted_behind, quoted_bytes, rested, run, stepped, turn};
 ghost use Rattle.inf_session.specs.Standing.{AreWithin, IsBounded, IsSet, came_to, ended, held, is_fatal, parted, resting, state};
-ghost use Rattle.inf_unit.specs.Tokens.{spelled};
+ghost use Rattle.inf_unit.specs.Spelled.{spelled};
 ghost use Rattle.inf_session.specs.Weights.{GoesOn, room, weight};
 
 use crate::compiled::{Compiled, Status, conclude};
@@ -378,12 +378,10 @@ impl<'a, B: Bounds> Session<'a, B> {
             Err(LexFault::Memory) => return Err(Fault::Memory),
             Err(LexFault::Read) => return Err(unread(self.alloc, self.open_files.innermost())),
         };
-        let spelled = SourceToken {
-            kind: token.kind,
-            bytes: self.open_files.spelling(),
-            place: token.place,
-        };
         let site = self.progress.site();
+        let bytes = self.open_files.spelling();
+        let is_class = site.is_between && self.progress.work.is_class(token.kind, bytes);
+        let spelled = SourceToken::new(token.kind, bytes, token.place, is_class);
         let judged = self
             .conditionals
             .take(site, &self.progress.work.output, &spelled)?;

@@ -26,32 +26,34 @@ use Rattle.inf_output.specs.declared.veneer.Veneer.TheVariants as veneer
 use Rattle.inf_output.specs.Output.{Code, instruction, jumped, laid, low_string_at, nothing, with_low_text, ◌▸◌}
 use Rattle.inf_templates.specs.Meaning.{Meaning, meaning, part}
 use Rattle.inf_templates.specs.Parts.{Part, SP, TEMP, call_routine, is, worked}
-use Rattle.inf_unit.specs.Tokens.{SourceToken, is_word}
+use Rattle.inf_unit.specs.Tokens.{SourceToken, keyword}
+use Rattle.inf_syntax.specs.declared.words.Keyword.{Keyword}
+use Rattle.inf_syntax.specs.declared.words.Keyword.TheVariants as keyword
 use Rattle.inf_unit.specs.declared.items.Item.{Item}
 use Rattle.inf_unit.specs.declared.items.Item.TheVariants as item
 use Rattle.inf_constructs.specs.Cases.{SWITCHED}
 use Rattle.inf_statements.specs.declared.statements.Statement.{Statement}
 use Rattle.inf_statements.specs.declared.statements.Statement.TheVariants as statement
 
--- What a statement is that begins with this token, where that is a word or a mark. Designer's Manual, fourth edition, sections 1.4 to 1.12.
-abbrev pub word_statement : SourceToken → Statement
-word_statement t =
-    if is_word (codes "print") t then statement.Print else
-    if is_word (codes "print_ret") t then statement.PrintReturn else
-    if is_word (codes "return") t then statement.Return else
-    if is_word (codes "new_line") t then statement.NewLine else
-    if is_word (codes "quit") t then statement.Quit else
-    if is_word (codes "rtrue") t then statement.ReturnTrue else
-    if is_word (codes "rfalse") t then statement.ReturnFalse else
-    if is_word (codes "break") t then statement.Break else
-    if is_word (codes "continue") t then statement.Continue else
-    if is_word (codes "jump") t then statement.Jump else
-    if is_word (codes "give") t then statement.Give else
-    if is_word (codes "move") t then statement.Move else
-    if is_word (codes "remove") t then statement.Remove else
-    if is_word (codes "spaces") t then statement.Spaces else
-    if is_word (codes "string") t then statement.String else
-    if is_word (codes "style") t then statement.Style else statement.Expression
+-- What a statement is that begins with this word of the grammar, or with a mark. Designer's Manual, fourth edition, sections 1.4 to 1.12.
+abbrev pub word_statement : Option Keyword → Statement
+word_statement (Some keyword.Print) = statement.Print
+word_statement (Some keyword.PrintRet) = statement.PrintReturn
+word_statement (Some keyword.Return) = statement.Return
+word_statement (Some keyword.NewLine) = statement.NewLine
+word_statement (Some keyword.Quit) = statement.Quit
+word_statement (Some keyword.Rtrue) = statement.ReturnTrue
+word_statement (Some keyword.Rfalse) = statement.ReturnFalse
+word_statement (Some keyword.Break) = statement.Break
+word_statement (Some keyword.Continue) = statement.Continue
+word_statement (Some keyword.Jump) = statement.Jump
+word_statement (Some keyword.Give) = statement.Give
+word_statement (Some keyword.Move) = statement.Move
+word_statement (Some keyword.Remove) = statement.Remove
+word_statement (Some keyword.Spaces) = statement.Spaces
+word_statement (Some keyword.String) = statement.String
+word_statement (Some keyword.Style) = statement.Style
+word_statement _ = statement.Expression
 
 abbrev pub mark_statement : Mark → Statement
 mark_statement mark.Dot = statement.Place
@@ -66,7 +68,7 @@ text_statement [] = statement.Expression
 text_statement (i ∷ items) = statement.PrintReturn
 
 abbrev pub statement_of_kind : TokenKind → SourceToken → List Item → Statement
-statement_of_kind kind.Name t items = word_statement t
+statement_of_kind kind.Name t items = word_statement (keyword t)
 statement_of_kind kind.Text t items = text_statement items
 statement_of_kind (kind.Mark m) t items = mark_statement m
 statement_of_kind _ t items = statement.Expression

@@ -6,7 +6,7 @@ ghost use Rattle.inf_expressions.specs.Trees.{Tree};
 ghost use Rattle.inf_output.specs.Output.{Takes};
 ghost use Rattle.inf_templates.specs.Meaning.{Meaning};
 ghost use Rattle.inf_templates.specs.Tasks.{part_of, parts_of};
-ghost use Rattle.inf_unit.specs.Tokens.{spelled};
+ghost use Rattle.inf_unit.specs.Spelled.{spelled};
 ghost use Rattle.inf_constructs.specs.Roots.{tree_in, trees_from};
 ghost use Rattle.inf_statements.specs.Statements.{action_laid, action_on, alone, are_several, attribute_code, attribute_opcode, attributes_changed, attributes_given, jumped_to, mark_statement, moved, one_worked, plain, processed, rest, returned, returned_by, spaced, statement_in, statement_of_kind, string_of, string_set, style_of, styled, styled_by, switched, tested, text_statement, unless, word_statement};
 
@@ -17,11 +17,12 @@ use inf_opcode::{Label, Opcode};
 use inf_output::{Output, Simple, Veneer};
 use inf_scanner::{Mark, TokenKind};
 use inf_settings::bounds::Bounds;
+use inf_syntax::Keyword;
 use inf_templates::{
     Argument, Tasks, lay_alone, lay_branch, lay_instruction, lay_routine_call, lay_value, simple_of,
 };
 use inf_unit::items::Item;
-use inf_unit::tokens::{SourceToken, is_word};
+use inf_unit::tokens::SourceToken;
 use inf_unit::unit_tokens::UnitTokens;
 use std::alloc::AllocError;
 
@@ -65,44 +66,28 @@ pub enum Statement {
     ActionReturn,
 }
 
-/// What a statement is that begins with a token, by its word.
-fn word_statement(token: &SourceToken<'_>) -> Statement
-    ensures { result ≡ word_statement (spelled token.now) }
+/// What a statement is that begins with a name, by the word of the grammar that this is.
+fn word_statement(keyword: Option<Keyword>) -> Statement
+    ensures { result ≡ word_statement keyword }
 {
-    if is_word(token, b"print") {
-        Statement::Print
-    } else if is_word(token, b"print_ret") {
-        Statement::PrintReturn
-    } else if is_word(token, b"return") {
-        Statement::Return
-    } else if is_word(token, b"new_line") {
-        Statement::NewLine
-    } else if is_word(token, b"quit") {
-        Statement::Quit
-    } else if is_word(token, b"rtrue") {
-        Statement::ReturnTrue
-    } else if is_word(token, b"rfalse") {
-        Statement::ReturnFalse
-    } else if is_word(token, b"break") {
-        Statement::Break
-    } else if is_word(token, b"continue") {
-        Statement::Continue
-    } else if is_word(token, b"jump") {
-        Statement::Jump
-    } else if is_word(token, b"give") {
-        Statement::Give
-    } else if is_word(token, b"move") {
-        Statement::Move
-    } else if is_word(token, b"remove") {
-        Statement::Remove
-    } else if is_word(token, b"spaces") {
-        Statement::Spaces
-    } else if is_word(token, b"string") {
-        Statement::String
-    } else if is_word(token, b"style") {
-        Statement::Style
-    } else {
-        Statement::Expression
+    match keyword {
+        Some(Keyword::Print) => Statement::Print,
+        Some(Keyword::PrintRet) => Statement::PrintReturn,
+        Some(Keyword::Return) => Statement::Return,
+        Some(Keyword::NewLine) => Statement::NewLine,
+        Some(Keyword::Quit) => Statement::Quit,
+        Some(Keyword::Rtrue) => Statement::ReturnTrue,
+        Some(Keyword::Rfalse) => Statement::ReturnFalse,
+        Some(Keyword::Break) => Statement::Break,
+        Some(Keyword::Continue) => Statement::Continue,
+        Some(Keyword::Jump) => Statement::Jump,
+        Some(Keyword::Give) => Statement::Give,
+        Some(Keyword::Move) => Statement::Move,
+        Some(Keyword::Remove) => Statement::Remove,
+        Some(Keyword::Spaces) => Statement::Spaces,
+        Some(Keyword::String) => Statement::String,
+        Some(Keyword::Style) => Statement::Style,
+        _ => Statement::Expression,
     }
 }
 
@@ -135,7 +120,7 @@ fn statement_of(token: &SourceToken<'_>, items: &[Item]) -> Statement
     ensures { result ≡ statement_of_kind token.now.kind (spelled token.now) items.now }
 {
     match token.kind {
-        TokenKind::Name => word_statement(token),
+        TokenKind::Name => word_statement(token.keyword()),
         TokenKind::Text => text_statement(items),
         TokenKind::Mark(mark) => mark_statement(mark),
         _ => Statement::Expression,

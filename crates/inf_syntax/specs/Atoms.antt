@@ -1,8 +1,9 @@
 -- Atoms: what the grammar can tell of a token. They are numbered: the marks, the words, another name, each of these names
 -- again as that of a class, a number, a character, a word in quotes, a text, a bad token, the end.
-use Rattle.std.specs.Prelude.{ℕ, ◌+◌, ◌-◌, ◌*◌, ◌^◌, List, [], ◌∷◌, bit_or, bit_and, if◌then◌else◌}
+use Rattle.std.specs.Prelude.{ℕ, ◌+◌, ◌-◌, ◌*◌, ◌^◌, List, [], ◌∷◌, bit_or, bit_and, nat_lt, slice_get, if◌then◌else◌, Option}
 use Rattle.std.specs.Str.{str_eq_ignore_ascii_case}
-use Rattle.inf_syntax.specs.Words.{words}
+use Rattle.inf_syntax.specs.Words.{words, keywords}
+use Rattle.inf_syntax.specs.declared.words.Keyword.{Keyword}
 use Rattle.inf_syntax.specs.declared.atoms.Token.{Token as Seen}
 use Rattle.inf_syntax.specs.declared.atoms.Token.TheVariants as seen
 use Rattle.inf_scanner.specs.declared.tokens.Mark.{Mark}
@@ -76,6 +77,21 @@ atom_of seen.Word = first_literal + 2
 atom_of seen.Text = first_literal + 3
 atom_of seen.Bad = first_literal + 4
 atom_of seen.End = first_literal + 5
+
+-- Words
+
+-- the word of the grammar that a name is, in any case, if it is one
+unfoldable pub keyword_of : List ℕ → Option Keyword
+keyword_of spelling = slice_get keywords (place_in spelling words)
+
+-- which name an atom is, of a class or not: none of these, if it is no name's
+abbrev pub name_at : ℕ → ℕ
+name_at atom =
+    if nat_lt atom first_word then names else if nat_lt atom (first_word + names) then atom - first_word else atom - (first_word + names)
+
+-- the word that an atom is
+unfoldable pub keyword_at : ℕ → Option Keyword
+keyword_at atom = slice_get keywords (name_at atom)
 
 -- Sets of atoms
 

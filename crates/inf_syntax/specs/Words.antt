@@ -1,5 +1,7 @@
 -- The words that the grammar knows, in the order of the alphabet. Made from docs/grammar.txt.
 use Rattle.std.specs.Prelude.{ℕ, List, [], ◌∷◌, codes}
+use Rattle.inf_syntax.specs.declared.words.Keyword.{Keyword}
+use Rattle.inf_syntax.specs.declared.words.Keyword.TheVariants as keyword
 
 abbrev pub words : List (List ℕ)
 words =
@@ -75,4 +77,81 @@ words =
     ∷ codes "warning"
     ∷ codes "while"
     ∷ codes "with"
+    ∷ []
+
+-- as they are told apart
+unfoldable pub keywords : List Keyword
+keywords =
+    keyword.Abbreviate
+    ∷ keyword.Additive
+    ∷ keyword.Alias
+    ∷ keyword.Array
+    ∷ keyword.Attribute
+    ∷ keyword.Break
+    ∷ keyword.Class
+    ∷ keyword.Constant
+    ∷ keyword.Continue
+    ∷ keyword.Default
+    ∷ keyword.Do
+    ∷ keyword.Else
+    ∷ keyword.End
+    ∷ keyword.Endif
+    ∷ keyword.Error
+    ∷ keyword.Extend
+    ∷ keyword.FakeAction
+    ∷ keyword.Fatalerror
+    ∷ keyword.First
+    ∷ keyword.For
+    ∷ keyword.Give
+    ∷ keyword.Global
+    ∷ keyword.Has
+    ∷ keyword.Hasnt
+    ∷ keyword.If
+    ∷ keyword.Ifdef
+    ∷ keyword.Iffalse
+    ∷ keyword.Ifndef
+    ∷ keyword.Ifnot
+    ∷ keyword.Iftrue
+    ∷ keyword.In
+    ∷ keyword.Include
+    ∷ keyword.Jump
+    ∷ keyword.Last
+    ∷ keyword.Lowstring
+    ∷ keyword.Message
+    ∷ keyword.Meta
+    ∷ keyword.Move
+    ∷ keyword.Nearby
+    ∷ keyword.NewLine
+    ∷ keyword.Notin
+    ∷ keyword.Object
+    ∷ keyword.Objectloop
+    ∷ keyword.Ofclass
+    ∷ keyword.Or
+    ∷ keyword.Print
+    ∷ keyword.PrintRet
+    ∷ keyword.Property
+    ∷ keyword.Provides
+    ∷ keyword.Quit
+    ∷ keyword.Release
+    ∷ keyword.Remove
+    ∷ keyword.Replace
+    ∷ keyword.Return
+    ∷ keyword.Reverse
+    ∷ keyword.Rfalse
+    ∷ keyword.Rtrue
+    ∷ keyword.Serial
+    ∷ keyword.Spaces
+    ∷ keyword.String
+    ∷ keyword.Stub
+    ∷ keyword.Style
+    ∷ keyword.Switch
+    ∷ keyword.Switches
+    ∷ keyword.SystemFile
+    ∷ keyword.Table
+    ∷ keyword.To
+    ∷ keyword.Until
+    ∷ keyword.Verb
+    ∷ keyword.Warning
+    ∷ keyword.While
+    ∷ keyword.With
     ∷ []

@@ -1,11 +1,11 @@
 //! Atoms: what the grammar can tell of a token.
 ghost use Rattle.std.specs.Prelude.{◌≡◌, ◌≤◌, ◌<◌, get_or, length, map};
 ghost use Rattle.std.specs.Str.{str_eq_ignore_ascii_case};
-ghost use Rattle.inf_syntax.specs.Atoms.{atom_of, place_in};
+ghost use Rattle.inf_syntax.specs.Atoms.{atom_of, keyword_at, name_at, place_in};
 ghost use Rattle.inf_syntax.specs.Slots.{all_slots, letter, slot};
-ghost use Rattle.inf_syntax.specs.Words.{words};
+ghost use Rattle.inf_syntax.specs.Words.{keywords, words};
 
-use crate::words::{SLOTS, WORDS};
+use crate::words::{KEYWORDS, Keyword, SLOTS, WORDS};
 use inf_scanner::Mark;
 
 /// A token, as far as the grammar looks at it.
@@ -51,6 +51,27 @@ pub fn atom_of(token: Token<'_>) -> u8
         Token::Text => FIRST_LITERAL + 3,
         Token::Bad => FIRST_LITERAL + 4,
         Token::End => FIRST_LITERAL + 5,
+    }
+}
+
+/// The word that an atom is, if it is one, also where it is that of a class of this name.
+#[tactic(auto, unfolding(crate::specs::Atoms::keyword_at))]
+pub fn keyword_at(atom: u8) -> Option<Keyword>
+    ensures { result ≡ keyword_at atom }
+{
+    known_keywords().get(name_at(atom) as usize).copied()
+}
+
+/// Which name an atom is, of a class or not: none of these, if it is no name's.
+fn name_at(atom: u8) -> u8
+    ensures { result ≡ name_at atom }
+{
+    if atom < FIRST_NAME {
+        NAMES
+    } else if atom < FIRST_NAME + NAMES {
+        atom - FIRST_NAME
+    } else {
+        atom - (FIRST_NAME + NAMES)
     }
 }
 
@@ -118,4 +139,12 @@ fn known_words() -> &'static [&'static [u8]]
     ensures len { length result.now ≡ 72 }
 {
     &WORDS
+}
+
+/// The same words as they are told apart.
+#[tactic(auto, unfolding(crate::specs::Words::keywords))]
+fn known_keywords() -> &'static [Keyword]
+    ensures { result.now ≡ keywords }
+{
+    &KEYWORDS
 }

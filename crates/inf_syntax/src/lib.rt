@@ -11,5 +11,6 @@ mod atoms;
 mod words;
 
 pub use actions::Action;
-pub use atoms::{OTHER_NAME, Token, atom_of};
+pub use atoms::{OTHER_NAME, Token, atom_of, keyword_at};
 pub use inf_scanner::Mark;
+pub use words::Keyword;

@@ -2,6 +2,8 @@
 use Rattle.std.specs.Prelude.{ℕ, List, [], ◌∷◌, codes, Bool, true, false, if◌then◌else◌, Option, Some, None}
 use Rattle.std.specs.Str.{str_eq_ignore_ascii_case}
 use Rattle.inf_scanner.specs.declared.tokens.Place.{Place}
+use Rattle.inf_syntax.specs.declared.words.Keyword.{Keyword}
+use Rattle.inf_syntax.specs.declared.words.Keyword.TheVariants as keyword
 use Rattle.inf_report.specs.declared.messages.Kind.{Kind}
 use Rattle.inf_report.specs.declared.messages.Kind.TheVariants as weight
 use Rattle.inf_names.specs.Spellings.{Name}
@@ -28,27 +30,20 @@ asked code.Nothing = Nothing
 asked (code.Include text unit) = Include text.items unit
 asked code.End = End
 
--- what a directive is whose word this is, in any case
-abbrev pub is_directive : List ℕ → List ℕ → Bool
-is_directive word bytes = str_eq_ignore_ascii_case bytes word
-
--- one that declares what is in a table, or none of these
-abbrev pub declaration_of : List ℕ → Directive
-declaration_of bytes =
-    if is_directive (codes "default") bytes then directive.Default else
-    if is_directive (codes "attribute") bytes then directive.Attribute else
-    if is_directive (codes "property") bytes then directive.Property else
-    if is_directive (codes "global") bytes then directive.Global else
-    if is_directive (codes "fake_action") bytes then directive.FakeAction else directive.SystemFile
-
-abbrev pub directive_of : List ℕ → Directive
-directive_of bytes =
-    if is_directive (codes "include") bytes then directive.Include else
-    if is_directive (codes "message") bytes then directive.Message else
-    if is_directive (codes "end") bytes then directive.End else
-    if is_directive (codes "constant") bytes then directive.Constant else
-    if is_directive (codes "replace") bytes then directive.Replace else
-    if is_directive (codes "stub") bytes then directive.Stub else declaration_of bytes
+-- what a directive is whose word this is
+abbrev pub directive_of : Option Keyword → Directive
+directive_of (Some keyword.Include) = directive.Include
+directive_of (Some keyword.Message) = directive.Message
+directive_of (Some keyword.End) = directive.End
+directive_of (Some keyword.Constant) = directive.Constant
+directive_of (Some keyword.Replace) = directive.Replace
+directive_of (Some keyword.Stub) = directive.Stub
+directive_of (Some keyword.Default) = directive.Default
+directive_of (Some keyword.Attribute) = directive.Attribute
+directive_of (Some keyword.Property) = directive.Property
+directive_of (Some keyword.Global) = directive.Global
+directive_of (Some keyword.FakeAction) = directive.FakeAction
+directive_of _ = directive.SystemFile
 
 -- the weight of a message, by the word behind `Message`
 abbrev pub weight_of_word : List ℕ → Kind

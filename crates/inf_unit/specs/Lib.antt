@@ -1,7 +1,10 @@
+pub mod Atoms
 pub mod Tokens
+pub mod Spelled
 pub mod Messages
 pub mod Diagnostics
 pub mod Names
+pub mod KeptBytes
 pub mod Kept
 pub mod Roles
 pub mod Steps

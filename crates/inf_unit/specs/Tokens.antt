@@ -1,23 +1,30 @@
 -- A token as a source spells it, and tests of one.
 use Rattle.std.specs.Prelude.{ℕ, List, ◌==◌, Bool, true, false, Option, Some, None}
-use Rattle.std.specs.Str.{str_eq_ignore_ascii_case}
 use Rattle.inf_syntax.specs.Atoms.{mark_atom}
+use Rattle.inf_syntax.specs.declared.words.Keyword.{Keyword}
 use Rattle.inf_scanner.specs.declared.tokens.Mark.{Mark}
 use Rattle.inf_scanner.specs.declared.tokens.TokenKind.{TokenKind}
 use Rattle.inf_scanner.specs.declared.tokens.TokenKind.TheVariants as kind
 use Rattle.inf_scanner.specs.declared.tokens.Place.{Place}
 use Rattle.inf_report.specs.Messages.{Told, Bytes, Quote, Text, End}
 use Rattle.inf_names.specs.Spellings.{Name}
-use Rattle.inf_unit.specs.declared.tokens.SourceToken as code
+use Rattle.inf_unit.specs.Atoms.{atom_of_kind, keyword_of_kind}
 
--- A token: what it is, its bytes (of a text or quote those between its quotes), and the place of its first byte.
+-- A token: what it is, its bytes (of a text or quote those between its quotes), the place of its first byte, and whether it is read as
+-- the name of a class, as one may be at the front of a piece.
 pub record SourceToken : Type 0 where
   pub kind : TokenKind
   pub bytes : List ℕ
   pub place : Place
+  pub is_class : Bool
 
-abbrev pub spelled : code.SourceToken → SourceToken
-spelled t = record { kind = t.kind; bytes = t.bytes.now; place = t.place }
+-- how the grammar sees it
+abbrev pub atom_of : SourceToken → ℕ
+atom_of t = atom_of_kind t.is_class t.kind t.bytes
+
+-- the word of the grammar that it is, if it is one
+abbrev pub keyword : SourceToken → Option Keyword
+keyword t = keyword_of_kind t.kind t.bytes
 
 -- this mark
 abbrev pub is_mark : Mark → TokenKind → Bool
@@ -32,14 +39,6 @@ is_end _ = false
 abbrev pub number_of : TokenKind → Option ℕ
 number_of (kind.Number number) = Some number
 number_of _ = None
-
--- a word of the language, in any case
-abbrev pub is_word_kind : List ℕ → TokenKind → List ℕ → Bool
-is_word_kind word kind.Name bytes = str_eq_ignore_ascii_case bytes word
-is_word_kind word _ bytes = false
-
-abbrev pub is_word : List ℕ → SourceToken → Bool
-is_word word t = is_word_kind word t.kind t.bytes
 
 -- how messages name a token
 abbrev pub told_kind : TokenKind → List ℕ → Told

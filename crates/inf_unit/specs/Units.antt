@@ -1,5 +1,5 @@
 -- The unit at hand: its tokens, and what the grammar's actions gather of them.
-use Rattle.std.specs.Prelude.{ℕ, ◌+◌, ◌-◌, ◌==◌, List, [], ◌∷◌, ◌++◌, length, drop, min, slice_get, take, nat_le, nat_lt, Bool, true, false, ◌&&◌, if◌then◌else◌, Option, Some, None, option_map, unwrap_or}
+use Rattle.std.specs.Prelude.{ℕ, ◌+◌, ◌-◌, ◌==◌, List, [], ◌∷◌, ◌++◌, length, drop, min, slice_get, take, nat_lt, Bool, true, false, ◌&&◌, if◌then◌else◌, Option, Some, None, option_map, unwrap_or}
 use Rattle.inf_scanner.specs.declared.tokens.Mark.{Mark}
 use Rattle.inf_scanner.specs.declared.tokens.Mark.TheVariants as mark
 use Rattle.inf_scanner.specs.declared.tokens.Place.{Place}
@@ -13,7 +13,8 @@ use Rattle.inf_names.specs.Spellings.{Name}
 use Rattle.inf_opcode.specs.declared.opcodes.Opcode.{Opcode}
 use Rattle.inf_opcode.specs.Opcodes.{row_of}
 use Rattle.inf_syntax.specs.declared.actions.Action.{Action}
-use Rattle.inf_unit.specs.Tokens.{SourceToken, is_mark, name_of}
+use Rattle.inf_syntax.specs.declared.words.Keyword.{Keyword}
+use Rattle.inf_unit.specs.Tokens.{SourceToken, is_mark, keyword, name_of}
 use Rattle.inf_unit.specs.Roles.{role_of}
 use Rattle.inf_unit.specs.declared.roles.Note.{Note}
 use Rattle.inf_unit.specs.declared.roles.Note.TheVariants as note
@@ -103,14 +104,10 @@ kind_at tokens at = option_map (λ (t : SourceToken). t.kind) (slice_get tokens 
 abbrev pub place_at : List SourceToken → ℕ → Option Place
 place_at tokens at = option_map (λ (t : SourceToken). t.place) (slice_get tokens at)
 
--- the name that a token is, if it is one; no name has more than 32 bytes
-abbrev pub short_name_of : SourceToken → Option Name
-short_name_of t = if nat_le (length t.bytes) 32 then name_of t else None
-
 -- the name at a place of the unit, if the token there is one
 abbrev pub name_by : Option SourceToken → Option Name
 name_by None = None
-name_by (Some t) = short_name_of t
+name_by (Some t) = name_of t
 
 abbrev pub name_at : List SourceToken → ℕ → Option Name
 name_at tokens at = name_by (slice_get tokens at)
@@ -153,6 +150,18 @@ is_some_mark m (Some k) = is_mark m k
 abbrev pub name_order : List SourceToken → ℕ
 name_order tokens = if is_some_mark mark.Hash (kind_at tokens 0) then 2 else 1
 
+-- the word of the grammar at a place of the unit, if the token there is one
+abbrev pub keyword_by : Option SourceToken → Option Keyword
+keyword_by None = None
+keyword_by (Some t) = keyword t
+
+abbrev pub keyword_at : List SourceToken → ℕ → Option Keyword
+keyword_at tokens at = keyword_by (slice_get tokens at)
+
+-- that of a directive, before which a `#` may stand
+abbrev pub directive_word : List SourceToken → Option Keyword
+directive_word tokens = keyword_at tokens (name_order tokens - 1)
+
 -- the names among the tokens, in order
 abbrev pub with_name : Option Name → List Name → List Name
 with_name None names = names
@@ -160,7 +169,7 @@ with_name (Some n) names = names ++ n ∷ []
 
 abbrev pub names_from : List SourceToken → List Name → List Name
 names_from [] names = names
-names_from (t ∷ tokens) names = names_from tokens (with_name (short_name_of t) names)
+names_from (t ∷ tokens) names = names_from tokens (with_name (name_of t) names)
 
 abbrev pub names_in : List SourceToken → List Name
 names_in tokens = names_from tokens []

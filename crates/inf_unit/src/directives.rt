@@ -1,11 +1,12 @@
 //! The directives that are one unit, and what they ask of the reading.
 ghost use Rattle.std.specs.Prelude.{◌≡◌, map};
 ghost use Rattle.inf_names.specs.Spellings.{as_name};
-ghost use Rattle.inf_unit.specs.Directives.{declaration_of, directive_of, weight_of, weight_of_word};
+ghost use Rattle.inf_unit.specs.Directives.{directive_of, weight_of, weight_of_word};
 
 use inf_names::spellings::Name;
 use inf_report::messages::Kind;
 use inf_scanner::Place;
+use inf_syntax::Keyword;
 
 /// What a directive is, told by its word.
 #[derive(Clone, Copy, Debug, PartialEq, Eq)]
@@ -34,43 +35,23 @@ pub enum Request {
     End,
 }
 
-/// What a directive is whose word this is, in any case.
-pub fn directive_of(word: &[u8]) -> Directive
-    ensures { result ≡ directive_of word.now }
+/// What a directive is whose word this is.
+pub fn directive_of(word: Option<Keyword>) -> Directive
+    ensures { result ≡ directive_of word }
 {
-    if word.eq_ignore_ascii_case(b"include") {
-        Directive::Include
-    } else if word.eq_ignore_ascii_case(b"message") {
-        Directive::Message
-    } else if word.eq_ignore_ascii_case(b"end") {
-        Directive::End
-    } else if word.eq_ignore_ascii_case(b"constant") {
-        Directive::Constant
-    } else if word.eq_ignore_ascii_case(b"replace") {
-        Directive::Replace
-    } else if word.eq_ignore_ascii_case(b"stub") {
-        Directive::Stub
-    } else {
-        declaration_of(word)
-    }
-}
-
-/// What a directive is that declares what is in a table, or none of these.
-fn declaration_of(word: &[u8]) -> Directive
-    ensures { result ≡ declaration_of word.now }
-{
-    if word.eq_ignore_ascii_case(b"default") {
-        Directive::Default
-    } else if word.eq_ignore_ascii_case(b"attribute") {
-        Directive::Attribute
-    } else if word.eq_ignore_ascii_case(b"property") {
-        Directive::Property
-    } else if word.eq_ignore_ascii_case(b"global") {
-        Directive::Global
-    } else if word.eq_ignore_ascii_case(b"fake_action") {
-        Directive::FakeAction
-    } else {
-        Directive::SystemFile
+    match word {
+        Some(Keyword::Include) => Directive::Include,
+        Some(Keyword::Message) => Directive::Message,
+        Some(Keyword::End) => Directive::End,
+        Some(Keyword::Constant) => Directive::Constant,
+        Some(Keyword::Replace) => Directive::Replace,
+        Some(Keyword::Stub) => Directive::Stub,
+        Some(Keyword::Default) => Directive::Default,
+        Some(Keyword::Attribute) => Directive::Attribute,
+        Some(Keyword::Property) => Directive::Property,
+        Some(Keyword::Global) => Directive::Global,
+        Some(Keyword::FakeAction) => Directive::FakeAction,
+        _ => Directive::SystemFile,
     }
 }
 

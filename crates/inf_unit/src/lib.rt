@@ -3,6 +3,8 @@
 
 pub mod directives;
 pub mod items;
+pub mod kept;
+pub mod kinds;
 pub mod messages;
 pub mod names;
 pub mod opcodes;

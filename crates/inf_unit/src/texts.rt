@@ -1,7 +1,7 @@
 //! The characters of texts.
 ghost use Rattle.std.specs.Prelude.{◌≡◌, IfOk};
 ghost use Rattle.inf_unit.specs.Texts.{read_of};
-ghost use Rattle.inf_unit.specs.Tokens.{spelled};
+ghost use Rattle.inf_unit.specs.Spelled.{spelled};
 
 use crate::tokens::SourceToken;
 use inf_scanner::TokenKind;

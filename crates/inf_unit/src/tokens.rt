@@ -1,64 +1,103 @@
-//! A token, as units see it, and tests of one.
-ghost use Rattle.std.specs.Prelude.{◌≡◌};
-ghost use Rattle.inf_report.specs.Meant.{named};
-ghost use Rattle.inf_unit.specs.Tokens.{is_end, is_mark, is_word, number_of, spelled, told};
+//! A token, as units see it.
+ghost use Rattle.std.specs.Prelude.{◌≡◌, true};
+ghost use Rattle.inf_unit.specs.Atoms.{atom_of_kind, is_short};
 
 use inf_report::messages::Told;
-use inf_scanner::{Mark, Place, TokenKind};
+use inf_scanner::{Place, TokenKind};
+use inf_syntax::{Keyword, Token as Seen, atom_of, keyword_at};
 
-/// A token of a source: what it is, its bytes (of a text or quote those between its quotes), and the place of its first
-/// byte.
+/// A token of a source: what it is, its bytes (of a text or quote those between its quotes), the place of its first byte, and how the
+/// grammar sees it. A name has at most 32 bytes.
 #[derive(Clone, Copy)]
 pub struct SourceToken<'a> {
     pub kind: TokenKind,
     pub bytes: &'a [u8],
     pub place: Place,
+    pub(crate) is_class: bool,
+    pub(crate) atom: u8,
+    ghost is_seen: { atom ≡ atom_of_kind is_class kind bytes.now },
+    ghost is_short: { is_short kind bytes.now ≡ true },
 }
 
-/// Whether a token of this kind is this mark.
-pub fn is_mark(kind: TokenKind, mark: Mark) -> bool
-    ensures { result ≡ is_mark mark kind }
+/// How the grammar sees a token, which is the name of a class or not. What has a fault of its own is a bad one, which fits nowhere.
+fn atom_at(kind: TokenKind, bytes: &[u8], is_class: bool) -> u8
+    ensures { result ≡ atom_of_kind is_class kind bytes.now }
 {
-    match kind {
-        TokenKind::Mark(found) => found as u8 == mark as u8,
-        _ => false,
+    atom_of(match kind {
+        TokenKind::Mark(mark) => Seen::Mark(mark),
+        TokenKind::Name => Seen::Name(bytes, is_class),
+        TokenKind::Number(_) => Seen::Number,
+        TokenKind::Char(_) => Seen::Char,
+        TokenKind::Word(_) => Seen::Word,
+        TokenKind::Text => Seen::Text,
+        TokenKind::Bad(_) => Seen::Bad,
+        TokenKind::End => Seen::End,
+    })
+}
+
+impl<'a> SourceToken<'a> {
+    ghost use Rattle.inf_report.specs.Meant.{named};
+    ghost use Rattle.inf_unit.specs.Spelled.{spelled};
+    ghost use Rattle.inf_unit.specs.Tokens.{atom_of, keyword, told};
+
+    /// A token, which is read as the name of a class or not. A name has at most 32 bytes.
+    #[inline(always)]
+    pub fn new(kind: TokenKind, bytes: &'a [u8], place: Place, is_class: bool) -> SourceToken<'a>
+        requires { is_short kind bytes.now ≡ true }
+        ensures { spelled result ≡ record { kind = kind; bytes = bytes.now; place = place; is_class = is_class } }
+    {
+        let seen = kind;
+        let atom = atom_at(seen, bytes, is_class);
+        SourceToken {
+            kind,
+            bytes,
+            place,
+            is_class,
+            atom,
+        }
     }
-}
 
-/// Whether it is the end of the source.
-pub fn is_end(kind: TokenKind) -> bool
-    ensures { result ≡ is_end kind }
-{
-    matches!(kind, TokenKind::End)
-}
-
-/// The number that a token of this kind is, if it is one.
-pub fn number_of(kind: TokenKind) -> Option<u16>
-    ensures { result ≡ number_of kind }
-{
-    match kind {
-        TokenKind::Number(number) => Some(number),
-        _ => None,
+    /// The same at another place.
+    pub fn at(&self, place: Place) -> SourceToken<'a>
+        ensures { let token = spelled self.now in spelled result ≡ record token { place = place } }
+    {
+        SourceToken {
+            kind: self.kind,
+            bytes: self.bytes,
+            place,
+            is_class: self.is_class,
+            atom: self.atom,
+        }
     }
-}
 
-/// Whether a token is a word of the language, in any case.
-pub fn is_word(token: &SourceToken<'_>, word: &[u8]) -> bool
-    ensures { result ≡ is_word word.now (spelled token.now) }
-{
-    matches!(token.kind, TokenKind::Name) && token.bytes.eq_ignore_ascii_case(word)
-}
+    /// How the grammar sees it.
+    pub fn atom(&self) -> u8
+        ensures { result ≡ atom_of (spelled self.now) }
+    {
+        self.atom
+    }
 
-/// How messages name a token.
-pub fn told<'t>(token: &SourceToken<'t>) -> Told<'t>
-    ensures { named result ≡ told (spelled token.now) }
-{
-    match token.kind {
-        TokenKind::Text => Told::Text,
-        TokenKind::Char(_) | TokenKind::Word(_) => Told::Quote(token.bytes),
-        TokenKind::End => Told::End,
-        TokenKind::Name | TokenKind::Number(_) | TokenKind::Mark(_) | TokenKind::Bad(_) => {
-            Told::Bytes(token.bytes)
+    /// The word of the grammar that it is, if it is one.
+    pub fn keyword(&self) -> Option<Keyword>
+        ensures { result ≡ keyword (spelled self.now) }
+    {
+        match self.kind {
+            TokenKind::Name => keyword_at(self.atom),
+            _ => None,
+        }
+    }
+
+    /// How messages name it.
+    pub fn told(&self) -> Told<'a>
+        ensures { named result ≡ told (spelled self.now) }
+    {
+        match self.kind {
+            TokenKind::Text => Told::Text,
+            TokenKind::Char(_) | TokenKind::Word(_) => Told::Quote(self.bytes),
+            TokenKind::End => Told::End,
+            TokenKind::Name | TokenKind::Number(_) | TokenKind::Mark(_) | TokenKind::Bad(_) => {
+                Told::Bytes(self.bytes)
+            }
         }
     }
 }

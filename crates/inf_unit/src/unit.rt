@@ -1,14 +1,15 @@
 //! The unit at hand: its tokens, and what the grammar's actions gather of them.
 ghost use Rattle.std.specs.Prelude.{◌≡◌, ◌≤◌, ◌++◌, ◌∷◌, [], None, OnOk, Some, length};
 ghost use Rattle.inf_unit.specs.AtHand.{unit};
-ghost use Rattle.inf_unit.specs.Tokens.{spelled};
+ghost use Rattle.inf_unit.specs.Spelled.{spelled};
 ghost use Rattle.inf_unit.specs.Units.{acted, begun, depth_behind, first_place, forgotten, headed_more, is_alone, is_assembly, is_sign, jump_label, jump_of, last_leaf, leaf_of, long_at, marked_from, next_place, no_unit, noted, opcode_text, order, over, outer_tokens, own_place, prepared, ruled, stepped, taken, text_passed, told_leaf, with_item};
 
 use crate::items::{Item, rule_of};
+use crate::kinds::is_mark;
 use crate::opcodes::{opcode_of, takes_text};
 use crate::roles::{Note, Role, role_of};
 use crate::steps::Step;
-use crate::tokens::{SourceToken, is_mark};
+use crate::tokens::SourceToken;
 use crate::unit_tokens::UnitTokens;
 use inf_gathering::gathering::{Gathering, Leaf};
 use inf_names::locals::Headed;

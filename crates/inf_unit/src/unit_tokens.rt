@@ -1,32 +1,20 @@
 //! The tokens of a unit.
 ghost use Rattle.std.specs.Prelude.{◌≡◌, ◌≤◌, [], ◌∷◌, ◌++◌, drop, IfOk, IfSome, OnOk, length, map, option_map, slice_get, take};
 ghost use Rattle.inf_names.specs.Spellings.{as_name};
-ghost use Rattle.inf_unit.specs.Kept.{as_spelled, kept_bytes};
+ghost use Rattle.inf_unit.specs.Kept.{as_spelled};
 ghost use Rattle.inf_unit.specs.NameTokens.{named};
-ghost use Rattle.inf_unit.specs.Tokens.{spelled};
-ghost use Rattle.inf_unit.specs.Units.{bytes_at, kind_at, last_place, name_at, name_order, names_in, place_at, quoted_in, short_name_of, with_name};
+ghost use Rattle.inf_unit.specs.Spelled.{spelled};
+ghost use Rattle.inf_unit.specs.Tokens.{name_of};
+ghost use Rattle.inf_unit.specs.Units.{bytes_at, directive_word, keyword_at, kind_at, last_place, name_at, name_order, names_in, place_at, quoted_in, with_name};
 
-use crate::tokens::{SourceToken, is_mark};
-use arrayvec::ArrayVec;
-use inf_names::spellings::{MOST_NAME_BYTES, Name, Spelling};
+use crate::kept::Kept;
+use crate::kinds::is_mark;
+use crate::tokens::SourceToken;
+use inf_names::spellings::Name;
 use inf_scanner::{Mark, Place, TokenKind};
+use inf_syntax::Keyword;
 use std::alloc::{AllocError, Global};
 use std::marker::Model;
-
-/// The bytes of a token that is kept. Those of most tokens are few, and take no memory of their own.
-#[derive(Drop)]
-pub enum KeptBytes {
-    Few(Spelling),
-    Many(Vec<u8>),
-}
-
-/// A token that is kept.
-#[derive(Drop)]
-pub struct Kept {
-    kind: TokenKind,
-    bytes: KeptBytes,
-    place: Place,
-}
 
 /// A name among the tokens of a unit.
 #[derive(Clone, Copy, Debug)]
@@ -55,53 +43,15 @@ impl Model for UnitTokens {
 
 /// The name that a token is, if it is one. It has at most 32 bytes.
 fn name_of<'t>(token: &SourceToken<'t>) -> Option<NameToken<'t>>
-    ensures value { option_map named result ≡ short_name_of (spelled token.now) }
+    ensures value { option_map named result ≡ name_of (spelled token.now) }
     ensures few { IfSome result (λ name. length name.bytes.now ≤ 32) }
 {
     match token.kind {
-        TokenKind::Name if token.bytes.len() <= MOST_NAME_BYTES => Some(NameToken {
+        TokenKind::Name => Some(NameToken {
             bytes: token.bytes,
             place: token.place,
         }),
         _ => None,
-    }
-}
-
-impl KeptBytes {
-    /// A copy of these.
-    fn new(alloc: Global, bytes: &[u8]) -> Result<KeptBytes, AllocError>
-        ensures { IfOk result (λ kept. kept_bytes kept ≡ bytes.now) }
-    {
-        if bytes.len() <= MOST_NAME_BYTES {
-            let mut few = ArrayVec::new();
-            let _fits = few.try_extend_from_slice(bytes);
-            return Ok(KeptBytes::Few(few));
-        }
-        let mut many = Vec::new(alloc);
-        many.extend_from_slice(bytes)?;
-        Ok(KeptBytes::Many(many))
-    }
-
-    fn as_slice(&self) -> &[u8]
-        ensures { result.now ≡ kept_bytes self.now }
-    {
-        match self {
-            KeptBytes::Few(few) => few.as_slice(),
-            KeptBytes::Many(many) => many.as_slice(),
-        }
-    }
-}
-
-impl Kept {
-    /// As units see it.
-    fn spelled(&self) -> SourceToken<'_>
-        ensures { spelled result ≡ as_spelled self.now }
-    {
-        SourceToken {
-            kind: self.kind,
-            bytes: self.bytes.as_slice(),
-            place: self.place,
-        }
     }
 }
 
@@ -161,12 +111,7 @@ impl UnitTokens {
     pub fn add(&mut self, token: &SourceToken<'_>) -> Result<(), AllocError>
         ensures { OnOk result (self.new ≡ self.old ++ spelled token.now ∷ []) }
     {
-        let bytes = KeptBytes::new(self.alloc, token.bytes)?;
-        self.kept.push(Kept {
-            kind: token.kind,
-            bytes,
-            place: token.place,
-        })?;
+        self.kept.push(Kept::new(self.alloc, token)?)?;
         Ok(())
     }
 
@@ -245,6 +190,21 @@ impl UnitTokens {
             Some(kind) if is_mark(kind, Mark::Hash) => 2,
             _ => 1,
         }
+    }
+
+    /// The word of the grammar at a place among them, if the token there is one.
+    pub fn keyword_at(&self, at: usize) -> Option<Keyword>
+        ensures { result ≡ keyword_at self.now at }
+    {
+        let token = self.kept.get(at)?;
+        token.spelled().keyword()
+    }
+
+    /// The word of the directive that they are, before which a `#` may stand.
+    pub fn directive_word(&self) -> Option<Keyword>
+        ensures { result ≡ directive_word self.now }
+    {
+        self.keyword_at(self.name_order().saturating_sub(1) as usize)
     }
 
     /// The names among them, in order.

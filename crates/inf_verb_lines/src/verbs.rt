@@ -19,7 +19,7 @@ use inf_scanner::{DictionaryWord, Mark, TokenKind};
 use inf_settings::bounds::Bounds;
 use inf_settings::setting::Setting;
 use inf_tables::{VerbFault, WordUse};
-use inf_unit::tokens::is_mark;
+use inf_unit::kinds::is_mark;
 use inf_unit::unit::order;
 use inf_unit::unit_tokens::UnitTokens;
 use inf_verbs::Place as LinePlace;

@@ -1,10 +1,10 @@
--- How the grammar sees a token.
-use Rattle.std.specs.Prelude.{ℕ, ◌+◌, List, Bool, false, if◌then◌else◌}
+-- How the grammar sees a token: by its atom, and by the word of the grammar that it may be.
+use Rattle.std.specs.Prelude.{ℕ, ◌+◌, List, length, nat_le, Bool, true, if◌then◌else◌, Option, None}
 use Rattle.inf_scanner.specs.declared.tokens.TokenKind.{TokenKind}
 use Rattle.inf_scanner.specs.declared.tokens.TokenKind.TheVariants as kind
-use Rattle.inf_syntax.specs.Atoms.{mark_atom, place_in, first_word, first_literal, names}
+use Rattle.inf_syntax.specs.Atoms.{keyword_of, mark_atom, place_in, first_word, first_literal, names}
+use Rattle.inf_syntax.specs.declared.words.Keyword.{Keyword}
 use Rattle.inf_syntax.specs.Words.{words}
-use Rattle.inf_unit.specs.Tokens.{SourceToken}
 
 -- the atoms of a number, a character, a word in quotes, a text, of what is faulty by itself, and of the end
 abbrev pub number_atom : ℕ
@@ -40,9 +40,12 @@ atom_of_kind is_class kind.Text bytes = text_atom
 atom_of_kind is_class (kind.Bad b) bytes = bad_atom
 atom_of_kind is_class kind.End bytes = end_atom
 
-abbrev pub atom_as : Bool → SourceToken → ℕ
-atom_as is_class t = atom_of_kind is_class t.kind t.bytes
+-- the word of the grammar that a token is
+abbrev pub keyword_of_kind : TokenKind → List ℕ → Option Keyword
+keyword_of_kind kind.Name bytes = keyword_of bytes
+keyword_of_kind _ bytes = None
 
--- of one that is not
-abbrev pub atom_of : SourceToken → ℕ
-atom_of t = atom_as false t
+-- a name has at most 32 bytes
+abbrev pub is_short : TokenKind → List ℕ → Bool
+is_short kind.Name bytes = nat_le (length bytes) 32
+is_short _ bytes = true

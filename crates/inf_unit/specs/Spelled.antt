@@ -1,0 +1,6 @@
+-- What the code's tokens stand for.
+use Rattle.inf_unit.specs.Tokens.{SourceToken}
+use Rattle.inf_unit.specs.declared.tokens.SourceToken as code
+
+abbrev pub spelled : code.SourceToken → SourceToken
+spelled t = record { kind = t.kind; bytes = t.bytes.now; place = t.place; is_class = t.is_class }

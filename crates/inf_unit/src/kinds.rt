@@ -1,0 +1,32 @@
+//! Tests of what a token is.
+ghost use Rattle.std.specs.Prelude.{◌≡◌};
+ghost use Rattle.inf_unit.specs.Tokens.{is_end, is_mark, number_of};
+
+use inf_scanner::{Mark, TokenKind};
+
+/// Whether a token of this kind is this mark.
+pub fn is_mark(kind: TokenKind, mark: Mark) -> bool
+    ensures { result ≡ is_mark mark kind }
+{
+    match kind {
+        TokenKind::Mark(found) => found as u8 == mark as u8,
+        _ => false,
+    }
+}
+
+/// Whether it is the end of the source.
+pub fn is_end(kind: TokenKind) -> bool
+    ensures { result ≡ is_end kind }
+{
+    matches!(kind, TokenKind::End)
+}
+
+/// The number that a token of this kind is, if it is one.
+pub fn number_of(kind: TokenKind) -> Option<u16>
+    ensures { result ≡ number_of kind }
+{
+    match kind {
+        TokenKind::Number(number) => Some(number),
+        _ => None,
+    }
+}
