@@ -2,7 +2,7 @@
 use Rattle.std.specs.Prelude.{List, [], ◌∷◌, length, Bool, false, true, ◌&&◌, None, Some, nat_lt, if◌then◌else◌}
 use Rattle.inf_scanner.specs.declared.tokens.Place.{Place}
 use Rattle.inf_syntax.specs.declared.actions.Action.{Action}
-use Rattle.inf_unit.specs.Messages.{FileNames}
+use Rattle.inf_compilation.specs.Context.{Context}
 use Rattle.inf_unit.specs.Roles.{is_text, makes_sure, role_of}
 use Rattle.inf_unit.specs.declared.roles.Ending.{Ending}
 use Rattle.inf_unit.specs.declared.roles.Ending.TheVariants as ending
@@ -31,34 +31,34 @@ abbrev pub is_crowded : Compilation → Bool
 is_crowded w = nat_lt w.output.code.limits.code (length w.unit.items)
 
 -- Something is noted of the unit at hand, by which its outermost expression may be too long. Of texts that are printed so many are kept.
-abbrev pub noted_of : FileNames → Note → Compilation → Compilation
-noted_of files n w = let v = record w { unit = unit_noted n w.unit } in if makes_sure n then sized files v else v
+abbrev pub noted_of : Context → Note → Compilation → Compilation
+noted_of context n w = let v = record w { unit = unit_noted n w.unit } in if makes_sure n then sized context v else v
 
-abbrev pub noted : FileNames → Note → Compilation → Compilation
-noted files n w = if is_text n && is_crowded w then record w { unit = text_passed w.unit } else noted_of files n w
+abbrev pub noted : Context → Note → Compilation → Compilation
+noted context n w = if is_text n && is_crowded w then record w { unit = text_passed w.unit } else noted_of context n w
 
 -- The unit at hand ends, before a token at a place.
-abbrev pub ended : FileNames → Place → Ending → Compilation → Compilation
-ended files place ending.Locals w = header_end files place w
-ended files place ending.Embedded w = embedded_read files place w
-ended files place ending.Routine w = close files place w
-ended files place ending.Directive w = directive_end files place w
-ended files place ending.Header w = header_ended files place w
-ended files place ending.Body w = body_ended w
-ended files place ending.Class w = class_read files place w
-ended files place ending.Attribute w = attribute_read files place w
-ended files place ending.Property w = property_read files place w
-ended files place ending.Value w = value_read files place w
-ended files place ending.Line w = line_ended files place w
-ended files place ending.Entry w = entry_ended files place false w
-ended files place ending.Alone w = entry_ended files place true w
-ended files place ending.Statement w = part_ended files place (part.Statement (statement_at w)) w
-ended files place ending.Condition w = part_ended files place part.Condition w
-ended files place ending.Start w = part_ended files place part.Start w
-ended files place ending.Step w = part_ended files place part.Step w
-ended files place ending.Loop w = part_ended files place part.Loop w
-ended files place ending.Switched w = part_ended files place part.Switched w
-ended files place ending.Case w = part_ended files place part.Case w
+abbrev pub ended : Context → Place → Ending → Compilation → Compilation
+ended context place ending.Locals w = header_end context place w
+ended context place ending.Embedded w = embedded_read context place w
+ended context place ending.Routine w = close context place w
+ended context place ending.Directive w = directive_end context place w
+ended context place ending.Header w = header_ended context place w
+ended context place ending.Body w = body_ended w
+ended context place ending.Class w = class_read context place w
+ended context place ending.Attribute w = attribute_read context place w
+ended context place ending.Property w = property_read context place w
+ended context place ending.Value w = value_read context place w
+ended context place ending.Line w = line_ended context place w
+ended context place ending.Entry w = entry_ended context place false w
+ended context place ending.Alone w = entry_ended context place true w
+ended context place ending.Statement w = part_ended context place (part.Statement (statement_at w)) w
+ended context place ending.Condition w = part_ended context place part.Condition w
+ended context place ending.Start w = part_ended context place part.Start w
+ended context place ending.Step w = part_ended context place part.Step w
+ended context place ending.Loop w = part_ended context place part.Loop w
+ended context place ending.Switched w = part_ended context place part.Switched w
+ended context place ending.Case w = part_ended context place part.Case w
 
 -- the kind of a statement that begins
 abbrev pub kind_of : Opening → Kind
@@ -70,24 +70,24 @@ kind_of opening.Objectloop = kind.Objects over.Nothing 0
 kind_of opening.Switch = kind.Switch case.Nothing false
 
 -- what an action does that is there for something, before a token at a place
-abbrev pub played : FileNames → Place → Role → Compilation → Compilation
-played files place (role.Gather s) w = record w { unit = stepped s w.unit }
-played files place (role.Note n) w = noted files n w
-played files place (role.End e) w = ended files place e w
-played files place (role.Open o) w = construct_opened files place (kind_of o) w
-played files place role.Join w = construct_joined w
-played files place role.Close w = construct_closed w
-played files place role.Deeper w = nested files place (is_deep w 1) w
-played files place role.MaybeDeeper w = record w { opening = Some place }
-played files place role.Nothing w = w
+abbrev pub played : Context → Place → Role → Compilation → Compilation
+played context place (role.Gather s) w = record w { unit = stepped s w.unit }
+played context place (role.Note n) w = noted context n w
+played context place (role.End e) w = ended context place e w
+played context place (role.Open o) w = construct_opened context place (kind_of o) w
+played context place role.Join w = construct_joined w
+played context place role.Close w = construct_closed w
+played context place role.Deeper w = nested context place (is_deep w 1) w
+played context place role.MaybeDeeper w = record w { opening = Some place }
+played context place role.Nothing w = w
 
-abbrev pub act : FileNames → Place → Action → Compilation → Compilation
-act files place a w = played files place (role_of a) w
+abbrev pub act : Context → Place → Action → Compilation → Compilation
+act context place a w = played context place (role_of a) w
 
-abbrev pub acted : FileNames → Place → List Action → Compilation → Compilation
-acted files place [] w = w
-acted files place (a ∷ actions) w = acted files place actions (act files place a w)
+abbrev pub acted : Context → Place → List Action → Compilation → Compilation
+acted context place [] w = w
+acted context place (a ∷ actions) w = acted context place actions (act context place a w)
 
 -- what those on the way to a token do
-abbrev pub all_acted : FileNames → Place → List Action → Compilation → Compilation
-all_acted files place actions w = acted files place actions (record w { opening = None })
+abbrev pub all_acted : Context → Place → List Action → Compilation → Compilation
+all_acted context place actions w = acted context place actions (record w { opening = None })

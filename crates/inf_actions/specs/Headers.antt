@@ -2,7 +2,7 @@
 use Rattle.std.specs.Prelude.{List, [], ◌∷◌, false, Option, Some}
 use Rattle.inf_scanner.specs.declared.tokens.Place.{Place}
 use Rattle.inf_names.specs.Spellings.{Name}
-use Rattle.inf_unit.specs.Messages.{FileNames}
+use Rattle.inf_compilation.specs.Context.{Context}
 use Rattle.inf_syntax.specs.declared.words.Keyword.{Keyword}
 use Rattle.inf_syntax.specs.declared.words.Keyword.TheVariants as keyword
 use Rattle.inf_unit.specs.Units.{directive_word, first_place, names_in}
@@ -13,9 +13,9 @@ use Rattle.inf_actions.specs.declared.headers.Heading.{Heading}
 use Rattle.inf_actions.specs.declared.headers.Heading.TheVariants as heading
 use Rattle.inf_listings.specs.Arrays.{array_named}
 
-abbrev pub class_named : FileNames → Place → List Name → Compilation → Compilation
-class_named files first [] w = passed false w
-class_named files first (name ∷ names) w = class_header files first name w
+abbrev pub class_named : Context → Place → List Name → Compilation → Compilation
+class_named context first [] w = passed false w
+class_named context first (name ∷ names) w = class_header context first name w
 
 -- A directive that has a header is told by its word; one of an object begins with its own word or with that of a class.
 abbrev pub heading_of : Option Keyword → Heading
@@ -25,16 +25,16 @@ heading_of (Some keyword.Verb) = heading.Verb
 heading_of (Some keyword.Extend) = heading.Extend
 heading_of _ = heading.Object
 
-abbrev pub header_as : Heading → FileNames → Place → List Name → Compilation → Compilation
-header_as heading.Array files first names w = array_named files first names w
-header_as heading.Class files first names w = class_named files first names w
-header_as heading.Object files first names w = object_header files first w
-header_as heading.Verb files first names w = verb_header files first w
-header_as heading.Extend files first names w = extend_header files first w
+abbrev pub header_as : Heading → Context → Place → List Name → Compilation → Compilation
+header_as heading.Array context first names w = array_named context first names w
+header_as heading.Class context first names w = class_named context first names w
+header_as heading.Object context first names w = object_header context first w
+header_as heading.Verb context first names w = verb_header context first w
+header_as heading.Extend context first names w = extend_header context first w
 
-abbrev pub header_of : FileNames → Place → List Name → Compilation → Compilation
-header_of files first [] w = passed false w
-header_of files first (word ∷ names) w = header_as (heading_of (directive_word w.unit.tokens)) files first names w
+abbrev pub header_of : Context → Place → List Name → Compilation → Compilation
+header_of context first [] w = passed false w
+header_of context first (word ∷ names) w = header_as (heading_of (directive_word w.unit.tokens)) context first names w
 
-abbrev pub header_ended : FileNames → Place → Compilation → Compilation
-header_ended files place w = header_of files (first_place w.unit.tokens place) (names_in w.unit.tokens) w
+abbrev pub header_ended : Context → Place → Compilation → Compilation
+header_ended context place w = header_of context (first_place w.unit.tokens place) (names_in w.unit.tokens) w

@@ -1,10 +1,12 @@
 //! What the actions of the grammar do: they gather what a unit has, which acts at its end.
+ghost use Rattle.inf_compilation.specs.Context.{handed};
 ghost use Rattle.std.specs.Prelude.{None, OnOk, ◌≡◌};
 ghost use Rattle.inf_actions.specs.Acting.{act, acted, all_acted, ended, is_crowded, kind_of, noted};
 ghost use Rattle.inf_unit.specs.Directives.{Nothing};
 ghost use Rattle.inf_compilation.specs.Actions.{cut, is_deep};
 ghost use Rattle.inf_compilation.specs.Works.{work};
 
+use inf_compilation::context::Context;
 use crate::directives::end_directive;
 use crate::headers::end_directive_header;
 use inf_bodies::bodies::{attribute_of_body, class_of_body, end_body, property_of_body};
@@ -12,7 +14,7 @@ use inf_bodies::values::{routine_of_body, value_of_body};
 use inf_compilation::compilation::Compilation;
 use inf_compilation::parts::Part;
 use inf_constructs::constructs::{Case, Kind, Over};
-use inf_lexer::{Place, Stack};
+use inf_lexer::Place;
 use inf_listings::arrays::end_entry;
 use inf_settings::bounds::Bounds;
 use inf_syntax::Action;
@@ -37,40 +39,40 @@ fn kind_of(opening: Opening) -> Kind
 /// A bad token cuts the unit at hand, of which the outermost expression surely was one, and the word before it opened its statement.
 /// The routine in
 /// which it stands is given up.
-pub fn cut<B: Bounds>(compilation: &mut Compilation<B>, files: &Stack) -> Result<(), AllocError>
-    ensures { OnOk result (work compilation.new ≡ cut files.now.names (work compilation.old)) }
+pub fn cut<B: Bounds>(compilation: &mut Compilation<B>, context: &Context<'_>) -> Result<(), AllocError>
+    ensures { OnOk result (work compilation.new ≡ cut (handed context.now) (work compilation.old)) }
 {
     compilation.unit.is_sure = true;
     end_body(compilation)?;
     compilation.output.code.give_up();
-    compilation.size(files)?;
-    compilation.check_opening(files)
+    compilation.size(context)?;
+    compilation.check_opening(context)
 }
 
 /// Carries out the actions on the way to a token at a place.
 pub fn act_all<B: Bounds>(
     compilation: &mut Compilation<B>,
-    files: &Stack,
+    context: &Context<'_>,
     place: Place,
     actions: &[Action],
 ) -> Result<(), AllocError>
-    ensures { OnOk result (work compilation.new ≡ all_acted files.now.names place actions.now (work compilation.old)) }
+    ensures { OnOk result (work compilation.new ≡ all_acted (handed context.now) place actions.now (work compilation.old)) }
 {
     compilation.opening = None;
-    act_each(compilation, files, place, actions)
+    act_each(compilation, context, place, actions)
 }
 
 /// Carries out some actions, before a token at a place.
 fn act_each<B: Bounds>(
     compilation: &mut Compilation<B>,
-    files: &Stack,
+    context: &Context<'_>,
     place: Place,
     actions: &[Action],
 ) -> Result<(), AllocError>
-    ensures { OnOk result (work compilation.new ≡ acted files.now.names place actions.now (work compilation.old)) }
+    ensures { OnOk result (work compilation.new ≡ acted (handed context.now) place actions.now (work compilation.old)) }
 {
     for action in actions {
-        act(compilation, files, place, *action)?;
+        act(compilation, context, place, *action)?;
     }
     Ok(())
 }
@@ -78,22 +80,22 @@ fn act_each<B: Bounds>(
 /// Carries out an action, before a token at a place.
 fn act<B: Bounds>(
     compilation: &mut Compilation<B>,
-    files: &Stack,
+    context: &Context<'_>,
     place: Place,
     action: Action,
 ) -> Result<(), AllocError>
-    ensures { OnOk result (work compilation.new ≡ act files.now.names place action (work compilation.old)) }
+    ensures { OnOk result (work compilation.new ≡ act (handed context.now) place action (work compilation.old)) }
 {
     match role_of(action) {
         Role::Gather(step) => compilation.unit.step(step),
-        Role::Note(noted) => note(compilation, files, noted),
-        Role::End(ending) => end(compilation, files, place, ending),
-        Role::Open(opening) => compilation.open_construct(files, place, kind_of(opening)),
+        Role::Note(noted) => note(compilation, context, noted),
+        Role::End(ending) => end(compilation, context, place, ending),
+        Role::Open(opening) => compilation.open_construct(context, place, kind_of(opening)),
         Role::Join => compilation.constructs.go_on(&mut compilation.output),
         Role::Close => compilation.close_construct(),
         Role::Deeper => {
             let is_deep = compilation.is_deep(1);
-            compilation.nest(files, place, is_deep)
+            compilation.nest(context, place, is_deep)
         }
         Role::MaybeDeeper => {
             compilation.opening = Some(place);
@@ -114,10 +116,10 @@ fn is_crowded<B: Bounds>(compilation: &Compilation<B>) -> bool
 /// kept.
 fn note<B: Bounds>(
     compilation: &mut Compilation<B>,
-    files: &Stack,
+    context: &Context<'_>,
     note: Note,
 ) -> Result<(), AllocError>
-    ensures { OnOk result (work compilation.new ≡ noted files.now.names note (work compilation.old)) }
+    ensures { OnOk result (work compilation.new ≡ noted (handed context.now) note (work compilation.old)) }
 {
     if is_text(note) && is_crowded(compilation) {
         compilation.unit.pass_text();
@@ -125,7 +127,7 @@ fn note<B: Bounds>(
     }
     compilation.unit.note(note)?;
     if makes_sure(note) {
-        return compilation.size(files);
+        return compilation.size(context);
     }
     Ok(())
 }
@@ -133,32 +135,32 @@ fn note<B: Bounds>(
 /// The unit at hand ends, before a token at a place.
 fn end<B: Bounds>(
     compilation: &mut Compilation<B>,
-    files: &Stack,
+    context: &Context<'_>,
     place: Place,
     ending: Ending,
 ) -> Result<(), AllocError>
-    ensures { OnOk result (work compilation.new ≡ ended files.now.names place ending (work compilation.old)) }
+    ensures { OnOk result (work compilation.new ≡ ended (handed context.now) place ending (work compilation.old)) }
 {
     match ending {
-        Ending::Locals => compilation.end_header(files, place),
-        Ending::Embedded => routine_of_body(compilation, files, place),
-        Ending::Routine => compilation.close(files, place),
-        Ending::Directive => end_directive(compilation, files, place),
-        Ending::Header => end_directive_header(compilation, files, place),
+        Ending::Locals => compilation.end_header(context, place),
+        Ending::Embedded => routine_of_body(compilation, context, place),
+        Ending::Routine => compilation.close(context, place),
+        Ending::Directive => end_directive(compilation, context, place),
+        Ending::Header => end_directive_header(compilation, context, place),
         Ending::Body => end_body(compilation),
-        Ending::Class => class_of_body(compilation, files, place),
-        Ending::Attribute => attribute_of_body(compilation, files, place),
-        Ending::Property => property_of_body(compilation, files, place),
-        Ending::Value => value_of_body(compilation, files, place),
-        Ending::Line => end_line(compilation, files, place),
-        Ending::Entry => end_entry(compilation, files, place, false),
-        Ending::Alone => end_entry(compilation, files, place, true),
-        Ending::Statement => compilation.end_statement(files, place),
-        Ending::Condition => compilation.end_part(files, place, Part::Condition),
-        Ending::Start => compilation.end_part(files, place, Part::Start),
-        Ending::Step => compilation.end_part(files, place, Part::Step),
-        Ending::Loop => compilation.end_part(files, place, Part::Loop),
-        Ending::Switched => compilation.end_part(files, place, Part::Switched),
-        Ending::Case => compilation.end_part(files, place, Part::Case),
+        Ending::Class => class_of_body(compilation, context, place),
+        Ending::Attribute => attribute_of_body(compilation, context, place),
+        Ending::Property => property_of_body(compilation, context, place),
+        Ending::Value => value_of_body(compilation, context, place),
+        Ending::Line => end_line(compilation, context, place),
+        Ending::Entry => end_entry(compilation, context, place, false),
+        Ending::Alone => end_entry(compilation, context, place, true),
+        Ending::Statement => compilation.end_statement(context, place),
+        Ending::Condition => compilation.end_part(context, place, Part::Condition),
+        Ending::Start => compilation.end_part(context, place, Part::Start),
+        Ending::Step => compilation.end_part(context, place, Part::Step),
+        Ending::Loop => compilation.end_part(context, place, Part::Loop),
+        Ending::Switched => compilation.end_part(context, place, Part::Switched),
+        Ending::Case => compilation.end_part(context, place, Part::Case),
     }
 }

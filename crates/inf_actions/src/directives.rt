@@ -1,4 +1,5 @@
 //! The directives that are one unit: each is told by its word.
+ghost use Rattle.inf_compilation.specs.Context.{handed};
 ghost use Rattle.std.specs.Prelude.{OnOk, map, ◌≡◌};
 ghost use Rattle.inf_names.specs.Spellings.{as_name};
 ghost use Rattle.inf_unit.specs.Directives.{Include, asked};
@@ -7,12 +8,13 @@ ghost use Rattle.inf_actions.specs.Directives.{carried_out, directive_end};
 ghost use Rattle.inf_declarations.specs.Defaults.{default};
 ghost use Rattle.inf_compilation.specs.Works.{work};
 
+use inf_compilation::context::Context;
 use inf_compilation::compilation::Compilation;
 use inf_declarations::declarations::attribute;
 use inf_declarations::directives::{constant, default, inclusion, message, replace, stub};
 use inf_declarations::globals::global_variable;
 use inf_declarations::properties::property;
-use inf_lexer::{Place, Stack};
+use inf_lexer::Place;
 use inf_names::spellings::Name;
 use inf_settings::bounds::Bounds;
 use inf_unit::directives::{Directive, Request, directive_of};
@@ -22,10 +24,10 @@ use std::alloc::AllocError;
 /// A directive ends, before a token at a place.
 pub(crate) fn end_directive<B: Bounds>(
     compilation: &mut Compilation<B>,
-    files: &Stack,
+    context: &Context<'_>,
     place: Place,
 ) -> Result<(), AllocError>
-    ensures { OnOk result (work compilation.new ≡ directive_end files.now.names place (work compilation.old)) }
+    ensures { OnOk result (work compilation.new ≡ directive_end (handed context.now) place (work compilation.old)) }
 {
     let names = compilation.unit.tokens.names(compilation.alloc)?;
     let Some((_, names)) = names.split_first() else {
@@ -34,33 +36,33 @@ pub(crate) fn end_directive<B: Bounds>(
     };
     let first = compilation.unit.first_place(place);
     let directive = directive_of(compilation.unit.tokens.directive_word());
-    carry_out(compilation, directive, files, first, names)?;
-    compilation.begin(files, first)
+    carry_out(compilation, directive, context, first, names)?;
+    compilation.begin(context, first)
 }
 
 /// Carries out a directive that begins at a place, with these names behind its word.
 fn carry_out<B: Bounds>(
     compilation: &mut Compilation<B>,
     directive: Directive,
-    files: &Stack,
+    context: &Context<'_>,
     first: Place,
     names: &[Name],
 ) -> Result<(), AllocError>
     ensures { OnOk result (work compilation.new
-        ≡ carried_out directive files.now.names first (map as_name names.now) (work compilation.old)) }
+        ≡ carried_out directive (handed context.now) first (map as_name names.now) (work compilation.old)) }
 {
     match directive {
         Directive::Include => compilation.asked = inclusion(compilation, first)?,
-        Directive::Message => message(compilation, files, first, names)?,
+        Directive::Message => message(compilation, context, first, names)?,
         Directive::End => compilation.asked = Request::End,
-        Directive::Constant => return constant(compilation, files, first, names),
-        Directive::Replace => return replace(compilation, files, first, names),
-        Directive::Stub => return stub(compilation, files, first, names),
-        Directive::Default => return default(compilation, files, first, names),
-        Directive::Attribute => return attribute(compilation, files, first, names),
-        Directive::Property => return property(compilation, files, first, names),
-        Directive::Global => return global_variable(compilation, files, first, names),
-        Directive::FakeAction => return fake_action(compilation, files, first, names),
+        Directive::Constant => return constant(compilation, context, first, names),
+        Directive::Replace => return replace(compilation, context, first, names),
+        Directive::Stub => return stub(compilation, context, first, names),
+        Directive::Default => return default(compilation, context, first, names),
+        Directive::Attribute => return attribute(compilation, context, first, names),
+        Directive::Property => return property(compilation, context, first, names),
+        Directive::Global => return global_variable(compilation, context, first, names),
+        Directive::FakeAction => return fake_action(compilation, context, first, names),
         Directive::SystemFile => compilation.is_system = true,
     }
     compilation.pass(true);

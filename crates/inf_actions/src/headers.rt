@@ -1,13 +1,15 @@
 //! The headers of directives that have entries, bodies or lines: each is told by its word.
+ghost use Rattle.inf_compilation.specs.Context.{handed};
 ghost use Rattle.std.specs.Prelude.{OnOk, false, map, ◌≡◌};
 ghost use Rattle.inf_names.specs.Spellings.{as_name};
 ghost use Rattle.inf_actions.specs.Headers.{class_named, header_as, header_ended, header_of, heading_of};
 ghost use Rattle.inf_listings.specs.Arrays.{array_named};
 ghost use Rattle.inf_compilation.specs.Works.{work};
 
+use inf_compilation::context::Context;
 use inf_bodies::objects::{class_header, object_header};
 use inf_compilation::compilation::Compilation;
-use inf_lexer::{Place, Stack};
+use inf_lexer::Place;
 use inf_listings::arrays::array_named;
 use inf_names::spellings::Name;
 use inf_settings::bounds::Bounds;
@@ -41,29 +43,29 @@ fn heading_of(word: Option<Keyword>) -> Heading
 /// The header of a directive with entries ends, before a token at a place.
 pub(crate) fn end_directive_header<B: Bounds>(
     compilation: &mut Compilation<B>,
-    files: &Stack,
+    context: &Context<'_>,
     place: Place,
 ) -> Result<(), AllocError>
-    ensures { OnOk result (work compilation.new ≡ header_ended files.now.names place (work compilation.old)) }
+    ensures { OnOk result (work compilation.new ≡ header_ended (handed context.now) place (work compilation.old)) }
 {
     let names = compilation.unit.tokens.names(compilation.alloc)?;
     let first = compilation.unit.first_place(place);
-    header_of(compilation, files, first, names.as_slice())
+    header_of(compilation, context, first, names.as_slice())
 }
 
 /// The same, where it has these names, the first of them its word.
 fn header_of<B: Bounds>(
     compilation: &mut Compilation<B>,
-    files: &Stack,
+    context: &Context<'_>,
     first: Place,
     names: &[Name],
 ) -> Result<(), AllocError>
-    ensures { OnOk result (work compilation.new ≡ header_of files.now.names first (map as_name names.now) (work compilation.old)) }
+    ensures { OnOk result (work compilation.new ≡ header_of (handed context.now) first (map as_name names.now) (work compilation.old)) }
 {
     match names.split_first() {
         Some((_, names)) => {
             let heading = heading_of(compilation.unit.tokens.directive_word());
-            header_as(compilation, heading, files, first, names)
+            header_as(compilation, heading, context, first, names)
         }
         None => {
             compilation.pass(false);
@@ -76,33 +78,33 @@ fn header_of<B: Bounds>(
 fn header_as<B: Bounds>(
     compilation: &mut Compilation<B>,
     heading: Heading,
-    files: &Stack,
+    context: &Context<'_>,
     first: Place,
     names: &[Name],
 ) -> Result<(), AllocError>
     ensures { OnOk result (work compilation.new
-        ≡ header_as heading files.now.names first (map as_name names.now) (work compilation.old)) }
+        ≡ header_as heading (handed context.now) first (map as_name names.now) (work compilation.old)) }
 {
     match heading {
-        Heading::Array => array_named(compilation, files, first, names),
-        Heading::Class => class_named(compilation, files, first, names),
-        Heading::Object => object_header(compilation, files, first),
-        Heading::Verb => verb_header(compilation, files, first),
-        Heading::Extend => extend_header(compilation, files, first),
+        Heading::Array => array_named(compilation, context, first, names),
+        Heading::Class => class_named(compilation, context, first, names),
+        Heading::Object => object_header(compilation, context, first),
+        Heading::Verb => verb_header(compilation, context, first),
+        Heading::Extend => extend_header(compilation, context, first),
     }
 }
 
 /// Opens a class of the first of these names.
 fn class_named<B: Bounds>(
     compilation: &mut Compilation<B>,
-    files: &Stack,
+    context: &Context<'_>,
     first: Place,
     names: &[Name],
 ) -> Result<(), AllocError>
-    ensures { OnOk result (work compilation.new ≡ class_named files.now.names first (map as_name names.now) (work compilation.old)) }
+    ensures { OnOk result (work compilation.new ≡ class_named (handed context.now) first (map as_name names.now) (work compilation.old)) }
 {
     match names.first() {
-        Some(name) => class_header(compilation, files, first, name),
+        Some(name) => class_header(compilation, context, first, name),
         None => {
             compilation.pass(false);
             Ok(())

@@ -13,7 +13,7 @@ use Rattle.inf_scanner.specs.declared.tokens.Mark.TheVariants as mark
 use Rattle.inf_scanner.specs.declared.tokens.Place.{Place}
 use Rattle.inf_scanner.specs.declared.tokens.TokenKind.{TokenKind}
 use Rattle.inf_names.specs.Spellings.{Name}
-use Rattle.inf_unit.specs.Messages.{FileNames}
+use Rattle.inf_compilation.specs.Context.{Context}
 use Rattle.inf_unit.specs.Tokens.{SourceToken, is_mark}
 use Rattle.inf_unit.specs.Units.{first_place, kind_at, name_at, order}
 use Rattle.inf_world.specs.declared.faults.AddFault.{AddFault}
@@ -32,13 +32,13 @@ abbrev pub class_finding : Option ℕ → Option AddFault → ℕ → Option Fin
 class_finding None fault at = Some (wrong_kind (order at))
 class_finding (Some number) fault at = refused_finding fault (order at)
 
-abbrev pub class_read_by : FileNames → Place → ℕ → Option ℕ → Compilation → Compilation
-class_read_by files first at class w =
-    entry_told files first (class_finding class (joined_fault class w.output) at) (record w { output = joined_some class w.output })
+abbrev pub class_read_by : Context → Place → ℕ → Option ℕ → Compilation → Compilation
+class_read_by context first at class w =
+    entry_told context first (class_finding class (joined_fault class w.output) at) (record w { output = joined_some class w.output })
 
-abbrev pub class_read : FileNames → Place → Compilation → Compilation
-class_read files place w =
-    let at = last_at w.unit.tokens in class_read_by files (first_place w.unit.tokens place) at (class_of (found_at at w)) w
+abbrev pub class_read : Context → Place → Compilation → Compilation
+class_read context place w =
+    let at = last_at w.unit.tokens in class_read_by context (first_place w.unit.tokens place) at (class_of (found_at at w)) w
 
 -- Attributes
 
@@ -75,14 +75,14 @@ abbrev pub attribute_finding : Option ℕ → ℕ → Option Finding
 attribute_finding None at = Some (wrong_kind (order at))
 attribute_finding (Some number) at = None
 
-abbrev pub attribute_read_by : FileNames → Place → ℕ → Option ℕ → Compilation → Compilation
-attribute_read_by files first at number w =
-    entry_told files first (attribute_finding number at)
+abbrev pub attribute_read_by : Context → Place → ℕ → Option ℕ → Compilation → Compilation
+attribute_read_by context first at number w =
+    entry_told context first (attribute_finding number at)
     (record w { output = attribute_set_some number (is_given w.unit.tokens at) w.output })
 
-abbrev pub attribute_read : FileNames → Place → Compilation → Compilation
-attribute_read files place w =
-    let at = last_at w.unit.tokens in attribute_read_by files (first_place w.unit.tokens place) at (attribute_of (found_at at w)) w
+abbrev pub attribute_read : Context → Place → Compilation → Compilation
+attribute_read context place w =
+    let at = last_at w.unit.tokens in attribute_read_by context (first_place w.unit.tokens place) at (attribute_of (found_at at w)) w
 
 -- Properties
 
@@ -198,7 +198,7 @@ placed None v of_value w = further v of_value w
 placed (Some at) v of_value w = given at (Some v) of_value w
 
 -- a property without values
-abbrev pub property_read : FileNames → Place → Compilation → Compilation
-property_read files place w =
+abbrev pub property_read : Context → Place → Compilation → Compilation
+property_read context place w =
     let at = last_at w.unit.tokens in
-    entry_told files (first_place w.unit.tokens place) (given_finding at None None w) (given at None None w)
+    entry_told context (first_place w.unit.tokens place) (given_finding at None None w) (given at None None w)

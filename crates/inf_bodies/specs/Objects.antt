@@ -23,7 +23,8 @@ use Rattle.inf_settings.specs.declared.setting.Setting.TheVariants as setting
 use Rattle.inf_statements.specs.Printing.{text_at}
 use Rattle.inf_names.specs.Spellings.{Name}
 use Rattle.inf_text.specs.Packing.{packed}
-use Rattle.inf_unit.specs.Messages.{Diagnostic, FileNames}
+use Rattle.inf_unit.specs.Messages.{Diagnostic}
+use Rattle.inf_compilation.specs.Context.{Context}
 use Rattle.inf_unit.specs.Texts.{fit_characters}
 use Rattle.inf_unit.specs.Tokens.{SourceToken}
 use Rattle.inf_unit.specs.Units.{bytes_at, name_at, name_order, next_place, order}
@@ -65,8 +66,8 @@ refused_finding (Some (fault.Full s)) name = None
 refused_finding (Some fault.Memory) name = None
 
 -- Units, which begin at a place: what was found is told, that there are too many values at the first token.
-abbrev pub entry_told : FileNames → Place → Option Finding → Compilation → Compilation
-entry_told files first f w = unit_ended files first false (found_alone f) w
+abbrev pub entry_told : Context → Place → Option Finding → Compilation → Compilation
+entry_told context first f w = unit_ended context first false (found_alone f) w
 
 -- What names stand for
 
@@ -184,15 +185,15 @@ class_begun_by (Some f) short name o = noted f o
 abbrev pub class_begun : List ℕ → Name → Code
 class_begun short name o = class_begun_by (class_header_fault short o.tables.world) short name o
 
-abbrev pub class_opened : Option Finding → Name → Compilation → Compilation
-class_opened None name w = record w { output = class_begun (bracketed w.set name.bytes) name w.output }
-class_opened (Some f) name w = record w { output = class_lost name w.output }
+abbrev pub class_opened : Context → Option Finding → Name → Compilation → Compilation
+class_opened context None name w = record w { output = class_begun (bracketed context.set name.bytes) name w.output }
+class_opened context (Some f) name w = record w { output = class_lost name w.output }
 
-abbrev pub class_with : FileNames → Place → Name → Declared → Compilation → Compilation
-class_with files first name d w = declared_ended files first false name countable.Globals d (class_opened d.finding name w)
+abbrev pub class_with : Context → Place → Name → Declared → Compilation → Compilation
+class_with context first name d w = declared_ended context first false name countable.Globals d (class_opened context d.finding name w)
 
-abbrev pub class_header : FileNames → Place → Name → Compilation → Compilation
-class_header files first name w = class_with files first name (plainly_known name (name_order w.unit.tokens) w) w
+abbrev pub class_header : Context → Place → Name → Compilation → Compilation
+class_header context first name w = class_with context first name (plainly_known name (name_order w.unit.tokens) w) w
 
 -- Objects
 
@@ -226,16 +227,16 @@ abbrev pub own_name : Option ℕ → Compilation → Option Name
 own_name None w = None
 own_name (Some at) w = name_at w.unit.tokens at
 
-abbrev pub header_text : Option ℕ → Compilation → Option (List TextItem)
-header_text None w = None
-header_text (Some at) w = text_at w.set w.unit.tokens at
+abbrev pub header_text : Context → Option ℕ → Compilation → Option (List TextItem)
+header_text context None w = None
+header_text context (Some at) w = text_at context.set w.unit.tokens at
 
-abbrev pub short_by : Option (List TextItem) → Option Name → Compilation → List ℕ
-short_by None name w = bracketed w.set (shown_name name)
-short_by (Some items) name w = packed_name (Some items)
+abbrev pub short_by : Context → Option (List TextItem) → Option Name → Compilation → List ℕ
+short_by context None name w = bracketed context.set (shown_name name)
+short_by context (Some items) name w = packed_name (Some items)
 
-abbrev pub short_name : Header → Option Name → Compilation → List ℕ
-short_name h name w = short_by (header_text h.text w) name w
+abbrev pub short_name : Context → Header → Option Name → Compilation → List ℕ
+short_name context h name w = short_by context (header_text context h.text w) name w
 
 -- the class that the word of the header names, if it does
 abbrev pub class_of_word : Compilation → Option ℕ
@@ -274,34 +275,34 @@ object_begun_by (Some f) p short class name o = noted f o
 abbrev pub object_begun : Parent → List ℕ → Option ℕ → Option Name → Code
 object_begun p short class name o = object_begun_by (object_header_fault p short o.tables.world) p short class name o
 
-abbrev pub object_new : Header → Option Name → Compilation → Compilation
-object_new h name w =
-    record w { output = object_begun (parent_in h.parent h.arrows w) (short_name h name w) (class_of_word w) name w.output }
+abbrev pub object_new : Context → Header → Option Name → Compilation → Compilation
+object_new context h name w =
+    record w { output = object_begun (parent_in h.parent h.arrows w) (short_name context h name w) (class_of_word w) name w.output }
 
-abbrev pub object_opened : Option Finding → Header → Option Name → Compilation → Compilation
-object_opened None h name w = object_new h name w
-object_opened (Some f) h name w = record w { output = object_lost name w.output }
+abbrev pub object_opened : Context → Option Finding → Header → Option Name → Compilation → Compilation
+object_opened context None h name w = object_new context h name w
+object_opened context (Some f) h name w = record w { output = object_lost name w.output }
 
 -- what is known of it: what is wrong with its name, and with where it is to stand
-abbrev pub named_known : FileNames → Header → ℕ → Name → Compilation → Declared
-named_known files h at name w =
+abbrev pub named_known : Context → Header → ℕ → Name → Compilation → Declared
+named_known context h at name w =
     let d = plainly_known name (order at) w in
     record { found = d.found; finding = least_of_both d.finding (parent_finding h w) }
 
-abbrev pub object_known : FileNames → Header → Option Name → Compilation → Declared
-object_known files h None w = record { found = found.Unknown; finding = parent_finding h w }
-object_known files h (Some name) w = named_known files h (unwrap_or h.own 0) name w
+abbrev pub object_known : Context → Header → Option Name → Compilation → Declared
+object_known context h None w = record { found = found.Unknown; finding = parent_finding h w }
+object_known context h (Some name) w = named_known context h (unwrap_or h.own 0) name w
 
-abbrev pub object_ended : FileNames → Place → Option Name → Declared → Compilation → Compilation
-object_ended files first None d w = entry_told files first d.finding w
-object_ended files first (Some name) d w = declared_ended files first false name countable.Globals d w
+abbrev pub object_ended : Context → Place → Option Name → Declared → Compilation → Compilation
+object_ended context first None d w = entry_told context first d.finding w
+object_ended context first (Some name) d w = declared_ended context first false name countable.Globals d w
 
-abbrev pub object_with_known : FileNames → Place → Header → Option Name → Declared → Compilation → Compilation
-object_with_known files first h name d w = object_ended files first name d (object_opened d.finding h name w)
+abbrev pub object_with_known : Context → Place → Header → Option Name → Declared → Compilation → Compilation
+object_with_known context first h name d w = object_ended context first name d (object_opened context d.finding h name w)
 
-abbrev pub object_with : FileNames → Place → Header → Option Name → Compilation → Compilation
-object_with files first h name w = object_with_known files first h name (object_known files h name w) w
+abbrev pub object_with : Context → Place → Header → Option Name → Compilation → Compilation
+object_with context first h name w = object_with_known context first h name (object_known context h name w) w
 
-abbrev pub object_header : FileNames → Place → Compilation → Compilation
-object_header files first w =
-    let h = header_in w.unit.tokens in object_with files first h (own_name h.own w) w
+abbrev pub object_header : Context → Place → Compilation → Compilation
+object_header context first w =
+    let h = header_in w.unit.tokens in object_with context first h (own_name h.own w) w

@@ -24,7 +24,7 @@ use Rattle.inf_report.specs.declared.messages.FixedLimit.{FixedLimit}
 use Rattle.inf_report.specs.declared.messages.FixedLimit.TheVariants as countable
 use Rattle.inf_names.specs.Locals.{Headed, no_locals}
 use Rattle.inf_text.specs.Packing.{dictionary_bytes}
-use Rattle.inf_unit.specs.Messages.{FileNames}
+use Rattle.inf_compilation.specs.Context.{Context}
 use Rattle.inf_unit.specs.Texts.{fit_characters}
 use Rattle.inf_unit.specs.Tokens.{SourceToken, is_mark}
 use Rattle.inf_unit.specs.Units.{first_place, order}
@@ -64,20 +64,20 @@ abbrev pub char_by : CharSet → Option SourceToken → Option (List TextItem)
 char_by set None = None
 char_by set (Some t) = fit_characters (text_of set mode.Quote t.bytes)
 
-abbrev pub char_text : Compilation → Option (List TextItem)
-char_text w = char_by w.set (slice_get w.unit.tokens (last_at w.unit.tokens))
+abbrev pub char_text : Context → Compilation → Option (List TextItem)
+char_text context w = char_by context.set (slice_get w.unit.tokens (last_at w.unit.tokens))
 
-abbrev pub leaf_text : Leaf → Compilation → Option (List TextItem)
-leaf_text (leaf.Char c) w = char_text w
-leaf_text (leaf.Text at) w = text_at w.set w.unit.tokens at
-leaf_text _ w = None
+abbrev pub leaf_text : Context → Leaf → Compilation → Option (List TextItem)
+leaf_text context (leaf.Char c) w = char_text context w
+leaf_text context (leaf.Text at) w = text_at context.set w.unit.tokens at
+leaf_text context _ w = None
 
-abbrev pub word_text_by : Option Leaf → Compilation → Option (List TextItem)
-word_text_by None w = None
-word_text_by (Some l) w = leaf_text l w
+abbrev pub word_text_by : Context → Option Leaf → Compilation → Option (List TextItem)
+word_text_by context None w = None
+word_text_by context (Some l) w = leaf_text context l w
 
-abbrev pub word_text : Bool → Compilation → Option (List TextItem)
-word_text takes w = word_text_by (word_leaf takes w) w
+abbrev pub word_text : Context → Bool → Compilation → Option (List TextItem)
+word_text context takes w = word_text_by context (word_leaf takes w) w
 
 -- no string variable may be among its characters
 abbrev pub text_value : Bool → List TextItem → Value
@@ -102,54 +102,54 @@ text_placed name items w = text_placed_by (variables_from items false) name item
 
 -- Expressions: what is wrong with one is found before its names are used
 
-abbrev pub settled_work : Compilation → Compilation
-settled_work w = record w { output = (settled_of w).out }
+abbrev pub settled_work : Context → Compilation → Compilation
+settled_work context w = record w { output = (settled_of context w).out }
 
-abbrev pub settled_finding : Option ℕ → Compilation → Option Finding
-settled_finding name w = placed_finding name (value_of w) None (settled_work w)
+abbrev pub settled_finding : Context → Option ℕ → Compilation → Option Finding
+settled_finding context name w = placed_finding name (value_of context w) None (settled_work context w)
 
-abbrev pub settled_placed : Option ℕ → Compilation → Compilation
-settled_placed name w = placed name (value_of w) None (settled_work w)
+abbrev pub settled_placed : Context → Option ℕ → Compilation → Compilation
+settled_placed context name w = placed name (value_of context w) None (settled_work context w)
 
-abbrev pub value_finding_by : Option Finding → Option ℕ → Option Finding → Value → Compilation → Option Finding
-value_finding_by None name judged looked w = settled_finding name w
-value_finding_by (Some f) name judged looked w = placed_finding name looked judged w
+abbrev pub value_finding_by : Context → Option Finding → Option ℕ → Option Finding → Value → Compilation → Option Finding
+value_finding_by context None name judged looked w = settled_finding context name w
+value_finding_by context (Some f) name judged looked w = placed_finding name looked judged w
 
-abbrev pub value_by : Option Finding → Option ℕ → Option Finding → Value → Compilation → Compilation
-value_by None name judged looked w = settled_placed name w
-value_by (Some f) name judged looked w = placed name looked judged w
+abbrev pub value_by : Context → Option Finding → Option ℕ → Option Finding → Value → Compilation → Compilation
+value_by context None name judged looked w = settled_placed context name w
+value_by context (Some f) name judged looked w = placed name looked judged w
 
-abbrev pub value_with_finding : Option ℕ → Option Finding → Value → Compilation → Option Finding
-value_with_finding name judged looked w = value_finding_by (least_of_both judged (place_finding name looked w)) name judged looked w
+abbrev pub value_with_finding : Context → Option ℕ → Option Finding → Value → Compilation → Option Finding
+value_with_finding context name judged looked w = value_finding_by context (least_of_both judged (place_finding name looked w)) name judged looked w
 
-abbrev pub value_with : Option ℕ → Option Finding → Value → Compilation → Compilation
-value_with name judged looked w = value_by (least_of_both judged (place_finding name looked w)) name judged looked w
+abbrev pub value_with : Context → Option ℕ → Option Finding → Value → Compilation → Compilation
+value_with context name judged looked w = value_by context (least_of_both judged (place_finding name looked w)) name judged looked w
 
-abbrev pub expression_finding : Option ℕ → Compilation → Option Finding
-expression_finding name w = value_with_finding name (finding_at 0 wanted.Constant w) (looked_value w) w
+abbrev pub expression_finding : Context → Option ℕ → Compilation → Option Finding
+expression_finding context name w = value_with_finding context name (finding_at 0 wanted.Constant w) (looked_value w) w
 
-abbrev pub expression_placed : Option ℕ → Compilation → Compilation
-expression_placed name w = value_with name (finding_at 0 wanted.Constant w) (looked_value w) w
+abbrev pub expression_placed : Context → Option ℕ → Compilation → Compilation
+expression_placed context name w = value_with context name (finding_at 0 wanted.Constant w) (looked_value w) w
 
-abbrev pub any_finding : Option (List TextItem) → Option ℕ → Compilation → Option Finding
-any_finding None name w = expression_finding name w
-any_finding (Some items) name w = text_finding name items w
+abbrev pub any_finding : Context → Option (List TextItem) → Option ℕ → Compilation → Option Finding
+any_finding context None name w = expression_finding context name w
+any_finding context (Some items) name w = text_finding name items w
 
-abbrev pub any_placed : Option (List TextItem) → Option ℕ → Compilation → Compilation
-any_placed None name w = expression_placed name w
-any_placed (Some items) name w = text_placed name items w
+abbrev pub any_placed : Context → Option (List TextItem) → Option ℕ → Compilation → Compilation
+any_placed context None name w = expression_placed context name w
+any_placed context (Some items) name w = text_placed name items w
 
-abbrev pub value_finding : Option ℕ → Compilation → Option Finding
-value_finding name w = any_finding (word_text (takes_words name w) w) name w
+abbrev pub value_finding : Context → Option ℕ → Compilation → Option Finding
+value_finding context name w = any_finding context (word_text context (takes_words name w) w) name w
 
-abbrev pub value_placed : Option ℕ → Compilation → Compilation
-value_placed name w = any_placed (word_text (takes_words name w) w) name w
+abbrev pub value_placed : Context → Option ℕ → Compilation → Compilation
+value_placed context name w = any_placed context (word_text context (takes_words name w) w) name w
 
-abbrev pub value_read_at : FileNames → Place → Option ℕ → Compilation → Compilation
-value_read_at files first name w = entry_told files first (value_finding name w) (value_placed name w)
+abbrev pub value_read_at : Context → Place → Option ℕ → Compilation → Compilation
+value_read_at context first name w = entry_told context first (value_finding context name w) (value_placed context name w)
 
-abbrev pub value_read : FileNames → Place → Compilation → Compilation
-value_read files place w = value_read_at files (first_place w.unit.tokens place) (name_place w.unit.outer) w
+abbrev pub value_read : Context → Place → Compilation → Compilation
+value_read context place w = value_read_at context (first_place w.unit.tokens place) (name_place w.unit.outer) w
 
 -- Routines
 
@@ -183,16 +183,16 @@ found_embedded name h w =
 abbrev pub routine_placed : Option ℕ → Bool → Compilation → Compilation
 routine_placed name is_lost w = placed name (next_routine w) (wrong_if is_lost) w
 
-abbrev pub embedded_opened : FileNames → Place → Headed → Findings → Compilation → Compilation
-embedded_opened files first h found w = opened_with files first h found (record w { is_embedded = true; is_replaced = false })
+abbrev pub embedded_opened : Context → Place → Headed → Findings → Compilation → Compilation
+embedded_opened context first h found w = opened_with context first h found (record w { is_embedded = true; is_replaced = false })
 
-abbrev pub embedded_begun : FileNames → Place → Option ℕ → Headed → Findings → Compilation → Compilation
-embedded_begun files first name h found w = embedded_opened files first h found (routine_placed name (is_some found.least) w)
+abbrev pub embedded_begun : Context → Place → Option ℕ → Headed → Findings → Compilation → Compilation
+embedded_begun context first name h found w = embedded_opened context first h found (routine_placed name (is_some found.least) w)
 
-unfoldable pub embedded : FileNames → Place → Option ℕ → Headed → Compilation → Compilation
-embedded files first name h w = embedded_begun files first name h (found_embedded name h w) w
+unfoldable pub embedded : Context → Place → Option ℕ → Headed → Compilation → Compilation
+embedded context first name h w = embedded_begun context first name h (found_embedded name h w) w
 
-abbrev pub embedded_read : FileNames → Place → Compilation → Compilation
-embedded_read files place w =
-    embedded files (first_place w.unit.tokens place) (place_before (bracket_in w.unit.tokens)) w.unit.headed
+abbrev pub embedded_read : Context → Place → Compilation → Compilation
+embedded_read context place w =
+    embedded context (first_place w.unit.tokens place) (place_before (bracket_in w.unit.tokens)) w.unit.headed
     (record w { unit = record w.unit { headed = no_locals } })

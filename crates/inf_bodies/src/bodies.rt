@@ -1,17 +1,19 @@
 //! What stands in the bodies of objects and classes: classes, attributes and properties.
+ghost use Rattle.inf_compilation.specs.Context.{handed};
 ghost use Rattle.std.specs.Prelude.{IfOk, OnOk, option_map, ◌≡◌};
 ghost use Rattle.inf_names.specs.Spellings.{as_name};
 ghost use Rattle.inf_bodies.specs.Bodies.{attribute_finding, attribute_of, attribute_read, attribute_set, attribute_set_some, class_finding, class_read, further, further_added, further_finding, further_found, further_placed, given, given_finding, given_with, individual_declared, individual_given, individual_named, is_given, is_words, last_at, number_finding, place_finding, placed, placed_finding, property_finding, property_given, property_gives, property_in, property_lost, property_of, property_read};
 ghost use Rattle.inf_compilation.specs.Actions.{body_ended, world_ended};
 ghost use Rattle.inf_compilation.specs.Works.{work};
 
+use inf_compilation::context::Context;
 use crate::objects::{
     class_of, found_at, join_some, name_at, refused_finding, setting_of, tell_entry,
 };
 use inf_area::Value;
 use inf_compilation::compilation::Compilation;
 use inf_expressions::{Finding, least_of_both};
-use inf_lexer::{Place, Stack};
+use inf_lexer::Place;
 use inf_names::meanings::Meaning;
 use inf_names::spellings::Name;
 use inf_names::symbols::Found;
@@ -246,25 +248,25 @@ pub fn end_body<B: Bounds>(compilation: &mut Compilation<B>) -> Result<(), Alloc
 /// A class of the open body, which the last token names.
 pub fn class_of_body<B: Bounds>(
     compilation: &mut Compilation<B>,
-    files: &Stack,
+    context: &Context<'_>,
     place: Place,
 ) -> Result<(), AllocError>
-    ensures { OnOk result (work compilation.new ≡ class_read files.now.names place (work compilation.old)) }
+    ensures { OnOk result (work compilation.new ≡ class_read (handed context.now) place (work compilation.old)) }
 {
     let first = compilation.unit.first_place(place);
     let at = last_at(&compilation.unit.tokens);
     let class = class_of(found_at(compilation, at));
     let fault = join_some(class, &mut compilation.output)?;
-    tell_entry(compilation, files, first, class_finding(class, fault, at))
+    tell_entry(compilation, context, first, class_finding(class, fault, at))
 }
 
 /// An attribute of the open body, which the last token names, and which `~` before it takes away.
 pub fn attribute_of_body<B: Bounds>(
     compilation: &mut Compilation<B>,
-    files: &Stack,
+    context: &Context<'_>,
     place: Place,
 ) -> Result<(), AllocError>
-    ensures { OnOk result (work compilation.new ≡ attribute_read files.now.names place (work compilation.old)) }
+    ensures { OnOk result (work compilation.new ≡ attribute_read (handed context.now) place (work compilation.old)) }
 {
     let first = compilation.unit.first_place(place);
     let at = last_at(&compilation.unit.tokens);
@@ -274,7 +276,7 @@ pub fn attribute_of_body<B: Bounds>(
         is_given(&compilation.unit.tokens, at),
         &mut compilation.output,
     )?;
-    tell_entry(compilation, files, first, attribute_finding(number, at))
+    tell_entry(compilation, context, first, attribute_finding(number, at))
 }
 
 // Where values go
@@ -432,13 +434,13 @@ pub(crate) fn placed<B: Bounds>(
 /// A property without values, which the last token names.
 pub fn property_of_body<B: Bounds>(
     compilation: &mut Compilation<B>,
-    files: &Stack,
+    context: &Context<'_>,
     place: Place,
 ) -> Result<(), AllocError>
-    ensures { OnOk result (work compilation.new ≡ property_read files.now.names place (work compilation.old)) }
+    ensures { OnOk result (work compilation.new ≡ property_read (handed context.now) place (work compilation.old)) }
 {
     let first = compilation.unit.first_place(place);
     let at = last_at(&compilation.unit.tokens);
     let found = given(compilation, at, None, None)?;
-    tell_entry(compilation, files, first, found)
+    tell_entry(compilation, context, first, found)
 }

@@ -1,4 +1,5 @@
 //! The headers of classes and objects.
+ghost use Rattle.inf_compilation.specs.Context.{handed};
 ghost use Rattle.std.specs.Prelude.{IfOk, OnOk, option_map, ◌≡◌};
 ghost use Rattle.inf_characters.specs.Reading.{text_of as read_in};
 ghost use Rattle.inf_names.specs.Spellings.{as_name};
@@ -8,12 +9,13 @@ ghost use Rattle.inf_world.specs.World.{class_of_fault};
 ghost use Rattle.inf_unit.specs.Units.{name_at};
 ghost use Rattle.inf_compilation.specs.Works.{work};
 
+use inf_compilation::context::Context;
 use crate::headers::{Header, header_in, word_place};
 use inf_compilation::compilation::Compilation;
 use inf_compilation::findings::{Findings, TOO_MANY};
 use inf_declarations::declarations::{Declared, end_declared, plainly_known};
 use inf_expressions::{Finding, least_of_both};
-use inf_lexer::{Place, Stack};
+use inf_lexer::Place;
 use inf_listings::arrays::text_at;
 use inf_names::meanings::Meaning;
 use inf_names::spellings::Name;
@@ -317,13 +319,13 @@ pub(crate) fn found_at<B: Bounds>(compilation: &Compilation<B>, at: usize) -> Fo
 /// The end of a unit of an object or a class that begins at a place, in which this was found.
 pub(crate) fn tell_entry<B: Bounds>(
     compilation: &mut Compilation<B>,
-    files: &Stack,
+    context: &Context<'_>,
     first: Place,
     found: Option<Finding>,
 ) -> Result<(), AllocError>
-    ensures { OnOk result (work compilation.new ≡ entry_told files.now.names first found (work compilation.old)) }
+    ensures { OnOk result (work compilation.new ≡ entry_told (handed context.now) first found (work compilation.old)) }
 {
-    compilation.end_unit(files, first, false, &Findings::alone(found))
+    compilation.end_unit(context, first, false, &Findings::alone(found))
 }
 
 // Classes
@@ -331,32 +333,32 @@ pub(crate) fn tell_entry<B: Bounds>(
 /// The header of a class of this name.
 pub fn class_header<B: Bounds>(
     compilation: &mut Compilation<B>,
-    files: &Stack,
+    context: &Context<'_>,
     first: Place,
     name: &Name,
 ) -> Result<(), AllocError>
-    ensures { OnOk result (work compilation.new ≡ class_header files.now.names first (as_name name.now) (work compilation.old)) }
+    ensures { OnOk result (work compilation.new ≡ class_header (handed context.now) first (as_name name.now) (work compilation.old)) }
 {
     let order = compilation.unit.tokens.name_order();
     let declared = plainly_known(compilation, name, order);
-    class_with(compilation, files, first, name, declared)
+    class_with(compilation, context, first, name, declared)
 }
 
 /// The same, where so much is known of its name.
 fn class_with<B: Bounds>(
     compilation: &mut Compilation<B>,
-    files: &Stack,
+    context: &Context<'_>,
     first: Place,
     name: &Name,
     declared: Declared,
 ) -> Result<(), AllocError>
     ensures { OnOk result (work compilation.new
-        ≡ class_with files.now.names first (as_name name.now) declared (work compilation.old)) }
+        ≡ class_with (handed context.now) first (as_name name.now) declared (work compilation.old)) }
 {
     open_class(compilation, name, declared.finding)?;
     end_declared(
         compilation,
-        files,
+        context,
         first,
         false,
         name,
@@ -482,12 +484,12 @@ fn short_name<B: Bounds>(
 /// What is known of an object with a name.
 fn named_known<B: Bounds>(
     compilation: &Compilation<B>,
-    files: &Stack,
+    context: &Context<'_>,
     header: Header,
     at: usize,
     name: &Name,
 ) -> Declared
-    ensures { result ≡ named_known files.now.names header at (as_name name.now) (work compilation.now) }
+    ensures { result ≡ named_known (handed context.now) header at (as_name name.now) (work compilation.now) }
 {
     let declared = plainly_known(compilation, name, order(at));
     Declared {
@@ -499,14 +501,14 @@ fn named_known<B: Bounds>(
 /// What is known of an object by its header.
 fn object_known<B: Bounds>(
     compilation: &Compilation<B>,
-    files: &Stack,
+    context: &Context<'_>,
     header: Header,
     name: &Option<Name>,
 ) -> Declared
-    ensures { result ≡ object_known files.now.names header (option_map as_name name.now) (work compilation.now) }
+    ensures { result ≡ object_known (handed context.now) header (option_map as_name name.now) (work compilation.now) }
 {
     match name {
-        Some(name) => named_known(compilation, files, header, header.own.unwrap_or(0), name),
+        Some(name) => named_known(compilation, context, header, header.own.unwrap_or(0), name),
         None => Declared {
             found: Found::Unknown,
             finding: parent_finding(compilation, header),
@@ -546,19 +548,19 @@ fn new_object<B: Bounds>(
 /// The end of a header that begins at a place: what is wrong with it is told.
 fn end_object<B: Bounds>(
     compilation: &mut Compilation<B>,
-    files: &Stack,
+    context: &Context<'_>,
     first: Place,
     name: &Option<Name>,
     declared: Declared,
 ) -> Result<(), AllocError>
     ensures { OnOk result (work compilation.new
-        ≡ object_ended files.now.names first (option_map as_name name.now) declared (work compilation.old)) }
+        ≡ object_ended (handed context.now) first (option_map as_name name.now) declared (work compilation.old)) }
 {
     match name {
         Some(name) => {
             end_declared(
                 compilation,
-                files,
+                context,
                 first,
                 false,
                 name,
@@ -566,35 +568,35 @@ fn end_object<B: Bounds>(
                 declared,
             )
         }
-        None => tell_entry(compilation, files, first, declared.finding),
+        None => tell_entry(compilation, context, first, declared.finding),
     }
 }
 
 /// The header of an object.
 fn object_with<B: Bounds>(
     compilation: &mut Compilation<B>,
-    files: &Stack,
+    context: &Context<'_>,
     first: Place,
     header: Header,
     name: &Option<Name>,
 ) -> Result<(), AllocError>
     ensures { OnOk result (work compilation.new
-        ≡ object_with files.now.names first header (option_map as_name name.now) (work compilation.old)) }
+        ≡ object_with (handed context.now) first header (option_map as_name name.now) (work compilation.old)) }
 {
-    let declared = object_known(compilation, files, header, name);
+    let declared = object_known(compilation, context, header, name);
     open_object(compilation, header, name, declared.finding)?;
-    end_object(compilation, files, first, name, declared)
+    end_object(compilation, context, first, name, declared)
 }
 
 /// The header of an object, which may be one of a class that its word names.
 pub fn object_header<B: Bounds>(
     compilation: &mut Compilation<B>,
-    files: &Stack,
+    context: &Context<'_>,
     first: Place,
 ) -> Result<(), AllocError>
-    ensures { OnOk result (work compilation.new ≡ object_header files.now.names first (work compilation.old)) }
+    ensures { OnOk result (work compilation.new ≡ object_header (handed context.now) first (work compilation.old)) }
 {
     let header = header_in(&compilation.unit.tokens);
     let name = own_name(compilation, header);
-    object_with(compilation, files, first, header, &name)
+    object_with(compilation, context, first, header, &name)
 }

@@ -1,4 +1,5 @@
 //! The values of properties: words of the dictionary, expressions, and routines.
+ghost use Rattle.inf_compilation.specs.Context.{handed};
 ghost use Rattle.std.specs.Prelude.{IfOk, OnOk, option_map, ◌≡◌};
 ghost use Rattle.inf_names.specs.LocalList.{headed as as_headed};
 ghost use Rattle.inf_bodies.specs.Values.{bracket_in, bracket_step, char_text, embedded, embedded_begun, embedded_findings, embedded_opened, embedded_read, expression_finding, expression_placed, found_embedded, leaf_text, many_by, name_place, next_routine, only_leaf, place_before, routine_placed, settled_finding, settled_placed, takes_words, text_finding, text_placed, text_value, value_finding, value_placed, value_read, value_with, value_with_finding, word_leaf, word_text, word_used, wrong_if};
@@ -6,6 +7,7 @@ ghost use Rattle.inf_bodies.specs.Bodies.{place_finding};
 ghost use Rattle.inf_compilation.specs.Meant.{found_as};
 ghost use Rattle.inf_compilation.specs.Works.{work};
 
+use inf_compilation::context::Context;
 use crate::bodies::{is_words, last_at, place_finding, placed, property_of};
 use crate::objects::{found_at, tell_entry, text_in};
 use inf_area::{AreaName, Target, Value};
@@ -14,7 +16,7 @@ use inf_compilation::findings::{Findings, header_findings};
 use inf_declarations::declarations::value;
 use inf_expressions::{Finding, Wanted, least_of_both};
 use inf_gathering::gathering::Leaf;
-use inf_lexer::{Place, Stack};
+use inf_lexer::Place;
 use inf_listings::arrays::{has_variables, looked_value, text_at};
 use inf_names::locals::Headed;
 use inf_report::messages::FixedLimit;
@@ -283,15 +285,15 @@ fn place_value<B: Bounds>(
 /// A value of a property: its first, with the property's name before it, or a further one.
 pub fn value_of_body<B: Bounds>(
     compilation: &mut Compilation<B>,
-    files: &Stack,
+    context: &Context<'_>,
     place: Place,
 ) -> Result<(), AllocError>
-    ensures { OnOk result (work compilation.new ≡ value_read files.now.names place (work compilation.old)) }
+    ensures { OnOk result (work compilation.new ≡ value_read (handed context.now) place (work compilation.old)) }
 {
     let first = compilation.unit.first_place(place);
     let name = name_place(compilation.unit.outer);
     let found = place_value(compilation, name)?;
-    tell_entry(compilation, files, first, found)
+    tell_entry(compilation, context, first, found)
 }
 
 // Routines
@@ -319,33 +321,33 @@ fn place_routine<B: Bounds>(
 /// Opens the code of a routine that is a value.
 fn open_embedded<B: Bounds>(
     compilation: &mut Compilation<B>,
-    files: &Stack,
+    context: &Context<'_>,
     first: Place,
     headed: Headed,
     found: &Findings,
 ) -> Result<(), AllocError>
     ensures { OnOk result (work compilation.new
-        ≡ embedded_opened files.now.names first (as_headed headed) (found_as found.now) (work compilation.old)) }
+        ≡ embedded_opened (handed context.now) first (as_headed headed) (found_as found.now) (work compilation.old)) }
 {
     compilation.is_embedded = true;
     compilation.is_replaced = false;
-    compilation.open_code(files, first, headed, found)
+    compilation.open_code(context, first, headed, found)
 }
 
 /// A routine goes where it is to go as a value, unless something is wrong with it, and its code opens.
 fn begin_embedded<B: Bounds>(
     compilation: &mut Compilation<B>,
-    files: &Stack,
+    context: &Context<'_>,
     first: Place,
     name: Option<usize>,
     headed: Headed,
     found: &Findings,
 ) -> Result<(), AllocError>
     ensures { OnOk result (work compilation.new
-        ≡ embedded_begun files.now.names first name (as_headed headed) (found_as found.now) (work compilation.old)) }
+        ≡ embedded_begun (handed context.now) first name (as_headed headed) (found_as found.now) (work compilation.old)) }
 {
     place_routine(compilation, name, found.least.is_some())?;
-    open_embedded(compilation, files, first, headed, found)
+    open_embedded(compilation, context, first, headed, found)
 }
 
 /// What is wrong with a routine as a value, of which the locals stand behind the tokens of its unit.
@@ -366,27 +368,27 @@ fn found_embedded<B: Bounds>(
 #[tactic(auto, unfolding(crate::specs::Values::embedded))]
 fn embed<B: Bounds>(
     compilation: &mut Compilation<B>,
-    files: &Stack,
+    context: &Context<'_>,
     first: Place,
     name: Option<usize>,
     headed: Headed,
 ) -> Result<(), AllocError>
-    ensures { OnOk result (work compilation.new ≡ embedded files.now.names first name (as_headed headed) (work compilation.old)) }
+    ensures { OnOk result (work compilation.new ≡ embedded (handed context.now) first name (as_headed headed) (work compilation.old)) }
 {
     let found = found_embedded(compilation, name, &headed);
-    begin_embedded(compilation, files, first, name, headed, &found)
+    begin_embedded(compilation, context, first, name, headed, &found)
 }
 
 /// The header of a routine that is a value: its first, with the property's name before its bracket, or a further one.
 pub fn routine_of_body<B: Bounds>(
     compilation: &mut Compilation<B>,
-    files: &Stack,
+    context: &Context<'_>,
     place: Place,
 ) -> Result<(), AllocError>
-    ensures { OnOk result (work compilation.new ≡ embedded_read files.now.names place (work compilation.old)) }
+    ensures { OnOk result (work compilation.new ≡ embedded_read (handed context.now) place (work compilation.old)) }
 {
     let first = compilation.unit.first_place(place);
     let name = place_before(bracket_in(&compilation.unit.tokens));
     let headed = compilation.take_headed();
-    embed(compilation, files, first, name, headed)
+    embed(compilation, context, first, name, headed)
 }

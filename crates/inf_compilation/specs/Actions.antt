@@ -37,8 +37,10 @@ use Rattle.inf_report.specs.Messages.{BranchTooFar, ConstantOutOfRange, DeepNest
 use Rattle.inf_report.specs.OwnWords.{Words}
 use Rattle.inf_names.specs.Spellings.{Name}
 use Rattle.inf_names.specs.Locals.{Local, Headed}
+use Rattle.inf_compilation.specs.Context.{Context}
 use Rattle.inf_unit.specs.Directives.{Request, Nothing}
-use Rattle.inf_unit.specs.Messages.{FileNames, Diagnostic, Reported, location, nothing_reported, with_error, with_fatal, with_fault, with_full, with_warning}
+use Rattle.inf_unit.specs.Messages.{Diagnostic, Reported, location, nothing_reported, with_error, with_fatal, with_fault, with_full, with_warning}
+use Rattle.inf_compilation.specs.Context.{Context, longest}
 use Rattle.inf_unit.specs.Names.{no_symbols}
 use Rattle.inf_unit.specs.Tokens.{SourceToken, number_of}
 use Rattle.inf_unit.specs.Units.{Unit, bytes_at, first_place, kind_at, long_at, name_order, names_in, no_unit, outer_tokens, over, quoted_in, taken as unit_taken}
@@ -80,9 +82,7 @@ no_output settings = record {
   kept = None;
 }
 
--- What was compiled so far: the character set of the sources; how many tokens an expression may have, and how many one had; how many labels
--- a routine had, where
--- units were finished; the unit at hand; the statements that are open, the innermost first, and how many that are over were closed ahead of
+-- What was compiled so far: how many tokens an expression had, and how many labels a routine, where units were finished; the unit at hand; the statements that are open, the innermost first, and how many that are over were closed ahead of
 -- a conditional;
 -- where the last token is, if it is the word of a compound statement where a case may stand, too; the labels with names and the locals of
 -- the open routine; the code and the names of the source; the messages; what a directive asks of the reading; the names of
@@ -90,8 +90,6 @@ no_output settings = record {
 -- routine at hand is passed over for that; the array whose entries are read, and where they go if its header had an error; whether the
 -- values that are read are those of the property `name`, and whether the open routine is a value of a property.
 pub record Compilation : Type 0 where
-  pub set : CharSet
-  pub longest : ℕ
   pub most_tokens : ℕ
   pub most_labels : ℕ
   pub unit : Unit
@@ -112,11 +110,9 @@ pub record Compilation : Type 0 where
   pub is_embedded : Bool
   pub extending : Extending
 
--- before the first unit of sources in a character set
-abbrev pub no_work : CharSet → Settings → Compilation
-no_work set settings = record {
-  set = set;
-  longest = setting_number setting.ExpressionNodes settings;
+-- before the first unit of a source
+abbrev pub no_work : Settings → Compilation
+no_work settings = record {
   most_tokens = 0;
   most_labels = 0;
   unit = no_unit;
@@ -149,11 +145,11 @@ abbrev pub labels_counted : Compilation → Compilation
 labels_counted w = record w { most_labels = max w.most_labels (labels_of w.output.code) }
 
 -- The end of a unit, which begins at a place: the least of what is wrong with it is told, and then the first limit that was passed.
-abbrev pub unit_ended : FileNames → Place → Bool → Findings → Compilation → Compilation
-unit_ended files first has_last found w = record w {
+abbrev pub unit_ended : Context → Place → Bool → Findings → Compilation → Compilation
+unit_ended context first has_last found w = record w {
   unit = over has_last w.unit;
   most_labels = max w.most_labels (labels_of w.output.code);
-  report = with_full files first (full w.output) (with_fault files first (told_as files w.unit.tokens first found) w.report);
+  report = with_full context.names first (full w.output) (with_fault context.names first (told_as context w.unit.tokens first found) w.report);
 }
 
 -- Something is laid for a unit that begins at a place.
@@ -161,23 +157,23 @@ abbrev pub laid : Place → Code → Compilation → Compilation
 laid first code w = record w { output = code (record w.output { first = first }) }
 
 -- Code begins with the first unit that is finished.
-abbrev pub begun_at : FileNames → Place → Compilation → Compilation
-begun_at files first w =
+abbrev pub begun_at : Context → Place → Compilation → Compilation
+begun_at context first w =
     let o = begun w.output in record w {
       output = o;
       most_labels = max w.most_labels (labels_of o.code);
-      report = with_full files first
+      report = with_full context.names first
           (full o) w.report;
     }
 
 -- a message at a place ends the compilation, if there is a place; and else the tokens of the expression are counted
-abbrev pub stopped : FileNames → Option Place → Compilation → Compilation
-stopped files None w = record w { most_tokens = max w.most_tokens (outer_tokens w.unit) }
-stopped files (Some place) w = record w { report = with_fatal (location files place) (Exceeded setting.ExpressionNodes) w.report }
+abbrev pub stopped : Context → Option Place → Compilation → Compilation
+stopped context None w = record w { most_tokens = max w.most_tokens (outer_tokens w.unit) }
+stopped context (Some place) w = record w { report = with_fatal (location context.names place) (Exceeded setting.ExpressionNodes) w.report }
 
 -- An expression of more tokens than it may have ends the compilation, at the first token too many.
-abbrev pub sized : FileNames → Compilation → Compilation
-sized files w = stopped files (long_at w.longest w.unit) w
+abbrev pub sized : Context → Compilation → Compilation
+sized context w = stopped context (long_at (longest context) w.unit) w
 
 -- Brackets, braces and compound statements that stand in one another are at most so many.
 abbrev pub most_nested : ℕ
@@ -186,8 +182,8 @@ most_nested = 64
 abbrev pub is_deep : Compilation → ℕ → Bool
 is_deep w more = nat_lt most_nested (w.unit.depth + depth w.constructs + more)
 
-abbrev pub nested : FileNames → Place → Bool → Compilation → Compilation
-nested files place is_deep w = if is_deep then record w { report = with_fatal (location files place) DeepNesting w.report } else w
+abbrev pub nested : Context → Place → Bool → Compilation → Compilation
+nested context place is_deep w = if is_deep then record w { report = with_fatal (location context.names place) DeepNesting w.report } else w
 
 abbrev pub opens : TokenKind → Bool
 opens (kind.Mark mark.OpenParenthesis) = true
@@ -195,11 +191,11 @@ opens (kind.Mark mark.OpenBrace) = true
 opens _ = false
 
 -- a token is taken
-abbrev pub token_checked : FileNames → SourceToken → Compilation → Compilation
-token_checked files t w = nested files t.place (opens t.kind && is_deep w 0) w
+abbrev pub token_checked : Context → SourceToken → Compilation → Compilation
+token_checked context t w = nested context t.place (opens t.kind && is_deep w 0) w
 
-abbrev pub took : FileNames → SourceToken → Compilation → Compilation
-took files t w = token_checked files t (sized files (record w { unit = unit_taken t w.unit }))
+abbrev pub took : Context → SourceToken → Compilation → Compilation
+took context t w = token_checked context t (sized context (record w { unit = unit_taken t w.unit }))
 
 -- The body of an object or a class ends, if one is open.
 abbrev pub world_ended_by : Option AddFault → WorldOf → WorldOf
@@ -217,16 +213,16 @@ abbrev pub given_up : Compilation → Compilation
 given_up w = record w { output = record w.output { code = with_none_open w.output.code } }
 
 -- The word of a compound statement opens its level with a bad token behind it, too, where a case of that name might have stood.
-abbrev pub opening_checked_at : Option Place → FileNames → Compilation → Compilation
-opening_checked_at None files w = w
-opening_checked_at (Some place) files w = nested files place (is_deep w 1) w
+abbrev pub opening_checked_at : Option Place → Context → Compilation → Compilation
+opening_checked_at None context w = w
+opening_checked_at (Some place) context w = nested context place (is_deep w 1) w
 
-abbrev pub opening_checked : FileNames → Compilation → Compilation
-opening_checked files w = opening_checked_at w.opening files w
+abbrev pub opening_checked : Context → Compilation → Compilation
+opening_checked context w = opening_checked_at w.opening context w
 
 -- a bad token cuts the unit at hand, which surely was an expression, and the body and the routine in which it stands
-abbrev pub cut : FileNames → Compilation → Compilation
-cut files w = opening_checked files (sized files (given_up (body_ended (record w { unit = record w.unit { is_sure = true } }))))
+abbrev pub cut : Context → Compilation → Compilation
+cut context w = opening_checked context (sized context (given_up (body_ended (record w { unit = record w.unit { is_sure = true } }))))
 
 -- whether a token with these bytes is the name of a class
 abbrev pub names_class_of : Meaning → Bool
@@ -257,8 +253,8 @@ abbrev pub named : Compilation → Compilation
 named w = record w { locals = stores_named w.unit.tokens w.unit.items (leaves_named w.unit.tokens w.unit.gathering.leaves w.locals) }
 
 -- their trees, when their names were used
-abbrev pub settled_of : Compilation → Settled
-settled_of w = settled w.set w.locals w.unit.tokens w.unit.gathering.leaves (record { out = w.output; operands = [] })
+abbrev pub settled_of : Context → Compilation → Settled
+settled_of context w = settled context.set w.locals w.unit.tokens w.unit.gathering.leaves (record { out = w.output; operands = [] })
 
 abbrev pub trees_at : ℕ → Wanted → List Operand → Compilation → List Rooted
 trees_at first wanted operands w = trees_of wanted first operands w.unit.gathering.symbols
@@ -271,9 +267,9 @@ passed has_last w = record w { unit = over has_last w.unit }
 
 -- A header, which begins at a place, opens a routine with its locals. With an error it still declares its name, where that
 -- is free, and its locals. Z-Machine Standard 1.1, section 5.2.
-abbrev pub opened_with : FileNames → Place → Headed → Findings → Compilation → Compilation
-opened_with files first h found w =
-    unit_ended files first true found (record w {
+abbrev pub opened_with : Context → Place → Headed → Findings → Compilation → Compilation
+opened_with context first h found w =
+    unit_ended context first true found (record w {
       output = opened (length h.locals) (is_some found.least) w.output;
       locals = h.locals;
       constructs = [];
@@ -285,9 +281,9 @@ routine_declared name w =
     record w { output = declared name.bytes name.place (meaning.Routine (place_behind w.output.code.finished)) w.output }
 
 -- its name stands behind its bracket
-abbrev pub header_with : FileNames → Place → Name → Headed → Compilation → Compilation
-header_with files first name h w =
-    opened_with files first h (header_findings 1 (again_by name (declare_fault name.bytes w.output.names)) h) (routine_declared name w)
+abbrev pub header_with : Context → Place → Name → Headed → Compilation → Compilation
+header_with context first name h w =
+    opened_with context first h (header_findings 1 (again_by name (declare_fault name.bytes w.output.names)) h) (routine_declared name w)
 
 -- a name that is kept among those of routines that are to be replaced
 abbrev pub is_kept : Found Place → Bool
@@ -299,70 +295,70 @@ abbrev pub is_to_be_replaced : Name → Compilation → Bool
 is_to_be_replaced n w = w.is_system && is_kept (found_in n.bytes w.replaced)
 
 -- behind its bracket a header has the name of its routine; its locals are kept apart
-abbrev pub header_named : FileNames → Place → Name → Compilation → Compilation
-header_named files first name w =
+abbrev pub header_named : Context → Place → Name → Compilation → Compilation
+header_named context first name w =
     if is_to_be_replaced name w then passed true (record w { is_replaced = true; is_embedded = false; constructs = [] })
-    else header_with files first name w.unit.headed (record w { is_replaced = false; is_embedded = false })
+    else header_with context first name w.unit.headed (record w { is_replaced = false; is_embedded = false })
 
-abbrev pub header_of : FileNames → Place → List Name → Compilation → Compilation
-header_of files first [] w = passed true w
-header_of files first (name ∷ names) w = header_named files first name w
+abbrev pub header_of : Context → Place → List Name → Compilation → Compilation
+header_of context first [] w = passed true w
+header_of context first (name ∷ names) w = header_named context first name w
 
-abbrev pub header_end : FileNames → Place → Compilation → Compilation
-header_end files place w = header_of files (first_place w.unit.tokens place) (names_in w.unit.tokens) w
+abbrev pub header_end : Context → Place → Compilation → Compilation
+header_end context place w = header_of context (first_place w.unit.tokens place) (names_in w.unit.tokens) w
 
 -- a warning, at a place, for each local that no statement named
-abbrev pub with_unused : FileNames → Place → Local → Reported → Reported
-with_unused files place l r = if l.is_named then r else with_warning (location files place) (UnusedLocal l.name) r
+abbrev pub with_unused : Context → Place → Local → Reported → Reported
+with_unused context place l r = if l.is_named then r else with_warning (location context.names place) (UnusedLocal l.name) r
 
-abbrev pub with_all_unused : FileNames → Place → List Local → Reported → Reported
-with_all_unused files place [] r = r
-with_all_unused files place (l ∷ locals) r = with_all_unused files place locals (with_unused files place l r)
+abbrev pub with_all_unused : Context → Place → List Local → Reported → Reported
+with_all_unused context place [] r = r
+with_all_unused context place (l ∷ locals) r = with_all_unused context place locals (with_unused context place l r)
 
 -- What is wrong with the labels or offsets of a routine: a label that is used and not given, or a branch that goes too far. A label without
 -- a name is missing
 -- only where a limit was passed before its place was laid, which is told by itself.
-abbrev pub with_branch_fault : FileNames → Place → Option CloseFault → Reported → Reported
-with_branch_fault files place (Some (close_fault.LabelTwice label)) r =
-    with_error (location files place) (location files place) BranchTooFar r
-with_branch_fault files place (Some close_fault.TooFar) r = with_error (location files place) (location files place) BranchTooFar r
-with_branch_fault files place _ r = r
+abbrev pub with_branch_fault : Context → Place → Option CloseFault → Reported → Reported
+with_branch_fault context place (Some (close_fault.LabelTwice label)) r =
+    with_error (location context.names place) (location context.names place) BranchTooFar r
+with_branch_fault context place (Some close_fault.TooFar) r = with_error (location context.names place) (location context.names place) BranchTooFar r
+with_branch_fault context place _ r = r
 
-abbrev pub with_fault_or : Option (List ℕ) → FileNames → Place → Option CloseFault → Reported → Reported
-with_fault_or (Some name) files place fault r = with_error (location files place) (location files place) (LabelMissing name) r
-with_fault_or None files place fault r = with_branch_fault files place fault r
+abbrev pub with_fault_or : Option (List ℕ) → Context → Place → Option CloseFault → Reported → Reported
+with_fault_or (Some name) context place fault r = with_error (location context.names place) (location context.names place) (LabelMissing name) r
+with_fault_or None context place fault r = with_branch_fault context place fault r
 
-abbrev pub with_routine_fault : FileNames → Place → List NamedLabel → Option CloseFault → Reported → Reported
-with_routine_fault files place labels fault r = with_fault_or (missing labels) files place fault r
+abbrev pub with_routine_fault : Context → Place → List NamedLabel → Option CloseFault → Reported → Reported
+with_routine_fault context place labels fault r = with_fault_or (missing labels) context place fault r
 
 -- A routine that stands in a list of values is embedded.
 abbrev pub kind_ended : Bool → RoutineKind
 kind_ended is_embedded = if is_embedded then routine_kind.Embedded else routine_kind.Plain
 
 -- The end of a routine of a kind, at a place: what is wrong with it is told, and its unused locals, which are not known behind it.
-abbrev pub close_as : RoutineKind → FileNames → Place → Compilation → Compilation
-close_as how files place w =
+abbrev pub close_as : RoutineKind → Context → Place → Compilation → Compilation
+close_as how context place w =
     let fault = fault_closed how w.output.code in
-    unit_ended files place true nothing_found (record w {
+    unit_ended context place true nothing_found (record w {
       most_labels = max w.most_labels (labels_of w.output.code);
       output = closed how w.output;
-      report = with_all_unused files place w.locals (with_routine_fault files place w.labels fault w.report);
+      report = with_all_unused context place w.locals (with_routine_fault context place w.labels fault w.report);
       locals = [];
       is_embedded = false;
     })
 
-abbrev pub code_closed : FileNames → Place → Compilation → Compilation
-code_closed files place w = close_as (kind_ended w.is_embedded) files place w
+abbrev pub code_closed : Context → Place → Compilation → Compilation
+code_closed context place w = close_as (kind_ended w.is_embedded) context place w
 
 -- Before that its own cases end, if it has such. Of one that is passed over nothing ends.
 abbrev pub cases_ended : Compilation → Compilation
 cases_ended w = let laid = ended w.constructs w.output in record w { constructs = laid.0; output = laid.1 }
 
-abbrev pub close_open : FileNames → Place → Compilation → Compilation
-close_open files place w = code_closed files place (cases_ended w)
+abbrev pub close_open : Context → Place → Compilation → Compilation
+close_open context place w = code_closed context place (cases_ended w)
 
-abbrev pub close : FileNames → Place → Compilation → Compilation
-close files place w = if w.is_replaced then passed true w else close_open files place w
+abbrev pub close : Context → Place → Compilation → Compilation
+close context place w = if w.is_replaced then passed true w else close_open context place w
 
 -- Directives, which begin at a place
 
@@ -412,38 +408,38 @@ abbrev pub constant_findings : ℕ → Option Again → Option Finding → Findi
 constant_findings order again finding = record (found_alone (least_of_both (again_finding order again) finding)) { again = again }
 
 -- Without an error its text or word is added.
-abbrev pub constant_added : Option Finding → Compilation → Compilation
-constant_added None w = record w { output = leaf_added w.set w.unit.tokens w.unit.gathering.leaves w.output }
-constant_added (Some f) w = w
+abbrev pub constant_added : Context → Option Finding → Compilation → Compilation
+constant_added context None w = record w { output = leaf_added context.set w.unit.tokens w.unit.gathering.leaves w.output }
+constant_added context (Some f) w = w
 
 -- the end of its directive, where the name was refused or not
-abbrev pub constant_ended : FileNames → Place → Name → Option (DeclareFault Place) → Option Finding → Compilation → Compilation
-constant_ended files first name refused finding w =
+abbrev pub constant_ended : Context → Place → Name → Option (DeclareFault Place) → Option Finding → Compilation → Compilation
+constant_ended context first name refused finding w =
     let found = constant_findings (name_order w.unit.tokens) (again_by name refused) finding in
-    unit_ended files first true found (constant_added found.least w)
+    unit_ended context first true found (constant_added context found.least w)
 
-abbrev pub constant_declared : FileNames → Place → Name → Option Meaning → Option Finding → Compilation → Compilation
-constant_declared files first name m finding w =
-    constant_ended files first name (declare_fault name.bytes w.output.names) finding
+abbrev pub constant_declared : Context → Place → Name → Option Meaning → Option Finding → Compilation → Compilation
+constant_declared context first name m finding w =
+    constant_ended context first name (declare_fault name.bytes w.output.names) finding
     (record w { output = declared name.bytes name.place (constant_meaning m finding) w.output })
 
-abbrev pub constant_with : FileNames → Place → Name → Option Meaning → Option Finding → Compilation → Compilation
-constant_with files first name m found w = constant_declared files first name m (constant_finding m found) w
+abbrev pub constant_with : Context → Place → Name → Option Meaning → Option Finding → Compilation → Compilation
+constant_with context first name m found w = constant_declared context first name m (constant_finding m found) w
 
-abbrev pub constant : FileNames → Place → List Name → Compilation → Compilation
-constant files first [] w = passed true w
-constant files first (name ∷ names) w =
-    constant_with files first name (constant_of (map tree_in (trees_at 0 wanted.Constant (operands_of w) w)) w)
+abbrev pub constant : Context → Place → List Name → Compilation → Compilation
+constant context first [] w = passed true w
+constant context first (name ∷ names) w =
+    constant_with context first name (constant_of (map tree_in (trees_at 0 wanted.Constant (operands_of w) w)) w)
     (finding_at 0 wanted.Constant w) w
 
 -- The routine of a name is to be replaced where it stands in a file that is marked. That is a use of the name.
 abbrev pub used_name : Name → Table Place → Table Place
 used_name n names = if is_some (refer_fault n.bytes names) then names else with_used n.bytes n.place names
 
-abbrev pub replace : FileNames → Place → List Name → Compilation → Compilation
-replace files first [] w = passed true w
-replace files first (name ∷ names) w =
-    unit_ended files first true nothing_found (record w { output = referred name.bytes name.place w.output; replaced = used_name name w.replaced })
+abbrev pub replace : Context → Place → List Name → Compilation → Compilation
+replace context first [] w = passed true w
+replace context first (name ∷ names) w =
+    unit_ended context first true nothing_found (record w { output = referred name.bytes name.place w.output; replaced = used_name name w.replaced })
 
 -- A stub is a routine of so many locals, four at most, that returns 0. It is one where the name is not declared.
 abbrev pub stub_locals_by : Option TokenKind → ℕ
@@ -456,11 +452,11 @@ stub_locals tokens = stub_locals_by (kind_at tokens (length tokens - 1))
 abbrev pub stub_code : ℕ → Code
 stub_code locals o = closed routine_kind.Embedded (opened locals false o)
 
-abbrev pub stubbed : FileNames → Place → Compilation → Compilation
-stubbed files first w =
+abbrev pub stubbed : Context → Place → Compilation → Compilation
+stubbed context first w =
     let locals = stub_locals w.unit.tokens in
-    if nat_lt 4 locals then unit_ended files first true (found_alone (Some (out_of_range 0))) w
-    else unit_ended files first true nothing_found (record w { output = stub_code locals w.output })
+    if nat_lt 4 locals then unit_ended context first true (found_alone (Some (out_of_range 0))) w
+    else unit_ended context first true nothing_found (record w { output = stub_code locals w.output })
 
 -- whether a name is declared, by what looking for it found
 abbrev pub is_declared : Found Place → Bool
@@ -474,10 +470,10 @@ abbrev pub is_first_declared : List Name → Table Place → Bool
 is_first_declared [] names = false
 is_first_declared (name ∷ others) names = is_declared (found_in name.bytes names)
 
-abbrev pub new_stub : FileNames → Place → List Name → Compilation → Compilation
-new_stub files first [] w = passed true w
-new_stub files first (name ∷ names) w = stubbed files first (routine_declared name w)
+abbrev pub new_stub : Context → Place → List Name → Compilation → Compilation
+new_stub context first [] w = passed true w
+new_stub context first (name ∷ names) w = stubbed context first (routine_declared name w)
 
-abbrev pub stub : FileNames → Place → List Name → Compilation → Compilation
-stub files first names w =
-    if is_first_declared names w.output.names then unit_ended files first true nothing_found w else new_stub files first names w
+abbrev pub stub : Context → Place → List Name → Compilation → Compilation
+stub context first names w =
+    if is_first_declared names w.output.names then unit_ended context first true nothing_found w else new_stub context first names w

@@ -1,3 +1,4 @@
+pub mod Context
 pub mod Words
 pub mod Findings
 pub mod Actions

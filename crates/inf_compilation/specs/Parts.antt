@@ -8,7 +8,7 @@ use Rattle.inf_expressions.specs.Findings.{least_of_both}
 use Rattle.inf_expressions.specs.Rooted.{Rooted}
 use Rattle.inf_gathering.specs.Gatherings.{with_actions}
 use Rattle.inf_output.specs.Output.{apart, ◌▸◌}
-use Rattle.inf_unit.specs.Messages.{FileNames}
+use Rattle.inf_compilation.specs.Context.{Context}
 use Rattle.inf_unit.specs.Units.{first_place, last_place, order, own_place, prepared as unit_prepared}
 use Rattle.inf_unit.specs.declared.items.Item.{Item}
 use Rattle.inf_unit.specs.declared.items.Item.TheVariants as item
@@ -48,26 +48,26 @@ place_of part.Case place w = first_place w.unit.tokens place
 place_of _ place w = own_place w.unit place
 
 -- what a statement goes by beside its trees, and what it is
-abbrev pub site_of : Compilation → Site
-site_of w =
-    record { set = w.set; tokens = w.unit.tokens; begun = w.unit.begun; items = w.unit.items; locals = w.locals; constructs = w.constructs }
+abbrev pub site_of : Context → Compilation → Site
+site_of context w =
+    record { set = context.set; tokens = w.unit.tokens; begun = w.unit.begun; items = w.unit.items; locals = w.locals; constructs = w.constructs }
 
 abbrev pub statement_at : Compilation → Statement
 statement_at w = statement_in w.unit.tokens w.unit.begun w.unit.items
 
 -- What is wrong with it: the least of what is found of its expressions and beside them.
-abbrev pub line_finding_of : Compilation → Option Finding
-line_finding_of w =
-    site_finding (site_of w) w.output.names (map tree_in (trees_at (order w.unit.begun) wanted.Operand (operands_of w) w))
+abbrev pub line_finding_of : Context → Compilation → Option Finding
+line_finding_of context w =
+    site_finding (site_of context w) w.output.names (map tree_in (trees_at (order w.unit.begun) wanted.Operand (operands_of w) w))
 
-abbrev pub own_finding : Part → Compilation → Option Finding
-own_finding (part.Statement statement.Assembly) w = line_finding_of w
-own_finding (part.Statement s) w = statement_finding (site_of w) w.labels s
-own_finding part.Case w = only_if (is_late w.constructs) misplaced_default
-own_finding _ w = None
+abbrev pub own_finding : Context → Part → Compilation → Option Finding
+own_finding context (part.Statement statement.Assembly) w = line_finding_of context w
+own_finding context (part.Statement s) w = statement_finding (site_of context w) w.labels s
+own_finding context part.Case w = only_if (is_late w.constructs) misplaced_default
+own_finding context _ w = None
 
-abbrev pub found_in : Part → Compilation → Option Finding
-found_in p w = least_of_both (finding_at (order_of p w) (wanted_of p) w) (own_finding p w)
+abbrev pub found_in : Context → Part → Compilation → Option Finding
+found_in context p w = least_of_both (finding_at (order_of p w) (wanted_of p) w) (own_finding context p w)
 
 -- Open statements
 
@@ -84,29 +84,29 @@ part_begun part.Case w = constructs_laid (changed (entered (is_default w.unit.it
 part_begun _ w = w
 
 -- What it does, with its trees
-abbrev pub statement_laid_in : Statement → List Rooted → Compilation → Compilation
-statement_laid_in s trees w =
-    let laid = statement_laid (site_of w) s (map tree_in trees) w.labels w.output in record w { labels = laid.0; output = laid.1 }
+abbrev pub statement_laid_in : Context → Statement → List Rooted → Compilation → Compilation
+statement_laid_in context s trees w =
+    let laid = statement_laid (site_of context w) s (map tree_in trees) w.labels w.output in record w { labels = laid.0; output = laid.1 }
 
-unfoldable pub part_effect : Part → List Rooted → Compilation → Compilation
-part_effect (part.Statement s) trees w = statement_laid_in s trees w
-part_effect part.Condition trees w = record w { output = tested (condition_label w.constructs) (map tree_in trees) w.output }
-part_effect part.Start trees w = record w { output = alone (map tree_in trees) w.output }
-part_effect part.Step trees w = constructs_laid (λ o. stepped w.constructs ((apart ▸ alone (map tree_in trees)) o)) w
-part_effect part.Loop trees w = constructs_laid (looped_over trees w.constructs) w
-part_effect part.Switched trees w = record w { output = switched (map tree_in trees) w.output }
-part_effect part.Case trees w = record w { output = case_code (next_case w.constructs) (map tree_in trees) w.output }
+unfoldable pub part_effect : Context → Part → List Rooted → Compilation → Compilation
+part_effect context (part.Statement s) trees w = statement_laid_in context s trees w
+part_effect context part.Condition trees w = record w { output = tested (condition_label w.constructs) (map tree_in trees) w.output }
+part_effect context part.Start trees w = record w { output = alone (map tree_in trees) w.output }
+part_effect context part.Step trees w = constructs_laid (λ o. stepped w.constructs ((apart ▸ alone (map tree_in trees)) o)) w
+part_effect context part.Loop trees w = constructs_laid (looped_over trees w.constructs) w
+part_effect context part.Switched trees w = record w { output = switched (map tree_in trees) w.output }
+part_effect context part.Case trees w = record w { output = case_code (next_case w.constructs) (map tree_in trees) w.output }
 
 -- It ends, which begins at a place. With an error it has no effect but that its locals are named, and that a case begins.
-abbrev pub part_carried : FileNames → Place → Part → Option Finding → Compilation → Compilation
-part_carried files first p (Some f) w = unit_ended files first (has_last p) (found_alone (Some f)) w
-part_carried files first p None w =
-    let s = settled_of w in
-    unit_ended files first (has_last p) nothing_found
-    (part_effect p (trees_at (order_of p w) (wanted_of p) s.operands w) (record w { output = record s.out { first = first } }))
+abbrev pub part_carried : Context → Place → Part → Option Finding → Compilation → Compilation
+part_carried context first p (Some f) w = unit_ended context first (has_last p) (found_alone (Some f)) w
+part_carried context first p None w =
+    let s = settled_of context w in
+    unit_ended context first (has_last p) nothing_found
+    (part_effect context p (trees_at (order_of p w) (wanted_of p) s.operands w) (record w { output = record s.out { first = first } }))
 
-abbrev pub part_finished : FileNames → Place → Part → Compilation → Compilation
-part_finished files first p w = part_carried files first p (found_in p w) (named (part_begun p w))
+abbrev pub part_finished : Context → Place → Part → Compilation → Compilation
+part_finished context first p w = part_carried context first p (found_in context p w) (named (part_begun p w))
 
 abbrev pub part_prepared : Compilation → Compilation
 part_prepared w = record w { unit = unit_prepared w.unit }
@@ -124,15 +124,15 @@ case_prepared part.Case w = own_case_prepared w
 case_prepared _ w = w
 
 -- before a token at a place; in a routine that is passed over nothing has an effect
-abbrev pub part_ended : FileNames → Place → Part → Compilation → Compilation
-part_ended files place p w =
+abbrev pub part_ended : Context → Place → Part → Compilation → Compilation
+part_ended context place p w =
     if w.is_replaced then passed (has_last p) w
-    else let ready = case_prepared p (part_prepared w) in part_finished files (place_of p place ready) p ready
+    else let ready = case_prepared p (part_prepared w) in part_finished context (place_of p place ready) p ready
 
 -- Statements that hold others: where the word was read that is told where it stands too deep, between their parts, and where they end.
-abbrev pub construct_opened : FileNames → Place → Kind → Compilation → Compilation
-construct_opened files place kind w =
-    let told = nested files (last_place w.unit.tokens place) (is_deep w 1) w in constructs_laid (begun kind told.constructs) told
+abbrev pub construct_opened : Context → Place → Kind → Compilation → Compilation
+construct_opened context place kind w =
+    let told = nested context (last_place w.unit.tokens place) (is_deep w 1) w in constructs_laid (begun kind told.constructs) told
 
 abbrev pub construct_joined : Compilation → Compilation
 construct_joined w = constructs_laid (changed between w.constructs) w

@@ -7,8 +7,6 @@ use Rattle.inf_compilation.specs.declared.compilation.Compilation.{Compilation a
 
 abbrev pub work : {B : Type 0} → CodeCompilation B → Compilation
 work w = record {
-  set = w.set;
-  longest = w.longest;
   most_tokens = w.most_tokens;
   most_labels = w.most_labels;
   unit = unit w.unit;

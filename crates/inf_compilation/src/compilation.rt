@@ -1,4 +1,5 @@
 //! What the actions of the grammar do: they gather what a unit has, which acts at its end.
+ghost use Rattle.inf_compilation.specs.Context.{handed, longest};
 ghost use Rattle.std.specs.Prelude.{IfOk, None, OnOk, false, true, ◌<◌, ◌≡◌, ◌≤◌};
 ghost use Rattle.inf_settings.specs.Bounds.{Allows};
 ghost use Rattle.inf_unit.specs.Atoms.{is_short};
@@ -6,12 +7,13 @@ ghost use Rattle.inf_unit.specs.Messages.{location};
 ghost use Rattle.inf_unit.specs.Spelled.{spelled};
 ghost use Rattle.inf_compilation.specs.Actions.{names_class, no_output};
 
+use crate::context::Context;
 use crate::findings::{Findings, NOWHERE};
 use inf_cells::Scale;
 use inf_code::code::{Code, CodeLimits};
 use inf_constructs::constructs::Constructs;
 use inf_constructs::labels::Labels;
-use inf_lexer::{Place, Stack};
+use inf_lexer::Place;
 use inf_names::hashing::NameHashing;
 use inf_names::locals::Locals;
 use inf_names::meanings::Meaning;
@@ -24,7 +26,6 @@ use inf_settings::setting::Setting;
 use inf_settings::settings::Settings;
 use inf_tables::{Arrays, Tables};
 use inf_templates::Tasks;
-use inf_text::CharSet;
 use inf_unit::directives::Request;
 use inf_unit::messages::{Diagnostics, location};
 use inf_unit::names::no_symbols;
@@ -41,10 +42,7 @@ const MOST_NESTED: usize = 64;
 #[derive(Drop)]
 pub struct Compilation<B: Bounds> {
     pub alloc: Global,
-    /// The character set of the sources.
-    pub set: CharSet,
-    /// The most tokens that an expression may have, and that one had so far.
-    longest: usize,
+    /// The most tokens that an expression had so far.
     pub most_tokens: usize,
     /// The most labels, branches and jumps that a routine had so far, where units were finished.
     pub most_labels: usize,
@@ -113,6 +111,13 @@ fn no_output<B: Bounds>(
     ))
 }
 
+/// How many tokens an expression may have.
+fn longest(context: &Context<'_>) -> usize
+    ensures { result ≡ longest (handed context.now) }
+{
+    context.settings.of(Setting::ExpressionNodes) as usize
+}
+
 /// Whether a name stands for a class, by what looking for it found.
 fn names_class(found: Found<Place>) -> bool
     ensures { result ≡ names_class found }
@@ -147,17 +152,14 @@ impl<B: Bounds> Compilation<B> {
     /// Before the first unit of sources in a character set, of which names are hashed so.
     pub fn new(
         alloc: Global,
-        set: CharSet,
         settings: &Settings,
         hashing: NameHashing,
     ) -> Result<Compilation<B>, AllocError>
         requires { Allows B.allows settings.now }
-        ensures { IfOk result (λ w. work w ≡ no_work set settings.now) }
+        ensures { IfOk result (λ w. work w ≡ no_work settings.now) }
     {
         Ok(Compilation {
             alloc,
-            set,
-            longest: settings.of(Setting::ExpressionNodes) as usize,
             most_tokens: 0,
             most_labels: 0,
             unit: Unit::new(alloc),
@@ -226,12 +228,12 @@ impl<B: Bounds> Compilation<B> {
 
     /// A unit that begins at a place is finished, with which code begins, unless it has begun. Where that would pass a setting, it
     /// ends the compilation.
-    pub fn begin(&mut self, files: &Stack, first: Place) -> Result<(), AllocError>
-        ensures { OnOk result (work self.new ≡ begun_at files.now.names first (work self.old)) }
+    pub fn begin(&mut self, context: &Context<'_>, first: Place) -> Result<(), AllocError>
+        ensures { OnOk result (work self.new ≡ begun_at (handed context.now) first (work self.old)) }
     {
         self.output.begin();
         self.count_labels();
-        self.report.full(files, first, self.output.full())
+        self.report.full(context.files, first, self.output.full())
     }
 
     /// The labels, branches and jumps of the open routine are counted.
@@ -263,32 +265,32 @@ impl<B: Bounds> Compilation<B> {
     }
 
     /// A token is taken.
-    pub fn take(&mut self, files: &Stack, token: &SourceToken<'_>) -> Result<(), AllocError>
-        ensures { OnOk result (work self.new ≡ took files.now.names (spelled token.now) (work self.old)) }
+    pub fn take(&mut self, context: &Context<'_>, token: &SourceToken<'_>) -> Result<(), AllocError>
+        ensures { OnOk result (work self.new ≡ took (handed context.now) (spelled token.now) (work self.old)) }
     {
         self.unit.take(token)?;
-        self.size(files)?;
-        self.check_token(files, token)
+        self.size(context)?;
+        self.check_token(context, token)
     }
 
     /// The word of a compound statement that was taken last may stand too deep.
-    pub fn check_opening(&mut self, files: &Stack) -> Result<(), AllocError>
-        ensures { OnOk result (work self.new ≡ opening_checked files.now.names (work self.old)) }
+    pub fn check_opening(&mut self, context: &Context<'_>) -> Result<(), AllocError>
+        ensures { OnOk result (work self.new ≡ opening_checked (handed context.now) (work self.old)) }
     {
         let Some(place) = self.opening else {
             return Ok(());
         };
         let is_deep = self.is_deep(1);
-        self.nest(files, place, is_deep)
+        self.nest(context, place, is_deep)
     }
 
     /// An expression of more tokens than it may have ends the compilation, at the first token too many.
-    pub fn size(&mut self, files: &Stack) -> Result<(), AllocError>
-        ensures { OnOk result (work self.new ≡ sized files.now.names (work self.old)) }
+    pub fn size(&mut self, context: &Context<'_>) -> Result<(), AllocError>
+        ensures { OnOk result (work self.new ≡ sized (handed context.now) (work self.old)) }
     {
-        if let Some(place) = self.unit.long_at(self.longest) {
+        if let Some(place) = self.unit.long_at(longest(context)) {
             return self.report.fatal(
-                location(files, place),
+                location(context.files, place),
                 &Message::Exceeded(Setting::ExpressionNodes),
             );
         }
@@ -307,43 +309,43 @@ impl<B: Bounds> Compilation<B> {
     }
 
     /// What stands too deep ends the compilation at a place.
-    pub fn nest(&mut self, files: &Stack, place: Place, is_deep: bool) -> Result<(), AllocError>
-        ensures { OnOk result (work self.new ≡ nested files.now.names place is_deep (work self.old)) }
+    pub fn nest(&mut self, context: &Context<'_>, place: Place, is_deep: bool) -> Result<(), AllocError>
+        ensures { OnOk result (work self.new ≡ nested (handed context.now) place is_deep (work self.old)) }
     {
         if !is_deep {
             return Ok(());
         }
         self.report
-            .fatal(location(files, place), &Message::DeepNesting)
+            .fatal(location(context.files, place), &Message::DeepNesting)
     }
 
     /// A bracket or brace that was taken may stand too deep.
-    fn check_token(&mut self, files: &Stack, token: &SourceToken<'_>) -> Result<(), AllocError>
-        ensures { OnOk result (work self.new ≡ token_checked files.now.names (spelled token.now) (work self.old)) }
+    fn check_token(&mut self, context: &Context<'_>, token: &SourceToken<'_>) -> Result<(), AllocError>
+        ensures { OnOk result (work self.new ≡ token_checked (handed context.now) (spelled token.now) (work self.old)) }
     {
         let opens = matches!(
             token.kind,
             TokenKind::Mark(Mark::OpenParenthesis | Mark::OpenBrace)
         );
         let is_deep = opens && self.is_deep(0);
-        self.nest(files, token.place, is_deep)
+        self.nest(context, token.place, is_deep)
     }
 
     /// The end of a unit that begins at a place: the least of what is wrong with it is told, and then the first limit that was passed.
     pub fn end_unit(
         &mut self,
-        files: &Stack,
+        context: &Context<'_>,
         first: Place,
         has_last: bool,
         found: &Findings,
     ) -> Result<(), AllocError>
-        ensures { OnOk result (work self.new ≡ unit_ended files.now.names first has_last (found_as found.now) (work self.old)) }
+        ensures { OnOk result (work self.new ≡ unit_ended (handed context.now) first has_last (found_as found.now) (work self.old)) }
     {
-        let blame = found.told(files, &self.unit.tokens, first);
-        self.report.fault(files, first, blame)?;
+        let blame = found.told(context, &self.unit.tokens, first);
+        self.report.fault(context.files, first, blame)?;
         self.unit.end(has_last);
         self.count_labels();
-        self.report.full(files, first, self.output.full())
+        self.report.full(context.files, first, self.output.full())
     }
 
     /// Nothing comes of a unit.

@@ -2,6 +2,7 @@
 #![tactic(auto)]
 
 pub mod compilation;
+pub mod context;
 pub mod findings;
 pub mod parts;
 pub mod routines;

@@ -1,15 +1,17 @@
 //! The units of a routine that have expressions, and the statements that hold others.
+ghost use Rattle.inf_compilation.specs.Context.{handed};
 ghost use Rattle.std.specs.Prelude.{IfOk, OnOk, ◌≡◌};
 ghost use Rattle.inf_expressions.specs.Forests.{trees_in as rooted_in};
 ghost use Rattle.inf_statements.specs.Sites.{site};
 ghost use Rattle.inf_compilation.specs.Parts.{has_last, is_default, line_finding_of, site_of, wanted_of};
 
+use crate::context::Context;
 use crate::compilation::Compilation;
 use crate::findings::Findings;
 use inf_constructs::constructs::Kind;
 use inf_constructs::lay_case;
 use inf_expressions::{Finding, Forest, Operand, Wanted, build, judge, least_of_both};
-use inf_lexer::{Place, Stack};
+use inf_lexer::Place;
 use inf_settings::bounds::Bounds;
 use inf_statements::effects::{MISPLACED_DEFAULT, Site, wanted_by};
 use inf_statements::operands::{all_looked, name_locals, name_stores, settled};
@@ -274,18 +276,18 @@ impl<B: Bounds> Compilation<B> {
     /// A unit ends, which begins at a place, with the least of what is wrong with it: with an error it has no effect.
     fn carry_out_part(
         &mut self,
-        files: &Stack,
+        context: &Context<'_>,
         first: Place,
         part: Part,
         finding: Option<Finding>,
     ) -> Result<(), AllocError>
-        ensures { OnOk result (work self.new ≡ part_carried files.now.names first part finding (work self.old)) }
+        ensures { OnOk result (work self.new ≡ part_carried (handed context.now) first part finding (work self.old)) }
     {
         if finding.is_none() {
             let forest = self.settle(first, part)?;
             self.take_effect(part, &forest)?;
         }
-        self.end_unit(files, first, part.has_last(), &Findings::alone(finding))
+        self.end_unit(context, first, part.has_last(), &Findings::alone(finding))
     }
 
     /// The names of the unit's expressions are those of actions, where its case is one of the routine's own.
@@ -317,8 +319,8 @@ impl<B: Bounds> Compilation<B> {
     }
 
     /// A unit of a routine ends, before a token at a place. In a routine that is passed over nothing has an effect.
-    pub fn end_part(&mut self, files: &Stack, place: Place, part: Part) -> Result<(), AllocError>
-        ensures { OnOk result (work self.new ≡ part_ended files.now.names place part (work self.old)) }
+    pub fn end_part(&mut self, context: &Context<'_>, place: Place, part: Part) -> Result<(), AllocError>
+        ensures { OnOk result (work self.new ≡ part_ended (handed context.now) place part (work self.old)) }
     {
         if self.is_replaced {
             self.pass(part.has_last());
@@ -330,30 +332,30 @@ impl<B: Bounds> Compilation<B> {
         let finding = self.found_in(part)?;
         self.begin_part(part)?;
         self.name();
-        self.carry_out_part(files, first, part, finding)
+        self.carry_out_part(context, first, part, finding)
     }
 
     /// A statement ends, before a token at a place.
-    pub fn end_statement(&mut self, files: &Stack, place: Place) -> Result<(), AllocError>
+    pub fn end_statement(&mut self, context: &Context<'_>, place: Place) -> Result<(), AllocError>
         ensures { let before = work self.old in
-            OnOk result (work self.new ≡ part_ended files.now.names place (Part.Statement (statement_at before)) before) }
+            OnOk result (work self.new ≡ part_ended (handed context.now) place (Part.Statement (statement_at before)) before) }
     {
         let statement = self.site().statement();
-        self.end_part(files, place, Part::Statement(statement))
+        self.end_part(context, place, Part::Statement(statement))
     }
 
     /// A statement of a kind that holds others begins, before a token at a place.
     pub fn open_construct(
         &mut self,
-        files: &Stack,
+        context: &Context<'_>,
         place: Place,
         kind: Kind,
     ) -> Result<(), AllocError>
-        ensures { OnOk result (work self.new ≡ construct_opened files.now.names place kind (work self.old)) }
+        ensures { OnOk result (work self.new ≡ construct_opened (handed context.now) place kind (work self.old)) }
     {
         let word = self.unit.tokens.last_place(place);
         let is_deep = self.is_deep(1);
-        self.nest(files, word, is_deep)?;
+        self.nest(context, word, is_deep)?;
         self.constructs.begin(kind, &mut self.output)
     }
 }

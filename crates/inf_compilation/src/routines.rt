@@ -1,4 +1,5 @@
 //! Where routines begin and end.
+ghost use Rattle.inf_compilation.specs.Context.{handed};
 ghost use Rattle.std.specs.Prelude.{IfOk, None, OnOk, is_some, option_map, ◌≡◌};
 ghost use Rattle.inf_names.specs.Symbols.{declare_fault};
 ghost use Rattle.inf_names.specs.LocalList.{headed as as_headed, listed};
@@ -7,11 +8,12 @@ ghost use Rattle.inf_names.specs.Spellings.{as_name};
 ghost use Rattle.inf_compilation.specs.Actions.{kind_ended, with_all_unused, with_routine_fault};
 ghost use Rattle.inf_compilation.specs.Meant.{found_as};
 
+use crate::context::Context;
 use crate::compilation::Compilation;
 use crate::findings::{Findings, again_by, header_findings};
 use inf_assembler::{CloseFault, RoutineKind};
 use inf_constructs::labels::Labels;
-use inf_lexer::{Place, Stack};
+use inf_lexer::Place;
 use inf_names::locals::{Headed, Locals};
 use inf_names::meanings::Meaning;
 use inf_names::spellings::Name;
@@ -39,13 +41,13 @@ fn kind_ended(is_embedded: bool) -> RoutineKind
 fn tell_fault(
     fault: Option<CloseFault>,
     labels: &Labels,
-    files: &Stack,
+    context: &Context<'_>,
     place: Place,
     report: &mut Diagnostics,
 ) -> Result<(), AllocError>
-    ensures { OnOk result (report.new ≡ with_routine_fault files.now.names place labels.now fault report.old) }
+    ensures { OnOk result (report.new ≡ with_routine_fault (handed context.now) place labels.now fault report.old) }
 {
-    let at = location(files, place);
+    let at = location(context.files, place);
     if let Some(name) = labels.missing() {
         return report.error(at, at, &Message::LabelMissing(name));
     }
@@ -62,16 +64,16 @@ fn tell_fault(
 /// Warns, at a place, of each local that no statement named.
 fn tell_unused(
     locals: &Locals,
-    files: &Stack,
+    context: &Context<'_>,
     place: Place,
     report: &mut Diagnostics,
 ) -> Result<(), AllocError>
-    ensures { OnOk result (report.new ≡ with_all_unused files.now.names place (listed locals.now) report.old) }
+    ensures { OnOk result (report.new ≡ with_all_unused (handed context.now) place (listed locals.now) report.old) }
 {
     for local in locals.list.as_slice() {
         if !local.is_named {
             report.warning(
-                location(files, place),
+                location(context.files, place),
                 &Message::UnusedLocal(local.name.as_slice()),
             )?;
         }
@@ -84,8 +86,8 @@ impl<B: Bounds> Compilation<B> {
     ghost use Rattle.inf_compilation.specs.Works.{work};
 
     /// The header of a routine ends, before a token at a place.
-    pub fn end_header(&mut self, files: &Stack, place: Place) -> Result<(), AllocError>
-        ensures { OnOk result (work self.new ≡ header_end files.now.names place (work self.old)) }
+    pub fn end_header(&mut self, context: &Context<'_>, place: Place) -> Result<(), AllocError>
+        ensures { OnOk result (work self.new ≡ header_end (handed context.now) place (work self.old)) }
     {
         let names = self.unit.tokens.names(self.alloc)?;
         let Some(name) = names.first() else {
@@ -93,12 +95,12 @@ impl<B: Bounds> Compilation<B> {
             return Ok(());
         };
         let first = self.unit.first_place(place);
-        self.begin_routine(files, first, name)
+        self.begin_routine(context, first, name)
     }
 
     /// The routine of a header that begins at a place: one that is to be replaced is passed over.
-    fn begin_routine(&mut self, files: &Stack, first: Place, name: &Name) -> Result<(), AllocError>
-        ensures { OnOk result (work self.new ≡ header_named files.now.names first (as_name name.now) (work self.old)) }
+    fn begin_routine(&mut self, context: &Context<'_>, first: Place, name: &Name) -> Result<(), AllocError>
+        ensures { OnOk result (work self.new ≡ header_named (handed context.now) first (as_name name.now) (work self.old)) }
     {
         self.is_embedded = false;
         self.is_replaced = self.is_to_be_replaced(name);
@@ -108,7 +110,7 @@ impl<B: Bounds> Compilation<B> {
             return Ok(());
         }
         let headed = self.take_headed();
-        self.open(files, first, name, headed)
+        self.open(context, first, name, headed)
     }
 
     /// Takes away the locals that the header of a routine named.
@@ -131,17 +133,17 @@ impl<B: Bounds> Compilation<B> {
     /// locals (Z-Machine Standard 1.1, section 5.2).
     fn open(
         &mut self,
-        files: &Stack,
+        context: &Context<'_>,
         first: Place,
         name: &Name,
         headed: Headed,
     ) -> Result<(), AllocError>
         ensures { OnOk result (work self.new
-            ≡ header_with files.now.names first (as_name name.now) (as_headed headed) (work self.old)) }
+            ≡ header_with (handed context.now) first (as_name name.now) (as_headed headed) (work self.old)) }
     {
         let refused = self.declare_routine(name)?;
         let found = header_findings(1, again_by(name, refused), &headed);
-        self.open_code(files, first, headed, &found)
+        self.open_code(context, first, headed, &found)
     }
 
     /// A routine of this name begins behind those that are finished. Answers what is wrong with the name, if anything is.
@@ -159,44 +161,44 @@ impl<B: Bounds> Compilation<B> {
     /// Opens the code of a routine with the locals of a header that begins at a place, and with which this is wrong.
     pub fn open_code(
         &mut self,
-        files: &Stack,
+        context: &Context<'_>,
         first: Place,
         headed: Headed,
         found: &Findings,
     ) -> Result<(), AllocError>
         ensures { OnOk result (work self.new
-            ≡ opened_with files.now.names first (as_headed headed) (found_as found.now) (work self.old)) }
+            ≡ opened_with (handed context.now) first (as_headed headed) (found_as found.now) (work self.old)) }
     {
         let locals = headed.locals.count();
         self.output.open(self.alloc, locals, found.least.is_some())?;
         self.locals = headed.locals;
         self.constructs.clear();
         self.labels.clear();
-        self.end_unit(files, first, true, found)
+        self.end_unit(context, first, true, found)
     }
 
     /// Ends the open routine at a place: tells its unused locals, and finishes its code.
-    pub fn close(&mut self, files: &Stack, place: Place) -> Result<(), AllocError>
-        ensures { OnOk result (work self.new ≡ close files.now.names place (work self.old)) }
+    pub fn close(&mut self, context: &Context<'_>, place: Place) -> Result<(), AllocError>
+        ensures { OnOk result (work self.new ≡ close (handed context.now) place (work self.old)) }
     {
         if self.is_replaced {
             self.pass(true);
             return Ok(());
         }
         self.constructs.end(&mut self.output)?;
-        self.close_code(files, place)
+        self.close_code(context, place)
     }
 
     /// The code of the open routine ends, at a place.
-    fn close_code(&mut self, files: &Stack, place: Place) -> Result<(), AllocError>
-        ensures { OnOk result (work self.new ≡ code_closed files.now.names place (work self.old)) }
+    fn close_code(&mut self, context: &Context<'_>, place: Place) -> Result<(), AllocError>
+        ensures { OnOk result (work self.new ≡ code_closed (handed context.now) place (work self.old)) }
     {
         self.count_labels();
         let fault = self.output.close(kind_ended(self.is_embedded))?;
-        tell_fault(fault, &self.labels, files, place, &mut self.report)?;
-        tell_unused(&self.locals, files, place, &mut self.report)?;
+        tell_fault(fault, &self.labels, context, place, &mut self.report)?;
+        tell_unused(&self.locals, context, place, &mut self.report)?;
         self.is_embedded = false;
         self.locals = Locals::new();
-        self.end_unit(files, place, true, &Findings::none())
+        self.end_unit(context, place, true, &Findings::none())
     }
 }

@@ -1,4 +1,5 @@
 //! Directives that declare attributes, and what all declarations share.
+ghost use Rattle.inf_compilation.specs.Context.{handed};
 ghost use Rattle.std.specs.Prelude.{IfOk, OnOk, map, option_map, ◌≡◌};
 ghost use Rattle.inf_expressions.specs.Forests.{trees_in as rooted_in};
 ghost use Rattle.inf_constructs.specs.Roots.{tree_in};
@@ -8,6 +9,7 @@ ghost use Rattle.inf_compilation.specs.Actions.{settled_of, trees_at};
 ghost use Rattle.inf_compilation.specs.Meant.{again_as, found_as};
 ghost use Rattle.inf_compilation.specs.Works.{work};
 
+use inf_compilation::context::Context;
 use crate::globals::FIRST_GLOBAL;
 use inf_area::Value;
 use inf_compilation::compilation::Compilation;
@@ -16,7 +18,7 @@ use inf_compilation::findings::{
 };
 use inf_expressions::{Finding, Forest, Wanted, build, constant, least_of_both};
 use inf_gathering::gathering::Leaf;
-use inf_lexer::{Place, Stack};
+use inf_lexer::Place;
 use inf_names::meanings::Meaning;
 use inf_names::spellings::Name;
 use inf_names::symbols::{DeclareFault, Found};
@@ -225,7 +227,7 @@ fn declared_findings(name: &Name, kind: FixedLimit, declared: Declared) -> Findi
 /// The end of the header of a declaration, or of a whole one, that begins at a place: what is wrong with it is told.
 pub fn end_declared<B: Bounds>(
     compilation: &mut Compilation<B>,
-    files: &Stack,
+    context: &Context<'_>,
     first: Place,
     has_last: bool,
     name: &Name,
@@ -233,25 +235,25 @@ pub fn end_declared<B: Bounds>(
     declared: Declared,
 ) -> Result<(), AllocError>
     ensures { OnOk result (work compilation.new
-        ≡ declared_ended files.now.names first has_last (as_name name.now) kind declared (work compilation.old)) }
+        ≡ declared_ended (handed context.now) first has_last (as_name name.now) kind declared (work compilation.old)) }
 {
     let found = declared_findings(name, kind, declared);
-    compilation.end_unit(files, first, has_last, &found)
+    compilation.end_unit(context, first, has_last, &found)
 }
 
 /// The end of a declaration that begins at a place: what is wrong with it is told.
 pub(crate) fn end_declaration<B: Bounds>(
     compilation: &mut Compilation<B>,
-    files: &Stack,
+    context: &Context<'_>,
     first: Place,
     name: &Name,
     kind: FixedLimit,
     declared: Declared,
 ) -> Result<(), AllocError>
     ensures { OnOk result (work compilation.new
-        ≡ declaration_ended files.now.names first (as_name name.now) kind declared (work compilation.old)) }
+        ≡ declaration_ended (handed context.now) first (as_name name.now) kind declared (work compilation.old)) }
 {
-    end_declared(compilation, files, first, true, name, kind, declared)
+    end_declared(compilation, context, first, true, name, kind, declared)
 }
 
 /// What is wrong with a declaration of a name that has an order, beside its expression, where there are so many of its kind or not.
@@ -279,11 +281,11 @@ pub(crate) fn name_known<B: Bounds>(
 /// Declares the first of these names as an attribute, or as another name of one.
 pub fn attribute<B: Bounds>(
     compilation: &mut Compilation<B>,
-    files: &Stack,
+    context: &Context<'_>,
     first: Place,
     names: &[Name],
 ) -> Result<(), AllocError>
-    ensures { OnOk result (work compilation.new ≡ attribute files.now.names first (map as_name names.now) (work compilation.old)) }
+    ensures { OnOk result (work compilation.new ≡ attribute (handed context.now) first (map as_name names.now) (work compilation.old)) }
 {
     let Some((name, names)) = names.split_first() else {
         compilation.pass(true);
@@ -293,14 +295,14 @@ pub fn attribute<B: Bounds>(
         let order = compilation.unit.tokens.name_order();
         return alias(
             compilation,
-            files,
+            context,
             first,
             name,
             order,
             FixedLimit::Attributes,
         );
     }
-    one_attribute(compilation, files, first, name)
+    one_attribute(compilation, context, first, name)
 }
 
 /// Whether there are as many attributes as there may be.
@@ -313,31 +315,31 @@ fn has_most_attributes<B: Bounds>(compilation: &Compilation<B>) -> bool
 /// Declares a name as an attribute.
 fn one_attribute<B: Bounds>(
     compilation: &mut Compilation<B>,
-    files: &Stack,
+    context: &Context<'_>,
     first: Place,
     name: &Name,
 ) -> Result<(), AllocError>
-    ensures { OnOk result (work compilation.new ≡ attribute_with files.now.names first (as_name name.now) (work compilation.old)) }
+    ensures { OnOk result (work compilation.new ≡ attribute_with (handed context.now) first (as_name name.now) (work compilation.old)) }
 {
     let order = compilation.unit.tokens.name_order();
     let declared = name_known(compilation, name, order, has_most_attributes(compilation));
-    end_attribute(compilation, files, first, name, declared)
+    end_attribute(compilation, context, first, name, declared)
 }
 
 /// The end of the declaration of an attribute, of which so much is known.
 fn end_attribute<B: Bounds>(
     compilation: &mut Compilation<B>,
-    files: &Stack,
+    context: &Context<'_>,
     first: Place,
     name: &Name,
     declared: Declared,
 ) -> Result<(), AllocError>
-    ensures { OnOk result (work compilation.new ≡ attribute_ended files.now.names first (as_name name.now) declared (work compilation.old)) }
+    ensures { OnOk result (work compilation.new ≡ attribute_ended (handed context.now) first (as_name name.now) declared (work compilation.old)) }
 {
     add_attribute(compilation, name, declared.finding)?;
     end_declaration(
         compilation,
-        files,
+        context,
         first,
         name,
         FixedLimit::Attributes,
@@ -439,13 +441,13 @@ fn last_meaning<B: Bounds>(compilation: &Compilation<B>, kind: FixedLimit) -> Op
 /// Declares a name as another one for what the last name of the unit stands for.
 pub(crate) fn alias<B: Bounds>(
     compilation: &mut Compilation<B>,
-    files: &Stack,
+    context: &Context<'_>,
     first: Place,
     name: &Name,
     order: u32,
     kind: FixedLimit,
 ) -> Result<(), AllocError>
-    ensures { OnOk result (work compilation.new ≡ alias_told files.now.names first (as_name name.now) order kind (work compilation.old)) }
+    ensures { OnOk result (work compilation.new ≡ alias_told (handed context.now) first (as_name name.now) order kind (work compilation.old)) }
 {
     let meaning = last_meaning(compilation, kind);
     let own = name_known(compilation, name, order, false);
@@ -461,5 +463,5 @@ pub(crate) fn alias<B: Bounds>(
         found: own.found,
         finding,
     };
-    end_declaration(compilation, files, first, name, kind, declared)
+    end_declaration(compilation, context, first, name, kind, declared)
 }

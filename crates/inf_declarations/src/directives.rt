@@ -1,4 +1,5 @@
 //! The directives that are one unit.
+ghost use Rattle.inf_compilation.specs.Context.{handed};
 ghost use Rattle.std.specs.Prelude.{IfOk, OnOk, length, map, option_map, ◌≡◌, ◌≤◌};
 ghost use Rattle.inf_expressions.specs.Forests.{trees_in as rooted_in};
 ghost use Rattle.inf_names.specs.Symbols.{found_in};
@@ -13,13 +14,14 @@ ghost use Rattle.inf_declarations.specs.Defaults.{default};
 ghost use Rattle.inf_compilation.specs.Meant.{again_as, found_as};
 ghost use Rattle.inf_compilation.specs.Works.{work};
 
+use inf_compilation::context::Context;
 use inf_area::Value;
 use inf_assembler::RoutineKind;
 use inf_compilation::compilation::Compilation;
 use inf_compilation::findings::{Again, Findings, again_by, again_finding};
 use inf_expressions::{Finding, Forest, Wanted, build, constant as constant_in, least_of_both};
 use inf_gathering::gathering::Leaf;
-use inf_lexer::{Place, Stack};
+use inf_lexer::Place;
 use inf_names::meanings::Meaning;
 use inf_names::spellings::Name;
 use inf_names::symbols::{DeclareFault, Found, ReferFault, Symbols};
@@ -39,12 +41,12 @@ const MOST_STUB_LOCALS: u16 = 4;
 /// Keeps the first of these names as that of a routine that is to be replaced, and uses it.
 pub fn replace<B: Bounds>(
     compilation: &mut Compilation<B>,
-    files: &Stack,
+    context: &Context<'_>,
     first: Place,
     names: &[Name],
 ) -> Result<(), AllocError>
     ensures { OnOk result (work compilation.new
-        ≡ replace files.now.names first (map as_name names.now) (work compilation.old)) }
+        ≡ replace (handed context.now) first (map as_name names.now) (work compilation.old)) }
 {
     let Some(name) = names.first() else {
         compilation.pass(true);
@@ -52,78 +54,78 @@ pub fn replace<B: Bounds>(
     };
     compilation.output.refer(name.bytes(), name.place)?;
     use_name(&mut compilation.replaced, name)?;
-    compilation.end_unit(files, first, true, &Findings::none())
+    compilation.end_unit(context, first, true, &Findings::none())
 }
 
 /// Declares the first of these names as a routine of so many locals as the number behind it says, which returns 0, unless the name is
 /// declared.
 pub fn stub<B: Bounds>(
     compilation: &mut Compilation<B>,
-    files: &Stack,
+    context: &Context<'_>,
     first: Place,
     names: &[Name],
 ) -> Result<(), AllocError>
     ensures { OnOk result (work compilation.new
-        ≡ stub files.now.names first (map as_name names.now) (work compilation.old)) }
+        ≡ stub (handed context.now) first (map as_name names.now) (work compilation.old)) }
 {
     if is_first_declared(compilation, names) {
-        compilation.end_unit(files, first, true, &Findings::none())
+        compilation.end_unit(context, first, true, &Findings::none())
     } else {
-        new_stub(compilation, files, first, names)
+        new_stub(compilation, context, first, names)
     }
 }
 
 /// Declares the first of these names as that of the routine of a `Stub`.
 fn new_stub<B: Bounds>(
     compilation: &mut Compilation<B>,
-    files: &Stack,
+    context: &Context<'_>,
     first: Place,
     names: &[Name],
 ) -> Result<(), AllocError>
-    ensures { OnOk result (work compilation.new ≡ new_stub files.now.names first (map as_name names.now) (work compilation.old)) }
+    ensures { OnOk result (work compilation.new ≡ new_stub (handed context.now) first (map as_name names.now) (work compilation.old)) }
 {
     let Some(name) = names.first() else {
         compilation.pass(true);
         return Ok(());
     };
     compilation.declare_routine(name)?;
-    stub_routine(compilation, files, first)
+    stub_routine(compilation, context, first)
 }
 
 /// The routine of a `Stub`, whose name is declared.
 fn stub_routine<B: Bounds>(
     compilation: &mut Compilation<B>,
-    files: &Stack,
+    context: &Context<'_>,
     first: Place,
 ) -> Result<(), AllocError>
-    ensures { OnOk result (work compilation.new ≡ stubbed files.now.names first (work compilation.old)) }
+    ensures { OnOk result (work compilation.new ≡ stubbed (handed context.now) first (work compilation.old)) }
 {
     let locals = stub_locals(&compilation.unit.tokens);
     if locals > MOST_STUB_LOCALS {
         let found = Findings::alone(Some(Finding::out_of_range(0)));
-        return compilation.end_unit(files, first, true, &found);
+        return compilation.end_unit(context, first, true, &found);
     }
     compilation
         .output
         .open(compilation.alloc, locals as u8, false)?;
     compilation.output.close(RoutineKind::Embedded)?;
-    compilation.end_unit(files, first, true, &Findings::none())
+    compilation.end_unit(context, first, true, &Findings::none())
 }
 
 /// Declares the first of these names as a constant, as `Constant` does, unless it is declared.
 pub fn default<B: Bounds>(
     compilation: &mut Compilation<B>,
-    files: &Stack,
+    context: &Context<'_>,
     first: Place,
     names: &[Name],
 ) -> Result<(), AllocError>
     ensures { OnOk result (work compilation.new
-        ≡ default files.now.names first (map as_name names.now) (work compilation.old)) }
+        ≡ default (handed context.now) first (map as_name names.now) (work compilation.old)) }
 {
     if is_first_declared(compilation, names) {
-        compilation.end_unit(files, first, true, &Findings::none())
+        compilation.end_unit(context, first, true, &Findings::none())
     } else {
-        constant(compilation, files, first, names)
+        constant(compilation, context, first, names)
     }
 }
 
@@ -140,12 +142,12 @@ fn is_first_declared<B: Bounds>(compilation: &Compilation<B>, names: &[Name]) ->
 /// Declares the first of these names as a constant, with what its expression is, or 0.
 pub fn constant<B: Bounds>(
     compilation: &mut Compilation<B>,
-    files: &Stack,
+    context: &Context<'_>,
     first: Place,
     names: &[Name],
 ) -> Result<(), AllocError>
     ensures { OnOk result (work compilation.new
-        ≡ constant files.now.names first (map as_name names.now) (work compilation.old)) }
+        ≡ constant (handed context.now) first (map as_name names.now) (work compilation.old)) }
 {
     let Some(name) = names.first() else {
         compilation.pass(true);
@@ -161,7 +163,7 @@ pub fn constant<B: Bounds>(
         operands.as_slice(),
     )?;
     let meaning = constant_of(compilation, &forest);
-    declare_constant(compilation, files, first, name, meaning, found)
+    declare_constant(compilation, context, first, name, meaning, found)
 }
 
 /// That the file is read whose name is the text of the unit.
@@ -179,12 +181,12 @@ pub fn inclusion<B: Bounds>(
 /// Tells the text of the unit, by the weight that its names say.
 pub fn message<B: Bounds>(
     compilation: &mut Compilation<B>,
-    files: &Stack,
+    context: &Context<'_>,
     first: Place,
     names: &[Name],
 ) -> Result<(), AllocError>
     ensures { let before = work compilation.old in OnOk result (work compilation.new ≡ record before {
-      report = with_words (location files.now.names first) (weight_of (map as_name names.now)) (words_of before.set before.unit)
+      report = with_words (location (handed context.now).names first) (weight_of (map as_name names.now)) (words_of before.set before.unit)
           before.report;
     }) }
 {
@@ -194,7 +196,7 @@ pub fn message<B: Bounds>(
     };
     compilation
         .report
-        .words(location(files, first), weight_of(names), words)
+        .words(location(context.files, first), weight_of(names), words)
 }
 
 /// What a constant stands for, by the tree of its expression: a known number, 0 where it has none, a string, a word, or what a name
@@ -241,41 +243,41 @@ fn named_constant<B: Bounds>(compilation: &Compilation<B>) -> Option<Meaning>
 /// Declares a name as a constant with what it stands for, if that is known, and tells the first error of its directive.
 fn declare_constant<B: Bounds>(
     compilation: &mut Compilation<B>,
-    files: &Stack,
+    context: &Context<'_>,
     first: Place,
     name: &Name,
     meaning: Option<Meaning>,
     found: Option<Finding>,
 ) -> Result<(), AllocError>
     ensures { OnOk result (work compilation.new
-        ≡ constant_with files.now.names first (as_name name.now) meaning found (work compilation.old)) }
+        ≡ constant_with (handed context.now) first (as_name name.now) meaning found (work compilation.old)) }
 {
     let finding = constant_finding(meaning, found);
     let stands = constant_meaning(meaning, finding);
     let refused = compilation
         .output
         .declare(name.bytes(), name.place, stands)?;
-    end_constant(compilation, files, first, name, refused, finding)
+    end_constant(compilation, context, first, name, refused, finding)
 }
 
 /// The end of the directive of a constant, whose name was refused or not.
 fn end_constant<B: Bounds>(
     compilation: &mut Compilation<B>,
-    files: &Stack,
+    context: &Context<'_>,
     first: Place,
     name: &Name,
     refused: Option<DeclareFault<Place>>,
     finding: Option<Finding>,
 ) -> Result<(), AllocError>
     ensures { OnOk result (work compilation.new
-        ≡ constant_ended files.now.names first (as_name name.now) refused finding (work compilation.old)) }
+        ≡ constant_ended (handed context.now) first (as_name name.now) refused finding (work compilation.old)) }
 {
     let order = compilation.unit.tokens.name_order();
     let found = constant_findings(order, again_by(name, refused), finding);
     if found.least.is_none() {
         add_leaf(compilation)?;
     }
-    compilation.end_unit(files, first, true, &found)
+    compilation.end_unit(context, first, true, &found)
 }
 
 /// What is wrong with a constant: its name, which stands at an order, or its expression.

@@ -1,14 +1,16 @@
 //! The directive `Global`.
+ghost use Rattle.inf_compilation.specs.Context.{handed};
 ghost use Rattle.std.specs.Prelude.{OnOk, map, ◌≡◌};
 ghost use Rattle.inf_names.specs.Spellings.{as_name};
 ghost use Rattle.inf_declarations.specs.Declarations.{global_added, global_ended, global_variable, global_with, has_most_globals, new_global, nothing_of, valued};
 ghost use Rattle.inf_compilation.specs.Works.{work};
 
+use inf_compilation::context::Context;
 use crate::declarations::{Declared, end_declaration, nothing_of, value, valued};
 use inf_area::Value;
 use inf_compilation::compilation::Compilation;
 use inf_expressions::Finding;
-use inf_lexer::{Place, Stack};
+use inf_lexer::Place;
 use inf_names::meanings::Meaning;
 use inf_names::spellings::Name;
 use inf_report::messages::FixedLimit;
@@ -23,14 +25,14 @@ pub(crate) const FIRST_GLOBAL: u8 = 16;
 /// Declares the first of these names as a global variable, with the value of the unit's expression, or 0.
 pub fn global_variable<B: Bounds>(
     compilation: &mut Compilation<B>,
-    files: &Stack,
+    context: &Context<'_>,
     first: Place,
     names: &[Name],
 ) -> Result<(), AllocError>
-    ensures { OnOk result (work compilation.new ≡ global_variable files.now.names first (map as_name names.now) (work compilation.old)) }
+    ensures { OnOk result (work compilation.new ≡ global_variable (handed context.now) first (map as_name names.now) (work compilation.old)) }
 {
     match names.first() {
-        Some(name) => one_global(compilation, files, first, name),
+        Some(name) => one_global(compilation, context, first, name),
         None => {
             compilation.pass(true);
             Ok(())
@@ -48,31 +50,31 @@ fn has_most_globals<B: Bounds>(compilation: &Compilation<B>) -> bool
 /// Declares a name as a global variable, with the value of the unit's expression, or 0.
 fn one_global<B: Bounds>(
     compilation: &mut Compilation<B>,
-    files: &Stack,
+    context: &Context<'_>,
     first: Place,
     name: &Name,
 ) -> Result<(), AllocError>
-    ensures { OnOk result (work compilation.new ≡ global_with files.now.names first (as_name name.now) (work compilation.old)) }
+    ensures { OnOk result (work compilation.new ≡ global_with (handed context.now) first (as_name name.now) (work compilation.old)) }
 {
     let order = compilation.unit.tokens.name_order();
     let declared = valued(compilation, name, order, has_most_globals(compilation))?;
-    end_global(compilation, files, first, name, declared)
+    end_global(compilation, context, first, name, declared)
 }
 
 /// The end of the declaration of a global variable, of which so much is known.
 fn end_global<B: Bounds>(
     compilation: &mut Compilation<B>,
-    files: &Stack,
+    context: &Context<'_>,
     first: Place,
     name: &Name,
     declared: Declared,
 ) -> Result<(), AllocError>
-    ensures { OnOk result (work compilation.new ≡ global_ended files.now.names first (as_name name.now) declared (work compilation.old)) }
+    ensures { OnOk result (work compilation.new ≡ global_ended (handed context.now) first (as_name name.now) declared (work compilation.old)) }
 {
     add_global(compilation, name, declared.finding)?;
     end_declaration(
         compilation,
-        files,
+        context,
         first,
         name,
         FixedLimit::Globals,

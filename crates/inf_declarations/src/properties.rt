@@ -1,14 +1,16 @@
 //! The directive `Property`.
+ghost use Rattle.inf_compilation.specs.Context.{handed};
 ghost use Rattle.std.specs.Prelude.{IfOk, OnOk, map, ◌≡◌};
 ghost use Rattle.inf_names.specs.Spellings.{as_name};
 ghost use Rattle.inf_declarations.specs.Declarations.{has_most_properties, is_additive, is_additive_word, is_alias, name_known, new_property, nothing_of, property, property_added, property_ended, property_named, property_names, property_number, property_order, property_with, valued};
 ghost use Rattle.inf_compilation.specs.Works.{work};
 
+use inf_compilation::context::Context;
 use crate::declarations::{Declared, alias, end_declaration, is_alias, nothing_of, value, valued};
 use inf_area::Value;
 use inf_compilation::compilation::Compilation;
 use inf_expressions::{Finding, Wanted, least_of_both};
-use inf_lexer::{Place, Stack};
+use inf_lexer::Place;
 use inf_names::meanings::Meaning;
 use inf_names::spellings::Name;
 use inf_report::messages::FixedLimit;
@@ -64,15 +66,15 @@ fn property_order(tokens: &UnitTokens, is_additive: bool) -> u32
 /// Declares the first of these names as a property, or as another name of one. The word `additive` may stand before it.
 pub fn property<B: Bounds>(
     compilation: &mut Compilation<B>,
-    files: &Stack,
+    context: &Context<'_>,
     first: Place,
     names: &[Name],
 ) -> Result<(), AllocError>
-    ensures { OnOk result (work compilation.new ≡ property files.now.names first (map as_name names.now) (work compilation.old)) }
+    ensures { OnOk result (work compilation.new ≡ property (handed context.now) first (map as_name names.now) (work compilation.old)) }
 {
     property_named(
         compilation,
-        files,
+        context,
         first,
         is_additive(names),
         property_names(names),
@@ -82,13 +84,13 @@ pub fn property<B: Bounds>(
 /// Declares the first of these names as a property, which is additive or not.
 fn property_named<B: Bounds>(
     compilation: &mut Compilation<B>,
-    files: &Stack,
+    context: &Context<'_>,
     first: Place,
     is_additive: bool,
     names: &[Name],
 ) -> Result<(), AllocError>
     ensures { OnOk result (work compilation.new
-        ≡ property_named files.now.names first is_additive (map as_name names.now) (work compilation.old)) }
+        ≡ property_named (handed context.now) first is_additive (map as_name names.now) (work compilation.old)) }
 {
     let Some((name, names)) = names.split_first() else {
         compilation.pass(true);
@@ -98,14 +100,14 @@ fn property_named<B: Bounds>(
         let order = property_order(&compilation.unit.tokens, is_additive);
         return alias(
             compilation,
-            files,
+            context,
             first,
             name,
             order,
             FixedLimit::Properties,
         );
     }
-    one_property(compilation, files, first, is_additive, name)
+    one_property(compilation, context, first, is_additive, name)
 }
 
 /// Whether there are as many properties as there may be.
@@ -118,35 +120,35 @@ fn has_most_properties<B: Bounds>(compilation: &Compilation<B>) -> bool
 /// Declares a name as a property, with the value of the unit's expression, or 0.
 fn one_property<B: Bounds>(
     compilation: &mut Compilation<B>,
-    files: &Stack,
+    context: &Context<'_>,
     first: Place,
     is_additive: bool,
     name: &Name,
 ) -> Result<(), AllocError>
     ensures { OnOk result (work compilation.new
-        ≡ property_with files.now.names first is_additive (as_name name.now) (work compilation.old)) }
+        ≡ property_with (handed context.now) first is_additive (as_name name.now) (work compilation.old)) }
 {
     let order = property_order(&compilation.unit.tokens, is_additive);
     let declared = valued(compilation, name, order, has_most_properties(compilation))?;
-    end_property(compilation, files, first, is_additive, name, declared)
+    end_property(compilation, context, first, is_additive, name, declared)
 }
 
 /// The end of the declaration of a property, of which so much is known.
 fn end_property<B: Bounds>(
     compilation: &mut Compilation<B>,
-    files: &Stack,
+    context: &Context<'_>,
     first: Place,
     is_additive: bool,
     name: &Name,
     declared: Declared,
 ) -> Result<(), AllocError>
     ensures { OnOk result (work compilation.new
-        ≡ property_ended files.now.names first is_additive (as_name name.now) declared (work compilation.old)) }
+        ≡ property_ended (handed context.now) first is_additive (as_name name.now) declared (work compilation.old)) }
 {
     add_property(compilation, name, is_additive, declared.finding)?;
     end_declaration(
         compilation,
-        files,
+        context,
         first,
         name,
         FixedLimit::Properties,

@@ -26,7 +26,7 @@ use Rattle.inf_settings.specs.declared.setting.Setting.TheVariants as setting
 use Rattle.inf_statements.specs.Printing.{text_at}
 use Rattle.inf_constructs.specs.Roots.{tree_in}
 use Rattle.inf_names.specs.Spellings.{Name}
-use Rattle.inf_unit.specs.Messages.{FileNames}
+use Rattle.inf_compilation.specs.Context.{Context}
 use Rattle.inf_unit.specs.Tokens.{SourceToken}
 use Rattle.inf_unit.specs.Units.{bytes_at, first_place, kind_at, name_order}
 use Rattle.inf_compilation.specs.Actions.{Compilation, finding_at, operands_of, passed, settled_of, trees_at, unit_ended}
@@ -76,16 +76,16 @@ abbrev pub listed : Option Finding → ArrayKind → Name → Compilation → Co
 listed None k name w = record w { listing = record { is_lost = false; has_entries = false }; output = array_opened k name w.output }
 listed (Some f) k name w = record w { listing = record { is_lost = true; has_entries = false }; lost = apart k }
 
-abbrev pub header_with : FileNames → Place → Name → Declared → Compilation → Compilation
-header_with files first name d w =
-    declared_ended files first false name countable.Globals d (listed d.finding (kind_in w.unit.tokens) name w)
+abbrev pub header_with : Context → Place → Name → Declared → Compilation → Compilation
+header_with context first name d w =
+    declared_ended context first false name countable.Globals d (listed d.finding (kind_in w.unit.tokens) name w)
 
-abbrev pub array_header : FileNames → Place → Name → Compilation → Compilation
-array_header files first name w = header_with files first name (plainly_known name (name_order w.unit.tokens) w) w
+abbrev pub array_header : Context → Place → Name → Compilation → Compilation
+array_header context first name w = header_with context first name (plainly_known name (name_order w.unit.tokens) w) w
 
-abbrev pub array_named : FileNames → Place → List Name → Compilation → Compilation
-array_named files first [] w = passed false w
-array_named files first (name ∷ names) w = array_header files first name w
+abbrev pub array_named : Context → Place → List Name → Compilation → Compilation
+array_named context first [] w = passed false w
+array_named context first (name ∷ names) w = array_header context first name w
 
 -- Entries
 
@@ -149,12 +149,12 @@ adding false v = One v
 abbrev pub looked_value : Compilation → Value
 looked_value w = value_in (map tree_in (trees_at 0 wanted.Constant (operands_of w) w))
 
-abbrev pub own_finding : Option ℕ → Bool → Compilation → Option Finding
-own_finding (Some at) alone w = text_finding (text_at w.set w.unit.tokens at) w
-own_finding None alone w = added_finding (adding alone (looked_value w)) w
+abbrev pub own_finding : Context → Option ℕ → Bool → Compilation → Option Finding
+own_finding context (Some at) alone w = text_finding (text_at context.set w.unit.tokens at) w
+own_finding context None alone w = added_finding (adding alone (looked_value w)) w
 
-abbrev pub entry_finding : Bool → Compilation → Option Finding
-entry_finding alone w = least_of_both (finding_at 0 wanted.Constant w) (own_finding (bare_text alone w) alone w)
+abbrev pub entry_finding : Context → Bool → Compilation → Option Finding
+entry_finding context alone w = least_of_both (finding_at 0 wanted.Constant w) (own_finding context (bare_text alone w) alone w)
 
 -- more entries of the open array of the story, or of the one that is kept apart
 abbrev pub story_added : Option ArrayFault → Adding → Code
@@ -174,26 +174,26 @@ abbrev pub text_added : Option (List TextItem) → Compilation → Compilation
 text_added None w = w
 text_added (Some items) w = added (Characters (codes_of items)) w
 
-abbrev pub value_added : Bool → Compilation → Compilation
-value_added alone w = added (adding alone (value_of w)) (record w { output = (settled_of w).out })
+abbrev pub value_added : Context → Bool → Compilation → Compilation
+value_added context alone w = added (adding alone (value_of context w)) (record w { output = (settled_of context w).out })
 
-abbrev pub entry_added_by : Option ℕ → Bool → Compilation → Compilation
-entry_added_by (Some at) alone w = text_added (text_at w.set w.unit.tokens at) w
-entry_added_by None alone w = value_added alone w
+abbrev pub entry_added_by : Context → Option ℕ → Bool → Compilation → Compilation
+entry_added_by context (Some at) alone w = text_added (text_at context.set w.unit.tokens at) w
+entry_added_by context None alone w = value_added context alone w
 
-abbrev pub entry_added : Bool → Compilation → Compilation
-entry_added alone w = entry_added_by (bare_text alone w) alone w
+abbrev pub entry_added : Context → Bool → Compilation → Compilation
+entry_added context alone w = entry_added_by context (bare_text alone w) alone w
 
-abbrev pub entry_with : FileNames → Place → Bool → Option Finding → Compilation → Compilation
-entry_with files first alone None w = unit_ended files first false nothing_found (entry_added alone w)
-entry_with files first alone (Some f) w = unit_ended files first false (found_alone (Some f)) w
+abbrev pub entry_with : Context → Place → Bool → Option Finding → Compilation → Compilation
+entry_with context first alone None w = unit_ended context first false nothing_found (entry_added context alone w)
+entry_with context first alone (Some f) w = unit_ended context first false (found_alone (Some f)) w
 
 -- an array has an entry, with an error or without
 abbrev pub one_more : Compilation → Compilation
 one_more w = record w { listing = record w.listing { has_entries = true } }
 
-abbrev pub entry_judged : FileNames → Place → Bool → Compilation → Compilation
-entry_judged files first alone w = entry_with files first alone (entry_finding alone w) (one_more w)
+abbrev pub entry_judged : Context → Place → Bool → Compilation → Compilation
+entry_judged context first alone w = entry_with context first alone (entry_finding context alone w) (one_more w)
 
-abbrev pub entry_ended : FileNames → Place → Bool → Compilation → Compilation
-entry_ended files place is_last w = entry_judged files (first_place w.unit.tokens place) (is_alone is_last w) w
+abbrev pub entry_ended : Context → Place → Bool → Compilation → Compilation
+entry_ended context place is_last w = entry_judged context (first_place w.unit.tokens place) (is_alone is_last w) w

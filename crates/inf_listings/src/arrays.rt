@@ -1,4 +1,5 @@
 //! The directive `Array`: its header, and entry by entry what stands in it.
+ghost use Rattle.inf_compilation.specs.Context.{handed};
 ghost use Rattle.std.specs.Prelude.{IfOk, OnOk, false, map, ◌≡◌};
 ghost use Rattle.inf_arrays.specs.Adding.{added as adding_of};
 ghost use Rattle.inf_arrays.specs.Arrays.{Characters, added_fault};
@@ -8,13 +9,14 @@ ghost use Rattle.inf_listings.specs.Arrays.{added, added_finding, adding, apart,
 ghost use Rattle.inf_compilation.specs.Actions.{operands_of};
 ghost use Rattle.inf_compilation.specs.Works.{work};
 
+use inf_compilation::context::Context;
 use inf_area::Value;
 use inf_compilation::compilation::{Compilation, Listing};
 use inf_compilation::findings::Findings;
 use inf_declarations::declarations::{Declared, end_declared, plainly_known, value, value_in};
 use inf_expressions::{Finding, Operand, Wanted, build, least_of_both};
 use inf_gathering::gathering::Leaf;
-use inf_lexer::{Place, Stack};
+use inf_lexer::Place;
 use inf_names::meanings::Meaning;
 use inf_names::spellings::Name;
 use inf_output::Output;
@@ -198,14 +200,14 @@ fn add_to_lost<B: Bounds>(entries: Entries<'_>, arrays: &mut Arrays<B>) -> Resul
 /// Opens an array of the first of these names.
 pub fn array_named<B: Bounds>(
     compilation: &mut Compilation<B>,
-    files: &Stack,
+    context: &Context<'_>,
     first: Place,
     names: &[Name],
 ) -> Result<(), AllocError>
-    ensures { OnOk result (work compilation.new ≡ array_named files.now.names first (map as_name names.now) (work compilation.old)) }
+    ensures { OnOk result (work compilation.new ≡ array_named (handed context.now) first (map as_name names.now) (work compilation.old)) }
 {
     match names.first() {
-        Some(name) => array_header(compilation, files, first, name),
+        Some(name) => array_header(compilation, context, first, name),
         None => {
             compilation.pass(false);
             Ok(())
@@ -216,33 +218,33 @@ pub fn array_named<B: Bounds>(
 /// Opens an array of this name.
 fn array_header<B: Bounds>(
     compilation: &mut Compilation<B>,
-    files: &Stack,
+    context: &Context<'_>,
     first: Place,
     name: &Name,
 ) -> Result<(), AllocError>
-    ensures { OnOk result (work compilation.new ≡ array_header files.now.names first (as_name name.now) (work compilation.old)) }
+    ensures { OnOk result (work compilation.new ≡ array_header (handed context.now) first (as_name name.now) (work compilation.old)) }
 {
     let order = compilation.unit.tokens.name_order();
     let declared = plainly_known(compilation, name, order);
-    header_with(compilation, files, first, name, declared)
+    header_with(compilation, context, first, name, declared)
 }
 
 /// The same, where so much is known of its name.
 fn header_with<B: Bounds>(
     compilation: &mut Compilation<B>,
-    files: &Stack,
+    context: &Context<'_>,
     first: Place,
     name: &Name,
     declared: Declared,
 ) -> Result<(), AllocError>
     ensures { OnOk result (work compilation.new
-        ≡ header_with files.now.names first (as_name name.now) declared (work compilation.old)) }
+        ≡ header_with (handed context.now) first (as_name name.now) declared (work compilation.old)) }
 {
     let kind = kind_in(&compilation.unit.tokens);
     list(compilation, kind, name, declared.finding)?;
     end_declared(
         compilation,
-        files,
+        context,
         first,
         false,
         name,
@@ -429,43 +431,43 @@ fn add_entry<B: Bounds>(compilation: &mut Compilation<B>, is_alone: bool) -> Res
 /// The end of an entry that begins at a place, in which this was found.
 fn entry_with<B: Bounds>(
     compilation: &mut Compilation<B>,
-    files: &Stack,
+    context: &Context<'_>,
     first: Place,
     is_alone: bool,
     found: Option<Finding>,
 ) -> Result<(), AllocError>
-    ensures { OnOk result (work compilation.new ≡ entry_with files.now.names first is_alone found (work compilation.old)) }
+    ensures { OnOk result (work compilation.new ≡ entry_with (handed context.now) first is_alone found (work compilation.old)) }
 {
     if found.is_none() {
         add_entry(compilation, is_alone)?;
     }
-    compilation.end_unit(files, first, false, &Findings::alone(found))
+    compilation.end_unit(context, first, false, &Findings::alone(found))
 }
 
 /// The end of an entry that begins at a place, and is alone or not.
 fn judge_entry<B: Bounds>(
     compilation: &mut Compilation<B>,
-    files: &Stack,
+    context: &Context<'_>,
     first: Place,
     is_alone: bool,
 ) -> Result<(), AllocError>
-    ensures { OnOk result (work compilation.new ≡ entry_judged files.now.names first is_alone (work compilation.old)) }
+    ensures { OnOk result (work compilation.new ≡ entry_judged (handed context.now) first is_alone (work compilation.old)) }
 {
     let found = entry_finding(compilation, is_alone)?;
     compilation.listing.has_entries = true;
-    entry_with(compilation, files, first, is_alone, found)
+    entry_with(compilation, context, first, is_alone, found)
 }
 
 /// An entry ends, before a token at a place, behind which more stands or nothing.
 pub fn end_entry<B: Bounds>(
     compilation: &mut Compilation<B>,
-    files: &Stack,
+    context: &Context<'_>,
     place: Place,
     is_last: bool,
 ) -> Result<(), AllocError>
-    ensures { OnOk result (work compilation.new ≡ entry_ended files.now.names place is_last (work compilation.old)) }
+    ensures { OnOk result (work compilation.new ≡ entry_ended (handed context.now) place is_last (work compilation.old)) }
 {
     let first = compilation.unit.first_place(place);
     let is_alone = is_last && !compilation.listing.has_entries;
-    judge_entry(compilation, files, first, is_alone)
+    judge_entry(compilation, context, first, is_alone)
 }

@@ -2,7 +2,7 @@
 use Rattle.std.proofs.Common.{◌≡◌, ℕ, List, Bool, true, false, Option, Some, None, refl, ap, ◌∙◌}
 use Rattle.inf_scanner.specs.declared.tokens.Place.{Place}
 use Rattle.inf_scanner.specs.declared.tokens.TokenKind.TheVariants as kind
-use Rattle.inf_unit.specs.Messages.{FileNames}
+use Rattle.inf_compilation.specs.Context.{Context}
 use Rattle.inf_unit.specs.Tokens.{SourceToken}
 use Rattle.inf_conditionals.specs.declared.filtered.Forwarded.{Forwarded}
 use Rattle.inf_conditionals.specs.declared.filtered.Forwarded.TheVariants as handed
@@ -17,33 +17,33 @@ use Rattle.inf_reader.proofs.Turns.{end_at}
 abbrev end_of : List ℕ → Place → SourceToken
 end_of bytes place = record { kind = kind.End; bytes = bytes; place = place }
 
-unfit_end : (m : Recovery) (files : FileNames) (bytes : List ℕ) (place : Place) (s : ReaderState) → s.reading.mode ≡ m →
-    (unfit_in m files (end_of bytes place) s).reading.mode ≡ mode.Ended
-unfit_end mode.Reads files bytes place s e = refl
-unfit_end mode.SkipsRoutine files bytes place s e = end_at s.reading.mode files kind.End bytes place s.reading s.work refl refl
-unfit_end mode.SkipsDirective files bytes place s e = end_at s.reading.mode files kind.End bytes place s.reading s.work refl refl
-unfit_end mode.Ended files bytes place s e = end_at s.reading.mode files kind.End bytes place s.reading s.work refl refl
+unfit_end : (m : Recovery) (context : Context) (bytes : List ℕ) (place : Place) (s : ReaderState) → s.reading.mode ≡ m →
+    (unfit_in m context (end_of bytes place) s).reading.mode ≡ mode.Ended
+unfit_end mode.Reads context bytes place s e = refl
+unfit_end mode.SkipsRoutine context bytes place s e = end_at s.reading.mode context kind.End bytes place s.reading s.work refl refl
+unfit_end mode.SkipsDirective context bytes place s e = end_at s.reading.mode context kind.End bytes place s.reading s.work refl refl
+unfit_end mode.Ended context bytes place s e = end_at s.reading.mode context kind.End bytes place s.reading s.work refl refl
 
-end_handed : (h : Forwarded) (files : FileNames) (bytes : List ℕ) (place : Place) (s : ReaderState) → is_on h ≡ true →
-    (handed_as h files (end_of bytes place) s).reading.mode ≡ mode.Ended
-end_handed handed.Condition files bytes place s on = let never : false ≡ true = on in cc
-end_handed handed.Kept files bytes place s on = end_at s.reading.mode files kind.End bytes place s.reading s.work refl refl
-end_handed handed.Unfit files bytes place s on = unfit_end s.reading.mode files bytes place s refl
+end_handed : (h : Forwarded) (context : Context) (bytes : List ℕ) (place : Place) (s : ReaderState) → is_on h ≡ true →
+    (handed_as h context (end_of bytes place) s).reading.mode ≡ mode.Ended
+end_handed handed.Condition context bytes place s on = let never : false ≡ true = on in cc
+end_handed handed.Kept context bytes place s on = end_at s.reading.mode context kind.End bytes place s.reading s.work refl refl
+end_handed handed.Unfit context bytes place s on = unfit_end s.reading.mode context bytes place s refl
 
-lone_mode : (unmatched : Option Place) (files : FileNames) (s : ReaderState) → (lone_told unmatched files s).reading.mode ≡ s.reading.mode
-lone_mode None files s = refl
-lone_mode (Some place) files s = refl
+lone_mode : (unmatched : Option Place) (context : Context) (s : ReaderState) → (lone_told unmatched context s).reading.mode ≡ s.reading.mode
+lone_mode None context s = refl
+lone_mode (Some place) context s = refl
 
-ended_mode : (ended : Option Place) (files : FileNames) (s : ReaderState) → (unit_ended ended files s).reading.mode ≡ s.reading.mode
-ended_mode None files s = refl
-ended_mode (Some place) files s = refl
+ended_mode : (ended : Option Place) (context : Context) (s : ReaderState) → (unit_ended ended context s).reading.mode ≡ s.reading.mode
+ended_mode None context s = refl
+ended_mode (Some place) context s = refl
 
-pub end_taken : (files : FileNames) (bytes : List ℕ) (place : Place) (j : Filtered) (h : Forwarded) (s : ReaderState) → j.token ≡ Some h →
+pub end_taken : (context : Context) (bytes : List ℕ) (place : Place) (j : Filtered) (h : Forwarded) (s : ReaderState) → j.token ≡ Some h →
     is_on h ≡ true
-    → (judged_taken files (end_of bytes place) j s).reading.mode ≡ mode.Ended
-end_taken files bytes place j h s e on =
-    let told = lone_told j.unmatched files (token_taken j.token files (end_of bytes place) (sign_taken j.sign files s)) in
-    ended_mode j.ended files told
-    ∙ lone_mode j.unmatched files (token_taken j.token files (end_of bytes place) (sign_taken j.sign files s))
-    ∙ ap (λ o. (token_taken o files (end_of bytes place) (sign_taken j.sign files s)).reading.mode) e
-    ∙ end_handed h files bytes place (sign_taken j.sign files s) on
+    → (judged_taken context (end_of bytes place) j s).reading.mode ≡ mode.Ended
+end_taken context bytes place j h s e on =
+    let told = lone_told j.unmatched context (token_taken j.token context (end_of bytes place) (sign_taken j.sign context s)) in
+    ended_mode j.ended context told
+    ∙ lone_mode j.unmatched context (token_taken j.token context (end_of bytes place) (sign_taken j.sign context s))
+    ∙ ap (λ o. (token_taken o context (end_of bytes place) (sign_taken j.sign context s)).reading.mode) e
+    ∙ end_handed h context bytes place (sign_taken j.sign context s) on

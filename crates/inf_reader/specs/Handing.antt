@@ -5,7 +5,7 @@ use Rattle.inf_scanner.specs.declared.tokens.Place.{Place}
 use Rattle.inf_scanner.specs.declared.tokens.TokenKind.TheVariants as kind
 use Rattle.inf_machine.specs.declared.symbols.Symbol.{Symbol}
 use Rattle.inf_syntax.specs.declared.actions.Action.{Action}
-use Rattle.inf_unit.specs.Messages.{FileNames}
+use Rattle.inf_compilation.specs.Context.{Context}
 use Rattle.inf_unit.specs.Tokens.{SourceToken}
 use Rattle.inf_conditionals.specs.Ends.{with_lone}
 use Rattle.inf_conditionals.specs.Said.{Said, with_right, with_said}
@@ -47,40 +47,40 @@ abbrev pub hash : Place → SourceToken
 hash place = record { kind = kind.Mark mark.Hash; bytes = codes "#"; place = place; is_class = false }
 
 -- a token that does not fit a conditional is the bad one of the piece at hand, and where one was told it is passed over
-abbrev pub unfit_in : Recovery → FileNames → SourceToken → ReaderState → ReaderState
-unfit_in mode.Reads files t s = bad files t s.reading s.work
-unfit_in _ files t s = step files t s.reading s.work
+abbrev pub unfit_in : Recovery → Context → SourceToken → ReaderState → ReaderState
+unfit_in mode.Reads context t s = bad context t s.reading s.work
+unfit_in _ context t s = step context t s.reading s.work
 
 -- one that a condition takes is not handed on
-abbrev pub handed_as : Forwarded → FileNames → SourceToken → ReaderState → ReaderState
-handed_as handed.Kept files t s = step files t s.reading s.work
-handed_as handed.Unfit files t s = unfit_in s.reading.mode files t s
-handed_as handed.Condition files t s = s
+abbrev pub handed_as : Forwarded → Context → SourceToken → ReaderState → ReaderState
+handed_as handed.Kept context t s = step context t s.reading s.work
+handed_as handed.Unfit context t s = unfit_in s.reading.mode context t s
+handed_as handed.Condition context t s = s
 
-abbrev pub sign_taken : Option Sign → FileNames → ReaderState → ReaderState
-sign_taken None files s = s
-sign_taken (Some sign) files s = handed_as sign.handed files (hash sign.place) s
+abbrev pub sign_taken : Option Sign → Context → ReaderState → ReaderState
+sign_taken None context s = s
+sign_taken (Some sign) context s = handed_as sign.handed context (hash sign.place) s
 
-abbrev pub token_taken : Option Forwarded → FileNames → SourceToken → ReaderState → ReaderState
-token_taken None files t s = s
-token_taken (Some h) files t s = handed_as h files t s
+abbrev pub token_taken : Option Forwarded → Context → SourceToken → ReaderState → ReaderState
+token_taken None context t s = s
+token_taken (Some h) context t s = handed_as h context t s
 
 -- What there is to tell of a condition comes before anything else that its token does; the actions of one with which nothing is wrong
 -- appear.
-abbrev pub said_told : Option Said → FileNames → ReaderState → ReaderState
-said_told said files s =
-    record s { work = record s.work { report = with_said files said s.work.report; output = with_right said s.work.output } }
+abbrev pub said_told : Option Said → Context → ReaderState → ReaderState
+said_told said context s =
+    record s { work = record s.work { report = with_said context.names said s.work.report; output = with_right said s.work.output } }
 
-abbrev pub lone_told : Option Place → FileNames → ReaderState → ReaderState
-lone_told None files s = s
-lone_told (Some place) files s = record s { work = record s.work { report = with_lone files place s.work.report } }
+abbrev pub lone_told : Option Place → Context → ReaderState → ReaderState
+lone_told None context s = s
+lone_told (Some place) context s = record s { work = record s.work { report = with_lone context.names place s.work.report } }
 
 -- A conditional directive is a unit. Before it the statements are closed that are over, whatever the next token is.
-abbrev pub unit_ended : Option Place → FileNames → ReaderState → ReaderState
-unit_ended None files s = s
-unit_ended (Some place) files s = record s { work = begun_at files place (closed_ahead (closings s.reading.stack) s.work) }
+abbrev pub unit_ended : Option Place → Context → ReaderState → ReaderState
+unit_ended None context s = s
+unit_ended (Some place) context s = record s { work = begun_at context place (closed_ahead (closings s.reading.stack) s.work) }
 
 -- first the `#` before the token, then the token, and then a conditional directive that has ended: one that has no conditional to
 -- end or to turn is told
-abbrev pub judged_taken : FileNames → SourceToken → Filtered → ReaderState → ReaderState
-judged_taken files t j s = unit_ended j.ended files (lone_told j.unmatched files (token_taken j.token files t (sign_taken j.sign files s)))
+abbrev pub judged_taken : Context → SourceToken → Filtered → ReaderState → ReaderState
+judged_taken context t j s = unit_ended j.ended context (lone_told j.unmatched context (token_taken j.token context t (sign_taken j.sign context s)))

@@ -10,7 +10,8 @@ use Rattle.inf_settings.specs.declared.settings.Settings.{Settings}
 use Rattle.inf_report.specs.Messages.{Location, Message, kind_of}
 use Rattle.inf_report.specs.declared.messages.Kind.{Kind}
 use Rattle.inf_report.specs.declared.messages.Kind.TheVariants as weight
-use Rattle.inf_unit.specs.Messages.{FileNames, Reported, location, with_error, with_fatal}
+use Rattle.inf_unit.specs.Messages.{Reported, location, with_error, with_fatal}
+use Rattle.inf_compilation.specs.Context.{Context}
 use Rattle.inf_unit.specs.Tokens.{SourceToken, atom_of, is_end, is_mark}
 use Rattle.inf_syntax.specs.declared.actions.Action.{Action}
 use Rattle.inf_machine.specs.declared.symbols.Symbol.{Symbol}
@@ -38,9 +39,9 @@ pub record ReaderState : Type 0 where
   pub reading : Reading
   pub work : Compilation
 
--- before the first token of sources in a character set
-abbrev pub begun_stand : CharSet → Settings → ReaderState
-begun_stand set settings = record { reading = between mode.Reads; work = no_work set settings }
+-- before the first token of a source
+abbrev pub begun_stand : Settings → ReaderState
+begun_stand settings = record { reading = between mode.Reads; work = no_work settings }
 
 abbrev pub is_mode_ended : Recovery → Bool
 is_mode_ended mode.Ended = true
@@ -77,23 +78,23 @@ with_complaint at m r = with_complaint_of (kind_of m) at m r
 
 -- The bad token of a piece is told, and is the first that is passed over. The unit that it stands in gives nothing, and a
 -- routine that it stands in is never finished: what there is of it and of its locals is left, and nothing reads it.
-abbrev pub bad : FileNames → SourceToken → Reading → Compilation → ReaderState
-bad files t r w =
-    let c = cut files w in
+abbrev pub bad : Context → SourceToken → Reading → Compilation → ReaderState
+bad context t r w =
+    let c = cut context w in
     record {
       reading = between (passed (skip_of r.stack) t.kind);
-      work = record c { report = with_complaint (location files t.place) (complaint_of t) c.report };
+      work = record c { report = with_complaint (location context.names t.place) (complaint_of t) c.report };
     }
 
 -- A token that fits is taken: first the actions on the way to it act.
-abbrev pub took : FileNames → SourceToken → Reading → Compilation → ReaderState
-took files t r w =
+abbrev pub took : Context → SourceToken → Reading → Compilation → ReaderState
+took context t r w =
     let n = taken grammar known (atom_of t) r.stack in
-    record { reading = record { mode = r.mode; stack = n.left }; work = work_took files t (all_acted files t.place n.actions w) }
+    record { reading = record { mode = r.mode; stack = n.left }; work = work_took context t (all_acted context t.place n.actions w) }
 
 -- a token of a piece is taken where it fits; else it is the bad one
-abbrev pub judged : FileNames → SourceToken → Reading → Compilation → ReaderState
-judged files t r w = if fits grammar known (atom_of t) r.stack then took files t r w else bad files t r w
+abbrev pub judged : Context → SourceToken → Reading → Compilation → ReaderState
+judged context t r w = if fits grammar known (atom_of t) r.stack then took context t r w else bad context t r w
 
 -- the rule of the pieces
 abbrev pub piece_rule : ℕ
@@ -104,17 +105,17 @@ abbrev pub piece_begun : Reading → Reading
 piece_begun r = record { mode = r.mode; stack = Rule piece_rule ∷ [] }
 
 -- the next token where this is still to come: of a new piece, or of the one at hand
-abbrev pub read_at : FileNames → SourceToken → List (Symbol Action) → Reading → Compilation → ReaderState
-read_at files t [] r w =
+abbrev pub read_at : Context → SourceToken → List (Symbol Action) → Reading → Compilation → ReaderState
+read_at context t [] r w =
     if is_end t.kind then record { reading = record r { mode = mode.Ended }; work = w }
-    else judged files t (piece_begun r) (work_begun w)
-read_at files t (_ ∷ _) r w = judged files t r w
+    else judged context t (piece_begun r) (work_begun w)
+read_at context t (_ ∷ _) r w = judged context t r w
 
-abbrev pub step_in : Recovery → FileNames → SourceToken → Reading → Compilation → ReaderState
-step_in mode.Reads files t r w = read_at files t r.stack r w
-step_in mode.Ended files t r w = record { reading = r; work = w }
-step_in skip files t r w = record { reading = record r { mode = passed skip t.kind }; work = w }
+abbrev pub step_in : Recovery → Context → SourceToken → Reading → Compilation → ReaderState
+step_in mode.Reads context t r w = read_at context t r.stack r w
+step_in mode.Ended context t r w = record { reading = r; work = w }
+step_in skip context t r w = record { reading = record r { mode = passed skip t.kind }; work = w }
 
 -- what a token does
-abbrev pub step : FileNames → SourceToken → Reading → Compilation → ReaderState
-step files t r w = step_in r.mode files t r w
+abbrev pub step : Context → SourceToken → Reading → Compilation → ReaderState
+step context t r w = step_in r.mode context t r w

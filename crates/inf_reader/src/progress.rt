@@ -1,4 +1,5 @@
 //! What is read of a source, and what was compiled of it: token by token.
+ghost use Rattle.inf_compilation.specs.Context.{handed};
 ghost use Rattle.std.specs.Prelude.{◌≡◌, [], IfOk, OnOk};
 ghost use Rattle.inf_settings.specs.Bounds.{Allows};
 ghost use Rattle.inf_report.specs.Meant.{located};
@@ -7,6 +8,7 @@ ghost use Rattle.inf_reader.specs.Handing.{hash};
 ghost use Rattle.inf_reader.specs.Reading.{with_complaint};
 ghost use Rattle.inf_reader.specs.Tests.{complaint_of};
 
+use inf_compilation::context::Context;
 use crate::reader::Reader;
 use crate::recovery::{Recovery, passed};
 use crate::tokens::complaint_of;
@@ -14,7 +16,7 @@ use inf_actions::acting::{act_all, cut};
 use inf_compilation::compilation::Compilation;
 use inf_conditionals::ends::tell_lone;
 use inf_conditionals::filtered::{Filtered, Forwarded, Site};
-use inf_lexer::{Place, Stack};
+use inf_lexer::Place;
 use inf_names::hashing::NameHashing;
 use inf_report::messages::{Kind, Location};
 use inf_scanner::{Mark, TokenKind};
@@ -70,12 +72,12 @@ impl<B: Bounds> Progress<B> {
     }
 
     /// Takes the next token of a source, one of these files.
-    pub fn take(&mut self, files: &Stack, token: &SourceToken<'_>) -> Result<(), AllocError>
+    pub fn take(&mut self, context: &Context<'_>, token: &SourceToken<'_>) -> Result<(), AllocError>
         ensures { let before = standing self.old in
-            OnOk result (standing self.new ≡ step files.now.names (spelled token.now) before.reading before.work) }
+            OnOk result (standing self.new ≡ step (handed context.now) (spelled token.now) before.reading before.work) }
     {
         match self.reader.mode {
-            Recovery::Reads => self.read_token(files, token),
+            Recovery::Reads => self.read_token(context, token),
             Recovery::SkipsRoutine | Recovery::SkipsDirective => {
                 self.reader.mode = passed(self.reader.mode, token);
                 Ok(())
@@ -101,24 +103,24 @@ impl<B: Bounds> Progress<B> {
     /// Takes what became of the next token of a source among conditionals.
     pub fn take_judged(
         &mut self,
-        files: &Stack,
+        context: &Context<'_>,
         token: &SourceToken<'_>,
         judged: Filtered,
     ) -> Result<(), AllocError>
-        ensures { OnOk result (standing self.new ≡ judged_taken files.now.names (spelled token.now) judged (standing self.old)) }
+        ensures { OnOk result (standing self.new ≡ judged_taken (handed context.now) (spelled token.now) judged (standing self.old)) }
     {
         if let Some(sign) = judged.sign {
-            self.hand(files, &hash(sign.place), sign.handed)?;
+            self.hand(context, &hash(sign.place), sign.handed)?;
         }
         if let Some(handed) = judged.token {
-            self.hand(files, token, handed)?;
+            self.hand(context, token, handed)?;
         }
         if let Some(place) = judged.unmatched {
-            tell_lone(place, files, &mut self.work.report)?;
+            tell_lone(place, context.files, &mut self.work.report)?;
         }
         if let Some(place) = judged.ended {
             self.work.close_ahead(self.reader.machine.closings())?;
-            self.work.begin(files, place)?;
+            self.work.begin(context, place)?;
         }
         Ok(())
     }
@@ -126,34 +128,34 @@ impl<B: Bounds> Progress<B> {
     /// Takes a token that is kept, or one that does not fit; one that a condition took it leaves alone.
     fn hand(
         &mut self,
-        files: &Stack,
+        context: &Context<'_>,
         token: &SourceToken<'_>,
         handed: Forwarded,
     ) -> Result<(), AllocError>
-        ensures { OnOk result (standing self.new ≡ handed_as handed files.now.names (spelled token.now) (standing self.old)) }
+        ensures { OnOk result (standing self.new ≡ handed_as handed (handed context.now) (spelled token.now) (standing self.old)) }
     {
         match (handed, self.reader.mode) {
-            (Forwarded::Unfit, Recovery::Reads) => self.bad(files, token),
-            (Forwarded::Kept | Forwarded::Unfit, _) => self.take(files, token),
+            (Forwarded::Unfit, Recovery::Reads) => self.bad(context, token),
+            (Forwarded::Kept | Forwarded::Unfit, _) => self.take(context, token),
             (Forwarded::Condition, _) => Ok(()),
         }
     }
 
     /// A token of a piece, or the end between the pieces.
     #[tactic(auto, using(crate::proofs::Inside::read_first, crate::proofs::Inside::read_inside))]
-    fn read_token(&mut self, files: &Stack, token: &SourceToken<'_>) -> Result<(), AllocError>
+    fn read_token(&mut self, context: &Context<'_>, token: &SourceToken<'_>) -> Result<(), AllocError>
         ensures { let before = reading self.old.reader in
             OnOk result (standing self.new
-            ≡ read_at files.now.names (spelled token.now) before.stack before (work self.old.work)) }
+            ≡ read_at (handed context.now) (spelled token.now) before.stack before (work self.old.work)) }
     {
         if !self.reader.machine.is_done() {
-            return self.judge(files, token);
+            return self.judge(context, token);
         }
         if is_end(token.kind) {
             self.reader.mode = Recovery::Ended;
             return Ok(());
         }
-        self.read_first(files, token)
+        self.read_first(context, token)
     }
 
     /// A new piece is at hand, where none was.
@@ -168,36 +170,36 @@ impl<B: Bounds> Progress<B> {
     }
 
     /// The first token of a new piece, where none was at hand.
-    fn read_first(&mut self, files: &Stack, token: &SourceToken<'_>) -> Result<(), AllocError>
+    fn read_first(&mut self, context: &Context<'_>, token: &SourceToken<'_>) -> Result<(), AllocError>
         requires { (reading self.old.reader).stack ≡ [] }
         ensures { OnOk result (standing self.new
-            ≡ judged files.now.names (spelled token.now) (piece_begun (reading self.old.reader)) (work_begun (work self.old.work))) }
+            ≡ judged (handed context.now) (spelled token.now) (piece_begun (reading self.old.reader)) (work_begun (work self.old.work))) }
     {
         self.begin_piece()?;
-        self.judge(files, token)
+        self.judge(context, token)
     }
 
     /// Takes a token of the piece at hand, if it fits; else it is the bad one.
-    fn judge(&mut self, files: &Stack, token: &SourceToken<'_>) -> Result<(), AllocError>
+    fn judge(&mut self, context: &Context<'_>, token: &SourceToken<'_>) -> Result<(), AllocError>
         ensures { let before = reading self.old.reader in
             OnOk result (standing self.new
-            ≡ judged files.now.names (spelled token.now) before (work self.old.work)) }
+            ≡ judged (handed context.now) (spelled token.now) before (work self.old.work)) }
     {
         if !self.reader.read(token.atom(), &mut self.actions)? {
-            return self.bad(files, token);
+            return self.bad(context, token);
         }
-        act_all(&mut self.work, files, token.place, self.actions.as_slice())?;
-        self.work.take(files, token)
+        act_all(&mut self.work, context, token.place, self.actions.as_slice())?;
+        self.work.take(context, token)
     }
 
     /// Tells the bad token of a piece, and passes over it.
-    fn bad(&mut self, files: &Stack, token: &SourceToken<'_>) -> Result<(), AllocError>
+    fn bad(&mut self, context: &Context<'_>, token: &SourceToken<'_>) -> Result<(), AllocError>
         ensures { let before = reading self.old.reader in
-            OnOk result (standing self.new ≡ bad files.now.names (spelled token.now) before (work self.old.work)) }
+            OnOk result (standing self.new ≡ bad (handed context.now) (spelled token.now) before (work self.old.work)) }
     {
         self.reader.give_up(token);
-        cut(&mut self.work, files)?;
-        complain(&mut self.work.report, location(files, token.place), token)
+        cut(&mut self.work, context)?;
+        complain(&mut self.work.report, location(context.files, token.place), token)
     }
 }
 

@@ -27,7 +27,8 @@ use Rattle.inf_scanner.specs.declared.tokens.TokenKind.TheVariants as kind
 use Rattle.inf_settings.specs.declared.setting.Setting.{Setting}
 use Rattle.inf_settings.specs.declared.setting.Setting.TheVariants as setting
 use Rattle.inf_names.specs.Spellings.{Name}
-use Rattle.inf_unit.specs.Messages.{Diagnostic, FileNames}
+use Rattle.inf_unit.specs.Messages.{Diagnostic}
+use Rattle.inf_compilation.specs.Context.{Context}
 use Rattle.inf_unit.specs.Tokens.{SourceToken}
 use Rattle.inf_unit.specs.Units.{bytes_at, first_place, is_some_mark, kind_at, name_at, name_order, next_place, order}
 use Rattle.inf_verbs.specs.Lines.{LineOf}
@@ -71,8 +72,8 @@ word_at tokens at = word_in (kind_at tokens at)
 abbrev pub verb_findings : Option Finding → Findings
 verb_findings found = record (found_alone found) { many = countable.Verbs }
 
-abbrev pub verb_ended : FileNames → Place → Option Finding → Compilation → Compilation
-verb_ended files first found w = unit_ended files first false (verb_findings found) w
+abbrev pub verb_ended : Context → Place → Option Finding → Compilation → Compilation
+verb_ended context first found w = unit_ended context first false (verb_findings found) w
 
 -- that the word at a place is one of a verb, or is none
 abbrev pub wrong_verb : ℕ → Finding
@@ -199,12 +200,12 @@ header_opened (Some f) head w = record w { extending = lines_of None line_place.
 header_opened None head w =
     let v = verb_opened head w.unit.tokens w.output in record w { output = v.0; extending = lines_of v.1 line_place.Last }
 
-abbrev pub verb_header_with : FileNames → Place → VerbHead → Compilation → Compilation
-verb_header_with files first head w =
-    let found = head_finding head w.unit.tokens w.output in verb_ended files first found (header_opened found head w)
+abbrev pub verb_header_with : Context → Place → VerbHead → Compilation → Compilation
+verb_header_with context first head w =
+    let found = head_finding head w.unit.tokens w.output in verb_ended context first found (header_opened found head w)
 
-abbrev pub verb_header : FileNames → Place → Compilation → Compilation
-verb_header files first w = verb_header_with files first (verb_head w.unit.tokens) w
+abbrev pub verb_header : Context → Place → Compilation → Compilation
+verb_header context first w = verb_header_with context first (verb_head w.unit.tokens) w
 
 -- The header of `Extend`: where further lines go is told by the word behind that of the verb.
 abbrev pub place_named : List ℕ → LinePlace
@@ -220,15 +221,15 @@ abbrev pub verb_extended : Option ℕ → LinePlace → Option DictionaryWord �
 verb_extended None place word o = o
 verb_extended (Some number) place word o = lines_extended number place (word_used word (word_use.Verb number) o)
 
-abbrev pub extend_with : FileNames → Place → ℕ → Option ℕ → LinePlace → Compilation → Compilation
-extend_with files first at number place w =
-    verb_ended files first (no_verb_finding at number)
+abbrev pub extend_with : Context → Place → ℕ → Option ℕ → LinePlace → Compilation → Compilation
+extend_with context first at number place w =
+    verb_ended context first (no_verb_finding at number)
     (record w { extending = lines_of number place; output = verb_extended number place (word_at w.unit.tokens at) w.output })
 
-abbrev pub extend_header : FileNames → Place → Compilation → Compilation
-extend_header files first w =
+abbrev pub extend_header : Context → Place → Compilation → Compilation
+extend_header context first w =
     let at = name_order w.unit.tokens in
-    extend_with files first at (verb_named w.unit.tokens at w.output) (place_named (bytes_at w.unit.tokens (at + 1))) w
+    extend_with context first at (verb_named w.unit.tokens at w.output) (place_named (bytes_at w.unit.tokens (at + 1))) w
 
 -- What is wrong with a line
 
@@ -420,23 +421,23 @@ abbrev pub line_laid : Option Finding → ℕ → Compilation → Compilation
 line_laid (Some f) arrow w = w
 line_laid None arrow w = record w { output = line_added w.extending w.unit.tokens arrow w.output }
 
-abbrev pub line_found : FileNames → Place → Option Finding → ℕ → Compilation → Compilation
-line_found files first found arrow w = verb_ended files first found (line_laid found arrow w)
+abbrev pub line_found : Context → Place → Option Finding → ℕ → Compilation → Compilation
+line_found context first found arrow w = verb_ended context first found (line_laid found arrow w)
 
-abbrev pub line_judged : FileNames → Place → ℕ → Compilation → Compilation
-line_judged files first arrow w = line_found files first (tokens_finding arrow w.unit.tokens w.output.names) arrow w
+abbrev pub line_judged : Context → Place → ℕ → Compilation → Compilation
+line_judged context first arrow w = line_found context first (tokens_finding arrow w.unit.tokens w.output.names) arrow w
 
-abbrev pub line_ended : FileNames → Place → Compilation → Compilation
-line_ended files place w = line_judged files (first_place w.unit.tokens place) (arrow_in w.unit.tokens) w
+abbrev pub line_ended : Context → Place → Compilation → Compilation
+line_ended context place w = line_judged context (first_place w.unit.tokens place) (arrow_in w.unit.tokens) w
 
 -- A fake action
 
 abbrev pub fake_findings : Option Again → Findings
 fake_findings again = record (found_alone (again_finding 1 again)) { again = again }
 
-abbrev pub fake_with : FileNames → Place → Name → Out × Option (DeclareFault Place) → Compilation → Compilation
-fake_with files first name f w = unit_ended files first true (fake_findings (again_by name f.1)) (record w { output = f.0 })
+abbrev pub fake_with : Context → Place → Name → Out × Option (DeclareFault Place) → Compilation → Compilation
+fake_with context first name f w = unit_ended context first true (fake_findings (again_by name f.1)) (record w { output = f.0 })
 
-abbrev pub fake_action : FileNames → Place → List Name → Compilation → Compilation
-fake_action files first [] w = passed true w
-fake_action files first (name ∷ names) w = fake_with files first name (faked name.bytes name.place w.output) w
+abbrev pub fake_action : Context → Place → List Name → Compilation → Compilation
+fake_action context first [] w = passed true w
+fake_action context first (name ∷ names) w = fake_with context first name (faked name.bytes name.place w.output) w

@@ -1,14 +1,16 @@
 //! The lines of grammar of the verb at hand, each of which is a unit.
+ghost use Rattle.inf_compilation.specs.Context.{handed};
 ghost use Rattle.std.specs.Prelude.{IfOk, IfSome, OnOk, length, option_map, true, ◌<◌, ◌≡◌, ◌≤◌};
 ghost use Rattle.inf_unit.specs.NameTokens.{named as named_token};
 ghost use Rattle.inf_verbs.specs.Lines.{LineOf};
 ghost use Rattle.inf_verb_lines.specs.Verbs.{action_by, arrow_in, arrow_or, attribute_in, can_be_routine, has_verb, is_filter_word, is_lone_name, is_mark_at, is_reverse, is_right, is_sign_word, line_added, line_behind, line_ended, line_found, line_judged, line_kept, line_laid, line_token, line_tokens, lone_by, lone_token, name_token, named_at, named_behind, noun_named, one_line, parsing_routine, preposition, token_finding, tokens_finding, with_next, with_token, wrong_unless};
 ghost use Rattle.inf_compilation.specs.Works.{work};
 
+use inf_compilation::context::Context;
 use crate::verbs::{end_of_verb, has_verb, is_mark_at};
 use inf_compilation::compilation::{Compilation, Extending};
 use inf_expressions::{Finding, least_of_both};
-use inf_lexer::{Place, Stack};
+use inf_lexer::Place;
 use inf_names::meanings::Meaning;
 use inf_names::spellings::Name;
 use inf_names::symbols::{Found, Symbols};
@@ -456,15 +458,15 @@ fn lay_line<B: Bounds>(
 /// The same at the end of a line that begins at a place, of which this was found.
 fn end_found<B: Bounds>(
     compilation: &mut Compilation<B>,
-    files: &Stack,
+    context: &Context<'_>,
     first: Place,
     found: Option<Finding>,
     arrow: usize,
 ) -> Result<(), AllocError>
-    ensures { OnOk result (work compilation.new ≡ line_found files.now.names first found arrow (work compilation.old)) }
+    ensures { OnOk result (work compilation.new ≡ line_found (handed context.now) first found arrow (work compilation.old)) }
 {
     lay_line(compilation, found, arrow)?;
-    end_of_verb(compilation, files, first, found)
+    end_of_verb(compilation, context, first, found)
 }
 
 /// What is wrong with the tokens of a line whose action stands behind an arrow.
@@ -477,25 +479,25 @@ fn line_finding<B: Bounds>(compilation: &Compilation<B>, arrow: usize) -> Option
 /// A line that begins at a place, and whose action stands behind an arrow.
 fn judge_line<B: Bounds>(
     compilation: &mut Compilation<B>,
-    files: &Stack,
+    context: &Context<'_>,
     first: Place,
     arrow: usize,
 ) -> Result<(), AllocError>
-    ensures { OnOk result (work compilation.new ≡ line_judged files.now.names first arrow (work compilation.old)) }
+    ensures { OnOk result (work compilation.new ≡ line_judged (handed context.now) first arrow (work compilation.old)) }
 {
     let found = line_finding(compilation, arrow);
-    end_found(compilation, files, first, found, arrow)
+    end_found(compilation, context, first, found, arrow)
 }
 
 /// A line ends, before a token at a place.
 pub fn end_line<B: Bounds>(
     compilation: &mut Compilation<B>,
-    files: &Stack,
+    context: &Context<'_>,
     place: Place,
 ) -> Result<(), AllocError>
-    ensures { OnOk result (work compilation.new ≡ line_ended files.now.names place (work compilation.old)) }
+    ensures { OnOk result (work compilation.new ≡ line_ended (handed context.now) place (work compilation.old)) }
 {
     let first = compilation.unit.first_place(place);
     let arrow = arrow_in(&compilation.unit.tokens);
-    judge_line(compilation, files, first, arrow)
+    judge_line(compilation, context, first, arrow)
 }

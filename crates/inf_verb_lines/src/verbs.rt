@@ -1,4 +1,5 @@
 //! The directives `Verb`, `Extend` and `Fake_action`: their headers.
+ghost use Rattle.inf_compilation.specs.Context.{handed};
 ghost use Rattle.std.specs.Prelude.{IfOk, OnOk, length, map, option_map, true, ◌<◌, ◌≡◌};
 ghost use Rattle.inf_names.specs.Spellings.{as_name};
 ghost use Rattle.inf_verb_lines.specs.Verbs.{extend_header, extend_with, fake_action, fake_findings, fake_with, has_most_verbs, has_verb, head_finding, header_opened, is_mark_at, is_name_in, like_at, like_finding, like_used, lines_extended, lines_of, misfit_finding, new_verb, no_verb_finding, place_behind, place_named, texts_before, verb_begun, verb_ended, verb_extended, verb_findings, verb_head, verb_header, verb_header_with, verb_named, verb_opened, verb_passed, verb_use, with_text, word_at, word_in, word_used, words_end, words_finding, words_from, words_given, words_used, wrong_verb};
@@ -6,12 +7,13 @@ ghost use Rattle.inf_output.specs.Actions.{faked};
 ghost use Rattle.inf_compilation.specs.Meant.{again_as, found_as};
 ghost use Rattle.inf_compilation.specs.Works.{work};
 
+use inf_compilation::context::Context;
 use inf_compilation::compilation::{Compilation, Extending};
 use inf_compilation::findings::{
     Again, Findings, TOO_MANY, WRONG_VERB, again_by, again_finding, many_finding,
 };
 use inf_expressions::{Finding, least_of_both};
-use inf_lexer::{Place, Stack};
+use inf_lexer::Place;
 use inf_names::spellings::Name;
 use inf_output::Output;
 use inf_report::messages::FixedLimit;
@@ -461,13 +463,13 @@ fn lines_of(verb: Option<u8>, place: LinePlace) -> Extending
 /// The end of a unit of a verb that begins at a place.
 pub(crate) fn end_of_verb<B: Bounds>(
     compilation: &mut Compilation<B>,
-    files: &Stack,
+    context: &Context<'_>,
     first: Place,
     found: Option<Finding>,
 ) -> Result<(), AllocError>
-    ensures { OnOk result (work compilation.new ≡ verb_ended files.now.names first found (work compilation.old)) }
+    ensures { OnOk result (work compilation.new ≡ verb_ended (handed context.now) first found (work compilation.old)) }
 {
-    compilation.end_unit(files, first, false, &verb_findings(found))
+    compilation.end_unit(context, first, false, &verb_findings(found))
 }
 
 /// Opens the verb of a header, unless something is wrong with it.
@@ -491,11 +493,11 @@ fn open_header<B: Bounds>(
 /// The header of `Verb`, in which this stands.
 fn verb_header_with<B: Bounds>(
     compilation: &mut Compilation<B>,
-    files: &Stack,
+    context: &Context<'_>,
     first: Place,
     head: VerbHead,
 ) -> Result<(), AllocError>
-    ensures { OnOk result (work compilation.new ≡ verb_header_with files.now.names first head (work compilation.old)) }
+    ensures { OnOk result (work compilation.new ≡ verb_header_with (handed context.now) first head (work compilation.old)) }
 {
     let found = head_finding(
         compilation.alloc,
@@ -504,78 +506,78 @@ fn verb_header_with<B: Bounds>(
         &compilation.output,
     )?;
     open_header(compilation, found, head)?;
-    end_of_verb(compilation, files, first, found)
+    end_of_verb(compilation, context, first, found)
 }
 
 /// The header of `Verb`.
 pub fn verb_header<B: Bounds>(
     compilation: &mut Compilation<B>,
-    files: &Stack,
+    context: &Context<'_>,
     first: Place,
 ) -> Result<(), AllocError>
-    ensures { OnOk result (work compilation.new ≡ verb_header files.now.names first (work compilation.old)) }
+    ensures { OnOk result (work compilation.new ≡ verb_header (handed context.now) first (work compilation.old)) }
 {
     let head = verb_head(&compilation.unit.tokens);
-    verb_header_with(compilation, files, first, head)
+    verb_header_with(compilation, context, first, head)
 }
 
 /// The header of `Extend`, which names a verb at a place among its tokens, or none.
 fn extend_with<B: Bounds>(
     compilation: &mut Compilation<B>,
-    files: &Stack,
+    context: &Context<'_>,
     first: Place,
     at: usize,
     verb: Option<u8>,
     place: LinePlace,
 ) -> Result<(), AllocError>
-    ensures { OnOk result (work compilation.new ≡ extend_with files.now.names first at verb place (work compilation.old)) }
+    ensures { OnOk result (work compilation.new ≡ extend_with (handed context.now) first at verb place (work compilation.old)) }
 {
     compilation.extending = lines_of(verb, place);
     let word = word_at(&compilation.unit.tokens, at);
     extend_verb(verb, place, word, &mut compilation.output)?;
-    end_of_verb(compilation, files, first, no_verb_finding(at, verb))
+    end_of_verb(compilation, context, first, no_verb_finding(at, verb))
 }
 
 /// The header of `Extend`.
 pub fn extend_header<B: Bounds>(
     compilation: &mut Compilation<B>,
-    files: &Stack,
+    context: &Context<'_>,
     first: Place,
 ) -> Result<(), AllocError>
-    ensures { OnOk result (work compilation.new ≡ extend_header files.now.names first (work compilation.old)) }
+    ensures { OnOk result (work compilation.new ≡ extend_header (handed context.now) first (work compilation.old)) }
 {
     let at = compilation.unit.tokens.name_order() as usize;
     let place = place_named(compilation.unit.tokens.bytes_at(at + 1));
     let verb = verb_named(&compilation.unit.tokens, at, &compilation.output);
-    extend_with(compilation, files, first, at, verb, place)
+    extend_with(compilation, context, first, at, verb, place)
 }
 
 /// Declares a name as a fake action.
 fn one_fake<B: Bounds>(
     compilation: &mut Compilation<B>,
-    files: &Stack,
+    context: &Context<'_>,
     first: Place,
     name: &Name,
 ) -> Result<(), AllocError>
     ensures { let before = work compilation.old in let n = as_name name.now in
-        OnOk result (work compilation.new ≡ fake_with files.now.names first n (faked n.bytes n.place before.output) before) }
+        OnOk result (work compilation.new ≡ fake_with (handed context.now) first n (faked n.bytes n.place before.output) before) }
 {
     let refused = compilation.output.fake_action(name.bytes(), name.place)?;
     let found = fake_findings(again_by(name, refused));
-    compilation.end_unit(files, first, true, &found)
+    compilation.end_unit(context, first, true, &found)
 }
 
 /// Declares the first of these names as a fake action.
 pub fn fake_action<B: Bounds>(
     compilation: &mut Compilation<B>,
-    files: &Stack,
+    context: &Context<'_>,
     first: Place,
     names: &[Name],
 ) -> Result<(), AllocError>
-    ensures { OnOk result (work compilation.new ≡ fake_action files.now.names first (map as_name names.now) (work compilation.old)) }
+    ensures { OnOk result (work compilation.new ≡ fake_action (handed context.now) first (map as_name names.now) (work compilation.old)) }
 {
     match names.first() {
-        Some(name) => one_fake(compilation, files, first, name),
+        Some(name) => one_fake(compilation, context, first, name),
         None => {
             compilation.pass(true);
             Ok(())

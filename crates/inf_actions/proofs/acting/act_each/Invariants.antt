@@ -1,4 +1,5 @@
 use Rattle.std.proofs.Common.{◌≡◌, drop}
+use Rattle.inf_compilation.specs.Context.{handed}
 use Rattle.inf_actions.specs.Acting.{acted}
 use Rattle.inf_compilation.specs.Works.{work}
 use Rattle.inf_actions.proofs.acting.act_each.Given as goal
@@ -6,5 +7,5 @@ use Rattle.inf_actions.proofs.acting.act_each.Given as goal
 -- the actions that are left lead from here to where all lead
 abbrev pub invariant-loop-action : goal.invariant-loop-action
 invariant-loop-action g l =
-    acted l.files.names l.place (drop l.action-index l.actions) (work l.compilation) ≡ acted l.files.names l.place l.actions
+    acted (handed l.context) l.place (drop l.action-index l.actions) (work l.compilation) ≡ acted (handed l.context) l.place l.actions
     (work l.fn.compilation)

@@ -1,0 +1,15 @@
+//! What is handed down to all that is compiled.
+
+use inf_lexer::Stack;
+use inf_settings::settings::Settings;
+use inf_text::CharSet;
+
+/// What is handed down to all that is compiled.
+#[derive(Clone, Copy)]
+pub struct Context<'a> {
+    /// The files that were opened, by which places are told.
+    pub files: &'a Stack,
+    /// The character set of the sources.
+    pub set: CharSet,
+    pub settings: &'a Settings,
+}
