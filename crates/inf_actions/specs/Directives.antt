@@ -31,7 +31,7 @@ carried_out directive.SystemFile context first names w = passed true (record w {
 -- a directive ends, which begins with the name of its word; code begins with it, unless it has begun
 abbrev pub directive_of_names : Context → Place → List Name → Compilation → Compilation
 directive_of_names context first [] w = passed true w
-directive_of_names context first (word ∷ names) w = begun_at context first (carried_out (directive_of (directive_word w.unit.tokens)) context first names w)
+directive_of_names context first (word ∷ names) w = begun_at context.names first (carried_out (directive_of (directive_word w.unit.tokens)) context first names w)
 
 abbrev pub directive_end : Context → Place → Compilation → Compilation
 directive_end context place w = directive_of_names context (first_place w.unit.tokens place) (names_in w.unit.tokens) w

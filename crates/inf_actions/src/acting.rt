@@ -6,12 +6,12 @@ ghost use Rattle.inf_unit.specs.Directives.{Nothing};
 ghost use Rattle.inf_compilation.specs.Actions.{cut, is_deep};
 ghost use Rattle.inf_compilation.specs.Works.{work};
 
-use inf_compilation::context::Context;
 use crate::directives::end_directive;
 use crate::headers::end_directive_header;
 use inf_bodies::bodies::{attribute_of_body, class_of_body, end_body, property_of_body};
 use inf_bodies::values::{routine_of_body, value_of_body};
 use inf_compilation::compilation::Compilation;
+use inf_compilation::context::Context;
 use inf_compilation::parts::Part;
 use inf_constructs::constructs::{Case, Kind, Over};
 use inf_lexer::Place;
@@ -39,7 +39,10 @@ fn kind_of(opening: Opening) -> Kind
 /// A bad token cuts the unit at hand, of which the outermost expression surely was one, and the word before it opened its statement.
 /// The routine in
 /// which it stands is given up.
-pub fn cut<B: Bounds>(compilation: &mut Compilation<B>, context: &Context<'_>) -> Result<(), AllocError>
+pub fn cut<B: Bounds>(
+    compilation: &mut Compilation<B>,
+    context: &Context<'_>,
+) -> Result<(), AllocError>
     ensures { OnOk result (work compilation.new ≡ cut (handed context.now) (work compilation.old)) }
 {
     compilation.unit.is_sure = true;

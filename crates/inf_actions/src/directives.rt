@@ -8,8 +8,8 @@ ghost use Rattle.inf_actions.specs.Directives.{carried_out, directive_end};
 ghost use Rattle.inf_declarations.specs.Defaults.{default};
 ghost use Rattle.inf_compilation.specs.Works.{work};
 
-use inf_compilation::context::Context;
 use inf_compilation::compilation::Compilation;
+use inf_compilation::context::Context;
 use inf_declarations::declarations::attribute;
 use inf_declarations::directives::{constant, default, inclusion, message, replace, stub};
 use inf_declarations::globals::global_variable;
@@ -37,7 +37,7 @@ pub(crate) fn end_directive<B: Bounds>(
     let first = compilation.unit.first_place(place);
     let directive = directive_of(compilation.unit.tokens.directive_word());
     carry_out(compilation, directive, context, first, names)?;
-    compilation.begin(context, first)
+    compilation.begin(context.files, first)
 }
 
 /// Carries out a directive that begins at a place, with these names behind its word.

@@ -6,9 +6,9 @@ ghost use Rattle.inf_actions.specs.Headers.{class_named, header_as, header_ended
 ghost use Rattle.inf_listings.specs.Arrays.{array_named};
 ghost use Rattle.inf_compilation.specs.Works.{work};
 
-use inf_compilation::context::Context;
 use inf_bodies::objects::{class_header, object_header};
 use inf_compilation::compilation::Compilation;
+use inf_compilation::context::Context;
 use inf_lexer::Place;
 use inf_listings::arrays::array_named;
 use inf_names::spellings::Name;

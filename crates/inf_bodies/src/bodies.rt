@@ -6,12 +6,12 @@ ghost use Rattle.inf_bodies.specs.Bodies.{attribute_finding, attribute_of, attri
 ghost use Rattle.inf_compilation.specs.Actions.{body_ended, world_ended};
 ghost use Rattle.inf_compilation.specs.Works.{work};
 
-use inf_compilation::context::Context;
 use crate::objects::{
     class_of, found_at, join_some, name_at, refused_finding, setting_of, tell_entry,
 };
 use inf_area::Value;
 use inf_compilation::compilation::Compilation;
+use inf_compilation::context::Context;
 use inf_expressions::{Finding, least_of_both};
 use inf_lexer::Place;
 use inf_names::meanings::Meaning;

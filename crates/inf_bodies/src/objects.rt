@@ -9,9 +9,9 @@ ghost use Rattle.inf_world.specs.World.{class_of_fault};
 ghost use Rattle.inf_unit.specs.Units.{name_at};
 ghost use Rattle.inf_compilation.specs.Works.{work};
 
-use inf_compilation::context::Context;
 use crate::headers::{Header, header_in, word_place};
 use inf_compilation::compilation::Compilation;
+use inf_compilation::context::Context;
 use inf_compilation::findings::{Findings, TOO_MANY};
 use inf_declarations::declarations::{Declared, end_declared, plainly_known};
 use inf_expressions::{Finding, least_of_both};
@@ -355,7 +355,7 @@ fn class_with<B: Bounds>(
     ensures { OnOk result (work compilation.new
         ≡ class_with (handed context.now) first (as_name name.now) declared (work compilation.old)) }
 {
-    open_class(compilation, name, declared.finding)?;
+    open_class(compilation, context, name, declared.finding)?;
     end_declared(
         compilation,
         context,
@@ -370,15 +370,16 @@ fn class_with<B: Bounds>(
 /// A class of this name is open, or, where something is wrong with its header, a body that belongs to nothing.
 fn open_class<B: Bounds>(
     compilation: &mut Compilation<B>,
+    context: &Context<'_>,
     name: &Name,
     found: Option<Finding>,
 ) -> Result<(), AllocError>
-    ensures { OnOk result (work compilation.new ≡ class_opened found (as_name name.now) (work compilation.old)) }
+    ensures { OnOk result (work compilation.new ≡ class_opened (handed context.now) found (as_name name.now) (work compilation.old)) }
 {
     match found {
         Some(_) => lose_class(name, &mut compilation.output),
         None => {
-            let short = bracketed(compilation.alloc, compilation.set, name.bytes())?;
+            let short = bracketed(compilation.alloc, context.set, name.bytes())?;
             begin_class(name, short, &mut compilation.output)
         }
     }
@@ -457,12 +458,13 @@ fn own_name<B: Bounds>(compilation: &Compilation<B>, header: Header) -> Option<N
 /// The characters of the text of a header.
 fn header_text<B: Bounds>(
     compilation: &Compilation<B>,
+    context: &Context<'_>,
     header: Header,
 ) -> Result<Option<Text>, AllocError>
-    ensures { IfOk result (λ text. text ≡ header_text header.text (work compilation.now)) }
+    ensures { IfOk result (λ text. text ≡ header_text (handed context.now) header.text (work compilation.now)) }
 {
     match header.text {
-        Some(at) => text_at(compilation, at),
+        Some(at) => text_at(compilation, context, at),
         None => Ok(None),
     }
 }
@@ -470,14 +472,15 @@ fn header_text<B: Bounds>(
 /// The short name of an object: its text, or its name in round brackets.
 fn short_name<B: Bounds>(
     compilation: &Compilation<B>,
+    context: &Context<'_>,
     header: Header,
     name: &Option<Name>,
 ) -> Result<ShortName, AllocError>
-    ensures { IfOk result (λ short. short ≡ short_name header (option_map as_name name.now) (work compilation.now)) }
+    ensures { IfOk result (λ short. short ≡ short_name (handed context.now) header (option_map as_name name.now) (work compilation.now)) }
 {
-    match header_text(compilation, header)? {
+    match header_text(compilation, context, header)? {
         Some(text) => packed_name(compilation.alloc, Some(text)),
-        None => bracketed(compilation.alloc, compilation.set, shown_name(name)),
+        None => bracketed(compilation.alloc, context.set, shown_name(name)),
     }
 }
 
@@ -519,27 +522,29 @@ fn object_known<B: Bounds>(
 /// An object is open, or, where something is wrong with its header, a body that belongs to nothing.
 fn open_object<B: Bounds>(
     compilation: &mut Compilation<B>,
+    context: &Context<'_>,
     header: Header,
     name: &Option<Name>,
     found: Option<Finding>,
 ) -> Result<(), AllocError>
-    ensures { OnOk result (work compilation.new ≡ object_opened found header (option_map as_name name.now) (work compilation.old)) }
+    ensures { OnOk result (work compilation.new ≡ object_opened (handed context.now) found header (option_map as_name name.now) (work compilation.old)) }
 {
     match found {
         Some(_) => lose_object(name, &mut compilation.output),
-        None => new_object(compilation, header, name),
+        None => new_object(compilation, context, header, name),
     }
 }
 
 /// An object with a header in which nothing is wrong.
 fn new_object<B: Bounds>(
     compilation: &mut Compilation<B>,
+    context: &Context<'_>,
     header: Header,
     name: &Option<Name>,
 ) -> Result<(), AllocError>
-    ensures { OnOk result (work compilation.new ≡ object_new header (option_map as_name name.now) (work compilation.old)) }
+    ensures { OnOk result (work compilation.new ≡ object_new (handed context.now) header (option_map as_name name.now) (work compilation.old)) }
 {
-    let short = short_name(compilation, header, name)?;
+    let short = short_name(compilation, context, header, name)?;
     let class = class_of_word(compilation);
     let parent = parent(compilation, header);
     begin_object(parent, short, class, name, &mut compilation.output)
@@ -584,7 +589,7 @@ fn object_with<B: Bounds>(
         ≡ object_with (handed context.now) first header (option_map as_name name.now) (work compilation.old)) }
 {
     let declared = object_known(compilation, context, header, name);
-    open_object(compilation, header, name, declared.finding)?;
+    open_object(compilation, context, header, name, declared.finding)?;
     end_object(compilation, context, first, name, declared)
 }
 

@@ -7,11 +7,11 @@ ghost use Rattle.inf_bodies.specs.Bodies.{place_finding};
 ghost use Rattle.inf_compilation.specs.Meant.{found_as};
 ghost use Rattle.inf_compilation.specs.Works.{work};
 
-use inf_compilation::context::Context;
 use crate::bodies::{is_words, last_at, place_finding, placed, property_of};
 use crate::objects::{found_at, tell_entry, text_in};
 use inf_area::{AreaName, Target, Value};
 use inf_compilation::compilation::Compilation;
+use inf_compilation::context::Context;
 use inf_compilation::findings::{Findings, header_findings};
 use inf_declarations::declarations::value;
 use inf_expressions::{Finding, Wanted, least_of_both};
@@ -152,15 +152,18 @@ fn word_leaf<B: Bounds>(compilation: &Compilation<B>, takes_words: bool) -> Opti
 }
 
 /// The character that the last token is, as a text.
-fn char_text<B: Bounds>(compilation: &Compilation<B>) -> Result<Option<Text>, AllocError>
-    ensures { IfOk result (λ text. text ≡ char_text (work compilation.now)) }
+fn char_text<B: Bounds>(
+    compilation: &Compilation<B>,
+    context: &Context<'_>,
+) -> Result<Option<Text>, AllocError>
+    ensures { IfOk result (λ text. text ≡ char_text (handed context.now) (work compilation.now)) }
 {
     match compilation
         .unit
         .tokens
         .get(last_at(&compilation.unit.tokens))
     {
-        Some(token) => text_in(compilation.alloc, compilation.set, Mode::Quote, token.bytes),
+        Some(token) => text_in(compilation.alloc, context.set, Mode::Quote, token.bytes),
         None => Ok(None),
     }
 }
@@ -168,13 +171,14 @@ fn char_text<B: Bounds>(compilation: &Compilation<B>) -> Result<Option<Text>, Al
 /// The characters of a leaf that is a character or a text.
 fn leaf_text<B: Bounds>(
     compilation: &Compilation<B>,
+    context: &Context<'_>,
     leaf: Leaf,
 ) -> Result<Option<Text>, AllocError>
-    ensures { IfOk result (λ text. text ≡ leaf_text leaf (work compilation.now)) }
+    ensures { IfOk result (λ text. text ≡ leaf_text (handed context.now) leaf (work compilation.now)) }
 {
     match leaf {
-        Leaf::Char(_) => char_text(compilation),
-        Leaf::Text(at) => text_at(compilation, at),
+        Leaf::Char(_) => char_text(compilation, context),
+        Leaf::Text(at) => text_at(compilation, context, at),
         _ => Ok(None),
     }
 }
@@ -182,12 +186,13 @@ fn leaf_text<B: Bounds>(
 /// The characters of the word of the dictionary that a value is.
 fn word_text<B: Bounds>(
     compilation: &Compilation<B>,
+    context: &Context<'_>,
     takes_words: bool,
 ) -> Result<Option<Text>, AllocError>
-    ensures { IfOk result (λ text. text ≡ word_text takes_words (work compilation.now)) }
+    ensures { IfOk result (λ text. text ≡ word_text (handed context.now) takes_words (work compilation.now)) }
 {
     match word_leaf(compilation, takes_words) {
-        Some(leaf) => leaf_text(compilation, leaf),
+        Some(leaf) => leaf_text(compilation, context, leaf),
         None => Ok(None),
     }
 }
@@ -229,56 +234,60 @@ fn place_text<B: Bounds>(
 /// A value that is the unit's expression, with which nothing is wrong.
 fn place_settled<B: Bounds>(
     compilation: &mut Compilation<B>,
+    context: &Context<'_>,
     name: Option<usize>,
 ) -> Result<Option<Finding>, AllocError>
-    ensures value { OnOk result (work compilation.new ≡ settled_placed name (work compilation.old)) }
-    ensures finding { IfOk result (λ f. f ≡ settled_finding name (work compilation.old)) }
+    ensures value { OnOk result (work compilation.new ≡ settled_placed (handed context.now) name (work compilation.old)) }
+    ensures finding { IfOk result (λ f. f ≡ settled_finding (handed context.now) name (work compilation.old)) }
 {
-    let value = value(compilation)?;
+    let value = value(compilation, context)?;
     placed(compilation, name, value, None)
 }
 
 /// A value that is the unit's expression, of which this was found, and this is its value where its names are only looked up.
 fn place_with<B: Bounds>(
     compilation: &mut Compilation<B>,
+    context: &Context<'_>,
     name: Option<usize>,
     judged: Option<Finding>,
     looked: Value,
 ) -> Result<Option<Finding>, AllocError>
-    ensures value { OnOk result (work compilation.new ≡ value_with name judged looked (work compilation.old)) }
-    ensures finding { IfOk result (λ f. f ≡ value_with_finding name judged looked (work compilation.old)) }
+    ensures value { OnOk result (work compilation.new ≡ value_with (handed context.now) name judged looked (work compilation.old)) }
+    ensures finding { IfOk result (λ f. f ≡ value_with_finding (handed context.now) name judged looked (work compilation.old)) }
 {
     match least_of_both(judged, place_finding(compilation, name, looked)) {
         Some(_) => placed(compilation, name, looked, judged),
-        None => place_settled(compilation, name),
+        None => place_settled(compilation, context, name),
     }
 }
 
 /// A value that is the unit's expression.
 fn place_expression<B: Bounds>(
     compilation: &mut Compilation<B>,
+    context: &Context<'_>,
     name: Option<usize>,
 ) -> Result<Option<Finding>, AllocError>
-    ensures value { OnOk result (work compilation.new ≡ expression_placed name (work compilation.old)) }
-    ensures finding { IfOk result (λ f. f ≡ expression_finding name (work compilation.old)) }
+    ensures value { OnOk result (work compilation.new ≡ expression_placed (handed context.now) name (work compilation.old)) }
+    ensures finding { IfOk result (λ f. f ≡ expression_finding (handed context.now) name (work compilation.old)) }
 {
     let operands = compilation.operands()?;
     let judged = compilation.finding(0, Wanted::Constant, operands.as_slice())?;
     let looked = looked_value(compilation, operands.as_slice())?;
-    place_with(compilation, name, judged, looked)
+    place_with(compilation, context, name, judged, looked)
 }
 
 /// A value goes to the property whose name stands before it, or to the one that was given last. Answers what is wrong.
 fn place_value<B: Bounds>(
     compilation: &mut Compilation<B>,
+    context: &Context<'_>,
     name: Option<usize>,
 ) -> Result<Option<Finding>, AllocError>
-    ensures value { OnOk result (work compilation.new ≡ value_placed name (work compilation.old)) }
-    ensures finding { IfOk result (λ f. f ≡ value_finding name (work compilation.old)) }
+    ensures value { OnOk result (work compilation.new ≡ value_placed (handed context.now) name (work compilation.old)) }
+    ensures finding { IfOk result (λ f. f ≡ value_finding (handed context.now) name (work compilation.old)) }
 {
-    match word_text(compilation, takes_words(compilation, name))? {
+    match word_text(compilation, context, takes_words(compilation, name))? {
         Some(text) => place_text(compilation, name, &text),
-        None => place_expression(compilation, name),
+        None => place_expression(compilation, context, name),
     }
 }
 
@@ -292,7 +301,7 @@ pub fn value_of_body<B: Bounds>(
 {
     let first = compilation.unit.first_place(place);
     let name = name_place(compilation.unit.outer);
-    let found = place_value(compilation, name)?;
+    let found = place_value(compilation, context, name)?;
     tell_entry(compilation, context, first, found)
 }
 

@@ -39,7 +39,7 @@ use Rattle.inf_names.specs.Spellings.{Name}
 use Rattle.inf_names.specs.Locals.{Local, Headed}
 use Rattle.inf_compilation.specs.Context.{Context}
 use Rattle.inf_unit.specs.Directives.{Request, Nothing}
-use Rattle.inf_unit.specs.Messages.{Diagnostic, Reported, location, nothing_reported, with_error, with_fatal, with_fault, with_full, with_warning}
+use Rattle.inf_unit.specs.Messages.{FileNames, Diagnostic, Reported, location, nothing_reported, with_error, with_fatal, with_fault, with_full, with_warning}
 use Rattle.inf_compilation.specs.Context.{Context, longest}
 use Rattle.inf_unit.specs.Names.{no_symbols}
 use Rattle.inf_unit.specs.Tokens.{SourceToken, number_of}
@@ -157,12 +157,12 @@ abbrev pub laid : Place → Code → Compilation → Compilation
 laid first code w = record w { output = code (record w.output { first = first }) }
 
 -- Code begins with the first unit that is finished.
-abbrev pub begun_at : Context → Place → Compilation → Compilation
-begun_at context first w =
+abbrev pub begun_at : FileNames → Place → Compilation → Compilation
+begun_at files first w =
     let o = begun w.output in record w {
       output = o;
       most_labels = max w.most_labels (labels_of o.code);
-      report = with_full context.names first
+      report = with_full files first
           (full o) w.report;
     }
 

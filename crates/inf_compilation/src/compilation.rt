@@ -13,7 +13,7 @@ use inf_cells::Scale;
 use inf_code::code::{Code, CodeLimits};
 use inf_constructs::constructs::Constructs;
 use inf_constructs::labels::Labels;
-use inf_lexer::Place;
+use inf_lexer::{Place, Stack};
 use inf_names::hashing::NameHashing;
 use inf_names::locals::Locals;
 use inf_names::meanings::Meaning;
@@ -228,12 +228,12 @@ impl<B: Bounds> Compilation<B> {
 
     /// A unit that begins at a place is finished, with which code begins, unless it has begun. Where that would pass a setting, it
     /// ends the compilation.
-    pub fn begin(&mut self, context: &Context<'_>, first: Place) -> Result<(), AllocError>
-        ensures { OnOk result (work self.new ≡ begun_at (handed context.now) first (work self.old)) }
+    pub fn begin(&mut self, files: &Stack, first: Place) -> Result<(), AllocError>
+        ensures { OnOk result (work self.new ≡ begun_at files.now.names first (work self.old)) }
     {
         self.output.begin();
         self.count_labels();
-        self.report.full(context.files, first, self.output.full())
+        self.report.full(files, first, self.output.full())
     }
 
     /// The labels, branches and jumps of the open routine are counted.
@@ -309,7 +309,12 @@ impl<B: Bounds> Compilation<B> {
     }
 
     /// What stands too deep ends the compilation at a place.
-    pub fn nest(&mut self, context: &Context<'_>, place: Place, is_deep: bool) -> Result<(), AllocError>
+    pub fn nest(
+        &mut self,
+        context: &Context<'_>,
+        place: Place,
+        is_deep: bool,
+    ) -> Result<(), AllocError>
         ensures { OnOk result (work self.new ≡ nested (handed context.now) place is_deep (work self.old)) }
     {
         if !is_deep {
@@ -320,7 +325,11 @@ impl<B: Bounds> Compilation<B> {
     }
 
     /// A bracket or brace that was taken may stand too deep.
-    fn check_token(&mut self, context: &Context<'_>, token: &SourceToken<'_>) -> Result<(), AllocError>
+    fn check_token(
+        &mut self,
+        context: &Context<'_>,
+        token: &SourceToken<'_>,
+    ) -> Result<(), AllocError>
         ensures { OnOk result (work self.new ≡ token_checked (handed context.now) (spelled token.now) (work self.old)) }
     {
         let opens = matches!(

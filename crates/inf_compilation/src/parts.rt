@@ -5,8 +5,8 @@ ghost use Rattle.inf_expressions.specs.Forests.{trees_in as rooted_in};
 ghost use Rattle.inf_statements.specs.Sites.{site};
 ghost use Rattle.inf_compilation.specs.Parts.{has_last, is_default, line_finding_of, site_of, wanted_of};
 
-use crate::context::Context;
 use crate::compilation::Compilation;
+use crate::context::Context;
 use crate::findings::Findings;
 use inf_constructs::constructs::Kind;
 use inf_constructs::lay_case;
@@ -114,15 +114,20 @@ impl<B: Bounds> Compilation<B> {
     }
 
     /// The names of the unit's expressions are used. Answers their trees.
-    fn settle(&mut self, first: Place, part: Part) -> Result<Forest, AllocError>
-        ensures { IfOk result (λ forest. let s = settled_of (work self.old) in
+    fn settle(
+        &mut self,
+        context: &Context<'_>,
+        first: Place,
+        part: Part,
+    ) -> Result<Forest, AllocError>
+        ensures { IfOk result (λ forest. let s = settled_of (handed context.now) (work self.old) in
             (rooted_in forest ≡ trees_at (order_of part (work self.old)) (wanted_of part) s.operands (work self.old))
             × (work self.new ≡ record (work self.old) { output = record s.out { first = first } })) }
     {
         let order = self.order(part);
         let operands = settled(
             self.alloc,
-            self.set,
+            context.set,
             &self.locals,
             &self.unit.tokens,
             self.unit.gathering.leaves(),
@@ -139,12 +144,12 @@ impl<B: Bounds> Compilation<B> {
     }
 
     /// What a statement goes by beside its trees.
-    fn site(&self) -> Site<'_>
-        ensures { site result ≡ site_of (work self.now) }
+    fn site(&self, context: &Context<'_>) -> Site<'_>
+        ensures { site result ≡ site_of (handed context.now) (work self.now) }
     {
         Site {
             alloc: self.alloc,
-            set: self.set,
+            set: context.set,
             tokens: &self.unit.tokens,
             begun: self.unit.begun,
             items: &self.unit.items,
@@ -174,9 +179,13 @@ impl<B: Bounds> Compilation<B> {
     }
 
     /// What is wrong with an assembly line beside its expressions.
-    fn line_finding(&self, operands: &[Operand]) -> Result<Option<Finding>, AllocError>
+    fn line_finding(
+        &self,
+        context: &Context<'_>,
+        operands: &[Operand],
+    ) -> Result<Option<Finding>, AllocError>
         requires { operands.now ≡ operands_of (work self.now) }
-        ensures { IfOk result (λ finding. finding ≡ line_finding_of (work self.now)) }
+        ensures { IfOk result (λ finding. finding ≡ line_finding_of (handed context.now) (work self.now)) }
     {
         let forest = build(
             self.alloc,
@@ -186,19 +195,24 @@ impl<B: Bounds> Compilation<B> {
             operands,
         )?;
         Ok(
-            self.site()
+            self.site(context)
                 .line_finding(&self.output.names, &forest.nodes, &forest.roots),
         )
     }
 
     /// What is wrong with the unit beside its expressions.
-    fn own_finding(&self, part: Part, operands: &[Operand]) -> Result<Option<Finding>, AllocError>
+    fn own_finding(
+        &self,
+        context: &Context<'_>,
+        part: Part,
+        operands: &[Operand],
+    ) -> Result<Option<Finding>, AllocError>
         requires { operands.now ≡ operands_of (work self.now) }
-        ensures { IfOk result (λ finding. finding ≡ own_finding part (work self.now)) }
+        ensures { IfOk result (λ finding. finding ≡ own_finding (handed context.now) part (work self.now)) }
     {
         match part {
-            Part::Statement(Statement::Assembly) => self.line_finding(operands),
-            Part::Statement(statement) => Ok(self.site().finding(statement, &self.labels)),
+            Part::Statement(Statement::Assembly) => self.line_finding(context, operands),
+            Part::Statement(statement) => Ok(self.site(context).finding(statement, &self.labels)),
             Part::Case if self.constructs.is_late() => Ok(Some(Finding {
                 order: 0,
                 number: MISPLACED_DEFAULT,
@@ -208,12 +222,12 @@ impl<B: Bounds> Compilation<B> {
     }
 
     /// The least of what is wrong with the unit.
-    fn found_in(&self, part: Part) -> Result<Option<Finding>, AllocError>
-        ensures { IfOk result (λ finding. finding ≡ found_in part (work self.now)) }
+    fn found_in(&self, context: &Context<'_>, part: Part) -> Result<Option<Finding>, AllocError>
+        ensures { IfOk result (λ finding. finding ≡ found_in (handed context.now) part (work self.now)) }
     {
         let operands = self.operands()?;
         let finding = self.finding(self.order(part), part.wanted(), operands.as_slice())?;
-        let own = self.own_finding(part, operands.as_slice())?;
+        let own = self.own_finding(context, part, operands.as_slice())?;
         Ok(least_of_both(finding, own))
     }
 
@@ -231,12 +245,17 @@ impl<B: Bounds> Compilation<B> {
     }
 
     /// What a statement with these trees does.
-    fn lay_statement(&mut self, statement: Statement, forest: &Forest) -> Result<(), AllocError>
-        ensures { OnOk result (work self.new ≡ statement_laid_in statement (rooted_in forest.now) (work self.old)) }
+    fn lay_statement(
+        &mut self,
+        context: &Context<'_>,
+        statement: Statement,
+        forest: &Forest,
+    ) -> Result<(), AllocError>
+        ensures { OnOk result (work self.new ≡ statement_laid_in (handed context.now) statement (rooted_in forest.now) (work self.old)) }
     {
         let site = Site {
             alloc: self.alloc,
-            set: self.set,
+            set: context.set,
             tokens: &self.unit.tokens,
             begun: self.unit.begun,
             items: &self.unit.items,
@@ -254,12 +273,17 @@ impl<B: Bounds> Compilation<B> {
 
     /// What a unit with these trees does.
     #[tactic(auto, unfolding(crate::specs::Parts::part_effect))]
-    fn take_effect(&mut self, part: Part, forest: &Forest) -> Result<(), AllocError>
-        ensures { OnOk result (work self.new ≡ part_effect part (rooted_in forest.now) (work self.old)) }
+    fn take_effect(
+        &mut self,
+        context: &Context<'_>,
+        part: Part,
+        forest: &Forest,
+    ) -> Result<(), AllocError>
+        ensures { OnOk result (work self.new ≡ part_effect (handed context.now) part (rooted_in forest.now) (work self.old)) }
     {
         let (tasks, out) = (&mut self.tasks, &mut self.output);
         match part {
-            Part::Statement(statement) => self.lay_statement(statement, forest),
+            Part::Statement(statement) => self.lay_statement(context, statement, forest),
             Part::Condition => lay_test(self.constructs.condition_label(), forest, tasks, out),
             Part::Start => lay_expression(forest, tasks, out),
             Part::Step => {
@@ -284,8 +308,8 @@ impl<B: Bounds> Compilation<B> {
         ensures { OnOk result (work self.new ≡ part_carried (handed context.now) first part finding (work self.old)) }
     {
         if finding.is_none() {
-            let forest = self.settle(first, part)?;
-            self.take_effect(part, &forest)?;
+            let forest = self.settle(context, first, part)?;
+            self.take_effect(context, part, &forest)?;
         }
         self.end_unit(context, first, part.has_last(), &Findings::alone(finding))
     }
@@ -319,7 +343,12 @@ impl<B: Bounds> Compilation<B> {
     }
 
     /// A unit of a routine ends, before a token at a place. In a routine that is passed over nothing has an effect.
-    pub fn end_part(&mut self, context: &Context<'_>, place: Place, part: Part) -> Result<(), AllocError>
+    pub fn end_part(
+        &mut self,
+        context: &Context<'_>,
+        place: Place,
+        part: Part,
+    ) -> Result<(), AllocError>
         ensures { OnOk result (work self.new ≡ part_ended (handed context.now) place part (work self.old)) }
     {
         if self.is_replaced {
@@ -329,7 +358,7 @@ impl<B: Bounds> Compilation<B> {
         self.unit.prepare()?;
         self.prepare_case(part)?;
         let first = self.part_place(part, place);
-        let finding = self.found_in(part)?;
+        let finding = self.found_in(context, part)?;
         self.begin_part(part)?;
         self.name();
         self.carry_out_part(context, first, part, finding)
@@ -340,7 +369,7 @@ impl<B: Bounds> Compilation<B> {
         ensures { let before = work self.old in
             OnOk result (work self.new ≡ part_ended (handed context.now) place (Part.Statement (statement_at before)) before) }
     {
-        let statement = self.site().statement();
+        let statement = self.site(context).statement();
         self.end_part(context, place, Part::Statement(statement))
     }
 

@@ -8,8 +8,8 @@ ghost use Rattle.inf_names.specs.Spellings.{as_name};
 ghost use Rattle.inf_compilation.specs.Actions.{kind_ended, with_all_unused, with_routine_fault};
 ghost use Rattle.inf_compilation.specs.Meant.{found_as};
 
-use crate::context::Context;
 use crate::compilation::Compilation;
+use crate::context::Context;
 use crate::findings::{Findings, again_by, header_findings};
 use inf_assembler::{CloseFault, RoutineKind};
 use inf_constructs::labels::Labels;
@@ -99,7 +99,12 @@ impl<B: Bounds> Compilation<B> {
     }
 
     /// The routine of a header that begins at a place: one that is to be replaced is passed over.
-    fn begin_routine(&mut self, context: &Context<'_>, first: Place, name: &Name) -> Result<(), AllocError>
+    fn begin_routine(
+        &mut self,
+        context: &Context<'_>,
+        first: Place,
+        name: &Name,
+    ) -> Result<(), AllocError>
         ensures { OnOk result (work self.new ≡ header_named (handed context.now) first (as_name name.now) (work self.old)) }
     {
         self.is_embedded = false;

@@ -9,10 +9,10 @@ ghost use Rattle.inf_compilation.specs.Actions.{settled_of, trees_at};
 ghost use Rattle.inf_compilation.specs.Meant.{again_as, found_as};
 ghost use Rattle.inf_compilation.specs.Works.{work};
 
-use inf_compilation::context::Context;
 use crate::globals::FIRST_GLOBAL;
 use inf_area::Value;
 use inf_compilation::compilation::Compilation;
+use inf_compilation::context::Context;
 use inf_compilation::findings::{
     Again, Findings, USED_BEFORE, again_by, again_finding, many_finding,
 };
@@ -406,14 +406,17 @@ pub(crate) fn valued<B: Bounds>(
 }
 
 /// The value of the unit's expression, whose names are used.
-pub fn value<B: Bounds>(compilation: &mut Compilation<B>) -> Result<Value, AllocError>
-    ensures { IfOk result (λ value. let s = settled_of (work compilation.old) in
+pub fn value<B: Bounds>(
+    compilation: &mut Compilation<B>,
+    context: &Context<'_>,
+) -> Result<Value, AllocError>
+    ensures { IfOk result (λ value. let s = settled_of (handed context.now) (work compilation.old) in
         (value ≡ value_in (map tree_in (trees_at 0 Wanted.Constant s.operands (work compilation.old))))
         × (work compilation.new ≡ record (work compilation.old) { output = s.out })) }
 {
     let operands = settled(
         compilation.alloc,
-        compilation.set,
+        context.set,
         &compilation.locals,
         &compilation.unit.tokens,
         compilation.unit.gathering.leaves(),

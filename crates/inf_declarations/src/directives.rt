@@ -14,10 +14,10 @@ ghost use Rattle.inf_declarations.specs.Defaults.{default};
 ghost use Rattle.inf_compilation.specs.Meant.{again_as, found_as};
 ghost use Rattle.inf_compilation.specs.Works.{work};
 
-use inf_compilation::context::Context;
 use inf_area::Value;
 use inf_assembler::RoutineKind;
 use inf_compilation::compilation::Compilation;
+use inf_compilation::context::Context;
 use inf_compilation::findings::{Again, Findings, again_by, again_finding};
 use inf_expressions::{Finding, Forest, Wanted, build, constant as constant_in, least_of_both};
 use inf_gathering::gathering::Leaf;
@@ -30,8 +30,8 @@ use inf_report::own_words::OwnWords;
 use inf_settings::bounds::Bounds;
 use inf_statements::operands::add_leaf as add_operand;
 use inf_unit::directives::{Request, weight_of};
-use inf_unit::messages::location;
 use inf_unit::kinds::number_of;
+use inf_unit::messages::location;
 use inf_unit::unit_tokens::UnitTokens;
 use std::alloc::AllocError;
 
@@ -186,13 +186,13 @@ pub fn message<B: Bounds>(
     names: &[Name],
 ) -> Result<(), AllocError>
     ensures { let before = work compilation.old in OnOk result (work compilation.new ≡ record before {
-      report = with_words (location (handed context.now).names first) (weight_of (map as_name names.now)) (words_of before.set before.unit)
+      report = with_words (location (handed context.now).names first) (weight_of (map as_name names.now)) (words_of (handed context.now).set before.unit)
           before.report;
     }) }
 {
     let words = OwnWords {
         bytes: compilation.unit.tokens.quoted(),
-        set: compilation.set,
+        set: context.set,
     };
     compilation
         .report
@@ -275,7 +275,7 @@ fn end_constant<B: Bounds>(
     let order = compilation.unit.tokens.name_order();
     let found = constant_findings(order, again_by(name, refused), finding);
     if found.least.is_none() {
-        add_leaf(compilation)?;
+        add_leaf(compilation, context)?;
     }
     compilation.end_unit(context, first, true, &found)
 }
@@ -292,15 +292,18 @@ fn constant_findings(order: u32, again: Option<Again>, finding: Option<Finding>)
 }
 
 /// Adds the text or the word that a constant's expression is.
-fn add_leaf<B: Bounds>(compilation: &mut Compilation<B>) -> Result<(), AllocError>
+fn add_leaf<B: Bounds>(
+    compilation: &mut Compilation<B>,
+    context: &Context<'_>,
+) -> Result<(), AllocError>
     ensures { let before = work compilation.old in OnOk result (work compilation.new ≡ record before {
-      output = leaf_added before.set before.unit.tokens before.unit.gathering.leaves before.output;
+      output = leaf_added (handed context.now).set before.unit.tokens before.unit.gathering.leaves before.output;
     }) }
 {
     let leaves = compilation.unit.gathering.leaves();
     add_operand(
         compilation.alloc,
-        compilation.set,
+        context.set,
         &compilation.unit.tokens,
         leaves,
         &mut compilation.output,

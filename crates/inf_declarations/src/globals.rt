@@ -5,10 +5,10 @@ ghost use Rattle.inf_names.specs.Spellings.{as_name};
 ghost use Rattle.inf_declarations.specs.Declarations.{global_added, global_ended, global_variable, global_with, has_most_globals, new_global, nothing_of, valued};
 ghost use Rattle.inf_compilation.specs.Works.{work};
 
-use inf_compilation::context::Context;
 use crate::declarations::{Declared, end_declaration, nothing_of, value, valued};
 use inf_area::Value;
 use inf_compilation::compilation::Compilation;
+use inf_compilation::context::Context;
 use inf_expressions::Finding;
 use inf_lexer::Place;
 use inf_names::meanings::Meaning;
@@ -71,7 +71,7 @@ fn end_global<B: Bounds>(
 ) -> Result<(), AllocError>
     ensures { OnOk result (work compilation.new ≡ global_ended (handed context.now) first (as_name name.now) declared (work compilation.old)) }
 {
-    add_global(compilation, name, declared.finding)?;
+    add_global(compilation, context, name, declared.finding)?;
     end_declaration(
         compilation,
         context,
@@ -85,11 +85,12 @@ fn end_global<B: Bounds>(
 /// Declares the name of a variable, which is a new one with the value of the unit's expression where nothing is wrong with it.
 fn add_global<B: Bounds>(
     compilation: &mut Compilation<B>,
+    context: &Context<'_>,
     name: &Name,
     found: Option<Finding>,
 ) -> Result<(), AllocError>
     ensures { let before = work compilation.old in
-        OnOk result (work compilation.new ≡ record before { output = global_added found (as_name name.now) before }) }
+        OnOk result (work compilation.new ≡ record before { output = global_added (handed context.now) found (as_name name.now) before }) }
 {
     if found.is_some() {
         compilation
@@ -97,7 +98,7 @@ fn add_global<B: Bounds>(
             .declare(name.bytes(), name.place, nothing_of(FixedLimit::Globals))?;
         return Ok(());
     }
-    let value = value(compilation)?;
+    let value = value(compilation, context)?;
     let meaning = Meaning::Variable(FIRST_GLOBAL + compilation.output.tables.globals.len() as u8);
     compilation
         .output

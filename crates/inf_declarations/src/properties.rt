@@ -5,10 +5,10 @@ ghost use Rattle.inf_names.specs.Spellings.{as_name};
 ghost use Rattle.inf_declarations.specs.Declarations.{has_most_properties, is_additive, is_additive_word, is_alias, name_known, new_property, nothing_of, property, property_added, property_ended, property_named, property_names, property_number, property_order, property_with, valued};
 ghost use Rattle.inf_compilation.specs.Works.{work};
 
-use inf_compilation::context::Context;
 use crate::declarations::{Declared, alias, end_declaration, is_alias, nothing_of, value, valued};
 use inf_area::Value;
 use inf_compilation::compilation::Compilation;
+use inf_compilation::context::Context;
 use inf_expressions::{Finding, Wanted, least_of_both};
 use inf_lexer::Place;
 use inf_names::meanings::Meaning;
@@ -145,7 +145,7 @@ fn end_property<B: Bounds>(
     ensures { OnOk result (work compilation.new
         ≡ property_ended (handed context.now) first is_additive (as_name name.now) declared (work compilation.old)) }
 {
-    add_property(compilation, name, is_additive, declared.finding)?;
+    add_property(compilation, context, name, is_additive, declared.finding)?;
     end_declaration(
         compilation,
         context,
@@ -166,18 +166,19 @@ fn property_number<B: Bounds>(compilation: &Compilation<B>) -> u8
 /// Declares the name of a property, which is a new one with the value of the unit's expression where nothing is wrong with it.
 fn add_property<B: Bounds>(
     compilation: &mut Compilation<B>,
+    context: &Context<'_>,
     name: &Name,
     is_additive: bool,
     found: Option<Finding>,
 ) -> Result<(), AllocError>
     ensures { let before = work compilation.old in
-        OnOk result (work compilation.new ≡ record before { output = property_added found (as_name name.now) is_additive before }) }
+        OnOk result (work compilation.new ≡ record before { output = property_added (handed context.now) found (as_name name.now) is_additive before }) }
 {
     if found.is_some() {
         compilation.output.declare(name.bytes(), name.place, nothing_of(FixedLimit::Properties))?;
         return Ok(());
     }
-    let value = value(compilation)?;
+    let value = value(compilation, context)?;
     let meaning = Meaning::Property {
         number: property_number(compilation),
         is_additive,

@@ -9,9 +9,9 @@ ghost use Rattle.inf_listings.specs.Arrays.{added, added_finding, adding, apart,
 ghost use Rattle.inf_compilation.specs.Actions.{operands_of};
 ghost use Rattle.inf_compilation.specs.Works.{work};
 
-use inf_compilation::context::Context;
 use inf_area::Value;
 use inf_compilation::compilation::{Compilation, Listing};
+use inf_compilation::context::Context;
 use inf_compilation::findings::Findings;
 use inf_declarations::declarations::{Declared, end_declared, plainly_known, value, value_in};
 use inf_expressions::{Finding, Operand, Wanted, build, least_of_both};
@@ -290,12 +290,13 @@ fn bare_text<B: Bounds>(compilation: &Compilation<B>, is_alone: bool) -> Option<
 /// The characters of the text at a place of the unit.
 pub fn text_at<B: Bounds>(
     compilation: &Compilation<B>,
+    context: &Context<'_>,
     at: usize,
 ) -> Result<Option<Text>, AllocError>
-    ensures { IfOk result (λ text. text ≡ text_at compilation.now.set compilation.now.unit.tokens at) }
+    ensures { IfOk result (λ text. text ≡ text_at (handed context.now).set compilation.now.unit.tokens at) }
 {
     match compilation.unit.tokens.get(at) {
-        Some(token) => text_of(compilation.alloc, compilation.set, &token),
+        Some(token) => text_of(compilation.alloc, context.set, &token),
         None => Ok(None),
     }
 }
@@ -328,11 +329,12 @@ fn items_finding<B: Bounds>(
 /// What is wrong with an entry that is the text at a place alone.
 fn text_finding<B: Bounds>(
     compilation: &Compilation<B>,
+    context: &Context<'_>,
     at: usize,
 ) -> Result<Option<Finding>, AllocError>
-    ensures { let w = work compilation.now in IfOk result (λ f. f ≡ text_finding (text_at w.set w.unit.tokens at) w) }
+    ensures { let w = work compilation.now in IfOk result (λ f. f ≡ text_finding (text_at (handed context.now).set w.unit.tokens at) w) }
 {
-    match text_at(compilation, at)? {
+    match text_at(compilation, context, at)? {
         Some(text) => items_finding(compilation, text.as_slice()),
         None => Ok(Some(Finding::out_of_range(0))),
     }
@@ -359,14 +361,15 @@ pub fn looked_value<B: Bounds>(
 /// What is wrong with an entry, beside its expression, which is alone or not.
 fn own_entry_finding<B: Bounds>(
     compilation: &Compilation<B>,
+    context: &Context<'_>,
     is_alone: bool,
     operands: &[Operand],
 ) -> Result<Option<Finding>, AllocError>
     requires { operands.now ≡ operands_of (work compilation.now) }
-    ensures { let w = work compilation.now in IfOk result (λ f. f ≡ own_finding (bare_text is_alone w) is_alone w) }
+    ensures { let w = work compilation.now in IfOk result (λ f. f ≡ own_finding (handed context.now) (bare_text is_alone w) is_alone w) }
 {
     match bare_text(compilation, is_alone) {
-        Some(at) => text_finding(compilation, at),
+        Some(at) => text_finding(compilation, context, at),
         None => {
             let value = looked_value(compilation, operands)?;
             Ok(added_finding(compilation, adding(is_alone, value)))
@@ -377,13 +380,14 @@ fn own_entry_finding<B: Bounds>(
 /// What is wrong with an entry, which is alone or not.
 fn entry_finding<B: Bounds>(
     compilation: &Compilation<B>,
+    context: &Context<'_>,
     is_alone: bool,
 ) -> Result<Option<Finding>, AllocError>
-    ensures { IfOk result (λ f. f ≡ entry_finding is_alone (work compilation.now)) }
+    ensures { IfOk result (λ f. f ≡ entry_finding (handed context.now) is_alone (work compilation.now)) }
 {
     let operands = compilation.operands()?;
     let judged = compilation.finding(0, Wanted::Constant, operands.as_slice())?;
-    let own = own_entry_finding(compilation, is_alone, operands.as_slice())?;
+    let own = own_entry_finding(compilation, context, is_alone, operands.as_slice())?;
     Ok(least_of_both(judged, own))
 }
 
@@ -399,11 +403,15 @@ fn add<B: Bounds>(compilation: &mut Compilation<B>, entries: Entries<'_>) -> Res
 }
 
 /// Adds the characters of the text at a place.
-fn add_text<B: Bounds>(compilation: &mut Compilation<B>, at: usize) -> Result<(), AllocError>
+fn add_text<B: Bounds>(
+    compilation: &mut Compilation<B>,
+    context: &Context<'_>,
+    at: usize,
+) -> Result<(), AllocError>
     ensures { let before = work compilation.old in
-        OnOk result (work compilation.new ≡ text_added (text_at before.set before.unit.tokens at) before) }
+        OnOk result (work compilation.new ≡ text_added (text_at (handed context.now).set before.unit.tokens at) before) }
 {
-    let Some(text) = text_at(compilation, at)? else {
+    let Some(text) = text_at(compilation, context, at)? else {
         return Ok(());
     };
     let codes = codes_of(compilation.alloc, text.as_slice())?;
@@ -411,20 +419,28 @@ fn add_text<B: Bounds>(compilation: &mut Compilation<B>, at: usize) -> Result<()
 }
 
 /// Adds an entry with a value, which is alone or not.
-fn add_value<B: Bounds>(compilation: &mut Compilation<B>, is_alone: bool) -> Result<(), AllocError>
-    ensures { OnOk result (work compilation.new ≡ value_added is_alone (work compilation.old)) }
+fn add_value<B: Bounds>(
+    compilation: &mut Compilation<B>,
+    context: &Context<'_>,
+    is_alone: bool,
+) -> Result<(), AllocError>
+    ensures { OnOk result (work compilation.new ≡ value_added (handed context.now) is_alone (work compilation.old)) }
 {
-    let value = value(compilation)?;
+    let value = value(compilation, context)?;
     add(compilation, adding(is_alone, value))
 }
 
 /// Adds an entry with which nothing is wrong, and which is alone or not.
-fn add_entry<B: Bounds>(compilation: &mut Compilation<B>, is_alone: bool) -> Result<(), AllocError>
-    ensures { OnOk result (work compilation.new ≡ entry_added is_alone (work compilation.old)) }
+fn add_entry<B: Bounds>(
+    compilation: &mut Compilation<B>,
+    context: &Context<'_>,
+    is_alone: bool,
+) -> Result<(), AllocError>
+    ensures { OnOk result (work compilation.new ≡ entry_added (handed context.now) is_alone (work compilation.old)) }
 {
     match bare_text(compilation, is_alone) {
-        Some(at) => add_text(compilation, at),
-        None => add_value(compilation, is_alone),
+        Some(at) => add_text(compilation, context, at),
+        None => add_value(compilation, context, is_alone),
     }
 }
 
@@ -439,7 +455,7 @@ fn entry_with<B: Bounds>(
     ensures { OnOk result (work compilation.new ≡ entry_with (handed context.now) first is_alone found (work compilation.old)) }
 {
     if found.is_none() {
-        add_entry(compilation, is_alone)?;
+        add_entry(compilation, context, is_alone)?;
     }
     compilation.end_unit(context, first, false, &Findings::alone(found))
 }
@@ -453,7 +469,7 @@ fn judge_entry<B: Bounds>(
 ) -> Result<(), AllocError>
     ensures { OnOk result (work compilation.new ≡ entry_judged (handed context.now) first is_alone (work compilation.old)) }
 {
-    let found = entry_finding(compilation, is_alone)?;
+    let found = entry_finding(compilation, context, is_alone)?;
     compilation.listing.has_entries = true;
     entry_with(compilation, context, first, is_alone, found)
 }

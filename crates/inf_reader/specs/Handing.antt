@@ -78,7 +78,7 @@ lone_told (Some place) context s = record s { work = record s.work { report = wi
 -- A conditional directive is a unit. Before it the statements are closed that are over, whatever the next token is.
 abbrev pub unit_ended : Option Place → Context → ReaderState → ReaderState
 unit_ended None context s = s
-unit_ended (Some place) context s = record s { work = begun_at context place (closed_ahead (closings s.reading.stack) s.work) }
+unit_ended (Some place) context s = record s { work = begun_at context.names place (closed_ahead (closings s.reading.stack) s.work) }
 
 -- first the `#` before the token, then the token, and then a conditional directive that has ended: one that has no conditional to
 -- end or to turn is told

@@ -8,12 +8,12 @@ ghost use Rattle.inf_reader.specs.Handing.{hash};
 ghost use Rattle.inf_reader.specs.Reading.{with_complaint};
 ghost use Rattle.inf_reader.specs.Tests.{complaint_of};
 
-use inf_compilation::context::Context;
 use crate::reader::Reader;
 use crate::recovery::{Recovery, passed};
 use crate::tokens::complaint_of;
 use inf_actions::acting::{act_all, cut};
 use inf_compilation::compilation::Compilation;
+use inf_compilation::context::Context;
 use inf_conditionals::ends::tell_lone;
 use inf_conditionals::filtered::{Filtered, Forwarded, Site};
 use inf_lexer::Place;
@@ -23,7 +23,6 @@ use inf_scanner::{Mark, TokenKind};
 use inf_settings::bounds::Bounds;
 use inf_settings::settings::Settings;
 use inf_syntax::Action;
-use inf_text::CharSet;
 use inf_unit::kinds::is_end;
 use inf_unit::messages::{Diagnostics, location};
 use inf_unit::tokens::SourceToken;
@@ -46,21 +45,20 @@ impl<B: Bounds> Progress<B> {
     ghost use Rattle.inf_compilation.specs.Actions.{piece_begun as work_begun};
     ghost use Rattle.inf_compilation.specs.Works.{work};
 
-    /// Before the first token of sources in a character set, of which names are hashed so.
+    /// Before the first token of a source, of which names are hashed so.
     pub fn new(
         alloc: Global,
-        set: CharSet,
         settings: &Settings,
         hashing: NameHashing,
     ) -> Result<Progress<B>, AllocError>
         requires { Allows B.allows settings.now }
-        ensures { IfOk result (λ progress. standing progress ≡ begun_stand set settings.now) }
+        ensures { IfOk result (λ progress. standing progress ≡ begun_stand settings.now) }
     {
         Ok(Progress {
             alloc,
             reader: Reader::new(alloc),
             actions: Vec::new(alloc),
-            work: Compilation::new(alloc, set, settings, hashing)?,
+            work: Compilation::new(alloc, settings, hashing)?,
         })
     }
 
@@ -120,7 +118,7 @@ impl<B: Bounds> Progress<B> {
         }
         if let Some(place) = judged.ended {
             self.work.close_ahead(self.reader.machine.closings())?;
-            self.work.begin(context, place)?;
+            self.work.begin(context.files, place)?;
         }
         Ok(())
     }
@@ -143,7 +141,11 @@ impl<B: Bounds> Progress<B> {
 
     /// A token of a piece, or the end between the pieces.
     #[tactic(auto, using(crate::proofs::Inside::read_first, crate::proofs::Inside::read_inside))]
-    fn read_token(&mut self, context: &Context<'_>, token: &SourceToken<'_>) -> Result<(), AllocError>
+    fn read_token(
+        &mut self,
+        context: &Context<'_>,
+        token: &SourceToken<'_>,
+    ) -> Result<(), AllocError>
         ensures { let before = reading self.old.reader in
             OnOk result (standing self.new
             ≡ read_at (handed context.now) (spelled token.now) before.stack before (work self.old.work)) }
@@ -170,7 +172,11 @@ impl<B: Bounds> Progress<B> {
     }
 
     /// The first token of a new piece, where none was at hand.
-    fn read_first(&mut self, context: &Context<'_>, token: &SourceToken<'_>) -> Result<(), AllocError>
+    fn read_first(
+        &mut self,
+        context: &Context<'_>,
+        token: &SourceToken<'_>,
+    ) -> Result<(), AllocError>
         requires { (reading self.old.reader).stack ≡ [] }
         ensures { OnOk result (standing self.new
             ≡ judged (handed context.now) (spelled token.now) (piece_begun (reading self.old.reader)) (work_begun (work self.old.work))) }
@@ -188,7 +194,12 @@ impl<B: Bounds> Progress<B> {
         if !self.reader.read(token.atom(), &mut self.actions)? {
             return self.bad(context, token);
         }
-        act_all(&mut self.work, context, token.place, self.actions.as_slice())?;
+        act_all(
+            &mut self.work,
+            context,
+            token.place,
+            self.actions.as_slice(),
+        )?;
         self.work.take(context, token)
     }
 
@@ -199,7 +210,11 @@ impl<B: Bounds> Progress<B> {
     {
         self.reader.give_up(token);
         cut(&mut self.work, context)?;
-        complain(&mut self.work.report, location(context.files, token.place), token)
+        complain(
+            &mut self.work.report,
+            location(context.files, token.place),
+            token,
+        )
     }
 }
 

@@ -19,6 +19,7 @@ use Rattle.inf_sources.specs.Inclusions.{Inclusion, Nesting, Opens, OpensNone, W
 use Rattle.inf_sources.specs.declared.open_files.Included.{Included}
 use Rattle.inf_sources.specs.declared.open_files.Included.TheVariants as answer
 use Rattle.inf_compilation.specs.Actions.{Compilation, is_class}
+use Rattle.inf_compilation.specs.Context.{Context}
 use Rattle.inf_unit.specs.Directives.{Request, Nothing, Include, End}
 use Rattle.inf_settings.specs.Settings.{number_of}
 use Rattle.inf_settings.specs.declared.setting.Setting.{Setting}
@@ -60,7 +61,7 @@ tables_full settings =
 -- how the first token of a main source is read, and what there is before it
 abbrev pub begun_with : Choices → FileNames → ReaderState
 begun_with o names =
-    let s = begun_stand o.set o.settings in
+    let s = begun_stand o.settings in
     record s { work = record s.work { report = with_full names first_place (tables_full o.settings) (none_reported o.has_warnings) } }
 
 -- before the first token of the main source of this name
@@ -82,6 +83,10 @@ start sources o name =
 -- how it is read and what was compiled
 abbrev pub stand_of : State → ReaderState
 stand_of s = record { reading = s.reading; work = s.work }
+
+-- what is handed down to all that is compiled
+abbrev pub context_of : Choices → State → Context
+context_of o s = record { names = s.nesting.names; set = o.set; settings = o.settings }
 
 -- Nothing is read behind the end of the main source, a fatal message, or a directive that ends all.
 abbrev pub has_ended : State → Bool
@@ -119,11 +124,11 @@ quoted_behind site j t quoted =
     if site.is_quiet || is_none j.token then quoted else if nat_lt quoted (quoted_bytes t) then quoted_bytes t else quoted
 
 -- the conditionals say what becomes of it, and what there is to tell of a condition, and the reader takes what is handed on
-abbrev pub stepped : State → State
-stepped s =
+abbrev pub stepped : Choices → State → State
+stepped o s =
     let t = token_of s in
     let b = judged (site_of s.reading) s.work.output t s.conditions in
-    let n = judged_taken s.nesting.names t b.judged (said_told b.now.said s.nesting.names (stand_of s)) in
+    let n = judged_taken (context_of o s) t b.judged (said_told b.now.said (context_of o s) (stand_of s)) in
     record {
       nesting = record s.nesting { cursor = behind s.nesting.cursor (read s.nesting.cursor) };
       conditions = silent b.now;
@@ -218,7 +223,7 @@ told_out s = record s { work = record s.work { report = flushed s.work.report };
 
 -- one turn takes a token, does what it asks, and writes what there is to tell
 abbrev pub turn : Sources → Choices → State → State
-turn sources o s = told_out (followed sources o (stepped s))
+turn sources o s = told_out (followed sources o (stepped o s))
 
 -- A part ends between two directives; of a conditional one, behind the side that it leaves out.
 abbrev pub is_parted : State → Bool

@@ -23,6 +23,7 @@ ghost use Rattle.inf_session.specs.Weights.{GoesOn, room, weight};
 use crate::compiled::{Compiled, Status, conclude};
 use crate::faults::{Fault, unread};
 use crate::setup::Setup;
+use inf_compilation::context::Context;
 use inf_conditionals::conditionals::Conditionals;
 use inf_conditionals::filtered::{Filtered, Site};
 use inf_files::files::Files;
@@ -391,8 +392,12 @@ impl<'a, B: Bounds> Session<'a, B> {
             &mut self.progress.work.report,
             &mut self.progress.work.output,
         )?;
-        self.progress
-            .take_judged(self.open_files.names(), &spelled, judged)?;
+        let context = Context {
+            files: self.open_files.names(),
+            set: self.setup.set,
+            settings: self.setup.settings,
+        };
+        self.progress.take_judged(&context, &spelled, judged)?;
         Ok(())
     }
 

@@ -50,7 +50,7 @@ impl Setup<'_> {
     {
         let mut report = Diagnostics::new(alloc, self.has_warnings);
         report.full(files, FIRST_LINE, self.tables_full())?;
-        let mut progress = Progress::new(alloc, self.set, self.settings, self.hashing)?;
+        let mut progress = Progress::new(alloc, self.settings, self.hashing)?;
         progress.work.report = report;
         Ok(progress)
     }

@@ -6,9 +6,9 @@ ghost use Rattle.inf_verbs.specs.Lines.{LineOf};
 ghost use Rattle.inf_verb_lines.specs.Verbs.{action_by, arrow_in, arrow_or, attribute_in, can_be_routine, has_verb, is_filter_word, is_lone_name, is_mark_at, is_reverse, is_right, is_sign_word, line_added, line_behind, line_ended, line_found, line_judged, line_kept, line_laid, line_token, line_tokens, lone_by, lone_token, name_token, named_at, named_behind, noun_named, one_line, parsing_routine, preposition, token_finding, tokens_finding, with_next, with_token, wrong_unless};
 ghost use Rattle.inf_compilation.specs.Works.{work};
 
-use inf_compilation::context::Context;
 use crate::verbs::{end_of_verb, has_verb, is_mark_at};
 use inf_compilation::compilation::{Compilation, Extending};
+use inf_compilation::context::Context;
 use inf_expressions::{Finding, least_of_both};
 use inf_lexer::Place;
 use inf_names::meanings::Meaning;

@@ -7,8 +7,8 @@ ghost use Rattle.inf_output.specs.Actions.{faked};
 ghost use Rattle.inf_compilation.specs.Meant.{again_as, found_as};
 ghost use Rattle.inf_compilation.specs.Works.{work};
 
-use inf_compilation::context::Context;
 use inf_compilation::compilation::{Compilation, Extending};
+use inf_compilation::context::Context;
 use inf_compilation::findings::{
     Again, Findings, TOO_MANY, WRONG_VERB, again_by, again_finding, many_finding,
 };
