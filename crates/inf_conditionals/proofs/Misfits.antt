@@ -11,7 +11,7 @@ use Rattle.inf_syntax.specs.Classes.{classes}
 use Rattle.inf_grammar.specs.Facts.{beginnings}
 use Rattle.inf_grammar.specs.Language.{grammar, known}
 use Rattle.inf_machine.specs.Machine.{fits}
-use Rattle.inf_conditionals.specs.Atoms.{bad_atom, end_atom}
+use Rattle.inf_unit.specs.Atoms.{bad_atom, end_atom}
 
 abbrev never : ℕ → Bool
 never n = false

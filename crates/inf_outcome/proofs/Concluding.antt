@@ -322,10 +322,10 @@ stops_reading_of failed s t old now new f told all nested given h =
 stops_of : (failed : Type 0) (s : Sources) (o : Choices) (t : State) (old now new : Openings) (f : Open) (told : List ℕ) →
     new.all ≡ now.all → IsNested old now f
     → AllGiven s (length old.all) now f → StopsFor failed s o t old now f told
-    → StopsReading failed s t old new told ⊎ StopsAtInclusion failed s o (stepped t) (opened_since old new) told
+    → StopsReading failed s t old new told ⊎ StopsAtInclusion failed s o (stepped o t) (opened_since old new) told
 stops_of failed s o t old now new f told all nested given (inl h) = inl (stops_reading_of failed s t old now new f told all nested given h)
 stops_of failed s o t old now new f told all nested given (inr h) =
-    inr (subst (λ (names : List (List ℕ)). StopsAtInclusion failed s o (stepped t) names told)
+    inr (subst (λ (names : List (List ℕ)). StopsAtInclusion failed s o (stepped o t) names told)
     (ap (λ (xs : List Opening). map (λ (q : Opening). q.name) (drop (length old.all) xs)) (sym all)) h)
 
 -- all was written that comes with some turns
@@ -340,7 +340,7 @@ heard_of failed s o name was old now new f before after told begun all nested gi
       (subst (λ (lines : List ℕ). Takes before after lines) (sym (g.wrote.same [])) g.wrote.takes);
   goes_on = ap (λ (x : State). has_ended (run s o g.turns x)) (sym begun) ∙ g.goes_on [];
   stops = subst (λ (x : State). StopsReading failed s (run s o g.turns x) old new told ⊎ StopsAtInclusion failed s o
-      (stepped (run s o g.turns x)) (opened_since old new) told) begun
+      (stepped o (run s o g.turns x)) (opened_since old new) told) begun
       (stops_of failed s o (run s o g.turns (was [])) old now new f told all nested given (g.stops []));
 })
 

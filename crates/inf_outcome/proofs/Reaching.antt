@@ -19,7 +19,7 @@ use Rattle.inf_reader.specs.Handing.{said_told, site_of}
 use Rattle.inf_reader.specs.Reading.{is_mode_ended}
 use Rattle.inf_session.specs.Choices.{Choices}
 use Rattle.inf_session.specs.Ending.{Outcome, missing}
-use Rattle.inf_session.specs.Session.{State, answered, asked_nothing, file_closed, followed, has_ended, carried_out, included_by, is_resting, left, left_by, none_included, piece_closed, rested, run, stand_of, start, stepped, token_of, turn}
+use Rattle.inf_session.specs.Session.{State, answered, asked_nothing, file_closed, followed, has_ended, carried_out, context_of, included_by, is_resting, left, left_by, none_included, piece_closed, rested, run, stand_of, start, stepped, token_of, turn}
 use Rattle.inf_session.proofs.Leadings.{run_going, run_sum}
 use Rattle.inf_session.proofs.Stepping.{end_ends}
 use Rattle.inf_outcome.specs.Outcome.{IsOutcomeOf, ending_of}
@@ -116,24 +116,24 @@ rested_goes was s g =
     ]) (λ _. g))
 
 -- a token takes something, or is the end of its file, and ends it
-stepped_takes : (s : State) →
-    (is_mode_ended (stepped s).reading.mode ≡ true) ⊎ (length (stepped s).nesting.cursor.rest < length s.nesting.cursor.rest)
-stepped_takes s =
+stepped_takes : (o : Choices) (s : State) →
+    (is_mode_ended (stepped o s).reading.mode ≡ true) ⊎ (length (stepped o s).nesting.cursor.rest < length s.nesting.cursor.rest)
+stepped_takes o s =
     let c = s.nesting.cursor in
-    let t = token_of c in
+    let t = token_of s in
     let b = judged (site_of s.reading) s.work.output t s.conditions in
     elim (tokens_take_bytes c.set c.limit c.lines c.rest).one as
-    (λ _. (is_mode_ended (stepped s).reading.mode ≡ true) ⊎ (length (stepped s).nesting.cursor.rest < length s.nesting.cursor.rest)) [
-      | inl end ↦ inl (end_ends s.nesting.names t.kind t.bytes t.place s.work.output s.conditions
-          (said_told b.now.said s.nesting.names (stand_of s)) (site_of s.reading)
+    (λ _. (is_mode_ended (stepped o s).reading.mode ≡ true) ⊎ (length (stepped o s).nesting.cursor.rest < length s.nesting.cursor.rest)) [
+      | inl end ↦ inl (end_ends (context_of o s) t.kind t.bytes t.place t.is_class s.work.output s.conditions
+          (said_told b.now.said (context_of o s) (stand_of s)) (site_of s.reading)
           b.now b.judged refl end)
       | inr less ↦ inr less
     ]
 
 turn_goes : (sources : Sources) (o : Choices) (s : State) → Goes s.nesting (turn sources o s)
 turn_goes sources o s =
-    elim (rested_goes s.nesting (carried_out sources o (stepped s))
-    (carried_out_goes s.nesting sources o (stepped s) refl (stepped_takes s))) as (λ _. Goes s.nesting (turn sources o s)) [
+    elim (rested_goes s.nesting (carried_out sources o (stepped o s))
+    (carried_out_goes s.nesting sources o (stepped o s) refl (stepped_takes o s))) as (λ _. Goes s.nesting (turn sources o s)) [
       | inl e ↦ inl e
       | inr m ↦ inr m
     ]

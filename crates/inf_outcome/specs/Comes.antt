@@ -122,7 +122,7 @@ pub record HeardTurns (failed : Type 0) (sources : Sources) (o : Choices) (s : S
   pub takes : Takes before after (run sources o turns s).told
   pub goes_on : has_ended (run sources o turns s) ≡ false
   pub stops : StopsReading failed sources (run sources o turns s) old new told
-      ⊎ StopsAtInclusion failed sources o (stepped (run sources o turns s)) (opened_since old new) told
+      ⊎ StopsAtInclusion failed sources o (stepped o (run sources o turns s)) (opened_since old new) told
 
 -- The main source could not be opened, and nothing was written.
 pub record HeardNothing (failed : Type 0) (name : List ℕ) (old new : Openings) (before after : Option (List ℕ)) (told : List ℕ) : Type 0

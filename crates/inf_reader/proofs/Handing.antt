@@ -14,21 +14,21 @@ use Rattle.inf_reader.specs.declared.recovery.Recovery.{Recovery}
 use Rattle.inf_reader.specs.declared.recovery.Recovery.TheVariants as mode
 use Rattle.inf_reader.proofs.Turns.{end_at}
 
-abbrev end_of : List ℕ → Place → SourceToken
-end_of bytes place = record { kind = kind.End; bytes = bytes; place = place }
+abbrev end_of : List ℕ → Place → Bool → SourceToken
+end_of bytes place named = record { kind = kind.End; bytes = bytes; place = place; is_class = named }
 
-unfit_end : (m : Recovery) (context : Context) (bytes : List ℕ) (place : Place) (s : ReaderState) → s.reading.mode ≡ m →
-    (unfit_in m context (end_of bytes place) s).reading.mode ≡ mode.Ended
-unfit_end mode.Reads context bytes place s e = refl
-unfit_end mode.SkipsRoutine context bytes place s e = end_at s.reading.mode context kind.End bytes place s.reading s.work refl refl
-unfit_end mode.SkipsDirective context bytes place s e = end_at s.reading.mode context kind.End bytes place s.reading s.work refl refl
-unfit_end mode.Ended context bytes place s e = end_at s.reading.mode context kind.End bytes place s.reading s.work refl refl
+unfit_end : (m : Recovery) (context : Context) (bytes : List ℕ) (place : Place) (named : Bool) (s : ReaderState) → s.reading.mode ≡ m →
+    (unfit_in m context (end_of bytes place named) s).reading.mode ≡ mode.Ended
+unfit_end mode.Reads context bytes place named s e = refl
+unfit_end mode.SkipsRoutine context bytes place named s e = end_at s.reading.mode context kind.End bytes place named s.reading s.work refl refl
+unfit_end mode.SkipsDirective context bytes place named s e = end_at s.reading.mode context kind.End bytes place named s.reading s.work refl refl
+unfit_end mode.Ended context bytes place named s e = end_at s.reading.mode context kind.End bytes place named s.reading s.work refl refl
 
-end_handed : (h : Forwarded) (context : Context) (bytes : List ℕ) (place : Place) (s : ReaderState) → is_on h ≡ true →
-    (handed_as h context (end_of bytes place) s).reading.mode ≡ mode.Ended
-end_handed handed.Condition context bytes place s on = let never : false ≡ true = on in cc
-end_handed handed.Kept context bytes place s on = end_at s.reading.mode context kind.End bytes place s.reading s.work refl refl
-end_handed handed.Unfit context bytes place s on = unfit_end s.reading.mode context bytes place s refl
+end_handed : (h : Forwarded) (context : Context) (bytes : List ℕ) (place : Place) (named : Bool) (s : ReaderState) → is_on h ≡ true →
+    (handed_as h context (end_of bytes place named) s).reading.mode ≡ mode.Ended
+end_handed handed.Condition context bytes place named s on = let never : false ≡ true = on in cc
+end_handed handed.Kept context bytes place named s on = end_at s.reading.mode context kind.End bytes place named s.reading s.work refl refl
+end_handed handed.Unfit context bytes place named s on = unfit_end s.reading.mode context bytes place named s refl
 
 lone_mode : (unmatched : Option Place) (context : Context) (s : ReaderState) → (lone_told unmatched context s).reading.mode ≡ s.reading.mode
 lone_mode None context s = refl
@@ -38,12 +38,12 @@ ended_mode : (ended : Option Place) (context : Context) (s : ReaderState) → (u
 ended_mode None context s = refl
 ended_mode (Some place) context s = refl
 
-pub end_taken : (context : Context) (bytes : List ℕ) (place : Place) (j : Filtered) (h : Forwarded) (s : ReaderState) → j.token ≡ Some h →
+pub end_taken : (context : Context) (bytes : List ℕ) (place : Place) (named : Bool) (j : Filtered) (h : Forwarded) (s : ReaderState) → j.token ≡ Some h →
     is_on h ≡ true
-    → (judged_taken context (end_of bytes place) j s).reading.mode ≡ mode.Ended
-end_taken context bytes place j h s e on =
-    let told = lone_told j.unmatched context (token_taken j.token context (end_of bytes place) (sign_taken j.sign context s)) in
+    → (judged_taken context (end_of bytes place named) j s).reading.mode ≡ mode.Ended
+end_taken context bytes place named j h s e on =
+    let told = lone_told j.unmatched context (token_taken j.token context (end_of bytes place named) (sign_taken j.sign context s)) in
     ended_mode j.ended context told
-    ∙ lone_mode j.unmatched context (token_taken j.token context (end_of bytes place) (sign_taken j.sign context s))
-    ∙ ap (λ o. (token_taken o context (end_of bytes place) (sign_taken j.sign context s)).reading.mode) e
-    ∙ end_handed h context bytes place (sign_taken j.sign context s) on
+    ∙ lone_mode j.unmatched context (token_taken j.token context (end_of bytes place named) (sign_taken j.sign context s))
+    ∙ ap (λ o. (token_taken o context (end_of bytes place named) (sign_taken j.sign context s)).reading.mode) e
+    ∙ end_handed h context bytes place named (sign_taken j.sign context s) on

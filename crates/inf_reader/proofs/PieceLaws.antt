@@ -11,7 +11,7 @@ use Rattle.inf_grammar.specs.Language.{grammar, known}
 use Rattle.inf_machine.specs.Machine.{fits, read, Read}
 use Rattle.inf_grammar.specs.Evaluated.{language_is_decided}
 use Rattle.inf_machine.proofs.TokenLaws.{bad_tokens_begin_nothing}
-use Rattle.inf_conditionals.specs.Atoms.{atom_of_kind, bad_atom}
+use Rattle.inf_unit.specs.Atoms.{atom_of_kind, bad_atom}
 use Rattle.inf_reader.specs.Tests.{fault_of_kind}
 use Rattle.inf_reader.specs.Reading.{piece_rule}
 use Rattle.inf_reader.specs.Pieces.{PiecesBegin, FrontsBegin, FaultyTokensFitNothing}
@@ -57,5 +57,5 @@ faulty_is_bad c (kind.Mark mark) bytes m h = cc
 faulty_is_bad c kind.End bytes m h = cc
 
 pub faulty_tokens_fit_nothing : FaultyTokensFitNothing
-faulty_tokens_fit_nothing t c m stack h =
-    ap (λ atom. fits grammar known atom stack) (faulty_is_bad c t.kind t.bytes m h) ∙ bad_fits_nothing stack
+faulty_tokens_fit_nothing t m stack h =
+    ap (λ atom. fits grammar known atom stack) (faulty_is_bad t.is_class t.kind t.bytes m h) ∙ bad_fits_nothing stack

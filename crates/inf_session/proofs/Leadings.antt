@@ -73,11 +73,11 @@ followed_told : (sources : Sources) (o : Choices) (s : State) → SameTold s (fo
 followed_told sources o s = rested_told (carried_out sources o s) ∙ carried_out_told sources o s
 
 pub turn_adds : (sources : Sources) (o : Choices) (s : State) →
-    (turn sources o s).told ≡ s.told ++ (followed sources o (stepped s)).work.report.lines
-turn_adds sources o s = ap (λ told. told ++ (followed sources o (stepped s)).work.report.lines) (followed_told sources o (stepped s))
+    (turn sources o s).told ≡ s.told ++ (followed sources o (stepped o s)).work.report.lines
+turn_adds sources o s = ap (λ told. told ++ (followed sources o (stepped o s)).work.report.lines) (followed_told sources o (stepped o s))
 
 pub turn_begins : (sources : Sources) (o : Choices) (s : State) → IsFront s.told (turn sources o s).told
-turn_begins sources o s = record { rest = (followed sources o (stepped s)).work.report.lines; is_cut = turn_adds sources o s }
+turn_begins sources o s = record { rest = (followed sources o (stepped o s)).work.report.lines; is_cut = turn_adds sources o s }
 
 -- Runs
 
@@ -421,7 +421,7 @@ stops_more failed more sources o s start now files name later (inl h) = inl (rec
   name_is = h.name_is;
 })
 stops_more failed more sources o s start now files name later (inr h) =
-    inr (stops_at_more failed more sources o (stepped s) (opened_since start now) name later h)
+    inr (stops_at_more failed more sources o (stepped o s) (opened_since start now) name later h)
 
 -- behind some turns
 pub given_up : (failed : Type 0) (sources : Sources) (o : Choices) (n : ℕ) (was mid : List ℕ → State) (old between new : Option (List ℕ))

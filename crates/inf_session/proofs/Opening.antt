@@ -101,7 +101,7 @@ followed_within sources o was openings (inr h) =
 
 -- behind its token
 pub turned_within : (sources : Sources) (o : Choices) (was mid : List ℕ → State) (openings : List (List ℕ)) →
-    ((told : List ℕ) → mid told ≡ stepped (was told))
+    ((told : List ℕ) → mid told ≡ stepped o (was told))
     → OpensWithin (followed sources o) mid openings → OpensWithin (turn sources o) was openings
 turned_within sources o was mid openings first (inl h) = inl (λ told. h told ∙ ap (λ (s : State). s.nesting.openings) (first told))
 turned_within sources o was mid openings first (inr h) =

@@ -150,7 +150,7 @@ emptied s = record s { work = record s.work { report = flushed s.work.report } }
 
 -- a turn was made and its lines were written
 pub turn_writes : (sources : Sources) (o : Choices) (was mid now final : List ℕ → State) (old new : Option (List ℕ)) (lines : List ℕ)
-    → ((told : List ℕ) → mid told ≡ stepped (was told)) → ((told : List ℕ) → now told ≡ followed sources o (mid told))
+    → ((told : List ℕ) → mid told ≡ stepped o (was told)) → ((told : List ℕ) → now told ≡ followed sources o (mid told))
     → ((told : List ℕ) → told_out (now told) ≡ emptied (now (told ++ lines))) → ((told : List ℕ) → final told ≡ emptied (now told))
     → Takes old new lines → Writes (turn sources o) was final old new
 turn_writes sources o was mid now final old new lines first next out last takes = record {
@@ -162,7 +162,7 @@ turn_writes sources o was mid now final old new lines first next out last takes 
 
 -- it was made, and a front of its lines was written
 pub turn_cut : (sources : Sources) (o : Choices) (was mid now : List ℕ → State) (old new : Option (List ℕ)) (lines front rest : List ℕ)
-    → ((told : List ℕ) → mid told ≡ stepped (was told)) → ((told : List ℕ) → now told ≡ followed sources o (mid told))
+    → ((told : List ℕ) → mid told ≡ stepped o (was told)) → ((told : List ℕ) → now told ≡ followed sources o (mid told))
     → ((told : List ℕ) → (told_out (now told)).told ≡ told ++ lines) → lines ≡ front ++ rest
     → Takes old new front → CutsShort (turn sources o) was old new
 turn_cut sources o was mid now old new lines front rest first next out cut takes = record {

@@ -1,5 +1,5 @@
 -- What a token does, by what each call of its turn says.
-use Rattle.std.proofs.Common.{◌≡◌, ℕ, List, ap, ◌∙◌}
+use Rattle.std.proofs.Common.{◌≡◌, ◌&&◌, ℕ, List, ap, ◌∙◌}
 use Rattle.inf_scanner.specs.declared.tokens.Place.{Place}
 use Rattle.inf_scanner.specs.declared.tokens.TokenKind.{TokenKind}
 use Rattle.inf_sources.specs.Cursors.{behind, read}
@@ -11,7 +11,10 @@ use Rattle.inf_conditionals.specs.Open.{Conditions, silent}
 use Rattle.inf_output.specs.Output.{Out}
 use Rattle.inf_reader.specs.Handing.{judged_taken, said_told, site_of}
 use Rattle.inf_reader.specs.Reading.{ReaderState}
-use Rattle.inf_session.specs.Session.{State, quoted_behind, stand_of, stepped, token_of}
+use Rattle.inf_compilation.specs.Actions.{is_class}
+use Rattle.inf_conditionals.specs.declared.filtered.Site.{Site}
+use Rattle.inf_session.specs.Choices.{Choices}
+use Rattle.inf_session.specs.Session.{State, context_of, quoted_behind, stand_of, stepped, token_of}
 use Rattle.inf_session.proofs.Stepping.{spelled_as}
 
 -- the state behind a token
@@ -34,35 +37,37 @@ abbrev pub reporting : ReaderState → Reported → Out → ReaderState
 reporting s r o = record s { work = record s.work { report = r; output = o } }
 
 -- behind what there is to tell of a condition
-abbrev pub told_stand : State → Behind → ReaderState
-told_stand s b = said_told b.now.said s.nesting.names (stand_of s)
+abbrev pub told_stand : Choices → State → Behind → ReaderState
+told_stand o s b = said_told b.now.said (context_of o s) (stand_of s)
 
 -- what it is by what becomes of the token among conditionals
-abbrev by_behind : State → SourceToken → Behind → State
-by_behind s t b =
-    with_all s (moved s) (silent b.now) (judged_taken s.nesting.names t b.judged (told_stand s b))
+abbrev by_behind : Choices → State → SourceToken → Behind → State
+by_behind o s t b =
+    with_all s (moved s) (silent b.now) (judged_taken (context_of o s) t b.judged (told_stand o s b))
     (quoted_behind (site_of s.reading) b.judged t s.quoted)
 
-abbrev by_token : State → SourceToken → State
-by_token s t = by_behind s t (judged (site_of s.reading) s.work.output t s.conditions)
+abbrev by_token : Choices → State → SourceToken → State
+by_token o s t = by_behind o s t (judged (site_of s.reading) s.work.output t s.conditions)
 
-pub step_is : (s : State) (n : Nesting) (b : Behind) (c : Conditions) (x : ReaderState) (quoted : ℕ) (t : SourceToken)
-    → n ≡ moved s → t ≡ token_of s.nesting.cursor → b ≡ judged (site_of s.reading) s.work.output t s.conditions
-    → c ≡ silent b.now → x ≡ judged_taken s.nesting.names t b.judged (told_stand s b) → quoted ≡ quoted_behind (site_of s.reading) b.judged
+pub step_is : (o : Choices) (s : State) (n : Nesting) (b : Behind) (c : Conditions) (x : ReaderState) (quoted : ℕ) (t : SourceToken)
+    → n ≡ moved s → t ≡ token_of s → b ≡ judged (site_of s.reading) s.work.output t s.conditions
+    → c ≡ silent b.now → x ≡ judged_taken (context_of o s) t b.judged (told_stand o s b) → quoted ≡ quoted_behind (site_of s.reading) b.judged
     t s.quoted
-    → with_all s n c x quoted ≡ stepped s
-step_is s n b c x quoted t goes is behind_it quiet taken longest =
+    → with_all s n c x quoted ≡ stepped o s
+step_is o s n b c x quoted t goes is behind_it quiet taken longest =
     ap (λ n. with_all s n c x quoted) goes
     ∙ ap (λ c. with_all s (moved s) c x quoted) quiet
     ∙ ap (λ x. with_all s (moved s) (silent b.now) x quoted) taken
-    ∙ ap (λ q. with_all s (moved s) (silent b.now) (judged_taken s.nesting.names t b.judged (told_stand s b)) q) longest
-    ∙ ap (by_behind s t) behind_it
-    ∙ ap (by_token s) is
+    ∙ ap (λ q. with_all s (moved s) (silent b.now) (judged_taken (context_of o s) t b.judged (told_stand o s b)) q) longest
+    ∙ ap (by_behind o s t) behind_it
+    ∙ ap (by_token o s) is
 
-pub token_is : (s : State) (k : TokenKind) (bytes : List ℕ) (place : Place) → k ≡ (read s.nesting.cursor).kind
+pub token_is : (s : State) (k : TokenKind) (bytes : List ℕ) (place : Place) (site : Site) → k ≡ (read s.nesting.cursor).kind
     → place ≡ record { file = s.nesting.cursor.file; line = (read s.nesting.cursor).line } → bytes ≡ (read s.nesting.cursor).kept.bytes
-    → spelled_as k bytes place ≡ token_of s.nesting.cursor
-token_is s k bytes place kind_is place_is bytes_are =
+    → site ≡ site_of s.reading → spelled_as k bytes place (site.is_between && is_class k bytes s.work) ≡ token_of s
+token_is s k bytes place site kind_is place_is bytes_are site_is =
     let r = read s.nesting.cursor in
-    ap (λ k. spelled_as k bytes place) kind_is ∙ ap (λ p. spelled_as r.kind bytes p) place_is
-    ∙ ap (λ bytes. spelled_as r.kind bytes (record { file = s.nesting.cursor.file; line = r.line })) bytes_are
+    let named = λ (site : Site) (k : TokenKind) (bytes : List ℕ). site.is_between && is_class k bytes s.work in
+    ap (λ k. spelled_as k bytes place (named site k bytes)) kind_is ∙ ap (λ p. spelled_as r.kind bytes p (named site r.kind bytes)) place_is
+    ∙ ap (λ bytes. spelled_as r.kind bytes (record { file = s.nesting.cursor.file; line = r.line }) (named site r.kind bytes)) bytes_are
+    ∙ ap (λ site. spelled_as r.kind r.kept.bytes (record { file = s.nesting.cursor.file; line = r.line }) (named site r.kind r.kept.bytes)) site_is

@@ -74,7 +74,7 @@ pub record StopsAtInclusion (failed : Type 0) (sources : Sources) (o : Choices) 
 -- The next token was not read, or the file was not entered that it asks for.
 abbrev pub StopsFor : Type 0 → Sources → Choices → State → Openings → Openings → Open → List ℕ → Type 0
 StopsFor failed sources o s start now files name =
-    StopsInToken failed sources s start now files name ⊎ StopsAtInclusion failed sources o (stepped s) (opened_since start now) name
+    StopsInToken failed sources s start now files name ⊎ StopsAtInclusion failed sources o (stepped o s) (opened_since start now) name
 
 -- Reading was given up for the file of a name: what was written is all that so many turns write, and behind them reading stops so.
 pub record GivenUp (failed : Type 0) (sources : Sources) (o : Choices) (was : List ℕ → State) (old new : Option (List ℕ))

@@ -354,7 +354,7 @@ impl<'a, B: Bounds> Session<'a, B> {
         requires goes { self.old.open_files.lexer.has_failed ≡ false }
         ensures stepped { Honestly F.Files files.old self.old.open_files (λ start.
             OnOk result ((told : List ℕ) → state (F.sources files.old) start (F.openings files.new) self.new told
-            ≡ stepped (state (F.sources files.old) start (F.openings files.old) self.old told))) }
+            ≡ stepped (chosen self.old.setup) (state (F.sources files.old) start (F.openings files.old) self.old told))) }
         ensures opened { Honestly F.Files files.old self.old.open_files (λ start.
             opened_since start (F.openings files.new) ≡ opened_since start (F.openings files.old)) }
         ensures went { Went F.Files files.old files.new self.old.open_files self.new.open_files }

@@ -1,4 +1,4 @@
-use Rattle.std.proofs.Common.{◌≡◌, true, Err, ℕ, List, [], ◌∷◌, ◌≤◌, reverse, unwrap_or, inl, inr, ap, length, subst, sym, ◌∙◌}
+use Rattle.std.proofs.Common.{◌≡◌, ◌&&◌, true, Err, ℕ, List, [], ◌∷◌, ◌≤◌, reverse, unwrap_or, inl, inr, ap, length, subst, sym, ◌∙◌}
 use Rattle.std.specs.Prelude.{slice_get}
 use Rattle.inf_files.specs.Files.{Rose}
 use Rattle.inf_sources.specs.Open.{files_of, lexers_of, nesting}
@@ -14,9 +14,13 @@ use Rattle.inf_reader.specs.Standing.{standing}
 use Rattle.inf_lexer.specs.Names.{Nest}
 use Rattle.inf_conditionals.specs.Judging.{judged}
 use Rattle.inf_conditionals.specs.Said.{with_said}
-use Rattle.inf_unit.specs.Messages.{Reported}
+use Rattle.inf_unit.specs.Messages.{FileNames, Reported}
+use Rattle.inf_compilation.specs.Actions.{is_class}
+use Rattle.inf_compilation.specs.Context.{Context}
+use Rattle.inf_compilation.specs.Works.{work}
 use Rattle.inf_reader.specs.Handing.{judged_taken}
-use Rattle.inf_session.specs.Session.{State, quoted_behind, stand_of}
+use Rattle.inf_session.specs.Choices.{chosen}
+use Rattle.inf_session.specs.Session.{State, context_of, quoted_behind, stand_of}
 use Rattle.inf_session.specs.Standing.{state}
 use Rattle.inf_session.proofs.Stepping.{end_ends, spelled_as}
 use Rattle.inf_session.proofs.Taking.{reporting, step_is, token_is}
@@ -28,9 +32,11 @@ returns-clause-moves g c =
     let before = c.args.self.now in
     let token = c.in-Ok.token in
     let took = c.in-Ok.ensures.took in
+    let context : Context = record { names = c.names-2.result.now.names; set = before.setup.set; settings = before.setup.settings.now } in
+    let named = c.site-site.result.is_between && is_class token.kind c.spelling.result.now (work before.progress.work) in
     elim took.one [
       | inl end ↦ inl (ap (λ (s : ReaderState). is_mode_ended s.reading.mode) c.in_ok-take_judged.ensures
-          ∙ end_ends c.names-2.result.now.names token.kind c.spelling.result.now token.place before.progress.work.output before.conditionals
+          ∙ end_ends context token.kind c.spelling.result.now token.place named before.progress.work.output before.conditionals
           (reporting (standing before.progress) c.tell.new.report c.tell.new.out) c.site-site.result _ _ c.in_ok-judged.ensures end)
       | inr less ↦ inr (room_less c.args.self.now.open_files.lexer c.next.new.self.lexer less c.in-Ok.ensures.few)
     ]
@@ -70,7 +76,8 @@ returns-clause-longest g c = λ before.
     let few = λ (is : is_quoted_kind token.kind ≡ true). subst (λ (bytes : List ℕ). length bytes ≤ most) (sym c.spelling.ensures)
     (c.in-Ok.ensures.quoted is) in
     subst (λ n. n ≤ most) (sym c.quoted_behind-self.ensures)
-    (quoted_within c.site-site.result c.in_ok-judged.judged (spelled_as token.kind c.spelling.result.now token.place) c.args.self.now.quoted
+    (quoted_within c.site-site.result c.in_ok-judged.judged (spelled_as token.kind c.spelling.result.now token.place
+    (c.site-site.result.is_between && is_class token.kind c.spelling.result.now (work c.args.self.now.progress.work))) c.args.self.now.quoted
     most few before)
 
 pub returns-clause-stepped : goal.returns-clause-stepped
@@ -82,22 +89,25 @@ returns-clause-stepped g c = λ honest start nested told.
     let reads = c.in-Ok.ensures.token honest start nested in
     let bytes = c.spelling.result.now in
     let names = before.nesting.names in
+    let o = chosen c.args.self.now.setup in
+    let context = context_of o before in
+    let with_names = λ (names : FileNames). record context { names = names } in
     let told_names : c.names.result.now.names ≡ names = ap (λ (s : Nest). s.names) (c.names.ensures ∙ c.in-Ok.ensures.same.0) in
     let taken_names : c.names-2.result.now.names ≡ names = ap (λ (s : Nest). s.names) (c.names-2.ensures ∙ c.in-Ok.ensures.same.0) in
-    let spelled = spelled_as token.kind bytes token.place in
-    let is = token_is before token.kind bytes token.place reads.kind reads.place (c.spelling.ensures ∙ reads.bytes) in
     let site = c.site-site.ensures in
+    let spelled = spelled_as token.kind bytes token.place (c.site-site.result.is_between && is_class token.kind bytes before.work) in
+    let is = token_is before token.kind bytes token.place c.site-site.result reads.kind reads.place (c.spelling.ensures ∙ reads.bytes) site in
     let behind_it = c.in_ok-judged.ensures ∙ ap (λ site. judged site before.work.output spelled before.conditions) site in
     let said = c.take.new.self.said in
     let told = c.in_ok-tell.ensures.told ∙ ap (λ names. with_said names said before.work.report) told_names in
     let taken =
-    c.in_ok-take_judged.ensures ∙ ap (λ names. judged_taken names spelled c.in_ok-judged.judged
+    c.in_ok-take_judged.ensures ∙ ap (λ names. judged_taken (with_names names) spelled c.in_ok-judged.judged
     (reporting (stand_of before) c.tell.new.report c.tell.new.out)) taken_names
-    ∙ ap (λ (r : Reported). judged_taken names spelled c.in_ok-judged.judged (reporting (stand_of before) r c.tell.new.out)) told
-    ∙ ap (λ (o : Out). judged_taken names spelled c.in_ok-judged.judged
+    ∙ ap (λ (r : Reported). judged_taken context spelled c.in_ok-judged.judged (reporting (stand_of before) r c.tell.new.out)) told
+    ∙ ap (λ (o : Out). judged_taken context spelled c.in_ok-judged.judged
     (reporting (stand_of before) (with_said names said before.work.report) o)) c.in_ok-tell.ensures.right in
     let longest = c.quoted_behind-self.ensures ∙ ap (λ site. quoted_behind site c.in_ok-judged.judged spelled before.quoted) site in
-    step_is before now (record { now = c.take.new.self; judged = c.in_ok-judged.judged }) c.tell.new.self (standing c.take_judged.new.self)
+    step_is o before now (record { now = c.take.new.self; judged = c.in_ok-judged.judged }) c.tell.new.self (standing c.take_judged.new.self)
     c.quoted_behind-self.result spelled
     reads.goes_on is behind_it c.in_ok-tell.ensures.silent taken longest
 

@@ -164,7 +164,7 @@ returns-in_err-follow-clause-stops g c = λ honest start nested.
     let asked : IfErr c.from_residual-in_err-follow.result (λ fault. IfRead fault AtInclusion) = search rules in
     if_read_more c.from_residual-in_err-follow.result AtInclusion
     (λ name. (told : List ℕ) → StopsFor failed s o (was told) start now after name)
-    (λ name h told. inr (stops_at_more later failed s o (stepped (was told)) opened name
+    (λ name h told. inr (stops_at_more later failed s o (stepped o (was told)) opened name
     (λ rose. rose_earlier (files.faults c.args.files.now) (files.faults c.take_token.new.files) (files.faults c.follow.new.files)
     went.faults rose)
     (subst (λ (x : State). StopsAtInclusion later s o x opened name) (first told)
