@@ -149,7 +149,7 @@ abbrev pub unit_ended : Context → Place → Bool → Findings → Compilation 
 unit_ended context first has_last found w = record w {
   unit = over has_last w.unit;
   most_labels = max w.most_labels (labels_of w.output.code);
-  report = with_full context.names first (full w.output) (with_fault context.names first (told_as context w.unit.tokens first found) w.report);
+  report = with_full context.names first (full w.output) (with_fault context.names first (told_as context.names w.unit.tokens first found) w.report);
 }
 
 -- Something is laid for a unit that begins at a place.

@@ -10,8 +10,7 @@ use Rattle.inf_report.specs.declared.messages.FixedLimit.{FixedLimit}
 use Rattle.inf_report.specs.declared.messages.FixedLimit.TheVariants as countable
 use Rattle.inf_names.specs.Spellings.{Name}
 use Rattle.inf_names.specs.Locals.{Headed, Repeated}
-use Rattle.inf_unit.specs.Messages.{Diagnostic, location}
-use Rattle.inf_compilation.specs.Context.{Context}
+use Rattle.inf_unit.specs.Messages.{FileNames, Diagnostic, location}
 use Rattle.inf_unit.specs.Tokens.{SourceToken, told}
 use Rattle.inf_compilation.specs.Words.{nowhere}
 
@@ -62,12 +61,12 @@ abbrev pub again_finding : ℕ → Option Again → Option Finding
 again_finding order None = None
 again_finding order (Some a) = Some (record { order = order; number = 8 })
 
-abbrev pub again_message : Context → List ℕ → Option Place → Message
-again_message context bytes None = SystemName bytes
-again_message context bytes (Some first) = Declared bytes (location context.names first)
+abbrev pub again_message : FileNames → List ℕ → Option Place → Message
+again_message files bytes None = SystemName bytes
+again_message files bytes (Some first) = Declared bytes (location files first)
 
-abbrev pub again_told : Context → Again → Diagnostic
-again_told context a = record { place = a.name.place; message = again_message context a.name.bytes a.first }
+abbrev pub again_told : FileNames → Again → Diagnostic
+again_told files a = record { place = a.name.place; message = again_message files a.name.bytes a.first }
 
 -- Units
 
@@ -83,17 +82,17 @@ abbrev pub nothing_found : Findings
 nothing_found = found_alone None
 
 -- of a unit that begins at a place and has these tokens
-abbrev pub told_by : Context → List SourceToken → Place → Finding → Findings → Option Diagnostic
-told_by context tokens first f all =
-    if f.number == 8 then option_map (again_told context) all.again else
+abbrev pub told_by : FileNames → List SourceToken → Place → Finding → Findings → Option Diagnostic
+told_by files tokens first f all =
+    if f.number == 8 then option_map (again_told files) all.again else
     if f.number == 19 then Some (record { place = first; message = TooMany all.many }) else Some (blame_of tokens f)
 
-abbrev pub told_of : Context → List SourceToken → Place → Option Finding → Findings → Option Diagnostic
-told_of context tokens first None all = None
-told_of context tokens first (Some f) all = told_by context tokens first f all
+abbrev pub told_of : FileNames → List SourceToken → Place → Option Finding → Findings → Option Diagnostic
+told_of files tokens first None all = None
+told_of files tokens first (Some f) all = told_by files tokens first f all
 
-abbrev pub told_as : Context → List SourceToken → Place → Findings → Option Diagnostic
-told_as context tokens first all = told_of context tokens first all.least all
+abbrev pub told_as : FileNames → List SourceToken → Place → Findings → Option Diagnostic
+told_as files tokens first all = told_of files tokens first all.least all
 
 -- Headers
 

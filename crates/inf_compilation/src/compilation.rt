@@ -350,7 +350,7 @@ impl<B: Bounds> Compilation<B> {
     ) -> Result<(), AllocError>
         ensures { OnOk result (work self.new ≡ unit_ended (handed context.now) first has_last (found_as found.now) (work self.old)) }
     {
-        let blame = found.told(context, &self.unit.tokens, first);
+        let blame = found.told(context.files, &self.unit.tokens, first);
         self.report.fault(context.files, first, blame)?;
         self.unit.end(has_last);
         self.count_labels();

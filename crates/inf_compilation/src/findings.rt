@@ -1,5 +1,4 @@
 //! What is told of what is wrong with a unit.
-ghost use Rattle.inf_compilation.specs.Context.{handed};
 ghost use Rattle.std.specs.Prelude.{option_map, ◌≡◌};
 ghost use Rattle.inf_report.specs.Meant.{meant, named};
 ghost use Rattle.inf_names.specs.LocalList.{headed as as_headed, repeated as repeated_of};
@@ -8,9 +7,8 @@ ghost use Rattle.inf_unit.specs.Diagnostics.{blamed};
 ghost use Rattle.inf_compilation.specs.Findings.{again_by, again_finding, again_local, again_message, again_told, blame_of, found_alone, header_findings, many_finding, message_of, nothing_found, told_as};
 ghost use Rattle.inf_compilation.specs.Meant.{again_as, found_as};
 
-use crate::context::Context;
 use inf_expressions::{Finding, NOT_CONSTANT, OUT_OF_RANGE, WRONG_KIND, least_of_both};
-use inf_lexer::Place;
+use inf_lexer::{Place, Stack};
 use inf_names::locals::{Headed, Repeated};
 use inf_names::spellings::Name;
 use inf_names::symbols::DeclareFault;
@@ -179,15 +177,15 @@ impl Findings {
     /// The message of the least, in a unit that begins at a place and has these tokens.
     pub(crate) fn told<'t>(
         &'t self,
-        context: &'t Context<'t>,
+        files: &'t Stack,
         tokens: &'t UnitTokens,
         first: Place,
     ) -> Option<Diagnostic<'t>>
-        ensures { option_map blamed result ≡ told_as (handed context.now) tokens.now first (found_as self.now) }
+        ensures { option_map blamed result ≡ told_as files.now.names tokens.now first (found_as self.now) }
     {
         let finding = self.least?;
         match finding.number {
-            DECLARED => again_told(context, &self.again),
+            DECLARED => again_told(files, &self.again),
             TOO_MANY => Some(Diagnostic {
                 place: first,
                 message: Message::TooMany(self.many),
@@ -198,24 +196,24 @@ impl Findings {
 }
 
 /// The message about a name that stands already.
-fn again_told<'a>(context: &'a Context<'a>, again: &'a Option<Again>) -> Option<Diagnostic<'a>>
-    ensures { option_map blamed result ≡ option_map (again_told (handed context.now)) (option_map again_as again.now) }
+fn again_told<'a>(files: &'a Stack, again: &'a Option<Again>) -> Option<Diagnostic<'a>>
+    ensures { option_map blamed result ≡ option_map (again_told files.now.names) (option_map again_as again.now) }
 {
     match again {
         Some(again) => Some(Diagnostic {
             place: again.name.place,
-            message: again_message(context, again.name.bytes(), again.first),
+            message: again_message(files, again.name.bytes(), again.first),
         }),
         None => None,
     }
 }
 
 /// The message about a name that stands already, with the place of its first declaration or without.
-fn again_message<'a>(context: &'a Context<'a>, name: &'a [u8], first: Option<Place>) -> Message<'a>
-    ensures { meant result ≡ again_message (handed context.now) name.now first }
+fn again_message<'a>(files: &'a Stack, name: &'a [u8], first: Option<Place>) -> Message<'a>
+    ensures { meant result ≡ again_message files.now.names name.now first }
 {
     match first {
-        Some(first) => Message::Declared(name, location(context.files, first)),
+        Some(first) => Message::Declared(name, location(files, first)),
         None => Message::SystemName(name),
     }
 }

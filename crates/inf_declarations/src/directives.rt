@@ -5,6 +5,7 @@ ghost use Rattle.inf_expressions.specs.Forests.{trees_in as rooted_in};
 ghost use Rattle.inf_names.specs.Symbols.{found_in};
 ghost use Rattle.inf_constructs.specs.Roots.{tree_in};
 ghost use Rattle.inf_names.specs.Spellings.{as_name};
+ghost use Rattle.inf_output.specs.Output.{referred};
 ghost use Rattle.inf_unit.specs.Messages.{location, with_words};
 ghost use Rattle.inf_unit.specs.Units.{quoted_in};
 ghost use Rattle.inf_compilation.specs.Actions.{as_constant, constant, constant_ended, constant_finding, constant_findings, constant_meaning, constant_of, constant_with, declared_meaning, is_declared, is_first_declared, leaf_meaning, named_leaf, new_stub, replace, stub, stub_locals, stubbed, used_name, words_of};
@@ -52,9 +53,19 @@ pub fn replace<B: Bounds>(
         compilation.pass(true);
         return Ok(());
     };
-    compilation.output.refer(name.bytes(), name.place)?;
-    use_name(&mut compilation.replaced, name)?;
+    keep_replaced(compilation, name)?;
     compilation.end_unit(context, first, true, &Findings::none())
+}
+
+/// A name is that of a routine that is to be replaced, and is used.
+fn keep_replaced<B: Bounds>(compilation: &mut Compilation<B>, name: &Name) -> Result<(), AllocError>
+    ensures { let before = work compilation.old in OnOk result (work compilation.new ≡ record before {
+      output = referred (as_name name.now).bytes name.now.place before.output;
+      replaced = used_name (as_name name.now) before.replaced;
+    }) }
+{
+    compilation.output.refer(name.bytes(), name.place)?;
+    use_name(&mut compilation.replaced, name)
 }
 
 /// Declares the first of these names as a routine of so many locals as the number behind it says, which returns 0, unless the name is

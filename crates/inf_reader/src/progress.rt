@@ -210,11 +210,8 @@ impl<B: Bounds> Progress<B> {
     {
         self.reader.give_up(token);
         cut(&mut self.work, context)?;
-        complain(
-            &mut self.work.report,
-            location(context.files, token.place),
-            token,
-        )
+        let at = location(context.files, token.place);
+        complain(&mut self.work.report, at, token)
     }
 }
 
