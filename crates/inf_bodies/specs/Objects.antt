@@ -173,14 +173,21 @@ lost_begun_by (Some f) o = o
 abbrev pub lost_begun : Code
 lost_begun o = lost_begun_by (lost_header_fault o.tables.world) o
 
+-- its name is declared; where there is no such class it stands for none
+abbrev pub class_declared : Name → ℕ → Code
+class_declared name number o = declared name.bytes name.place (meaning.Class (number % 65536)) o
+
 abbrev pub class_lost : Name → Code
-class_lost name o = declared name.bytes name.place (meaning.Class 0) (lost_begun o)
+class_lost name o = class_declared name 0 (lost_begun o)
+
+-- One that the world refuses, since it would pass a setting, has a name all the same: that may pass a setting before that one.
+abbrev pub class_refused : AddFault → Name → Code
+class_refused f name o = class_declared name 0 (noted f o)
 
 abbrev pub class_begun_by : Option AddFault → List ℕ → Name → Code
 class_begun_by None short name o =
-    declared name.bytes name.place (meaning.Class ((5 + length o.tables.world.objects) % 65536))
-    (with_world (with_class_header short o.tables.world) o)
-class_begun_by (Some f) short name o = noted f o
+    class_declared name (5 + length o.tables.world.objects) (with_world (with_class_header short o.tables.world) o)
+class_begun_by (Some f) short name o = class_refused f name o
 
 abbrev pub class_begun : List ℕ → Name → Code
 class_begun short name o = class_begun_by (class_header_fault short o.tables.world) short name o
@@ -267,10 +274,14 @@ object_named class name number o = object_declared name number (joined_some clas
 abbrev pub object_lost : Option Name → Code
 object_lost name o = object_declared name 0 (lost_begun o)
 
+-- one that the world refuses has a name all the same
+abbrev pub object_refused : AddFault → Option Name → Code
+object_refused f name o = object_declared name 0 (noted f o)
+
 abbrev pub object_begun_by : Option AddFault → Parent → List ℕ → Option ℕ → Option Name → Code
 object_begun_by None p short class name o =
     object_named class name (5 + length o.tables.world.objects) (with_world (with_object_header p short o.tables.world) o)
-object_begun_by (Some f) p short class name o = noted f o
+object_begun_by (Some f) p short class name o = object_refused f name o
 
 abbrev pub object_begun : Parent → List ℕ → Option ℕ → Option Name → Code
 object_begun p short class name o = object_begun_by (object_header_fault p short o.tables.world) p short class name o

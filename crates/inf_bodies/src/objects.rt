@@ -4,7 +4,7 @@ ghost use Rattle.std.specs.Prelude.{IfOk, OnOk, option_map, ◌≡◌};
 ghost use Rattle.inf_characters.specs.Reading.{text_of as read_in};
 ghost use Rattle.inf_names.specs.Spellings.{as_name};
 ghost use Rattle.inf_unit.specs.Texts.{fit_characters};
-ghost use Rattle.inf_bodies.specs.Objects.{above_finding, bracketed, class_begun, class_header, class_lost, class_of, class_of_word, class_opened, class_with, entry_told, found_at, header_in, header_text, hung_finding, in_brackets, joined, joined_fault, joined_some, lost_begun, named_known, named_parent_finding, object_begun, object_declared, object_ended, object_header, object_in, object_known, object_lost, object_named, object_new, object_of, object_opened, object_with, own_name, packed_name, parent_finding, parent_fit, parent_in, refused_finding, setting_of, short_name, shown_name, word_place};
+ghost use Rattle.inf_bodies.specs.Objects.{above_finding, bracketed, class_begun, class_declared, class_header, class_lost, class_of, class_of_word, class_opened, class_refused, class_with, entry_told, found_at, header_in, header_text, hung_finding, in_brackets, joined, joined_fault, joined_some, lost_begun, named_known, named_parent_finding, noted, object_begun, object_declared, object_ended, object_header, object_in, object_known, object_lost, object_named, object_new, object_of, object_opened, object_refused, object_with, own_name, packed_name, parent_finding, parent_fit, parent_in, refused_finding, setting_of, short_name, shown_name, word_place};
 ghost use Rattle.inf_world.specs.World.{class_of_fault};
 ghost use Rattle.inf_unit.specs.Units.{name_at};
 ghost use Rattle.inf_compilation.specs.Works.{work};
@@ -177,16 +177,64 @@ fn begin_lost<B: Bounds>(out: &mut Output<B>) -> Result<(), AllocError>
     }
 }
 
+/// What the world refuses does nothing; where it would pass a setting, that is passed.
+fn note<B: Bounds>(fault: WorldFault, out: &mut Output<B>) -> Result<(), AllocError>
+    ensures { OnOk result (out.new ≡ noted fault out.old) }
+{
+    match fault {
+        WorldFault::Memory => Err(AllocError),
+        WorldFault::Full(setting) => {
+            out.pass_table(setting_of(setting));
+            Ok(())
+        }
+        WorldFault::Limit(_) | WorldFault::Misfit(_) => Ok(()),
+    }
+}
+
+/// The name of a class is declared.
+fn declare_class<B: Bounds>(
+    name: &Name,
+    number: usize,
+    out: &mut Output<B>,
+) -> Result<(), AllocError>
+    ensures { OnOk result (out.new ≡ class_declared (as_name name.now) number out.old) }
+{
+    out.declare(
+        name.bytes(),
+        name.place,
+        Meaning::Class((number % 65536) as u16),
+    )?;
+    Ok(())
+}
+
+/// The name of a class that there is not: it stands for none.
+fn declare_no_class<B: Bounds>(name: &Name, out: &mut Output<B>) -> Result<(), AllocError>
+    ensures { OnOk result (out.new ≡ class_declared (as_name name.now) 0 out.old) }
+{
+    declare_class(name, 0, out)
+}
+
 /// A class with something wrong in its header: its name stands for no class.
 fn lose_class<B: Bounds>(name: &Name, out: &mut Output<B>) -> Result<(), AllocError>
     ensures { OnOk result (out.new ≡ class_lost (as_name name.now) out.old) }
 {
     begin_lost(out)?;
-    out.declare(name.bytes(), name.place, Meaning::Class(0))?;
-    Ok(())
+    declare_no_class(name, out)
 }
 
-/// A class with its name. Where it would pass a limit there is none.
+/// A class that the world refuses has a name all the same.
+fn refuse_class<B: Bounds>(
+    fault: WorldFault,
+    name: &Name,
+    out: &mut Output<B>,
+) -> Result<(), AllocError>
+    ensures { OnOk result (out.new ≡ class_refused fault (as_name name.now) out.old) }
+{
+    note(fault, out)?;
+    declare_no_class(name, out)
+}
+
+/// A class with its name. Where it would pass a limit its name stands for none.
 fn begin_class<B: Bounds>(
     name: &Name,
     short: ShortName,
@@ -195,20 +243,8 @@ fn begin_class<B: Bounds>(
     ensures { OnOk result (out.new ≡ class_begun short (as_name name.now) out.old) }
 {
     match out.tables.world.begin_class(short) {
-        Ok(number) => {
-            out.declare(
-                name.bytes(),
-                name.place,
-                Meaning::Class((number % 65536) as u16),
-            )?;
-            Ok(())
-        }
-        Err(WorldFault::Memory) => Err(AllocError),
-        Err(WorldFault::Full(setting)) => {
-            out.pass_table(setting_of(setting));
-            Ok(())
-        }
-        Err(WorldFault::Limit(_) | WorldFault::Misfit(_)) => Ok(()),
+        Ok(number) => declare_class(name, number, out),
+        Err(fault) => refuse_class(fault, name, out),
     }
 }
 
@@ -233,12 +269,19 @@ fn declare_object<B: Bounds>(
     }
 }
 
+/// The name of an object that there is not, if it has one: it stands for none.
+fn declare_no_object<B: Bounds>(name: &Option<Name>, out: &mut Output<B>) -> Result<(), AllocError>
+    ensures { OnOk result (out.new ≡ object_declared (option_map as_name name.now) 0 out.old) }
+{
+    declare_object(name, 0, out)
+}
+
 /// An object with something wrong in its header: its name stands for no object.
 fn lose_object<B: Bounds>(name: &Option<Name>, out: &mut Output<B>) -> Result<(), AllocError>
     ensures { OnOk result (out.new ≡ object_lost (option_map as_name name.now) out.old) }
 {
     begin_lost(out)?;
-    declare_object(name, 0, out)
+    declare_no_object(name, out)
 }
 
 /// The open body is of the class with a number, unless the world refuses it. Answers why it does.
@@ -285,7 +328,19 @@ fn name_object<B: Bounds>(
     declare_object(name, number, out)
 }
 
-/// An object with its name. Where it would pass a limit there is none.
+/// An object that the world refuses has a name all the same, if it has one.
+fn refuse_object<B: Bounds>(
+    fault: WorldFault,
+    name: &Option<Name>,
+    out: &mut Output<B>,
+) -> Result<(), AllocError>
+    ensures { OnOk result (out.new ≡ object_refused fault (option_map as_name name.now) out.old) }
+{
+    note(fault, out)?;
+    declare_no_object(name, out)
+}
+
+/// An object with its name. Where it would pass a limit its name stands for none.
 fn begin_object<B: Bounds>(
     parent: Parent,
     short: ShortName,
@@ -297,12 +352,7 @@ fn begin_object<B: Bounds>(
 {
     match out.tables.world.begin_object(parent, short) {
         Ok(number) => name_object(class, name, number, out),
-        Err(WorldFault::Memory) => Err(AllocError),
-        Err(WorldFault::Full(setting)) => {
-            out.pass_table(setting_of(setting));
-            Ok(())
-        }
-        Err(WorldFault::Limit(_) | WorldFault::Misfit(_)) => Ok(()),
+        Err(fault) => refuse_object(fault, name, out),
     }
 }
 

@@ -52,11 +52,18 @@ kind_in tokens = let at = name_order tokens + 1 in array_kind (kind_at tokens at
 abbrev pub with_arrays : AllArrays → Code
 with_arrays arrays o = record o { tables = record o.tables { arrays = arrays } }
 
--- One more array of the story, with its name. Where it would pass the limit there is none.
+-- its name is declared: it begins at a place
+abbrev pub array_declared : Name → ℕ → Code
+array_declared name place o = declared name.bytes name.place (meaning.Array place) o
+
+-- One that would pass the limit is none, and has its name all the same: that may pass a limit before that one.
+abbrev pub array_refused : Name → Code
+array_refused name o = array_declared name 0 (passed_table setting.Arrays o)
+
+-- One more array of the story, with its name.
 abbrev pub array_opened_by : Option ArrayFault → ArrayKind → Name → Code
-array_opened_by None k name o =
-    declared name.bytes name.place (meaning.Array (arrays_size (all_of o.tables.arrays))) (with_arrays (opened k o.tables.arrays) o)
-array_opened_by (Some f) k name o = passed_table setting.Arrays o
+array_opened_by None k name o = array_declared name (arrays_size (all_of o.tables.arrays)) (with_arrays (opened k o.tables.arrays) o)
+array_opened_by (Some f) k name o = array_refused name o
 
 abbrev pub array_opened : ArrayKind → Name → Code
 array_opened k name o = array_opened_by (open_fault k o.tables.arrays) k name o

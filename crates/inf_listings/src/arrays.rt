@@ -5,7 +5,7 @@ ghost use Rattle.inf_arrays.specs.Adding.{added as adding_of};
 ghost use Rattle.inf_arrays.specs.Arrays.{Characters, added_fault};
 ghost use Rattle.inf_names.specs.Spellings.{as_name};
 ghost use Rattle.inf_statements.specs.Printing.{text_at};
-ghost use Rattle.inf_listings.specs.Arrays.{added, added_finding, adding, apart, array_header, array_kind, array_named, array_opened, bare_leaf, bare_text, code_of, codes_of, entry_added, entry_ended, entry_finding, entry_judged, entry_with, header_with, is_alone, is_variable, items_finding, kind_in, kind_named, listed, looked_value, lost_added, own_finding, refused, story_added, text_added, text_finding, value_added, variables_from};
+ghost use Rattle.inf_listings.specs.Arrays.{added, added_finding, adding, apart, array_declared, array_header, array_kind, array_named, array_opened, array_refused, bare_leaf, bare_text, code_of, codes_of, entry_added, entry_ended, entry_finding, entry_judged, entry_with, header_with, is_alone, is_variable, items_finding, kind_in, kind_named, listed, looked_value, lost_added, own_finding, refused, story_added, text_added, text_finding, value_added, variables_from};
 ghost use Rattle.inf_compilation.specs.Actions.{operands_of};
 ghost use Rattle.inf_compilation.specs.Works.{work};
 
@@ -145,6 +145,26 @@ fn apart(alloc: Global, kind: ArrayKind) -> Result<Arrays<Unbounded>, AllocError
     }
 }
 
+/// The name of an array is declared, which begins at a place.
+fn declare_array<B: Bounds>(
+    name: &Name,
+    place: usize,
+    out: &mut Output<B>,
+) -> Result<(), AllocError>
+    ensures { OnOk result (out.new ≡ array_declared (as_name name.now) place out.old) }
+{
+    out.declare(name.bytes(), name.place, Meaning::Array(place))?;
+    Ok(())
+}
+
+/// An array that would pass the limit has its name all the same.
+fn refuse_array<B: Bounds>(name: &Name, out: &mut Output<B>) -> Result<(), AllocError>
+    ensures { OnOk result (out.new ≡ array_refused (as_name name.now) out.old) }
+{
+    out.pass_table(Setting::Arrays);
+    declare_array(name, 0, out)
+}
+
 /// One more array of a story, with its name. Where it would pass the limit there is none.
 fn open_array<B: Bounds>(
     kind: ArrayKind,
@@ -154,17 +174,11 @@ fn open_array<B: Bounds>(
     ensures { OnOk result (out.new ≡ array_opened kind (as_name name.now) out.old) }
 {
     match out.tables.arrays.open(kind) {
-        Ok(place) => {
-            out.declare(name.bytes(), name.place, Meaning::Array(place))?;
-            Ok(())
-        }
+        Ok(place) => declare_array(name, place, out),
         Err(ArrayFault::Memory) => Err(AllocError),
         Err(
             ArrayFault::TooMany | ArrayFault::NotAByte | ArrayFault::NoEntries | ArrayFault::Full,
-        ) => {
-            out.pass_table(Setting::Arrays);
-            Ok(())
-        }
+        ) => refuse_array(name, out),
     }
 }
 
