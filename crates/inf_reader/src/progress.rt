@@ -110,8 +110,8 @@ impl<B: Bounds> Progress<B> {
         if let Some(sign) = judged.sign {
             self.hand(context, &hash(sign.place), sign.handed)?;
         }
-        if let Some(handed) = judged.token {
-            self.hand(context, token, handed)?;
+        if let Some(forwarded) = judged.token {
+            self.hand(context, token, forwarded)?;
         }
         if let Some(place) = judged.unmatched {
             tell_lone(place, context.files, &mut self.work.report)?;
@@ -128,11 +128,11 @@ impl<B: Bounds> Progress<B> {
         &mut self,
         context: &Context<'_>,
         token: &SourceToken<'_>,
-        handed: Forwarded,
+        forwarded: Forwarded,
     ) -> Result<(), AllocError>
-        ensures { OnOk result (standing self.new ≡ handed_as handed (handed context.now) (spelled token.now) (standing self.old)) }
+        ensures { OnOk result (standing self.new ≡ handed_as forwarded (handed context.now) (spelled token.now) (standing self.old)) }
     {
-        match (handed, self.reader.mode) {
+        match (forwarded, self.reader.mode) {
             (Forwarded::Unfit, Recovery::Reads) => self.bad(context, token),
             (Forwarded::Kept | Forwarded::Unfit, _) => self.take(context, token),
             (Forwarded::Condition, _) => Ok(()),
