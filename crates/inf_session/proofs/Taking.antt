@@ -1,5 +1,5 @@
 -- What a token does, by what each call of its turn says.
-use Rattle.std.proofs.Common.{◌≡◌, ◌&&◌, ℕ, List, ap, ◌∙◌}
+use Rattle.std.proofs.Common.{◌≡◌, ℕ, List, ap, ◌∙◌}
 use Rattle.inf_scanner.specs.declared.tokens.Place.{Place}
 use Rattle.inf_scanner.specs.declared.tokens.TokenKind.{TokenKind}
 use Rattle.inf_sources.specs.Cursors.{behind, read}
@@ -11,11 +11,9 @@ use Rattle.inf_conditionals.specs.Open.{Conditions, silent}
 use Rattle.inf_output.specs.Output.{Out}
 use Rattle.inf_reader.specs.Handing.{judged_taken, said_told, site_of}
 use Rattle.inf_reader.specs.Reading.{ReaderState}
-use Rattle.inf_compilation.specs.Actions.{is_class}
 use Rattle.inf_conditionals.specs.declared.filtered.Site.{Site}
 use Rattle.inf_session.specs.Choices.{Choices}
-use Rattle.inf_session.specs.Session.{State, context_of, quoted_behind, stand_of, stepped, token_of}
-use Rattle.inf_session.proofs.Stepping.{spelled_as}
+use Rattle.inf_session.specs.Session.{State, context_of, quoted_behind, stand_of, stepped, token_at, token_of}
 
 -- the state behind a token
 abbrev pub with_all : State → Nesting → Conditions → ReaderState → ℕ → State
@@ -62,12 +60,13 @@ step_is o s n b c x quoted t goes is behind_it quiet taken longest =
     ∙ ap (by_behind o s t) behind_it
     ∙ ap (by_token o s) is
 
-pub token_is : (s : State) (k : TokenKind) (bytes : List ℕ) (place : Place) (site : Site) → k ≡ (read s.nesting.cursor).kind
+pub token_is : (s : State) (site : Site) (k : TokenKind) (bytes : List ℕ) (place : Place) → site ≡ site_of s.reading →
+    k ≡ (read s.nesting.cursor).kind
     → place ≡ record { file = s.nesting.cursor.file; line = (read s.nesting.cursor).line } → bytes ≡ (read s.nesting.cursor).kept.bytes
-    → site ≡ site_of s.reading → spelled_as k bytes place (site.is_between && is_class k bytes s.work) ≡ token_of s
-token_is s k bytes place site kind_is place_is bytes_are site_is =
+    → token_at site k bytes place s.work ≡ token_of s
+token_is s site k bytes place site_is kind_is place_is bytes_are =
     let r = read s.nesting.cursor in
-    let named = λ (site : Site) (k : TokenKind) (bytes : List ℕ). site.is_between && is_class k bytes s.work in
-    ap (λ k. spelled_as k bytes place (named site k bytes)) kind_is ∙ ap (λ p. spelled_as r.kind bytes p (named site r.kind bytes)) place_is
-    ∙ ap (λ bytes. spelled_as r.kind bytes (record { file = s.nesting.cursor.file; line = r.line }) (named site r.kind bytes)) bytes_are
-    ∙ ap (λ site. spelled_as r.kind r.kept.bytes (record { file = s.nesting.cursor.file; line = r.line }) (named site r.kind r.kept.bytes)) site_is
+    ap (λ x. token_at x k bytes place s.work) site_is
+    ∙ ap (λ k. token_at (site_of s.reading) k bytes place s.work) kind_is
+    ∙ ap (λ p. token_at (site_of s.reading) r.kind bytes p s.work) place_is
+    ∙ ap (λ bytes. token_at (site_of s.reading) r.kind bytes (record { file = s.nesting.cursor.file; line = r.line }) s.work) bytes_are

@@ -92,15 +92,16 @@ context_of o s = record { names = s.nesting.names; set = o.set; settings = o.set
 abbrev pub has_ended : State → Bool
 has_ended s = s.is_over || has_ended_at (stand_of s)
 
--- the next token of the innermost file, which may be the name of a class at the front of a piece
+-- a token that comes to a place of the reading: at the front of a piece a name may be that of a class
+abbrev pub token_at : Site → TokenKind → List ℕ → Place → Compilation → SourceToken
+token_at site kind bytes place w =
+    record { kind = kind; bytes = bytes; place = place; is_class = site.is_between && is_class kind bytes w }
+
+-- the next token of the innermost file
 abbrev pub token_of : State → SourceToken
 token_of s =
-    let r = read s.nesting.cursor in record {
-      kind = r.kind;
-      bytes = r.kept.bytes;
-      place = record { file = s.nesting.cursor.file; line = r.line };
-      is_class = (site_of s.reading).is_between && is_class r.kind r.kept.bytes s.work;
-    }
+    let r = read s.nesting.cursor in
+    token_at (site_of s.reading) r.kind r.kept.bytes (record { file = s.nesting.cursor.file; line = r.line }) s.work
 
 -- how many bytes stand between the quotes of a token that has such: of one that is too long as many as it may have
 abbrev pub quoted_of_kind : TokenKind → List ℕ → ℕ

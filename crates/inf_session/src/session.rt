@@ -15,19 +15,21 @@ ghost use Rattle.inf_settings.specs.Settings.{all_settings};
 ghost use Rattle.inf_compilation.specs.Works.{work as work_of};
 ghost use Rattle.inf_session.specs.Leading.{CutsShort, GivenUp, NotTried, OpensAll, OpensWithin, StopsFor, StopsAtInclusion, StopsInToken, Writes};
 ghost use Rattle.inf_conditionals.specs.Open.{no_conditions};
-ghost use Rattle.inf_session.specs.Session.{begun_with, followed, carried_out, included, left, part, quoted_behind, quoted_bytes, rested, run, stepped, turn};
+ghost use Rattle.inf_session.specs.Session.{begun_with, followed, carried_out, included, left, part, quoted_behind, quoted_bytes, rested, run, stepped, token_at, turn};
 ghost use Rattle.inf_session.specs.Standing.{AreWithin, IsBounded, IsSet, came_to, ended, held, is_fatal, parted, resting, state};
+ghost use Rattle.inf_unit.specs.Atoms.{is_short};
 ghost use Rattle.inf_unit.specs.Spelled.{spelled};
 ghost use Rattle.inf_session.specs.Weights.{GoesOn, room, weight};
 
 use crate::compiled::{Compiled, Status, conclude};
 use crate::faults::{Fault, unread};
 use crate::setup::Setup;
+use inf_compilation::compilation::Compilation;
 use inf_compilation::context::Context;
 use inf_conditionals::conditionals::Conditionals;
 use inf_conditionals::filtered::{Filtered, Site};
 use inf_files::files::Files;
-use inf_lexer::{LexFault, Place};
+use inf_lexer::{LexFault, Place, Token};
 use inf_reader::progress::Progress;
 use inf_reader::recovery::Recovery;
 use inf_report::messages::Message;
@@ -380,9 +382,8 @@ impl<'a, B: Bounds> Session<'a, B> {
             Err(LexFault::Read) => return Err(unread(self.alloc, self.open_files.innermost())),
         };
         let site = self.progress.site();
-        let bytes = self.open_files.spelling();
-        let is_class = site.is_between && self.progress.work.is_class(token.kind, bytes);
-        let spelled = SourceToken::new(token.kind, bytes, token.place, is_class);
+        let spelling = self.open_files.spelling();
+        let spelled = token_at(site, token, spelling, &self.progress.work);
         let judged = self
             .conditionals
             .take(site, &self.progress.work.output, &spelled)?;
@@ -616,4 +617,18 @@ fn shown(text: &[u8]) -> &str
         Ok(text) => text,
         Err(_) => "?",
     }
+}
+
+/// A token with these bytes that comes to a place of the reading: at the front of a piece a name may be that of a class.
+fn token_at<'t, B: Bounds>(
+    site: Site,
+    token: Token,
+    bytes: &'t [u8],
+    work: &Compilation<B>,
+) -> SourceToken<'t>
+    requires { is_short token.kind bytes.now ≡ true }
+    ensures { spelled result ≡ token_at site token.kind bytes.now token.place (work_of work.now) }
+{
+    let is_class = site.is_between && work.is_class(token.kind, bytes);
+    SourceToken::new(token.kind, bytes, token.place, is_class)
 }

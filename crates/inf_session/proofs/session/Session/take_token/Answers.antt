@@ -20,9 +20,10 @@ use Rattle.inf_compilation.specs.Context.{Context}
 use Rattle.inf_compilation.specs.Works.{work}
 use Rattle.inf_reader.specs.Handing.{judged_taken}
 use Rattle.inf_session.specs.Choices.{chosen}
-use Rattle.inf_session.specs.Session.{State, context_of, quoted_behind, stand_of}
+use Rattle.inf_session.specs.Session.{State, context_of, quoted_behind, stand_of, token_at}
+use Rattle.inf_unit.specs.Tokens.{SourceToken}
 use Rattle.inf_session.specs.Standing.{state}
-use Rattle.inf_session.proofs.Stepping.{end_ends, spelled_as}
+use Rattle.inf_session.proofs.Stepping.{end_ends}
 use Rattle.inf_session.proofs.Taking.{reporting, step_is, token_is}
 use Rattle.inf_session.proofs.Weighing.{room_less}
 use Rattle.inf_session.proofs.session.Session.take_token.Goals as goal
@@ -33,11 +34,17 @@ returns-clause-moves g c =
     let token = c.in-Ok.token in
     let took = c.in-Ok.ensures.took in
     let context : Context = record { names = c.names-2.result.now.names; set = before.setup.set; settings = before.setup.settings.now } in
-    let named = c.site-site.result.is_between && is_class token.kind c.spelling.result.now (work before.progress.work) in
+    let named = c.site-site.result.is_between && is_class token.kind c.spelling-spelling.result.now (work before.progress.work) in
+    let is = c.token_at-spelled.ensures in
+    let stand = reporting (standing before.progress) c.tell.new.report c.tell.new.out in
+    let out = before.progress.work.output in
+    let site = c.site-site.result in
+    let takes = c.in_ok-take_judged.ensures ∙ ap (λ (t : SourceToken). judged_taken context t c.in_ok-judged.judged stand) is in
+    let judges = c.in_ok-judged.ensures ∙ ap (λ (t : SourceToken). judged site out t before.conditionals) is in
     elim took.one [
-      | inl end ↦ inl (ap (λ (s : ReaderState). is_mode_ended s.reading.mode) c.in_ok-take_judged.ensures
-          ∙ end_ends context token.kind c.spelling.result.now token.place named before.progress.work.output before.conditionals
-          (reporting (standing before.progress) c.tell.new.report c.tell.new.out) c.site-site.result _ _ c.in_ok-judged.ensures end)
+      | inl end ↦ inl (ap (λ (s : ReaderState). is_mode_ended s.reading.mode) takes
+          ∙ end_ends context token.kind c.spelling-spelling.result.now token.place named before.progress.work.output before.conditionals
+          stand site _ _ judges end)
       | inr less ↦ inr (room_less c.args.self.now.open_files.lexer c.next.new.self.lexer less c.in-Ok.ensures.few)
     ]
 
@@ -73,12 +80,13 @@ pub returns-clause-longest : goal.returns-clause-longest
 returns-clause-longest g c = λ before.
     let token = c.in-Ok.token in
     let most = c.args.self.now.open_files.nest.limit in
-    let few = λ (is : is_quoted_kind token.kind ≡ true). subst (λ (bytes : List ℕ). length bytes ≤ most) (sym c.spelling.ensures)
+    let few = λ (is : is_quoted_kind token.kind ≡ true). subst (λ (bytes : List ℕ). length bytes ≤ most) (sym c.spelling-spelling.ensures)
     (c.in-Ok.ensures.quoted is) in
-    subst (λ n. n ≤ most) (sym c.quoted_behind-self.ensures)
-    (quoted_within c.site-site.result c.in_ok-judged.judged (spelled_as token.kind c.spelling.result.now token.place
-    (c.site-site.result.is_between && is_class token.kind c.spelling.result.now (work c.args.self.now.progress.work))) c.args.self.now.quoted
-    most few before)
+    let site = c.site-site.result in
+    let longest = λ (t : SourceToken). quoted_behind site c.in_ok-judged.judged t c.args.self.now.quoted in
+    subst (λ n. n ≤ most) (sym (c.quoted_behind-self.ensures ∙ ap longest c.token_at-spelled.ensures))
+    (quoted_within site c.in_ok-judged.judged
+    (token_at site token.kind c.spelling-spelling.result.now token.place (work c.args.self.now.progress.work)) c.args.self.now.quoted most few before)
 
 pub returns-clause-stepped : goal.returns-clause-stepped
 returns-clause-stepped g c = λ honest start nested told.
@@ -87,7 +95,7 @@ returns-clause-stepped g c = λ honest start nested told.
     let before : State = state (files.sources c.args.files.now) start (files.openings c.args.files.now) c.args.self.now told in
     let now = nesting (files.sources c.args.files.now) start (files.openings c.next.new.files) c.next.new.self in
     let reads = c.in-Ok.ensures.token honest start nested in
-    let bytes = c.spelling.result.now in
+    let bytes = c.spelling-spelling.result.now in
     let names = before.nesting.names in
     let o = chosen c.args.self.now.setup in
     let context = context_of o before in
@@ -95,18 +103,27 @@ returns-clause-stepped g c = λ honest start nested told.
     let told_names : c.names.result.now.names ≡ names = ap (λ (s : Nest). s.names) (c.names.ensures ∙ c.in-Ok.ensures.same.0) in
     let taken_names : c.names-2.result.now.names ≡ names = ap (λ (s : Nest). s.names) (c.names-2.ensures ∙ c.in-Ok.ensures.same.0) in
     let site = c.site-site.ensures in
-    let spelled = spelled_as token.kind bytes token.place (c.site-site.result.is_between && is_class token.kind bytes before.work) in
-    let is = token_is before token.kind bytes token.place c.site-site.result reads.kind reads.place (c.spelling.ensures ∙ reads.bytes) site in
-    let behind_it = c.in_ok-judged.ensures ∙ ap (λ site. judged site before.work.output spelled before.conditions) site in
+    let spelled = token_at c.site-site.result token.kind bytes token.place before.work in
+    let spelled_is = c.token_at-spelled.ensures in
+    let is = token_is before c.site-site.result token.kind bytes token.place site reads.kind reads.place (c.spelling-spelling.ensures ∙ reads.bytes) in
+    let behind_it =
+    c.in_ok-judged.ensures ∙ ap (λ (t : SourceToken). judged c.site-site.result before.work.output t before.conditions) spelled_is
+    ∙ ap (λ site. judged site before.work.output spelled before.conditions) site in
     let said = c.take.new.self.said in
     let told = c.in_ok-tell.ensures.told ∙ ap (λ names. with_said names said before.work.report) told_names in
     let taken =
-    c.in_ok-take_judged.ensures ∙ ap (λ names. judged_taken (with_names names) spelled c.in_ok-judged.judged
+    c.in_ok-take_judged.ensures
+    ∙ ap (λ (t : SourceToken). judged_taken (with_names c.names-2.result.now.names) t c.in_ok-judged.judged
+    (reporting (stand_of before) c.tell.new.report c.tell.new.out)) spelled_is
+    ∙ ap (λ names. judged_taken (with_names names) spelled c.in_ok-judged.judged
     (reporting (stand_of before) c.tell.new.report c.tell.new.out)) taken_names
     ∙ ap (λ (r : Reported). judged_taken context spelled c.in_ok-judged.judged (reporting (stand_of before) r c.tell.new.out)) told
     ∙ ap (λ (o : Out). judged_taken context spelled c.in_ok-judged.judged
     (reporting (stand_of before) (with_said names said before.work.report) o)) c.in_ok-tell.ensures.right in
-    let longest = c.quoted_behind-self.ensures ∙ ap (λ site. quoted_behind site c.in_ok-judged.judged spelled before.quoted) site in
+    let longest =
+    c.quoted_behind-self.ensures
+    ∙ ap (λ (t : SourceToken). quoted_behind c.site-site.result c.in_ok-judged.judged t before.quoted) spelled_is
+    ∙ ap (λ site. quoted_behind site c.in_ok-judged.judged spelled before.quoted) site in
     step_is o before now (record { now = c.take.new.self; judged = c.in_ok-judged.judged }) c.tell.new.self (standing c.take_judged.new.self)
     c.quoted_behind-self.result spelled
     reads.goes_on is behind_it c.in_ok-tell.ensures.silent taken longest
