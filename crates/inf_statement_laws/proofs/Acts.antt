@@ -21,7 +21,7 @@ use Rattle.inf_syntax.specs.declared.actions.Action.{Action}
 use Rattle.inf_syntax.specs.declared.actions.Action.TheVariants as action
 use Rattle.inf_output.specs.declared.items.Item.{Item}
 use Rattle.inf_output.specs.Output.{Out}
-use Rattle.inf_unit.specs.Messages.{FileNames}
+use Rattle.inf_compilation.specs.Context.{Context, longest}
 use Rattle.inf_unit.specs.Tokens.{SourceToken}
 use Rattle.inf_unit.proofs.Cases.{of_both}
 use Rattle.inf_constructs.specs.Constructs.{are_cases, are_own, cases_begun, changed, entered, entered_by, looped, looped_by, looped_over, opened, with_step}
@@ -44,22 +44,22 @@ same_then a b c first second = (second.0 ∙ first.0, second.1 ∙ first.1)
 
 -- Tokens
 
-nested_same : (files : FileNames) (place : Place) (b : Bool) (w : Compilation) → SameOpen w (nested files place b w)
-nested_same files place true w = (refl, refl)
-nested_same files place false w = (refl, refl)
+nested_same : (context : Context) (place : Place) (b : Bool) (w : Compilation) → SameOpen w (nested context place b w)
+nested_same context place true w = (refl, refl)
+nested_same context place false w = (refl, refl)
 
-stopped_same : (files : FileNames) (place : Option Place) (w : Compilation) → SameOpen w (stopped files place w)
-stopped_same files None w = (refl, refl)
-stopped_same files (Some place) w = (refl, refl)
+stopped_same : (context : Context) (place : Option Place) (w : Compilation) → SameOpen w (stopped context place w)
+stopped_same context None w = (refl, refl)
+stopped_same context (Some place) w = (refl, refl)
 
-sized_same : (files : FileNames) (w : Compilation) → SameOpen w (sized files w)
-sized_same files w = stopped_same files (long_at w.longest w.unit) w
+sized_same : (context : Context) (w : Compilation) → SameOpen w (sized context w)
+sized_same context w = stopped_same context (long_at (longest context) w.unit) w
 
-took_same : (files : FileNames) (t : SourceToken) (w : Compilation) → SameOpen w (took files t w)
-took_same files t w =
+took_same : (context : Context) (t : SourceToken) (w : Compilation) → SameOpen w (took context t w)
+took_same context t w =
     let u = record w { unit = unit_taken t w.unit } in
-    let s = sized files u in
-    same_then w s (took files t w) (sized_same files u) (nested_same files t.place (opens t.kind && is_deep s 0) s)
+    let s = sized context u in
+    same_then w s (took context t w) (sized_same context u) (nested_same context t.place (opens t.kind && is_deep s 0) s)
 
 -- Units
 
@@ -70,87 +70,90 @@ is_quiet_part part.Loop = false
 is_quiet_part part.Case = false
 is_quiet_part _ = true
 
-quiet_carried : (files : FileNames) (first : Place) (p : Part) (f : Option Finding) (w : Compilation) → is_quiet_part p ≡ true
-    → SameOpen w (part_carried files first p f w)
+quiet_carried : (context : Context) (first : Place) (p : Part) (f : Option Finding) (w : Compilation) → is_quiet_part p ≡ true
+    → SameOpen w (part_carried context first p f w)
 unfolding part_effect
-quiet_carried files first p (Some f) w q = (refl, refl)
-quiet_carried files first (part.Statement s) None w q = (refl, refl)
-quiet_carried files first part.Condition None w q = (refl, refl)
-quiet_carried files first part.Start None w q = (refl, refl)
-quiet_carried files first part.Switched None w q = (refl, refl)
-quiet_carried files first part.Step None w q = cc
-quiet_carried files first part.Loop None w q = cc
-quiet_carried files first part.Case None w q = cc
+quiet_carried context first p (Some f) w q = (refl, refl)
+quiet_carried context first (part.Statement s) None w q = (refl, refl)
+quiet_carried context first part.Condition None w q = (refl, refl)
+quiet_carried context first part.Start None w q = (refl, refl)
+quiet_carried context first part.Switched None w q = (refl, refl)
+quiet_carried context first part.Step None w q = cc
+quiet_carried context first part.Loop None w q = cc
+quiet_carried context first part.Case None w q = cc
 
-quiet_finished : (files : FileNames) (first : Place) (p : Part) (w : Compilation) → is_quiet_part p ≡ true
-    → SameOpen w (part_finished files first p w)
-quiet_finished files first (part.Statement s) w q = quiet_carried files first (part.Statement s) (found_in (part.Statement s) w)
+quiet_finished : (context : Context) (first : Place) (p : Part) (w : Compilation) → is_quiet_part p ≡ true
+    → SameOpen w (part_finished context first p w)
+quiet_finished context first (part.Statement s) w q = quiet_carried context first (part.Statement s) (found_in context (part.Statement s) w)
     (named w) refl
-quiet_finished files first part.Condition w q = quiet_carried files first part.Condition (found_in part.Condition w) (named w) refl
-quiet_finished files first part.Start w q = quiet_carried files first part.Start (found_in part.Start w) (named w) refl
-quiet_finished files first part.Switched w q = quiet_carried files first part.Switched (found_in part.Switched w) (named w) refl
-quiet_finished files first part.Step w q = cc
-quiet_finished files first part.Loop w q = cc
-quiet_finished files first part.Case w q = cc
+quiet_finished context first part.Condition w q =
+    quiet_carried context first part.Condition (found_in context part.Condition w) (named w) refl
+quiet_finished context first part.Start w q = quiet_carried context first part.Start (found_in context part.Start w) (named w) refl
+quiet_finished context first part.Switched w q = quiet_carried context first part.Switched (found_in context part.Switched w) (named w) refl
+quiet_finished context first part.Step w q = cc
+quiet_finished context first part.Loop w q = cc
+quiet_finished context first part.Case w q = cc
 
 quiet_prepared : (p : Part) (w : Compilation) → is_quiet_part p ≡ true → SameOpen w (case_prepared p w)
 quiet_prepared part.Case w q = cc
 quiet_prepared _ w q = (refl, refl)
 
-quiet_part : (files : FileNames) (place : Place) (p : Part) (w : Compilation) → is_quiet_part p ≡ true →
-    SameOpen w (part_ended files place p w)
-quiet_part files place p w q =
+quiet_part : (context : Context) (place : Place) (p : Part) (w : Compilation) → is_quiet_part p ≡ true →
+    SameOpen w (part_ended context place p w)
+quiet_part context place p w q =
     let ready = case_prepared p (part_prepared w) in
-    of_both (SameOpen w) w.is_replaced (passed (has_last p) w) (part_finished files (place_of p place ready) p ready)
+    of_both (SameOpen w) w.is_replaced (passed (has_last p) w) (part_finished context (place_of p place ready) p ready)
     (λ _. (refl, refl))
-    (λ _. same_then w ready (part_finished files (place_of p place ready) p ready) (quiet_prepared p (part_prepared w) q)
-    (quiet_finished files (place_of p place ready) p ready q))
+    (λ _. same_then w ready (part_finished context (place_of p place ready) p ready) (quiet_prepared p (part_prepared w) q)
+    (quiet_finished context (place_of p place ready) p ready q))
 
 -- Actions
 
-quiet_note_of : (files : FileNames) (n : Note) (w : Compilation) → SameOpen w (noted_of files n w)
-quiet_note_of files n w =
+quiet_note_of : (context : Context) (n : Note) (w : Compilation) → SameOpen w (noted_of context n w)
+quiet_note_of context n w =
     let v = record w { unit = unit_noted n w.unit } in
-    of_both (SameOpen w) (makes_sure n) (sized files v) v (λ _. sized_same files v) (λ _. (refl, refl))
+    of_both (SameOpen w) (makes_sure n) (sized context v) v (λ _. sized_same context v) (λ _. (refl, refl))
 
-quiet_note : (files : FileNames) (n : Note) (w : Compilation) → SameOpen w (noted files n w)
-quiet_note files n w =
-    of_both (SameOpen w) (is_text n && is_crowded w) (record w { unit = text_passed w.unit }) (noted_of files n w)
-    (λ _. (refl, refl)) (λ _. quiet_note_of files n w)
+quiet_note : (context : Context) (n : Note) (w : Compilation) → SameOpen w (noted context n w)
+quiet_note context n w =
+    of_both (SameOpen w) (is_text n && is_crowded w) (record w { unit = text_passed w.unit }) (noted_of context n w)
+    (λ _. (refl, refl)) (λ _. quiet_note_of context n w)
 
-quiet_end : (files : FileNames) (place : Place) (e : Ending) (w : Compilation) → is_quiet_end e ≡ true → SameOpen w (ended_as files place e w)
-quiet_end files place ending.Statement w q = quiet_part files place (part.Statement (statement_at w)) w refl
-quiet_end files place ending.Condition w q = quiet_part files place part.Condition w refl
-quiet_end files place ending.Start w q = quiet_part files place part.Start w refl
-quiet_end files place ending.Switched w q = quiet_part files place part.Switched w refl
-quiet_end files place _ w q = cc
+quiet_end : (context : Context) (place : Place) (e : Ending) (w : Compilation) → is_quiet_end e ≡ true →
+    SameOpen w (ended_as context place e w)
+quiet_end context place ending.Statement w q = quiet_part context place (part.Statement (statement_at w)) w refl
+quiet_end context place ending.Condition w q = quiet_part context place part.Condition w refl
+quiet_end context place ending.Start w q = quiet_part context place part.Start w refl
+quiet_end context place ending.Switched w q = quiet_part context place part.Switched w refl
+quiet_end context place _ w q = cc
 
-quiet_role : (files : FileNames) (place : Place) (r : Role) (w : Compilation) → is_quiet_role r ≡ true → SameOpen w (played files place r w)
-quiet_role files place (role.Gather s) w q = (refl, refl)
-quiet_role files place (role.Note n) w q = quiet_note files n w
-quiet_role files place (role.End e) w q = quiet_end files place e w q
-quiet_role files place (role.Open o) w q = cc
-quiet_role files place role.Join w q = cc
-quiet_role files place role.Close w q = cc
-quiet_role files place role.Deeper w q = nested_same files place (is_deep w 1) w
-quiet_role files place role.MaybeDeeper w q = (refl, refl)
-quiet_role files place role.Nothing w q = (refl, refl)
+quiet_role : (context : Context) (place : Place) (r : Role) (w : Compilation) → is_quiet_role r ≡ true →
+    SameOpen w (played context place r w)
+quiet_role context place (role.Gather s) w q = (refl, refl)
+quiet_role context place (role.Note n) w q = quiet_note context n w
+quiet_role context place (role.End e) w q = quiet_end context place e w q
+quiet_role context place (role.Open o) w q = cc
+quiet_role context place role.Join w q = cc
+quiet_role context place role.Close w q = cc
+quiet_role context place role.Deeper w q = nested_same context place (is_deep w 1) w
+quiet_role context place role.MaybeDeeper w q = (refl, refl)
+quiet_role context place role.Nothing w q = (refl, refl)
 
-quiet_act : (files : FileNames) (place : Place) (a : Action) (w : Compilation) → is_quiet a ≡ true → SameOpen w (act files place a w)
-quiet_act files place a w q = quiet_role files place (role_of a) w q
+quiet_act : (context : Context) (place : Place) (a : Action) (w : Compilation) → is_quiet a ≡ true → SameOpen w (act context place a w)
+quiet_act context place a w q = quiet_role context place (role_of a) w q
 
 -- Happenings
 
-quiet_happens : (files : FileNames) (h : Happening) (w : Compilation) → happens_quietly h ≡ true → SameOpen w (happens files h w)
-quiet_happens files (Acts at a) w q = quiet_act files at.place a w q
-quiet_happens files (Takes t m) w q = took_same files t w
+quiet_happens : (context : Context) (h : Happening) (w : Compilation) → happens_quietly h ≡ true → SameOpen w (happens context h w)
+quiet_happens context (Acts at a) w q = quiet_act context at.place a w q
+quiet_happens context (Takes t m) w q = took_same context t w
 
-pub quiet_run : (files : FileNames) (hs : List Happening) (w : Compilation) → happen_quietly hs ≡ true → SameOpen w (run files hs w)
-quiet_run files [] w q = (refl, refl)
-quiet_run files (h ∷ hs) w q =
+pub quiet_run : (context : Context) (hs : List Happening) (w : Compilation) → happen_quietly hs ≡ true → SameOpen w (run context hs w)
+quiet_run context [] w q = (refl, refl)
+quiet_run context (h ∷ hs) w q =
     let both = and_parts (happens_quietly h) (happen_quietly hs) q in
-    let v = happens files h w in
-    same_then w v (run files hs v) (quiet_happens files h w both.0) (quiet_run files hs v both.1)
+    let v = happens context h w in
+    same_then w v (run context hs v) (quiet_happens context h w both.0) (quiet_run context hs v both.1)
 
 -- Units that change the innermost
 
@@ -162,21 +165,21 @@ abbrev pub StepIn : Construct → List Construct → List Construct → Type 0
 StepIn c around after = (s : Option (List Item)) × (after ≡ record c { step = s } ∷ around)
 
 -- the step of a `for`
-step_carried : (files : FileNames) (first : Place) (f : Option Finding) (w : Compilation) (c : Construct) (around : List Construct)
+step_carried : (context : Context) (first : Place) (f : Option Finding) (w : Compilation) (c : Construct) (around : List Construct)
     → w.constructs ≡ c ∷ around
-    → StepIn c around (part_carried files first part.Step f w).constructs × ((part_carried files first part.Step f w).closed ≡ w.closed)
+    → StepIn c around (part_carried context first part.Step f w).constructs × ((part_carried context first part.Step f w).closed ≡ w.closed)
 unfolding part_effect
-step_carried files first (Some f) w c around e = ((c.step, e), refl)
-step_carried files first None w c around e = ((_, ap (with_step _) e), refl)
+step_carried context first (Some f) w c around e = ((c.step, e), refl)
+step_carried context first None w c around e = ((_, ap (with_step _) e), refl)
 
-pub step_ends : (files : FileNames) (place : Place) (w : Compilation) (c : Construct) (around : List Construct) → w.constructs ≡ c ∷ around
-    → StepIn c around (act files place action.EndForStep w).constructs × ((act files place action.EndForStep w).closed ≡ w.closed)
-step_ends files place w c around e =
+pub step_ends : (context : Context) (place : Place) (w : Compilation) (c : Construct) (around : List Construct) → w.constructs ≡ c ∷ around
+    → StepIn c around (act context place action.EndForStep w).constructs × ((act context place action.EndForStep w).closed ≡ w.closed)
+step_ends context place w c around e =
     let ready = part_prepared w in
     of_both (λ (v : Compilation). StepIn c around v.constructs × (v.closed ≡ w.closed)) w.is_replaced (passed (has_last part.Step) w)
-    (part_finished files (place_of part.Step place ready) part.Step ready)
-    (λ _. ((c.step, e), refl)) (λ _. step_carried files (place_of part.Step place ready) (found_in part.Step ready) (named ready) c
-    around e)
+    (part_finished context (place_of part.Step place ready) part.Step ready)
+    (λ _. ((c.step, e), refl)) (λ _. step_carried context (place_of part.Step place ready) (found_in context part.Step ready) (named ready)
+    c around e)
 
 -- what a loop over objects goes over
 looped_kind_by : (parent : Option Tree) (e : Tree) (v : ℕ) (c : Construct) (o : Out)
@@ -195,26 +198,26 @@ looped_over_kind (r ∷ trees) constructs o c around e =
     let k = looped_kind r c o in
     (k.0, ap (λ l. (changed (looped r) l o).0) e ∙ ap (λ d. d ∷ around) k.1)
 
-loop_carried : (files : FileNames) (first : Place) (f : Option Finding) (w : Compilation) (c : Construct) (around : List Construct)
+loop_carried : (context : Context) (first : Place) (f : Option Finding) (w : Compilation) (c : Construct) (around : List Construct)
     → w.constructs ≡ c ∷ around
-    → KindIn c around (part_carried files first part.Loop f w).constructs × ((part_carried files first part.Loop f w).closed ≡ w.closed)
+    → KindIn c around (part_carried context first part.Loop f w).constructs × ((part_carried context first part.Loop f w).closed ≡ w.closed)
 unfolding part_effect
-loop_carried files first (Some f) w c around e = ((c.kind, e), refl)
-loop_carried files first None w c around e =
-    let s = settled_of w in (
+loop_carried context first (Some f) w c around e = ((c.kind, e), refl)
+loop_carried context first None w c around e =
+    let s = settled_of context w in (
       looped_over_kind (trees_at (order_of part.Loop w) (wanted_of part.Loop) s.operands w) w.constructs (record s.out { first = first })
           c around e,
       refl,
     )
 
-pub loop_ends : (files : FileNames) (place : Place) (w : Compilation) (c : Construct) (around : List Construct) → w.constructs ≡ c ∷ around
-    → KindIn c around (act files place action.EndObjectloop w).constructs × ((act files place action.EndObjectloop w).closed ≡ w.closed)
-loop_ends files place w c around e =
+pub loop_ends : (context : Context) (place : Place) (w : Compilation) (c : Construct) (around : List Construct) → w.constructs ≡ c ∷ around
+    → KindIn c around (act context place action.EndObjectloop w).constructs × ((act context place action.EndObjectloop w).closed ≡ w.closed)
+loop_ends context place w c around e =
     let ready = part_prepared w in
     of_both (λ (v : Compilation). KindIn c around v.constructs × (v.closed ≡ w.closed)) w.is_replaced (passed (has_last part.Loop) w)
-    (part_finished files (place_of part.Loop place ready) part.Loop ready)
-    (λ _. ((c.kind, e), refl)) (λ _. loop_carried files (place_of part.Loop place ready) (found_in part.Loop ready) (named ready) c
-    around e)
+    (part_finished context (place_of part.Loop place ready) part.Loop ready)
+    (λ _. ((c.kind, e), refl)) (λ _. loop_carried context (place_of part.Loop place ready) (found_in context part.Loop ready) (named ready)
+    c around e)
 
 -- a case
 entered_kind_by : (k : Kind) (b : Bool) (c : Construct) (o : Out) → (after : Kind) × ((entered_by k b c o).0 ≡ record c { kind = after })
@@ -239,39 +242,39 @@ case_ready w c around e =
     let same = actions_named_same (are_own begun.constructs) begun in
     (same.0 ∙ ap (λ l. (cases_begun l w.output).0) e, same.1)
 
-case_carried : (files : FileNames) (first : Place) (f : Option Finding) (w : Compilation) →
-    SameOpen w (part_carried files first part.Case f w)
+case_carried : (context : Context) (first : Place) (f : Option Finding) (w : Compilation) →
+    SameOpen w (part_carried context first part.Case f w)
 unfolding part_effect
-case_carried files first (Some f) w = (refl, refl)
-case_carried files first None w = (refl, refl)
+case_carried context first (Some f) w = (refl, refl)
+case_carried context first None w = (refl, refl)
 
-case_finished : (files : FileNames) (first : Place) (w : Compilation) (c : Construct) (around : List Construct) → w.constructs ≡ c ∷ around
-    → KindIn c around (part_finished files first part.Case w).constructs × ((part_finished files first part.Case w).closed ≡ w.closed)
-case_finished files first w c around e =
+case_finished : (context : Context) (first : Place) (w : Compilation) (c : Construct) (around : List Construct) → w.constructs ≡ c ∷ around
+    → KindIn c around (part_finished context first part.Case w).constructs × ((part_finished context first part.Case w).closed ≡ w.closed)
+case_finished context first w c around e =
     let begun = part_begun part.Case w in
-    let same = case_carried files first (found_in part.Case w) (named begun) in
+    let same = case_carried context first (found_in context part.Case w) (named begun) in
     let k = entered_kind (is_default w.unit.items) c w.output in
     ((k.0, same.0 ∙ (ap (λ l. (changed (entered (is_default w.unit.items)) l w.output).0) e ∙ ap (λ d. d ∷ around) k.1)), same.1)
 
-pub case_ends : (files : FileNames) (place : Place) (w : Compilation) (c : Construct) (around : List Construct) → w.constructs ≡ c ∷ around
-    → KindIn c around (act files place action.EndCase w).constructs
-case_ends files place w c around e =
+pub case_ends : (context : Context) (place : Place) (w : Compilation) (c : Construct) (around : List Construct) → w.constructs ≡ c ∷ around
+    → KindIn c around (act context place action.EndCase w).constructs
+case_ends context place w c around e =
     let before = part_prepared w in
     let ready = case_prepared part.Case before in
     of_both (λ (v : Compilation). KindIn c around v.constructs) w.is_replaced (passed (has_last part.Case) w)
-    (part_finished files (place_of part.Case place ready) part.Case ready)
-    (λ _. (c.kind, e)) (λ _. (case_finished files (place_of part.Case place ready) ready c around (case_ready before c around e).0).0)
+    (part_finished context (place_of part.Case place ready) part.Case ready)
+    (λ _. (c.kind, e)) (λ _. (case_finished context (place_of part.Case place ready) ready c around (case_ready before c around e).0).0)
 
 -- the number of those that are closed ahead stays, whatever is open
-pub case_none_ahead : (files : FileNames) (place : Place) (w : Compilation) → (act files place action.EndCase w).closed ≡ w.closed
-case_none_ahead files place w =
+pub case_none_ahead : (context : Context) (place : Place) (w : Compilation) → (act context place action.EndCase w).closed ≡ w.closed
+case_none_ahead context place w =
     let before = part_prepared w in
     let ready = case_prepared part.Case before in
     let begun = constructs_laid (cases_begun before.constructs) before in
     of_both (λ (v : Compilation). v.closed ≡ w.closed) w.is_replaced (passed (has_last part.Case) w)
-    (part_finished files (place_of part.Case place ready) part.Case ready)
+    (part_finished context (place_of part.Case place ready) part.Case ready)
     (λ _. refl)
-    (λ _. (case_carried files (place_of part.Case place ready) (found_in part.Case ready) (named (part_begun part.Case ready))).1
+    (λ _. (case_carried context (place_of part.Case place ready) (found_in context part.Case ready) (named (part_begun part.Case ready))).1
     ∙ (actions_named_same (are_own begun.constructs) begun).1)
 
 -- The routine's own cases
@@ -307,18 +310,18 @@ entered_alone b [] o h = refl
 entered_alone b (c ∷ []) o h = entered_own b c o h
 entered_alone b (c ∷ d ∷ constructs) o h = cc
 
-pub case_alone : (files : FileNames) (place : Place) (w : Compilation) → own_alone w.constructs ≡ true
-    → own_alone (act files place action.EndCase w).constructs ≡ true
-case_alone files place w h =
+pub case_alone : (context : Context) (place : Place) (w : Compilation) → own_alone w.constructs ≡ true
+    → own_alone (act context place action.EndCase w).constructs ≡ true
+case_alone context place w h =
     let before = part_prepared w in
     let ready = case_prepared part.Case before in
     let at = place_of part.Case place ready in
     let begun = constructs_laid (cases_begun before.constructs) before in
     let entering = part_begun part.Case ready in
     of_both (λ (v : Compilation). own_alone v.constructs ≡ true) w.is_replaced (passed (has_last part.Case) w)
-    (part_finished files at part.Case ready)
+    (part_finished context at part.Case ready)
     (λ _. h)
-    (λ _. ap own_alone (case_carried files at (found_in part.Case ready) (named entering)).0
+    (λ _. ap own_alone (case_carried context at (found_in context part.Case ready) (named entering)).0
     ∙ entered_alone (is_default ready.unit.items) ready.constructs ready.output
     (ap own_alone (actions_named_same (are_own begun.constructs) begun).0 ∙ begun_alone before.constructs before.output h))
 
@@ -344,86 +347,86 @@ is_inside_role _ = true
 abbrev pub is_inside : Action → Bool
 is_inside a = is_inside_role (role_of a)
 
-opened_none : (files : FileNames) (place : Place) (k : Kind) (w : Compilation) → (construct_opened files place k w).closed ≡ w.closed
-opened_none files place k w = (nested_same files (last_place w.unit.tokens place) (is_deep w 1) w).1
+opened_none : (context : Context) (place : Place) (k : Kind) (w : Compilation) → (construct_opened context place k w).closed ≡ w.closed
+opened_none context place k w = (nested_same context (last_place w.unit.tokens place) (is_deep w 1) w).1
 
 closed_none : (w : Compilation) → w.closed ≡ 0 → (construct_closed w).closed ≡ 0
 closed_none w e =
     ap (λ (v : Compilation). v.closed) (ap (λ n. if nat_lt 0 n then record w { closed = n - 1 } else construct_ended w) e) ∙ e
 
-step_carried_none : (files : FileNames) (first : Place) (f : Option Finding) (v : Compilation)
-    → (part_carried files first part.Step f v).closed ≡ v.closed
+step_carried_none : (context : Context) (first : Place) (f : Option Finding) (v : Compilation)
+    → (part_carried context first part.Step f v).closed ≡ v.closed
 unfolding part_effect
-step_carried_none files first (Some f) v = refl
-step_carried_none files first None v = refl
+step_carried_none context first (Some f) v = refl
+step_carried_none context first None v = refl
 
-step_none : (files : FileNames) (place : Place) (w : Compilation) → (act files place action.EndForStep w).closed ≡ w.closed
-step_none files place w =
+step_none : (context : Context) (place : Place) (w : Compilation) → (act context place action.EndForStep w).closed ≡ w.closed
+step_none context place w =
     let ready = part_prepared w in
     let first = place_of part.Step place ready in
     of_both (λ (v : Compilation). v.closed ≡ w.closed) w.is_replaced (passed (has_last part.Step) w)
-    (part_finished files first part.Step ready)
-    (λ _. refl) (λ _. step_carried_none files first (found_in part.Step ready) (named ready))
+    (part_finished context first part.Step ready)
+    (λ _. refl) (λ _. step_carried_none context first (found_in context part.Step ready) (named ready))
 
-loop_carried_none : (files : FileNames) (first : Place) (f : Option Finding) (v : Compilation)
-    → (part_carried files first part.Loop f v).closed ≡ v.closed
+loop_carried_none : (context : Context) (first : Place) (f : Option Finding) (v : Compilation)
+    → (part_carried context first part.Loop f v).closed ≡ v.closed
 unfolding part_effect
-loop_carried_none files first (Some f) v = refl
-loop_carried_none files first None v = refl
+loop_carried_none context first (Some f) v = refl
+loop_carried_none context first None v = refl
 
-loop_none : (files : FileNames) (place : Place) (w : Compilation) → (act files place action.EndObjectloop w).closed ≡ w.closed
-loop_none files place w =
+loop_none : (context : Context) (place : Place) (w : Compilation) → (act context place action.EndObjectloop w).closed ≡ w.closed
+loop_none context place w =
     let ready = part_prepared w in
     let first = place_of part.Loop place ready in
     of_both (λ (v : Compilation). v.closed ≡ w.closed) w.is_replaced (passed (has_last part.Loop) w)
-    (part_finished files first part.Loop ready)
-    (λ _. refl) (λ _. loop_carried_none files first (found_in part.Loop ready) (named ready))
+    (part_finished context first part.Loop ready)
+    (λ _. refl) (λ _. loop_carried_none context first (found_in context part.Loop ready) (named ready))
 
 -- a header closes none ahead, and leaves none open where none was
-pub header_same : (files : FileNames) (first : Place) (names : List Name) (w : Compilation)
-    → ((header_of files first names w).closed ≡ w.closed) × (w.constructs ≡ [] → (header_of files first names w).constructs ≡ [])
-header_same files first [] w = (refl, λ e. e)
-header_same files first (name ∷ names) w =
+pub header_same : (context : Context) (first : Place) (names : List Name) (w : Compilation)
+    → ((header_of context first names w).closed ≡ w.closed) × (w.constructs ≡ [] → (header_of context first names w).constructs ≡ [])
+header_same context first [] w = (refl, λ e. e)
+header_same context first (name ∷ names) w =
     of_both (λ (v : Compilation). (v.closed ≡ w.closed) × (w.constructs ≡ [] → v.constructs ≡ [])) (is_to_be_replaced name w)
     (passed true (record w { is_replaced = true; is_embedded = false; constructs = [] }))
-    (header_with files first name w.unit.headed (record w { is_replaced = false; is_embedded = false }))
+    (header_with context first name w.unit.headed (record w { is_replaced = false; is_embedded = false }))
     (λ _. (refl, λ e. refl)) (λ _. (refl, λ e. refl))
 
-routine_none : (files : FileNames) (place : Place) (w : Compilation) → (close files place w).closed ≡ w.closed
-routine_none files place w =
-    of_both (λ (v : Compilation). v.closed ≡ w.closed) w.is_replaced (passed true w) (close_open files place w) (λ _. refl) (λ _. refl)
+routine_none : (context : Context) (place : Place) (w : Compilation) → (close context place w).closed ≡ w.closed
+routine_none context place w =
+    of_both (λ (v : Compilation). v.closed ≡ w.closed) w.is_replaced (passed true w) (close_open context place w) (λ _. refl) (λ _. refl)
 
-inside_end : (files : FileNames) (place : Place) (e : Ending) (w : Compilation) → is_inside_end e ≡ true → w.closed ≡ 0
-    → (ended_as files place e w).closed ≡ 0
-inside_end files place ending.Locals w i e = (header_same files (first_place w.unit.tokens place) (names_in w.unit.tokens) w).0 ∙ e
-inside_end files place ending.Routine w i e = routine_none files place w ∙ e
-inside_end files place ending.Statement w i e = (quiet_end files place ending.Statement w refl).1 ∙ e
-inside_end files place ending.Condition w i e = (quiet_end files place ending.Condition w refl).1 ∙ e
-inside_end files place ending.Start w i e = (quiet_end files place ending.Start w refl).1 ∙ e
-inside_end files place ending.Step w i e = step_none files place w ∙ e
-inside_end files place ending.Loop w i e = loop_none files place w ∙ e
-inside_end files place ending.Switched w i e = (quiet_end files place ending.Switched w refl).1 ∙ e
-inside_end files place ending.Case w i e = case_none_ahead files place w ∙ e
-inside_end files place _ w i e = cc
+inside_end : (context : Context) (place : Place) (e : Ending) (w : Compilation) → is_inside_end e ≡ true → w.closed ≡ 0
+    → (ended_as context place e w).closed ≡ 0
+inside_end context place ending.Locals w i e = (header_same context (first_place w.unit.tokens place) (names_in w.unit.tokens) w).0 ∙ e
+inside_end context place ending.Routine w i e = routine_none context place w ∙ e
+inside_end context place ending.Statement w i e = (quiet_end context place ending.Statement w refl).1 ∙ e
+inside_end context place ending.Condition w i e = (quiet_end context place ending.Condition w refl).1 ∙ e
+inside_end context place ending.Start w i e = (quiet_end context place ending.Start w refl).1 ∙ e
+inside_end context place ending.Step w i e = step_none context place w ∙ e
+inside_end context place ending.Loop w i e = loop_none context place w ∙ e
+inside_end context place ending.Switched w i e = (quiet_end context place ending.Switched w refl).1 ∙ e
+inside_end context place ending.Case w i e = case_none_ahead context place w ∙ e
+inside_end context place _ w i e = cc
 
-inside_role : (files : FileNames) (place : Place) (r : Role) (w : Compilation) → is_inside_role r ≡ true → w.closed ≡ 0
-    → (played files place r w).closed ≡ 0
-inside_role files place (role.Gather s) w i e = e
-inside_role files place (role.Note n) w i e = (quiet_note files n w).1 ∙ e
-inside_role files place (role.End ends) w i e = inside_end files place ends w i e
-inside_role files place (role.Open o) w i e = opened_none files place (kind_of o) w ∙ e
-inside_role files place role.Join w i e = e
-inside_role files place role.Close w i e = closed_none w e
-inside_role files place role.Deeper w i e = (quiet_role files place role.Deeper w refl).1 ∙ e
-inside_role files place role.MaybeDeeper w i e = e
-inside_role files place role.Nothing w i e = e
+inside_role : (context : Context) (place : Place) (r : Role) (w : Compilation) → is_inside_role r ≡ true → w.closed ≡ 0
+    → (played context place r w).closed ≡ 0
+inside_role context place (role.Gather s) w i e = e
+inside_role context place (role.Note n) w i e = (quiet_note context n w).1 ∙ e
+inside_role context place (role.End ends) w i e = inside_end context place ends w i e
+inside_role context place (role.Open o) w i e = opened_none context place (kind_of o) w ∙ e
+inside_role context place role.Join w i e = e
+inside_role context place role.Close w i e = closed_none w e
+inside_role context place role.Deeper w i e = (quiet_role context place role.Deeper w refl).1 ∙ e
+inside_role context place role.MaybeDeeper w i e = e
+inside_role context place role.Nothing w i e = e
 
-pub inside_act : (files : FileNames) (place : Place) (a : Action) (w : Compilation) → is_inside a ≡ true → w.closed ≡ 0
-    → (act files place a w).closed ≡ 0
-inside_act files place a w i e = inside_role files place (role_of a) w i e
+pub inside_act : (context : Context) (place : Place) (a : Action) (w : Compilation) → is_inside a ≡ true → w.closed ≡ 0
+    → (act context place a w).closed ≡ 0
+inside_act context place a w i e = inside_role context place (role_of a) w i e
 
-pub took_none : (files : FileNames) (t : SourceToken) (w : Compilation) → (took files t w).closed ≡ w.closed
-took_none files t w = (took_same files t w).1
+pub took_none : (context : Context) (t : SourceToken) (w : Compilation) → (took context t w).closed ≡ w.closed
+took_none context t w = (took_same context t w).1
 
 quiet_end_inside : (e : Ending) → is_quiet_end e ≡ true → is_inside_end e ≡ true
 quiet_end_inside ending.Statement q = refl

@@ -8,7 +8,7 @@ use Rattle.inf_machine.specs.Grammar.{IsOneOf, first, later}
 use Rattle.inf_syntax.specs.declared.actions.Action.{Action}
 use Rattle.inf_syntax.specs.declared.actions.Action.TheVariants as action
 use Rattle.inf_output.specs.Output.{Out}
-use Rattle.inf_unit.specs.Messages.{FileNames}
+use Rattle.inf_compilation.specs.Context.{Context}
 use Rattle.inf_unit.specs.Units.{last_place}
 use Rattle.inf_unit.proofs.Cases.{of_both}
 use Rattle.inf_constructs.specs.Constructs.{all_ended, are_cases, begun, between, changed, depth, depth_by, ended, opened, outermost}
@@ -29,9 +29,9 @@ use Rattle.inf_statement_laws.proofs.Nesting.{Compound, body_is_nested, do_is_ne
 
 -- Happenings behind others
 
-pub run_then : (files : FileNames) (xs ys : List Happening) (w : Compilation) → run files (xs ++ ys) w ≡ run files ys (run files xs w)
-run_then files [] ys w = refl
-run_then files (x ∷ xs) ys w = run_then files xs ys (happens files x w)
+pub run_then : (context : Context) (xs ys : List Happening) (w : Compilation) → run context (xs ++ ys) w ≡ run context ys (run context xs w)
+run_then context [] ys w = refl
+run_then context (x ∷ xs) ys w = run_then context xs ys (happens context x w)
 
 -- The innermost of those that are open, with none closed ahead
 
@@ -39,25 +39,25 @@ record At (c : Construct) (around : List Construct) (w : Compilation) : Type 0 w
   is : w.constructs ≡ c ∷ around
   none_ahead : w.closed ≡ 0
 
-at_quiet : (files : FileNames) (q : Quiet) (c : Construct) (around : List Construct) (w : Compilation) → At c around w
-    → At c around (run files q.all w)
-at_quiet files q c around w at =
-    let same = quiet_run files q.all w q.are in record { is = same.0 ∙ at.is; none_ahead = same.1 ∙ at.none_ahead }
+at_quiet : (context : Context) (q : Quiet) (c : Construct) (around : List Construct) (w : Compilation) → At c around w
+    → At c around (run context q.all w)
+at_quiet context q c around w at =
+    let same = quiet_run context q.all w q.are in record { is = same.0 ∙ at.is; none_ahead = same.1 ∙ at.none_ahead }
 
 at_holding : (at : Moment) (c : Construct × Out) (around : List Construct) (w : Compilation) → w.closed ≡ 0 →
     At c.0 around (holding at c around w)
 at_holding at c around w e = record { is = refl; none_ahead = e }
 
-nested_is : (files : FileNames) (place : Place) (b : Bool) (w : Compilation)
-    → nested files place b w ≡ record w { report = (nested files place b w).report }
-nested_is files place true w = refl
-nested_is files place false w = refl
+nested_is : (context : Context) (place : Place) (b : Bool) (w : Compilation)
+    → nested context place b w ≡ record w { report = (nested context place b w).report }
+nested_is context place true w = refl
+nested_is context place false w = refl
 
-opening_is : (files : FileNames) (at : Moment) (k : Kind) (w : Compilation)
-    → passed at.behind (construct_opened files at.place k w) ≡ opened_at files at (opened k w.output) w
-opening_is files at k w =
+opening_is : (context : Context) (at : Moment) (k : Kind) (w : Compilation)
+    → passed at.behind (construct_opened context at.place k w) ≡ opened_at context at (opened k w.output) w
+opening_is context at k w =
     ap (λ (told : Compilation). passed at.behind (constructs_laid (begun k told.constructs) told))
-    (nested_is files (last_place w.unit.tokens at.place) (is_deep w 1) w)
+    (nested_is context (last_place w.unit.tokens at.place) (is_deep w 1) w)
 
 joining_is : (joins : Moment) (c : Construct) (around : List Construct) (w : Compilation) → At c around w
     → passed joins.behind (construct_joined w) ≡ holding joins (between c w.output) around w
@@ -84,17 +84,17 @@ holds_then : (b : Bool) (x y z : List Construct) → Holds b x y → Holds b y z
 holds_then false x y z f g = g ∙ f
 holds_then true x y z f g = λ c around is. let k = f c around is in let l = g (record c { kind = k.0 }) around k.1 in (l.0, l.1)
 
-pub record IsLaid {b : Bool} (files : FileNames) (n : Nested b) (w : Compilation) : Type 0 where
-  pub runs : run files (happenings n) w ≡ laid files n w
-  pub holds : Holds b w.constructs (laid files n w).constructs
-  pub none_ahead : (laid files n w).closed ≡ 0
+pub record IsLaid {b : Bool} (context : Context) (n : Nested b) (w : Compilation) : Type 0 where
+  pub runs : run context (happenings n) w ≡ laid context n w
+  pub holds : Holds b w.constructs (laid context n w).constructs
+  pub none_ahead : (laid context n w).closed ≡ 0
 
-abbrev pub Inner : {b : Bool} → FileNames → Nested b → Type 0
-Inner files n = (w : Compilation) → w.closed ≡ 0 → IsLaid files n w
+abbrev pub Inner : {b : Bool} → Context → Nested b → Type 0
+Inner context n = (w : Compilation) → w.closed ≡ 0 → IsLaid context n w
 
-at_body : (files : FileNames) (body : Nested false) → Inner files body → (c : Construct) (around : List Construct) (w : Compilation)
-    → At c around w → At c around (laid files body w)
-at_body files body inner c around w at =
+at_body : (context : Context) (body : Nested false) → Inner context body → (c : Construct) (around : List Construct) (w : Compilation)
+    → At c around w → At c around (laid context body w)
+at_body context body inner c around w at =
     let i = inner w at.none_ahead in record { is = i.holds ∙ at.is; none_ahead = i.none_ahead }
 
 -- the closing behind something that ran
@@ -102,122 +102,122 @@ abbrev close : Moment → List Happening
 close at = Acts at action.Close ∷ []
 
 -- It ends where what ran has it as the innermost.
-record Ends (files : FileNames) (hs : List Happening) (v : Compilation) (c : Construct) (around : List Construct) (closes : Moment)
+record Ends (context : Context) (hs : List Happening) (v : Compilation) (c : Construct) (around : List Construct) (closes : Moment)
     (w : Compilation) : Type 0 where
-  runs : run files hs v ≡ ended_as closes c around w
+  runs : run context hs v ≡ ended_as closes c around w
   none_ahead : w.closed ≡ 0
 
-closed_behind : (files : FileNames) (c : Construct) (around : List Construct) (closes : Moment) (xs : List Happening) (v w : Compilation)
-    → run files xs v ≡ w → At c around w
-    → Ends files (xs ++ close closes) v c around closes w
-closed_behind files c around closes xs v w e at = record {
-  runs = run_then files xs (close closes) v ∙ (ap (run files (close closes)) e ∙ closing_is closes c around w at);
+closed_behind : (context : Context) (c : Construct) (around : List Construct) (closes : Moment) (xs : List Happening) (v w : Compilation)
+    → run context xs v ≡ w → At c around w
+    → Ends context (xs ++ close closes) v c around closes w
+closed_behind context c around closes xs v w e at = record {
+  runs = run_then context xs (close closes) v ∙ (ap (run context (close closes)) e ∙ closing_is closes c around w at);
   none_ahead = at.none_ahead;
 }
 
 -- a body, and the closing
-body_closed : (files : FileNames) (body : Nested false) → Inner files body
+body_closed : (context : Context) (body : Nested false) → Inner context body
     → (c : Construct) (around : List Construct) (closes : Moment) (v : Compilation) → At c around v
-    → Ends files (happenings body ++ close closes) v c around closes (laid files body v)
-body_closed files body inner c around closes v at =
-    closed_behind files c around closes (happenings body) v (laid files body v) (inner v at.none_ahead).runs
-    (at_body files body inner c around v at)
+    → Ends context (happenings body ++ close closes) v c around closes (laid context body v)
+body_closed context body inner c around closes v at =
+    closed_behind context c around closes (happenings body) v (laid context body v) (inner v at.none_ahead).runs
+    (at_body context body inner c around v at)
 
 -- what is quiet, a body, and the closing
-quiet_body_closed : (files : FileNames) (q : Quiet) (body : Nested false) → Inner files body
+quiet_body_closed : (context : Context) (q : Quiet) (body : Nested false) → Inner context body
     → (c : Construct) (around : List Construct) (closes : Moment) (v : Compilation) → At c around v
-    → Ends files (q.all ++ (happenings body ++ close closes)) v c around closes (laid files body (run files q.all v))
-quiet_body_closed files q body inner c around closes v at =
-    let ends = body_closed files body inner c around closes (run files q.all v) (at_quiet files q c around v at) in
-    record { runs = run_then files q.all (happenings body ++ close closes) v ∙ ends.runs; none_ahead = ends.none_ahead }
+    → Ends context (q.all ++ (happenings body ++ close closes)) v c around closes (laid context body (run context q.all v))
+quiet_body_closed context q body inner c around closes v at =
+    let ends = body_closed context body inner c around closes (run context q.all v) (at_quiet context q c around v at) in
+    record { runs = run_then context q.all (happenings body ++ close closes) v ∙ ends.runs; none_ahead = ends.none_ahead }
 
 -- behind the word of one
-abbrev word_read : FileNames → Moment → Kind → Compilation → Compilation
-word_read files opens k w = opened_at files opens (opened k w.output) w
+abbrev word_read : Context → Moment → Kind → Compilation → Compilation
+word_read context opens k w = opened_at context opens (opened k w.output) w
 
-at_word : (files : FileNames) (opens : Moment) (k : Kind) (w : Compilation) → w.closed ≡ 0
-    → At (opened k w.output).0 w.constructs (word_read files opens k w)
-at_word files opens k w e = record { is = refl; none_ahead = e }
+at_word : (context : Context) (opens : Moment) (k : Kind) (w : Compilation) → w.closed ≡ 0
+    → At (opened k w.output).0 w.constructs (word_read context opens k w)
+at_word context opens k w e = record { is = refl; none_ahead = e }
 
 -- One that is laid as a whole
-record Whole {b : Bool} (files : FileNames) (n : Nested b) (w : Compilation) : Type 0 where
-  runs : run files (happenings n) w ≡ laid files n w
-  none_ahead : (laid files n w).closed ≡ 0
+record Whole {b : Bool} (context : Context) (n : Nested b) (w : Compilation) : Type 0 where
+  runs : run context (happenings n) w ≡ laid context n w
+  none_ahead : (laid context n w).closed ≡ 0
 
-if_is : {b : Bool} (files : FileNames) (opens : Moment) (test : Quiet) (body : Nested false) (closes : Moment) (w : Compilation) →
+if_is : {b : Bool} (context : Context) (opens : Moment) (test : Quiet) (body : Nested false) (closes : Moment) (w : Compilation) →
     w.closed ≡ 0
-    → Inner files body → Whole files (If {b = b} opens test body closes) w
-if_is files opens test body closes w e inner =
-    let end = quiet_body_closed files test body inner (opened kind.If w.output).0 w.constructs closes (word_read files opens kind.If w)
-    (at_word files opens kind.If w e) in
+    → Inner context body → Whole context (If {b = b} opens test body closes) w
+if_is context opens test body closes w e inner =
+    let end = quiet_body_closed context test body inner (opened kind.If w.output).0 w.constructs closes (word_read context opens kind.If w)
+    (at_word context opens kind.If w e) in
     record {
       runs =
-          ap (run files (test.all ++ (happenings body ++ close closes))) (opening_is files opens kind.If w)
+          ap (run context (test.all ++ (happenings body ++ close closes))) (opening_is context opens kind.If w)
           ∙ end.runs;
       none_ahead = end.none_ahead;
     }
 
-while_is : {b : Bool} (files : FileNames) (opens : Moment) (test : Quiet) (body : Nested false) (closes : Moment) (w : Compilation) →
+while_is : {b : Bool} (context : Context) (opens : Moment) (test : Quiet) (body : Nested false) (closes : Moment) (w : Compilation) →
     w.closed ≡ 0
-    → Inner files body → Whole files (While {b = b} opens test body closes) w
-while_is files opens test body closes w e inner =
-    let end = quiet_body_closed files test body inner (opened kind.While w.output).0 w.constructs closes
-    (word_read files opens kind.While w) (at_word files opens kind.While w e) in
+    → Inner context body → Whole context (While {b = b} opens test body closes) w
+while_is context opens test body closes w e inner =
+    let end = quiet_body_closed context test body inner (opened kind.While w.output).0 w.constructs closes
+    (word_read context opens kind.While w) (at_word context opens kind.While w e) in
     record {
       runs =
-          ap (run files (test.all ++ (happenings body ++ close closes))) (opening_is files opens kind.While w)
+          ap (run context (test.all ++ (happenings body ++ close closes))) (opening_is context opens kind.While w)
           ∙ end.runs;
       none_ahead = end.none_ahead;
     }
 
-else_is : {b : Bool} (files : FileNames) (opens : Moment) (test : Quiet) (body : Nested false) (joins : Moment) (word : Quiet)
+else_is : {b : Bool} (context : Context) (opens : Moment) (test : Quiet) (body : Nested false) (joins : Moment) (word : Quiet)
     (other : Nested false) (closes : Moment) (w : Compilation) → w.closed ≡ 0
-    → Inner files body → Inner files other → Whole files (IfElse {b = b} opens test body joins word other closes) w
-else_is files opens test body joins word other closes w e inner inner_other =
+    → Inner context body → Inner context other → Whole context (IfElse {b = b} opens test body joins word other closes) w
+else_is context opens test body joins word other closes w e inner inner_other =
     let rest : List Happening = word.all ++ (happenings other ++ close closes) in
     let c = opened kind.If w.output in
-    let v = word_read files opens kind.If w in
-    let tested = run files test.all v in
-    let at_test = at_quiet files test c.0 w.constructs v (at_word files opens kind.If w e) in
-    let first = laid files body tested in
-    let at = at_body files body inner c.0 w.constructs tested at_test in
+    let v = word_read context opens kind.If w in
+    let tested = run context test.all v in
+    let at_test = at_quiet context test c.0 w.constructs v (at_word context opens kind.If w e) in
+    let first = laid context body tested in
+    let at = at_body context body inner c.0 w.constructs tested at_test in
     let joined = between c.0 first.output in
-    let end = quiet_body_closed files word other inner_other joined.0 w.constructs closes (holding joins joined w.constructs first)
+    let end = quiet_body_closed context word other inner_other joined.0 w.constructs closes (holding joins joined w.constructs first)
     (at_holding joins joined w.constructs first at.none_ahead) in
     record {
       runs =
-          ap (run files (test.all ++ (happenings body ++ Acts joins action.Else ∷ rest))) (opening_is files opens kind.If w)
-          ∙ (run_then files test.all (happenings body ++ Acts joins action.Else ∷ rest) v
-          ∙ (run_then files (happenings body) (Acts joins action.Else ∷ rest) tested
-          ∙ (ap (run files (Acts joins action.Else ∷ rest)) (inner tested at_test.none_ahead).runs
-          ∙ (ap (run files rest) (joining_is joins c.0 w.constructs first at)
+          ap (run context (test.all ++ (happenings body ++ Acts joins action.Else ∷ rest))) (opening_is context opens kind.If w)
+          ∙ (run_then context test.all (happenings body ++ Acts joins action.Else ∷ rest) v
+          ∙ (run_then context (happenings body) (Acts joins action.Else ∷ rest) tested
+          ∙ (ap (run context (Acts joins action.Else ∷ rest)) (inner tested at_test.none_ahead).runs
+          ∙ (ap (run context rest) (joining_is joins c.0 w.constructs first at)
           ∙ end.runs))));
       none_ahead = end.none_ahead;
     }
 
-do_is : {b : Bool} (files : FileNames) (opens : Moment) (body : Nested false) (word : Quiet) (joins : Moment) (test : Quiet)
-    (closes : Moment) (w : Compilation) → w.closed ≡ 0 → Inner files body
-    → Whole files (Do {b = b} opens body word joins test closes) w
-do_is files opens body word joins test closes w e inner =
+do_is : {b : Bool} (context : Context) (opens : Moment) (body : Nested false) (word : Quiet) (joins : Moment) (test : Quiet)
+    (closes : Moment) (w : Compilation) → w.closed ≡ 0 → Inner context body
+    → Whole context (Do {b = b} opens body word joins test closes) w
+do_is context opens body word joins test closes w e inner =
     let rest : List Happening = test.all ++ close closes in
     let c = opened kind.Do w.output in
-    let v = word_read files opens kind.Do w in
-    let at_v = at_word files opens kind.Do w e in
-    let done = laid files body v in
-    let first = run files word.all done in
-    let at = at_quiet files word c.0 w.constructs done (at_body files body inner c.0 w.constructs v at_v) in
+    let v = word_read context opens kind.Do w in
+    let at_v = at_word context opens kind.Do w e in
+    let done = laid context body v in
+    let first = run context word.all done in
+    let at = at_quiet context word c.0 w.constructs done (at_body context body inner c.0 w.constructs v at_v) in
     let joined = between c.0 first.output in
     let behind = holding joins joined w.constructs first in
     let at_behind = at_holding joins joined w.constructs first at.none_ahead in
-    let end = closed_behind files joined.0 w.constructs closes test.all behind (run files test.all behind) refl
-    (at_quiet files test joined.0 w.constructs behind at_behind) in
+    let end = closed_behind context joined.0 w.constructs closes test.all behind (run context test.all behind) refl
+    (at_quiet context test joined.0 w.constructs behind at_behind) in
     record {
       runs =
-          ap (run files (happenings body ++ (word.all ++ Acts joins action.Until ∷ rest))) (opening_is files opens kind.Do w)
-          ∙ (run_then files (happenings body) (word.all ++ Acts joins action.Until ∷ rest) v
-          ∙ (ap (run files (word.all ++ Acts joins action.Until ∷ rest)) (inner v at_v.none_ahead).runs
-          ∙ (run_then files word.all (Acts joins action.Until ∷ rest) done
-          ∙ (ap (run files rest) (joining_is joins c.0 w.constructs first at)
+          ap (run context (happenings body ++ (word.all ++ Acts joins action.Until ∷ rest))) (opening_is context opens kind.Do w)
+          ∙ (run_then context (happenings body) (word.all ++ Acts joins action.Until ∷ rest) v
+          ∙ (ap (run context (word.all ++ Acts joins action.Until ∷ rest)) (inner v at_v.none_ahead).runs
+          ∙ (run_then context word.all (Acts joins action.Until ∷ rest) done
+          ∙ (ap (run context rest) (joining_is joins c.0 w.constructs first at)
           ∙ end.runs))));
       none_ahead = end.none_ahead;
     }
@@ -228,17 +228,17 @@ kept_step : (c : Construct) (around constructs : List Construct) → StepIn c ar
     → constructs ≡ with_step_in constructs c ∷ around
 kept_step c around constructs k = k.1 ∙ ap (λ d. d ∷ around) (sym (ap (λ l. with_step_in l c) k.1))
 
-at_step : (files : FileNames) (step : Step) (c : Construct) (around : List Construct) (w : Compilation) → At c around w
-    → At (with_step_in (run files (step_happenings step) w).constructs c) around (run files (step_happenings step) w)
-at_step files NoStep c around w at = record { is = kept_step c around w.constructs (c.step, at.is); none_ahead = at.none_ahead }
-at_step files (StepEnds step ends) c around w at =
-    let front = run files step.all w in
-    let at_front = at_quiet files step c around w at in
-    let s = step_ends files ends.place front c around at_front.is in
-    let same = run_then files step.all (Acts ends action.EndForStep ∷ []) w in
+at_step : (context : Context) (step : Step) (c : Construct) (around : List Construct) (w : Compilation) → At c around w
+    → At (with_step_in (run context (step_happenings step) w).constructs c) around (run context (step_happenings step) w)
+at_step context NoStep c around w at = record { is = kept_step c around w.constructs (c.step, at.is); none_ahead = at.none_ahead }
+at_step context (StepEnds step ends) c around w at =
+    let front = run context step.all w in
+    let at_front = at_quiet context step c around w at in
+    let s = step_ends context ends.place front c around at_front.is in
+    let same = run_then context step.all (Acts ends action.EndForStep ∷ []) w in
     subst (λ v. At (with_step_in v.constructs c) around v) (sym same)
     (record {
-      is = kept_step c around (happens files (Acts ends action.EndForStep) front).constructs s.0;
+      is = kept_step c around (happens context (Acts ends action.EndForStep) front).constructs s.0;
       none_ahead = s.1
           ∙ at_front.none_ahead;
     })
@@ -247,34 +247,34 @@ at_step files (StepEnds step ends) c around w at =
 held : (c : Construct) (around : List Construct) (w : Compilation) → At c around w → w ≡ record w { constructs = c ∷ around }
 held c around w at = ap (λ l. record w { constructs = l }) at.is
 
-for_is : {b : Bool} (files : FileNames) (opens : Moment) (start : Quiet) (joins : Moment) (test : Quiet) (step : Step) (bracket : Quiet)
+for_is : {b : Bool} (context : Context) (opens : Moment) (start : Quiet) (joins : Moment) (test : Quiet) (step : Step) (bracket : Quiet)
     (body : Nested false) (closes : Moment) (w : Compilation)
-    → w.closed ≡ 0 → Inner files body → Whole files (For {b = b} opens start joins test step bracket body closes) w
-for_is files opens start joins test step bracket body closes w e inner =
+    → w.closed ≡ 0 → Inner context body → Whole context (For {b = b} opens start joins test step bracket body closes) w
+for_is context opens start joins test step bracket body closes w e inner =
     let last : List Happening = bracket.all ++ (happenings body ++ close closes) in
     let rest : List Happening = test.all ++ (step_happenings step ++ last) in
     let c = opened kind.For w.output in
-    let v = word_read files opens kind.For w in
-    let started = run files start.all v in
-    let at = at_quiet files start c.0 w.constructs v (at_word files opens kind.For w e) in
+    let v = word_read context opens kind.For w in
+    let started = run context start.all v in
+    let at = at_quiet context start c.0 w.constructs v (at_word context opens kind.For w e) in
     let top = between c.0 started.output in
     let behind = holding joins top w.constructs started in
     let at_top = at_holding joins top w.constructs started at.none_ahead in
-    let tested = run files test.all behind in
-    let stepped = run files (step_happenings step) tested in
+    let tested = run context test.all behind in
+    let stepped = run context (step_happenings step) tested in
     let own = with_step_in stepped.constructs top.0 in
-    let at_own = at_step files step top.0 w.constructs tested (at_quiet files test top.0 w.constructs behind at_top) in
+    let at_own = at_step context step top.0 w.constructs tested (at_quiet context test top.0 w.constructs behind at_top) in
     let ready = record stepped { constructs = own ∷ w.constructs } in
-    let end = quiet_body_closed files bracket body inner own w.constructs closes ready
+    let end = quiet_body_closed context bracket body inner own w.constructs closes ready
     (record { is = refl; none_ahead = at_own.none_ahead }) in
     record {
       runs =
-          ap (run files (start.all ++ Acts joins action.ForTop ∷ rest)) (opening_is files opens kind.For w)
-          ∙ (run_then files start.all (Acts joins action.ForTop ∷ rest) v
-          ∙ (ap (run files rest) (joining_is joins c.0 w.constructs started at)
-          ∙ (run_then files test.all (step_happenings step ++ last) behind
-          ∙ (run_then files (step_happenings step) last tested
-          ∙ (ap (run files last) (held own w.constructs stepped at_own)
+          ap (run context (start.all ++ Acts joins action.ForTop ∷ rest)) (opening_is context opens kind.For w)
+          ∙ (run_then context start.all (Acts joins action.ForTop ∷ rest) v
+          ∙ (ap (run context rest) (joining_is joins c.0 w.constructs started at)
+          ∙ (run_then context test.all (step_happenings step ++ last) behind
+          ∙ (run_then context (step_happenings step) last tested
+          ∙ (ap (run context last) (held own w.constructs stepped at_own)
           ∙ end.runs)))));
       none_ahead = end.none_ahead;
     }
@@ -285,117 +285,117 @@ kept_kind : (c : Construct) (around constructs : List Construct) → KindIn c ar
     → constructs ≡ with_kind_in constructs c ∷ around
 kept_kind c around constructs k = k.1 ∙ ap (λ d. d ∷ around) (sym (ap (λ l. with_kind_in l c) k.1))
 
-loop_is : {b : Bool} (files : FileNames) (opens : Moment) (loop : Quiet) (ends joins : Moment) (bracket : Quiet) (body : Nested false)
-    (closes : Moment) (w : Compilation) → w.closed ≡ 0 → Inner files body
-    → Whole files (Objectloop {b = b} opens loop ends joins bracket body closes) w
-loop_is files opens loop ends joins bracket body closes w e inner =
+loop_is : {b : Bool} (context : Context) (opens : Moment) (loop : Quiet) (ends joins : Moment) (bracket : Quiet) (body : Nested false)
+    (closes : Moment) (w : Compilation) → w.closed ≡ 0 → Inner context body
+    → Whole context (Objectloop {b = b} opens loop ends joins bracket body closes) w
+loop_is context opens loop ends joins bracket body closes w e inner =
     let rest : List Happening = bracket.all ++ (happenings body ++ close closes) in
     let k = kind.Objects over.Nothing 0 in
     let c = opened k w.output in
-    let v = word_read files opens k w in
-    let unit = run files loop.all v in
-    let at = at_quiet files loop c.0 w.constructs v (at_word files opens k w e) in
-    let looped = happens files (Acts ends action.EndObjectloop) unit in
-    let l = loop_ends files ends.place unit c.0 w.constructs at.is in
+    let v = word_read context opens k w in
+    let unit = run context loop.all v in
+    let at = at_quiet context loop c.0 w.constructs v (at_word context opens k w e) in
+    let looped = happens context (Acts ends action.EndObjectloop) unit in
+    let l = loop_ends context ends.place unit c.0 w.constructs at.is in
     let own = with_kind_in looped.constructs c.0 in
     let none : looped.closed ≡ 0 = l.1 ∙ at.none_ahead in
     let joined = between own looped.output in
-    let end = quiet_body_closed files bracket body inner joined.0 w.constructs closes (holding joins joined w.constructs looped)
+    let end = quiet_body_closed context bracket body inner joined.0 w.constructs closes (holding joins joined w.constructs looped)
     (at_holding joins joined w.constructs looped none) in
     record {
       runs =
-          ap (run files (loop.all ++ Acts ends action.EndObjectloop ∷ Acts joins action.Loop ∷ rest)) (opening_is files opens k w)
-          ∙ (run_then files loop.all (Acts ends action.EndObjectloop ∷ Acts joins action.Loop ∷ rest) v
-          ∙ (ap (run files rest) (joining_is joins own w.constructs looped
+          ap (run context (loop.all ++ Acts ends action.EndObjectloop ∷ Acts joins action.Loop ∷ rest)) (opening_is context opens k w)
+          ∙ (run_then context loop.all (Acts ends action.EndObjectloop ∷ Acts joins action.Loop ∷ rest) v
+          ∙ (ap (run context rest) (joining_is joins own w.constructs looped
           (record { is = kept_kind c.0 w.constructs looped.constructs l.0; none_ahead = none }))
           ∙ end.runs));
       none_ahead = end.none_ahead;
     }
 
-switch_is : {b : Bool} (files : FileNames) (opens : Moment) (value : Quiet) (cases : Nested true) (brace : Quiet) (closes : Moment)
-    (w : Compilation) → w.closed ≡ 0 → Inner files cases
-    → Whole files (Switch {b = b} opens value cases brace closes) w
-switch_is files opens value cases brace closes w e inner =
+switch_is : {b : Bool} (context : Context) (opens : Moment) (value : Quiet) (cases : Nested true) (brace : Quiet) (closes : Moment)
+    (w : Compilation) → w.closed ≡ 0 → Inner context cases
+    → Whole context (Switch {b = b} opens value cases brace closes) w
+switch_is context opens value cases brace closes w e inner =
     let k = kind.Switch case.Nothing false in
     let c = opened k w.output in
-    let v = word_read files opens k w in
-    let valued = run files value.all v in
-    let at = at_quiet files value c.0 w.constructs v (at_word files opens k w e) in
-    let done = laid files cases valued in
+    let v = word_read context opens k w in
+    let valued = run context value.all v in
+    let at = at_quiet context value c.0 w.constructs v (at_word context opens k w e) in
+    let done = laid context cases valued in
     let i = inner valued at.none_ahead in
     let h = i.holds c.0 w.constructs at.is in
-    let inside = run files brace.all done in
-    let at_inside = at_quiet files brace (record c.0 { kind = h.0 }) w.constructs done (record { is = h.1; none_ahead = i.none_ahead }) in
+    let inside = run context brace.all done in
+    let at_inside = at_quiet context brace (record c.0 { kind = h.0 }) w.constructs done (record { is = h.1; none_ahead = i.none_ahead }) in
     let own = with_kind_in inside.constructs c.0 in
     let at_own : At own w.constructs inside = record {
       is = kept_kind c.0 w.constructs inside.constructs (h.0, at_inside.is);
       none_ahead = at_inside.none_ahead;
     } in
-    let end = closed_behind files own w.constructs closes brace.all done inside refl at_own in
+    let end = closed_behind context own w.constructs closes brace.all done inside refl at_own in
     record {
       runs =
-          ap (run files (value.all ++ (happenings cases ++ (brace.all ++ close closes)))) (opening_is files opens k w)
-          ∙ (run_then files value.all (happenings cases ++ (brace.all ++ close closes)) v
-          ∙ (run_then files (happenings cases) (brace.all ++ close closes) valued
-          ∙ (ap (run files (brace.all ++ close closes)) i.runs
+          ap (run context (value.all ++ (happenings cases ++ (brace.all ++ close closes)))) (opening_is context opens k w)
+          ∙ (run_then context value.all (happenings cases ++ (brace.all ++ close closes)) v
+          ∙ (run_then context (happenings cases) (brace.all ++ close closes) valued
+          ∙ (ap (run context (brace.all ++ close closes)) i.runs
           ∙ end.runs)));
       none_ahead = end.none_ahead;
     }
 
 -- Each nested statement
 
-pub laid_as : {b : Bool} (files : FileNames) (n : Nested b) → Inner files n
-laid_as files (Plain {b} plain) w e =
-    let same = quiet_run files plain.all w plain.are in
-    record { runs = refl; holds = holds_same b w.constructs (run files plain.all w).constructs same.0; none_ahead = same.1 ∙ e }
-laid_as files (Then {b} before behind) w e =
-    let one = laid_as files before w e in
-    let v = laid files before w in
-    let two = laid_as files behind v one.none_ahead in
+pub laid_as : {b : Bool} (context : Context) (n : Nested b) → Inner context n
+laid_as context (Plain {b} plain) w e =
+    let same = quiet_run context plain.all w plain.are in
+    record { runs = refl; holds = holds_same b w.constructs (run context plain.all w).constructs same.0; none_ahead = same.1 ∙ e }
+laid_as context (Then {b} before behind) w e =
+    let one = laid_as context before w e in
+    let v = laid context before w in
+    let two = laid_as context behind v one.none_ahead in
     record {
-      runs = run_then files (happenings before) (happenings behind) w ∙ (ap (run files (happenings behind)) one.runs ∙ two.runs);
-      holds = holds_then b w.constructs v.constructs (laid files behind v).constructs one.holds two.holds;
+      runs = run_then context (happenings before) (happenings behind) w ∙ (ap (run context (happenings behind)) one.runs ∙ two.runs);
+      holds = holds_then b w.constructs v.constructs (laid context behind v).constructs one.holds two.holds;
       none_ahead = two.none_ahead;
     }
-laid_as files (Case values ends) w e =
-    let v = run files values.all w in
-    let same = quiet_run files values.all w values.are in
+laid_as context (Case values ends) w e =
+    let v = run context values.all w in
+    let same = quiet_run context values.all w values.are in
     record {
-      runs = run_then files values.all (Acts ends action.EndCase ∷ []) w;
-      holds = λ c around is. case_ends files ends.place v c around (same.0 ∙ is);
-      none_ahead = case_none_ahead files ends.place v ∙ (same.1 ∙ e);
+      runs = run_then context values.all (Acts ends action.EndCase ∷ []) w;
+      holds = λ c around is. case_ends context ends.place v c around (same.0 ∙ is);
+      none_ahead = case_none_ahead context ends.place v ∙ (same.1 ∙ e);
     }
-laid_as files (If {b} opens test body closes) w e =
-    let whole = if_is {b = b} files opens test body closes w e (laid_as files body) in
+laid_as context (If {b} opens test body closes) w e =
+    let whole = if_is {b = b} context opens test body closes w e (laid_as context body) in
     record { runs = whole.runs; holds = holds_same b w.constructs w.constructs refl; none_ahead = whole.none_ahead }
-laid_as files (IfElse {b} opens test body joins word other closes) w e =
-    let whole = else_is {b = b} files opens test body joins word other closes w e (laid_as files body) (laid_as files other) in
+laid_as context (IfElse {b} opens test body joins word other closes) w e =
+    let whole = else_is {b = b} context opens test body joins word other closes w e (laid_as context body) (laid_as context other) in
     record { runs = whole.runs; holds = holds_same b w.constructs w.constructs refl; none_ahead = whole.none_ahead }
-laid_as files (While {b} opens test body closes) w e =
-    let whole = while_is {b = b} files opens test body closes w e (laid_as files body) in
+laid_as context (While {b} opens test body closes) w e =
+    let whole = while_is {b = b} context opens test body closes w e (laid_as context body) in
     record { runs = whole.runs; holds = holds_same b w.constructs w.constructs refl; none_ahead = whole.none_ahead }
-laid_as files (Do {b} opens body word joins test closes) w e =
-    let whole = do_is {b = b} files opens body word joins test closes w e (laid_as files body) in
+laid_as context (Do {b} opens body word joins test closes) w e =
+    let whole = do_is {b = b} context opens body word joins test closes w e (laid_as context body) in
     record { runs = whole.runs; holds = holds_same b w.constructs w.constructs refl; none_ahead = whole.none_ahead }
-laid_as files (For {b} opens start joins test step bracket body closes) w e =
-    let whole = for_is {b = b} files opens start joins test step bracket body closes w e (laid_as files body) in
+laid_as context (For {b} opens start joins test step bracket body closes) w e =
+    let whole = for_is {b = b} context opens start joins test step bracket body closes w e (laid_as context body) in
     record { runs = whole.runs; holds = holds_same b w.constructs w.constructs refl; none_ahead = whole.none_ahead }
-laid_as files (Objectloop {b} opens loop ends joins bracket body closes) w e =
-    let whole = loop_is {b = b} files opens loop ends joins bracket body closes w e (laid_as files body) in
+laid_as context (Objectloop {b} opens loop ends joins bracket body closes) w e =
+    let whole = loop_is {b = b} context opens loop ends joins bracket body closes w e (laid_as context body) in
     record { runs = whole.runs; holds = holds_same b w.constructs w.constructs refl; none_ahead = whole.none_ahead }
-laid_as files (Switch {b} opens value cases brace closes) w e =
-    let whole = switch_is {b = b} files opens value cases brace closes w e (laid_as files cases) in
+laid_as context (Switch {b} opens value cases brace closes) w e =
+    let whole = switch_is {b = b} context opens value cases brace closes w e (laid_as context cases) in
     record { runs = whole.runs; holds = holds_same b w.constructs w.constructs refl; none_ahead = whole.none_ahead }
 
 -- The laws
 
-whole_of : {b : Bool} (files : FileNames) (s : Nested b) (hs : List Happening) → happenings s ≡ hs → IsWhole files s hs
-whole_of files s hs same = record { same = same; lays = λ w e. sym (ap (λ l. run files l w) same) ∙ (laid_as files s w e).runs }
+whole_of : {b : Bool} (context : Context) (s : Nested b) (hs : List Happening) → happenings s ≡ hs → IsWhole context s hs
+whole_of context s hs same = record { same = same; lays = λ w e. sym (ap (λ l. run context l w) same) ∙ (laid_as context s w e).runs }
 
-leaves_open : (files : FileNames) (s : Nested false) (hs : List Happening) → happenings s ≡ hs → LeavesOpen files hs
-leaves_open files s hs same w e =
-    let i = laid_as files s w e in
-    let runs = sym (ap (λ l. run files l w) same) ∙ i.runs in
+leaves_open : (context : Context) (s : Nested false) (hs : List Happening) → happenings s ≡ hs → LeavesOpen context hs
+leaves_open context s hs same w e =
+    let i = laid_as context s w e in
+    let runs = sym (ap (λ l. run context l w) same) ∙ i.runs in
     record {
       same = ap (λ (v : Compilation). v.constructs) runs ∙ i.holds;
       none_ahead = ap (λ (v : Compilation). v.closed) runs ∙
@@ -413,32 +413,33 @@ rest_nested rest hs (later (later (later (later (later (later m)))))) is = elim 
 
 pub statements_leave_what_is_open : StatementsLeaveWhatIsOpen
 statements_leave_what_is_open = record {
-  of_statements = λ files hs is. let n = statement_is_nested hs is in leaves_open files n.0 hs n.1;
-  of_rests = λ files rest hs m is. let n = rest_nested rest hs m is in leaves_open files n.nested hs n.same;
+  of_statements = λ context hs is. let n = statement_is_nested hs is in leaves_open context n.0 hs n.1;
+  of_rests = λ context rest hs m is. let n = rest_nested rest hs m is in leaves_open context n.nested hs n.same;
 }
 
 pub statements_are_laid_whole : StatementsAreLaidWhole
 statements_are_laid_whole = record {
-  of_statements = λ files hs is. let n = statement_is_nested hs is in (n.0, whole_of files n.0 hs n.1);
-  of_rests = λ files rest hs m is. let n = rest_nested rest hs m is in (n.nested, n.is, whole_of files n.nested hs n.same);
+  of_statements = λ context hs is. let n = statement_is_nested hs is in (n.0, whole_of context n.0 hs n.1);
+  of_rests = λ context rest hs m is. let n = rest_nested rest hs m is in (n.nested, n.is, whole_of context n.nested hs n.same);
 }
 
 -- Routines
 
-pub alone_behind : {b : Bool} (files : FileNames) (n : Nested b) (w : Compilation) → w.closed ≡ 0 → own_alone w.constructs ≡ true
-    → own_alone (laid files n w).constructs ≡ true
-alone_behind files (Plain plain) w e h = ap own_alone (quiet_run files plain.all w plain.are).0 ∙ h
-alone_behind files (Then before behind) w e h =
-    let one = laid_as files before w e in alone_behind files behind (laid files before w) one.none_ahead (alone_behind files before w e h)
-alone_behind files (Case values ends) w e h =
-    case_alone files ends.place (run files values.all w) (ap own_alone (quiet_run files values.all w values.are).0 ∙ h)
-alone_behind files (If opens test body closes) w e h = h
-alone_behind files (IfElse opens test body joins word other closes) w e h = h
-alone_behind files (While opens test body closes) w e h = h
-alone_behind files (Do opens body word joins test closes) w e h = h
-alone_behind files (For opens start joins test step bracket body closes) w e h = h
-alone_behind files (Objectloop opens loop ends joins bracket body closes) w e h = h
-alone_behind files (Switch opens value cases brace closes) w e h = h
+pub alone_behind : {b : Bool} (context : Context) (n : Nested b) (w : Compilation) → w.closed ≡ 0 → own_alone w.constructs ≡ true
+    → own_alone (laid context n w).constructs ≡ true
+alone_behind context (Plain plain) w e h = ap own_alone (quiet_run context plain.all w plain.are).0 ∙ h
+alone_behind context (Then before behind) w e h =
+    let one = laid_as context before w e in
+    alone_behind context behind (laid context before w) one.none_ahead (alone_behind context before w e h)
+alone_behind context (Case values ends) w e h =
+    case_alone context ends.place (run context values.all w) (ap own_alone (quiet_run context values.all w values.are).0 ∙ h)
+alone_behind context (If opens test body closes) w e h = h
+alone_behind context (IfElse opens test body joins word other closes) w e h = h
+alone_behind context (While opens test body closes) w e h = h
+alone_behind context (Do opens body word joins test closes) w e h = h
+alone_behind context (For opens start joins test step bracket body closes) w e h = h
+alone_behind context (Objectloop opens loop ends joins bracket body closes) w e h = h
+alone_behind context (Switch opens value cases brace closes) w e h = h
 
 -- no depth is that of nothing but the routine's own cases
 more_by : (k : Option Kind) (n : ℕ) → depth_by k (suc (suc n)) ≡ 0 → ⊥
@@ -465,19 +466,19 @@ body_nested body hs first is = body_is_nested hs is
 body_nested body hs (later first) is = embedded_is_nested hs is
 body_nested body hs (later (later m)) is = elim m [ ]
 
-ends_open : (files : FileNames) (s : Nested true) (hs : List Happening) → happenings s ≡ hs → EndsOpen files hs
-ends_open files s hs same w e h =
-    let i = laid_as files s w e in
-    let runs = sym (ap (λ l. run files l w) same) ∙ i.runs in (
+ends_open : (context : Context) (s : Nested true) (hs : List Happening) → happenings s ≡ hs → EndsOpen context hs
+ends_open context s hs same w e h =
+    let i = laid_as context s w e in
+    let runs = sym (ap (λ l. run context l w) same) ∙ i.runs in (
       ap (λ (v : Compilation). depth v.constructs) runs
-          ∙ depth_of (laid files s w).constructs (alone_behind files s w e (alone_of w.constructs h)),
+          ∙ depth_of (laid context s w).constructs (alone_behind context s w e (alone_of w.constructs h)),
       ap (λ (v : Compilation). v.closed) runs ∙ i.none_ahead,
     )
 
 pub routines_are_laid_whole : RoutinesAreLaidWhole
 routines_are_laid_whole = record {
-  whole = λ files body hs m is. let n = body_nested body hs m is in (n.0, whole_of files n.0 hs n.1);
-  ends = λ files body hs m is. let n = body_nested body hs m is in ends_open files n.0 hs n.1;
+  whole = λ context body hs m is. let n = body_nested body hs m is in (n.0, whole_of context n.0 hs n.1);
+  ends = λ context body hs m is. let n = body_nested body hs m is in ends_open context n.0 hs n.1;
 }
 
 -- Closing ahead
@@ -510,12 +511,12 @@ next_passed m count w =
     ∙ sym (ap (λ b. passed m (if b then record (ahead (suc count) w) { closed = suc count - 1 } else construct_ended
     (ahead (suc count) w))) some)
 
-all_ahead : (files : FileNames) (m : Between) (places : List Place) (w : Compilation) → w.closed ≡ 0
-    → run files (endings places) (passed m (ahead (length places) w)) ≡ passed m (run files (endings places) w)
-all_ahead files m [] w e = ap (λ n. passed m (record w { closed = n })) (sym e)
-all_ahead files m (place ∷ places) w e =
-    ap (run files (endings places)) (next_passed m (length places) w ∙ ap (passed m) (next_ahead (length places) w))
-    ∙ (all_ahead files m places (construct_ended w) e ∙ ap (λ v. passed m (run files (endings places) v)) (sym (closing_open w e)))
+all_ahead : (context : Context) (m : Between) (places : List Place) (w : Compilation) → w.closed ≡ 0
+    → run context (endings places) (passed m (ahead (length places) w)) ≡ passed m (run context (endings places) w)
+all_ahead context m [] w e = ap (λ n. passed m (record w { closed = n })) (sym e)
+all_ahead context m (place ∷ places) w e =
+    ap (run context (endings places)) (next_passed m (length places) w ∙ ap (passed m) (next_ahead (length places) w))
+    ∙ (all_ahead context m places (construct_ended w) e ∙ ap (λ v. passed m (run context (endings places) v)) (sym (closing_open w e)))
 
 again_ahead : (count : ℕ) (m : Between) (w : Compilation) → closed_ahead count (passed m (ahead count w)) ≡ passed m (ahead count w)
 again_ahead count m w =
@@ -527,8 +528,8 @@ again_ahead count m w =
 
 pub closing_ahead_is_closing : ClosingAheadIsClosing
 closing_ahead_is_closing = record {
-  behind = λ files places m w e.
-      ap (λ v. run files (endings places) (passed m v)) (ahead_is (length places) w e) ∙ all_ahead files m places w e;
+  behind = λ context places m w e.
+      ap (λ v. run context (endings places) (passed m v)) (ahead_is (length places) w e) ∙ all_ahead context m places w e;
   again = λ count m w e.
       ap (λ v. closed_ahead count (passed m v)) (ahead_is count w e)
       ∙ (again_ahead count m w ∙ sym (ap (passed m) (ahead_is count w e)));
@@ -536,10 +537,10 @@ closing_ahead_is_closing = record {
 
 pub units_keep_labels : UnitsKeepLabels
 units_keep_labels = record {
-  of_loops = λ files place c around w e. kept_kind c around (act files place action.EndObjectloop w).constructs
-      (loop_ends files place w c around e).0;
-  of_steps = λ files place c around w e. kept_step c around (act files place action.EndForStep w).constructs
-      (step_ends files place w c around e).0;
-  of_cases = λ files place c around w e. kept_kind c around (act files place action.EndCase w).constructs
-      (case_ends files place w c around e);
+  of_loops = λ context place c around w e. kept_kind c around (act context place action.EndObjectloop w).constructs
+      (loop_ends context place w c around e).0;
+  of_steps = λ context place c around w e. kept_step c around (act context place action.EndForStep w).constructs
+      (step_ends context place w c around e).0;
+  of_cases = λ context place c around w e. kept_kind c around (act context place action.EndCase w).constructs
+      (case_ends context place w c around e);
 }

@@ -15,7 +15,7 @@ use Rattle.inf_syntax.specs.Parts.{ !end_locals, !end_routine, directive, direct
 use Rattle.inf_grammar.specs.Evaluated.{language_is_decided}
 use Rattle.inf_grammar.specs.Language.{grammar, known}
 use Rattle.inf_grammar.specs.Routines.{closings}
-use Rattle.inf_unit.specs.Messages.{FileNames}
+use Rattle.inf_compilation.specs.Context.{Context}
 use Rattle.inf_unit.specs.Tokens.{SourceToken}
 use Rattle.inf_unit.specs.Units.{first_place, names_in}
 use Rattle.inf_actions.specs.Acting.{act, acted}
@@ -34,10 +34,10 @@ use Rattle.inf_statement_laws.proofs.Texts.{OfRule, Parts, deep, split}
 
 -- Tokens
 
-actions_happen : (files : FileNames) (t : SourceToken) (m : Between) (actions : List Action) (w : Compilation)
-    → next_comes (passed m (took files t (acted files t.place actions w))) ≡ run files (token_happenings t m actions) w
-actions_happen files t m [] w = refl
-actions_happen files t m (a ∷ actions) w = actions_happen files t m actions (act files t.place a w)
+actions_happen : (context : Context) (t : SourceToken) (m : Between) (actions : List Action) (w : Compilation)
+    → next_comes (passed m (took context t (acted context t.place actions w))) ≡ run context (token_happenings t m actions) w
+actions_happen context t m [] w = refl
+actions_happen context t m (a ∷ actions) w = actions_happen context t m actions (act context t.place a w)
 
 happen_as_events : (t : SourceToken) (m : Between) (actions : List Action) (atom : ℕ)
     → AreOf (events_of actions atom) (token_happenings t m actions)
@@ -106,7 +106,7 @@ all_text (s ∷ seen) symbols f e =
 
 pub tokens_happen : TokensHappen
 tokens_happen = record {
-  runs = λ files t m actions w. actions_happen files t m actions (next_comes w);
+  runs = λ context t m actions w. actions_happen context t m actions (next_comes w);
   are = happen_as_events;
   all_are = λ seen symbol f e.
       let t = all_text seen (symbol ∷ []) f e in
@@ -121,10 +121,10 @@ abbrev ends : ℕ → List Action
 ends zero = []
 ends (suc count) = action.Close ∷ ends count
 
-acted_then : (files : FileNames) (place : Place) (xs ys : List Action) (w : Compilation)
-    → acted files place (xs ++ ys) w ≡ acted files place ys (acted files place xs w)
-acted_then files place [] ys w = refl
-acted_then files place (x ∷ xs) ys w = acted_then files place xs ys (act files place x w)
+acted_then : (context : Context) (place : Place) (xs ys : List Action) (w : Compilation)
+    → acted context place (xs ++ ys) w ≡ acted context place ys (acted context place xs w)
+acted_then context place [] ys w = refl
+acted_then context place (x ∷ xs) ys w = acted_then context place xs ys (act context place x w)
 
 -- the statements that end next, whatever the next token is, end first
 closings_first : (atom : ℕ) (symbols : List (Symbol Action))
@@ -138,27 +138,29 @@ closings_first atom (Act action.Close ∷ symbols) =
     (on.0, ap (λ l. action.Close ∷ l) on.1 ∙ ap (λ n. ends n ++ on.0) more)
 closings_first atom (Act a ∷ symbols) = ((taken grammar known atom (Act a ∷ symbols)).actions, refl)
 
-ends_none : (files : FileNames) (place : Place) (count : ℕ) (w : Compilation) → w.closed ≡ 0 → (acted files place (ends count) w).closed ≡ 0
-ends_none files place zero w e = e
-ends_none files place (suc count) w e = ends_none files place count (act files place action.Close w)
-    (inside_act files place action.Close w refl e)
+ends_none : (context : Context) (place : Place) (count : ℕ) (w : Compilation) → w.closed ≡ 0 →
+    (acted context place (ends count) w).closed ≡ 0
+ends_none context place zero w e = e
+ends_none context place (suc count) w e = ends_none context place count (act context place action.Close w)
+    (inside_act context place action.Close w refl e)
 
 -- those that were closed ahead end, and what was done meanwhile is done behind them
-ahead_ends : (files : FileNames) (place : Place) (m : Between) (count : ℕ) (w : Compilation) → w.closed ≡ 0
-    → acted files place (ends count) (passed m (ahead count w)) ≡ passed m (acted files place (ends count) w)
-ahead_ends files place m zero w e = ap (λ n. passed m (record w { closed = n })) (sym e)
-ahead_ends files place m (suc count) w e =
-    ap (acted files place (ends count)) (next_passed m count w ∙ ap (passed m) (next_ahead count w))
-    ∙ (ahead_ends files place m count (construct_ended w) e
-    ∙ ap (λ v. passed m (acted files place (ends count) v)) (sym (closing_open w e)))
+ahead_ends : (context : Context) (place : Place) (m : Between) (count : ℕ) (w : Compilation) → w.closed ≡ 0
+    → acted context place (ends count) (passed m (ahead count w)) ≡ passed m (acted context place (ends count) w)
+ahead_ends context place m zero w e = ap (λ n. passed m (record w { closed = n })) (sym e)
+ahead_ends context place m (suc count) w e =
+    ap (acted context place (ends count)) (next_passed m count w ∙ ap (passed m) (next_ahead count w))
+    ∙ (ahead_ends context place m count (construct_ended w) e
+    ∙ ap (λ v. passed m (acted context place (ends count) v)) (sym (closing_open w e)))
 
 -- and so do their happenings
-behind_ends_run : (files : FileNames) (t : SourceToken) (b m : Between) (count : ℕ) (rest : List Action) (others : List Happening)
+behind_ends_run : (context : Context) (t : SourceToken) (b m : Between) (count : ℕ) (rest : List Action) (others : List Happening)
     (w : Compilation)
-    → run files (behind_some (suc count) m (token_happenings t b (ends (suc count) ++ rest) ++ others)) w
-    ≡ run files (token_happenings t b rest ++ others) (passed m (acted files t.place (ends (suc count)) w))
-behind_ends_run files t b m zero rest others w = refl
-behind_ends_run files t b m (suc count) rest others w = behind_ends_run files t b m count rest others (act files t.place action.Close w)
+    → run context (behind_some (suc count) m (token_happenings t b (ends (suc count) ++ rest) ++ others)) w
+    ≡ run context (token_happenings t b rest ++ others) (passed m (acted context t.place (ends (suc count)) w))
+behind_ends_run context t b m zero rest others w = refl
+behind_ends_run context t b m (suc count) rest others w =
+    behind_ends_run context t b m count rest others (act context t.place action.Close w)
 
 -- Inside of a routine
 
@@ -179,12 +181,12 @@ reading_inside [] symbols = true
 reading_inside (s ∷ seen) symbols = all_inside (taken grammar known s.atom symbols).actions && reading_inside seen
     (taken grammar known s.atom symbols).left
 
-acted_none : (files : FileNames) (place : Place) (actions : List Action) (w : Compilation) → all_inside actions ≡ true → w.closed ≡ 0
-    → (acted files place actions w).closed ≡ 0
-acted_none files place [] w i e = e
-acted_none files place (a ∷ actions) w i e =
+acted_none : (context : Context) (place : Place) (actions : List Action) (w : Compilation) → all_inside actions ≡ true → w.closed ≡ 0
+    → (acted context place actions w).closed ≡ 0
+acted_none context place [] w i e = e
+acted_none context place (a ∷ actions) w i e =
     let both = and_parts (is_inside a) (all_inside actions) i in
-    acted_none files place actions (act files place a w) both.1 (inside_act files place a w both.0 e)
+    acted_none context place actions (act context place a w) both.1 (inside_act context place a w both.0 e)
 
 inside_joined : (xs ys : List Happening) → happen_inside xs ≡ true → happen_inside ys ≡ true → happen_inside (xs ++ ys) ≡ true
 inside_joined [] ys x y = y
@@ -290,15 +292,15 @@ Waits None symbols = Unit {0}
 Waits (Some m) symbols = (count : ℕ) × (closings symbols ≡ suc count)
 
 -- where a token's actions begin, by what they are from there on
-record Starts (files : FileNames) (d : Option Between) (s : Seen) (own : Between) (symbols : List (Symbol Action))
+record Starts (context : Context) (d : Option Between) (s : Seen) (own : Between) (symbols : List (Symbol Action))
     (others : List Happening) (w : Compilation) : Type 0 where
   rest : List Action
   from : Compilation
-  acts : acted files s.token.place (taken grammar known s.atom symbols).actions (next_comes (directed d (closings symbols) w)) ≡ acted
-      files s.token.place rest from
-  runs : run files (behind_ends d (closings symbols) (token_happenings s.token own (taken grammar known s.atom symbols).actions ++
+  acts : acted context s.token.place (taken grammar known s.atom symbols).actions (next_comes (directed d (closings symbols) w)) ≡ acted
+      context s.token.place rest from
+  runs : run context (behind_ends d (closings symbols) (token_happenings s.token own (taken grammar known s.atom symbols).actions ++
       others)) (next_comes w)
-      ≡ run files (token_happenings s.token own rest ++ others) from
+      ≡ run context (token_happenings s.token own rest ++ others) from
   none : from.closed ≡ 0
   inside : all_inside rest ≡ true
 
@@ -306,12 +308,12 @@ inside_rest : (count : ℕ) (rest : List Action) → all_inside (ends count ++ r
 inside_rest zero rest i = i
 inside_rest (suc count) rest i = inside_rest count rest i
 
-starts : (files : FileNames) (d : Option Between) (s : Seen) (own : Between) (symbols : List (Symbol Action)) (others : List Happening)
+starts : (context : Context) (d : Option Between) (s : Seen) (own : Between) (symbols : List (Symbol Action)) (others : List Happening)
     (w : Compilation) → w.closed ≡ 0 → Waits d symbols
-    → all_inside (taken grammar known s.atom symbols).actions ≡ true → Starts files d s own symbols others w
-starts files None s own symbols others w e waits i =
+    → all_inside (taken grammar known s.atom symbols).actions ≡ true → Starts context d s own symbols others w
+starts context None s own symbols others w e waits i =
     record { rest = (taken grammar known s.atom symbols).actions; from = next_comes w; acts = refl; runs = refl; none = e; inside = i }
-starts files (Some m) s own symbols others w e waits i =
+starts context (Some m) s own symbols others w e waits i =
     let c = closings_first s.atom symbols in
     let place = s.token.place in
     let k = suc waits.0 in
@@ -319,19 +321,19 @@ starts files (Some m) s own symbols others w e waits i =
     let v = next_comes w in
     record {
       rest = c.0;
-      from = passed m (acted files place (ends k) v);
+      from = passed m (acted context place (ends k) v);
       acts =
-          ap (λ n. acted files place (taken grammar known s.atom symbols).actions (next_comes (passed m (closed_ahead n w)))) waits.1
-          ∙ (ap (λ l. acted files place l (passed m (closed_ahead k v))) actions
-          ∙ (acted_then files place (ends k) c.0 (passed m (closed_ahead k v))
-          ∙ (ap (λ x. acted files place c.0 (acted files place (ends k) (passed m x))) (ahead_is k v e)
-          ∙ ap (acted files place c.0) (ahead_ends files place m k v e))));
+          ap (λ n. acted context place (taken grammar known s.atom symbols).actions (next_comes (passed m (closed_ahead n w)))) waits.1
+          ∙ (ap (λ l. acted context place l (passed m (closed_ahead k v))) actions
+          ∙ (acted_then context place (ends k) c.0 (passed m (closed_ahead k v))
+          ∙ (ap (λ x. acted context place c.0 (acted context place (ends k) (passed m x))) (ahead_is k v e)
+          ∙ ap (acted context place c.0) (ahead_ends context place m k v e))));
       runs =
-          ap (λ n. run files (behind_some n m (token_happenings s.token own (taken grammar known s.atom symbols).actions ++ others)) v)
+          ap (λ n. run context (behind_some n m (token_happenings s.token own (taken grammar known s.atom symbols).actions ++ others)) v)
           waits.1
-          ∙ (ap (λ l. run files (behind_some k m (token_happenings s.token own l ++ others)) v) actions
-          ∙ behind_ends_run files s.token own m waits.0 c.0 others v);
-      none = ends_none files place k v e;
+          ∙ (ap (λ l. run context (behind_some k m (token_happenings s.token own l ++ others)) v) actions
+          ∙ behind_ends_run context s.token own m waits.0 c.0 others v);
+      none = ends_none context place k v e;
       inside = inside_rest k c.0 (sym (ap all_inside actions) ∙ i);
     }
 
@@ -340,55 +342,55 @@ behind_none m [] = refl
 behind_none m (h ∷ hs) = refl
 
 -- what all further tokens do
-abbrev Further : FileNames → List Seen → List (Symbol Action) → Type 0
-Further files seen symbols =
+abbrev Further : Context → List Seen → List (Symbol Action) → Type 0
+Further context seen symbols =
     (d : Option Between) (w : Compilation) → w.closed ≡ 0 → Waits d symbols
-    → next_comes (all_taken files seen symbols (directed d (closings symbols) w)) ≡ run files
+    → next_comes (all_taken context seen symbols (directed d (closings symbols) w)) ≡ run context
     (behind_ends d (closings symbols) (all_happenings seen symbols)) (next_comes w)
 
 -- behind a token
-onward : (files : FileNames) (seen : List Seen) (symbols : List (Symbol Action)) → Further files seen symbols
+onward : (context : Context) (seen : List Seen) (symbols : List (Symbol Action)) → Further context seen symbols
     → (d : Option Between) (b : Between) (w : Compilation) → w.closed ≡ 0
     → (count : ℕ) → closings symbols ≡ count
-    → next_comes (all_taken files seen symbols (directed d (closings symbols) (passed b w)))
-    ≡ run files (behind_ends d (closings symbols) (all_happenings seen symbols))
+    → next_comes (all_taken context seen symbols (directed d (closings symbols) (passed b w)))
+    ≡ run context (behind_ends d (closings symbols) (all_happenings seen symbols))
     (next_comes (passed (behind_token d (closings symbols) b) w))
-onward files seen symbols further None b w e count is = further None (passed b w) e tt
-onward files seen symbols further (Some m) b w e (suc count) is =
+onward context seen symbols further None b w e count is = further None (passed b w) e tt
+onward context seen symbols further (Some m) b w e (suc count) is =
     further (Some m) (passed b w) e (count, is)
-    ∙ ap (λ n. run files (behind_some (closings symbols) m (all_happenings seen symbols))
+    ∙ ap (λ n. run context (behind_some (closings symbols) m (all_happenings seen symbols))
     (next_comes (passed (behind_token (Some m) n b) w))) (sym is)
-onward files seen symbols further (Some m) b w e zero is =
+onward context seen symbols further (Some m) b w e zero is =
     let v = passed b w in
     let none : closed_ahead 0 v ≡ v = ahead_is 0 v e ∙ ap (λ n. record v { closed = n }) (sym e) in
-    ap (λ n. next_comes (all_taken files seen symbols (passed m (closed_ahead n v)))) is
-    ∙ (ap (λ x. next_comes (all_taken files seen symbols (passed m x))) none
+    ap (λ n. next_comes (all_taken context seen symbols (passed m (closed_ahead n v)))) is
+    ∙ (ap (λ x. next_comes (all_taken context seen symbols (passed m x))) none
     ∙ (further None (passed m v) e tt
-    ∙ (ap (λ l. run files l (next_comes (passed m v))) (sym (behind_none m (all_happenings seen symbols)))
-    ∙ ap (λ n. run files (behind_some n m (all_happenings seen symbols)) (next_comes (passed (behind_token (Some m) n b) w))) (sym is))))
+    ∙ (ap (λ l. run context l (next_comes (passed m v))) (sym (behind_none m (all_happenings seen symbols)))
+    ∙ ap (λ n. run context (behind_some n m (all_happenings seen symbols)) (next_comes (passed (behind_token (Some m) n b) w))) (sym is))))
 
 no_ends : (symbols : List (Symbol Action)) (count : ℕ) → symbols ≡ [] → closings symbols ≡ suc count → ⊥
 no_ends symbols count e c = let none : 0 ≡ suc count = sym (ap closings e) ∙ c in absurd (omega (arith, none))
 
-all_read : (files : FileNames) (seen : List Seen) (symbols : List (Symbol Action)) → left_behind seen symbols ≡ []
-    → reading_inside seen symbols ≡ true → Further files seen symbols
-all_read files [] symbols l i None w e waits = refl
-all_read files [] symbols l i (Some m) w e waits = absurd (no_ends symbols waits.0 l waits.1)
-all_read files (s ∷ seen) symbols l i d w e waits =
+all_read : (context : Context) (seen : List Seen) (symbols : List (Symbol Action)) → left_behind seen symbols ≡ []
+    → reading_inside seen symbols ≡ true → Further context seen symbols
+all_read context [] symbols l i None w e waits = refl
+all_read context [] symbols l i (Some m) w e waits = absurd (no_ends symbols waits.0 l waits.1)
+all_read context (s ∷ seen) symbols l i d w e waits =
     let n = taken grammar known s.atom symbols in
     let both = and_parts (all_inside n.actions) (reading_inside seen n.left) i in
     let own = behind_token s.directive (closings n.left) s.behind in
     let others : List Happening = behind_ends s.directive (closings n.left) (all_happenings seen n.left) in
-    let st = starts files d s own symbols others w e waits both.0 in
-    let acted_on = acted files s.token.place st.rest st.from in
-    let none : (took files s.token acted_on).closed ≡ 0 =
-    took_none files s.token acted_on ∙ acted_none files s.token.place st.rest st.from st.inside st.none in
-    ap (λ v. next_comes (all_taken files seen n.left (directed s.directive (closings n.left) (passed s.behind (took files s.token v)))))
+    let st = starts context d s own symbols others w e waits both.0 in
+    let acted_on = acted context s.token.place st.rest st.from in
+    let none : (took context s.token acted_on).closed ≡ 0 =
+    took_none context s.token acted_on ∙ acted_none context s.token.place st.rest st.from st.inside st.none in
+    ap (λ v. next_comes (all_taken context seen n.left (directed s.directive (closings n.left) (passed s.behind (took context s.token v)))))
     st.acts
-    ∙ (onward files seen n.left (all_read files seen n.left l both.1) s.directive s.behind (took files s.token acted_on) none
+    ∙ (onward context seen n.left (all_read context seen n.left l both.1) s.directive s.behind (took context s.token acted_on) none
     (closings n.left) refl
-    ∙ (ap (run files others) (actions_happen files s.token own st.rest st.from)
-    ∙ (sym (run_then files (token_happenings s.token own st.rest) others st.from) ∙ sym st.runs)))
+    ∙ (ap (run context others) (actions_happen context s.token own st.rest st.from)
+    ∙ (sym (run_then context (token_happenings s.token own st.rest) others st.from) ∙ sym st.runs)))
 
 -- Routines
 
@@ -438,27 +440,27 @@ are_routines bracket seen is f e =
     )
 
 -- up to what stands in it
-abbrev headed : FileNames → Routine → Compilation → Compilation
-headed files r w = run files r.semicolon.all (happens files (Acts r.heads action.EndLocals) (run files r.header.all w))
+abbrev headed : Context → Routine → Compilation → Compilation
+headed context r w = run context r.semicolon.all (happens context (Acts r.heads action.EndLocals) (run context r.header.all w))
 
-headed_same : (files : FileNames) (r : Routine) (w : Compilation) → w.closed ≡ 0
-    → ((headed files r w).closed ≡ 0) × (w.constructs ≡ [] → (headed files r w).constructs ≡ [])
-headed_same files r w e =
-    let v = run files r.header.all w in
-    let h = quiet_run files r.header.all w r.header.are in
-    let n = header_same files (first_place v.unit.tokens r.heads.place) (names_in v.unit.tokens) v in
-    let s = quiet_run files r.semicolon.all (happens files (Acts r.heads action.EndLocals) v) r.semicolon.are in
+headed_same : (context : Context) (r : Routine) (w : Compilation) → w.closed ≡ 0
+    → ((headed context r w).closed ≡ 0) × (w.constructs ≡ [] → (headed context r w).constructs ≡ [])
+headed_same context r w e =
+    let v = run context r.header.all w in
+    let h = quiet_run context r.header.all w r.header.are in
+    let n = header_same context (first_place v.unit.tokens r.heads.place) (names_in v.unit.tokens) v in
+    let s = quiet_run context r.semicolon.all (happens context (Acts r.heads action.EndLocals) v) r.semicolon.are in
     (s.1 ∙ (n.0 ∙ (h.1 ∙ e)), λ o. s.0 ∙ n.1 (h.0 ∙ o))
 
-routine_lays : (files : FileNames) (r : Routine) (w : Compilation) → w.closed ≡ 0 →
-    run files (routine_happenings r) w ≡ routine_laid files r w
-routine_lays files r w e =
+routine_lays : (context : Context) (r : Routine) (w : Compilation) → w.closed ≡ 0 →
+    run context (routine_happenings r) w ≡ routine_laid context r w
+routine_lays context r w e =
     let rest : List Happening = Acts r.ends action.EndRoutine ∷ r.last.all in
-    let v = happens files (Acts r.heads action.EndLocals) (run files r.header.all w) in
-    run_then files r.header.all (Acts r.heads action.EndLocals ∷ (r.semicolon.all ++ (happenings r.body ++ rest))) w
-    ∙ (run_then files r.semicolon.all (happenings r.body ++ rest) v
-    ∙ (run_then files (happenings r.body) rest (headed files r w)
-    ∙ ap (run files rest) (laid_as files r.body (headed files r w) (headed_same files r w e).0).runs))
+    let v = happens context (Acts r.heads action.EndLocals) (run context r.header.all w) in
+    run_then context r.header.all (Acts r.heads action.EndLocals ∷ (r.semicolon.all ++ (happenings r.body ++ rest))) w
+    ∙ (run_then context r.semicolon.all (happenings r.body ++ rest) v
+    ∙ (run_then context (happenings r.body) rest (headed context r w)
+    ∙ ap (run context rest) (laid_as context r.body (headed context r w) (headed_same context r w e).0).runs))
 
 read_as : (bracket : Seen) (seen : List Seen) (r : Routine) → left_behind (bracket ∷ seen) (directive ∷ []) ≡ []
     → routine_happenings r ≡ all_happenings (bracket ∷ seen) (directive ∷ []) → AreRoutine r (bracket ∷ seen)
@@ -466,16 +468,16 @@ read_as bracket seen r l same =
     let inside = reading_is_inside (bracket ∷ seen) (directive ∷ []) (sym (ap happen_inside same) ∙ routine_is_inside r) in
     record {
       same = same;
-      lay = λ files w e.
-          all_read files (bracket ∷ seen) (directive ∷ []) l inside None w e tt
-          ∙ (ap (λ hs. run files hs (next_comes w)) (sym same) ∙ routine_lays files r (next_comes w) e);
+      lay = λ context w e.
+          all_read context (bracket ∷ seen) (directive ∷ []) l inside None w e tt
+          ∙ (ap (λ hs. run context hs (next_comes w)) (sym same) ∙ routine_lays context r (next_comes w) e);
     }
 
 pub routines_are_read_whole : RoutinesAreReadWhole
 routines_are_read_whole = record {
   are = λ bracket seen is f l. let r = are_routines bracket seen is f l in (r.0, read_as bracket seen r.0 l r.1);
   begin = piece_begins;
-  end = λ files r w e o.
-      let h = headed_same files r w e in
-      depth_of (body_laid files r w).constructs (alone_behind files r.body (headed files r w) h.0 (ap own_alone (h.1 o)));
+  end = λ context r w e o.
+      let h = headed_same context r w e in
+      depth_of (body_laid context r w).constructs (alone_behind context r.body (headed context r w) h.0 (ap own_alone (h.1 o)));
 }

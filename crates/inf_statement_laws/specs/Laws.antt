@@ -11,6 +11,7 @@ use Rattle.inf_syntax.specs.Atoms.{mark_atom}
 use Rattle.inf_syntax.specs.Parts.{directive, piece, statement}
 use Rattle.inf_grammar.specs.Language.{grammar, known}
 use Rattle.inf_unit.specs.Messages.{FileNames}
+use Rattle.inf_compilation.specs.Context.{Context}
 use Rattle.inf_unit.specs.Tokens.{SourceToken}
 use Rattle.inf_constructs.specs.Constructs.{depth}
 use Rattle.inf_constructs.specs.declared.constructs.Construct.{Construct}
@@ -26,8 +27,9 @@ use Rattle.inf_statement_laws.specs.Readings.{Routine, Seen, all_fit, all_happen
 -- next one comes. They are those of its events. And tokens that the machine takes, one after the other, are a text where nothing is left
 -- behind them.
 pub record TokensHappen : Type 0 where
-  pub runs : (files : FileNames) (t : SourceToken) (m : Between) (actions : List Action) (w : Compilation)
-      → next_comes (passed m (took files t (all_acted files t.place actions w))) ≡ run files (token_happenings t m actions) (next_comes w)
+  pub runs : (context : Context) (t : SourceToken) (m : Between) (actions : List Action) (w : Compilation)
+      → next_comes (passed m (took context t (all_acted context t.place actions w)))
+      ≡ run context (token_happenings t m actions) (next_comes w)
   pub are : (t : SourceToken) (m : Between) (actions : List Action) (atom : ℕ)
       → AreOf (events_of actions atom) (token_happenings t m actions)
   pub all_are : (seen : List Seen) (symbol : Symbol Action) → all_fit seen (symbol ∷ []) ≡ true → left_behind seen (symbol ∷ []) ≡ []
@@ -39,41 +41,41 @@ pub record StaysOpen (w v : Compilation) : Type 0 where
   pub same : v.constructs ≡ w.constructs
   pub none_ahead : v.closed ≡ 0
 
-abbrev pub LeavesOpen : FileNames → List Happening → Type 0
-LeavesOpen files hs = (w : Compilation) → w.closed ≡ 0 → StaysOpen w (run files hs w)
+abbrev pub LeavesOpen : Context → List Happening → Type 0
+LeavesOpen context hs = (w : Compilation) → w.closed ≡ 0 → StaysOpen w (run context hs w)
 
 -- Whatever stands in a statement, and whatever is wrong with it, what is open around it stays as it is.
 pub record StatementsLeaveWhatIsOpen : Type 0 where
-  pub of_statements : (files : FileNames) (hs : List Happening) → IsRead statement hs → LeavesOpen files hs
-  pub of_rests : (files : FileNames) (rest : Symbol Action) (hs : List Happening) → IsOneOf rest rests → IsRead rest hs
-      → LeavesOpen files hs
+  pub of_statements : (context : Context) (hs : List Happening) → IsRead statement hs → LeavesOpen context hs
+  pub of_rests : (context : Context) (rest : Symbol Action) (hs : List Happening) → IsOneOf rest rests → IsRead rest hs
+      → LeavesOpen context hs
 
 -- The happenings are those of a nested statement, and do what it lays as a whole.
-pub record IsWhole {b : Bool} (files : FileNames) (s : Nested b) (hs : List Happening) : Type 0 where
+pub record IsWhole {b : Bool} (context : Context) (s : Nested b) (hs : List Happening) : Type 0 where
   pub same : happenings s ≡ hs
-  pub lays : (w : Compilation) → w.closed ≡ 0 → run files hs w ≡ laid files s w
+  pub lays : (w : Compilation) → w.closed ≡ 0 → run context hs w ≡ laid context s w
 
 -- So it is with each statement. One that holds others is one of its own word.
 pub record StatementsAreLaidWhole : Type 0 where
-  pub of_statements : (files : FileNames) (hs : List Happening) → IsRead statement hs → (s : Nested false) × IsWhole files s hs
-  pub of_rests : (files : FileNames) (rest : Symbol Action) (hs : List Happening) → IsOneOf rest rests → IsRead rest hs
-      → (s : Nested false) × (rest_of s ≡ Some rest) × IsWhole files s hs
+  pub of_statements : (context : Context) (hs : List Happening) → IsRead statement hs → (s : Nested false) × IsWhole context s hs
+  pub of_rests : (context : Context) (rest : Symbol Action) (hs : List Happening) → IsOneOf rest rests → IsRead rest hs
+      → (s : Nested false) × (rest_of s ≡ Some rest) × IsWhole context s hs
 
 -- So it is with what stands in a routine, its own cases among it. Where no statement is open before it, none is open behind it.
-abbrev pub EndsOpen : FileNames → List Happening → Type 0
-EndsOpen files hs =
-    (w : Compilation) → w.closed ≡ 0 → depth w.constructs ≡ 0 → (depth (run files hs w).constructs ≡ 0) × ((run files hs w).closed ≡ 0)
+abbrev pub EndsOpen : Context → List Happening → Type 0
+EndsOpen context hs =
+    (w : Compilation) → w.closed ≡ 0 → depth w.constructs ≡ 0 → (depth (run context hs w).constructs ≡ 0) × ((run context hs w).closed ≡ 0)
 
 pub record RoutinesAreLaidWhole : Type 0 where
-  pub whole : (files : FileNames) (body : Symbol Action) (hs : List Happening) → IsOneOf body bodies → IsRead body hs
-      → (s : Nested true) × IsWhole files s hs
-  pub ends : (files : FileNames) (body : Symbol Action) (hs : List Happening) → IsOneOf body bodies → IsRead body hs → EndsOpen files hs
+  pub whole : (context : Context) (body : Symbol Action) (hs : List Happening) → IsOneOf body bodies → IsRead body hs
+      → (s : Nested true) × IsWhole context s hs
+  pub ends : (context : Context) (body : Symbol Action) (hs : List Happening) → IsOneOf body bodies → IsRead body hs → EndsOpen context hs
 
 -- Tokens are those of a routine, and do what it lays as a whole, also with conditional directives among them, which close statements ahead.
 pub record AreRoutine (r : Routine) (seen : List Seen) : Type 0 where
   pub same : routine_happenings r ≡ all_happenings seen (directive ∷ [])
-  pub lay : (files : FileNames) (w : Compilation) → w.closed ≡ 0
-      → next_comes (all_taken files seen (directive ∷ []) w) ≡ routine_laid files r (next_comes w)
+  pub lay : (context : Context) (w : Compilation) → w.closed ≡ 0
+      → next_comes (all_taken context seen (directive ∷ []) w) ≡ routine_laid context r (next_comes w)
 
 -- So a routine is read, from its bracket on, by tokens that fit up to where nothing is left: its header, what stands in it, and its end,
 -- before which no statement is open where none was before the header.
@@ -83,8 +85,8 @@ pub record RoutinesAreReadWhole : Type 0 where
       → (r : Routine) × AreRoutine r (bracket ∷ seen)
   pub begin : taken grammar known (mark_atom mark.OpenBracket) (piece ∷ [])
       ≡ taken grammar known (mark_atom mark.OpenBracket) (directive ∷ [])
-  pub end : (files : FileNames) (r : Routine) (w : Compilation) → w.closed ≡ 0 → w.constructs ≡ []
-      → depth (body_laid files r w).constructs ≡ 0
+  pub end : (context : Context) (r : Routine) (w : Compilation) → w.closed ≡ 0 → w.constructs ≡ []
+      → depth (body_laid context r w).constructs ≡ 0
 
 -- So many statements end one behind the other.
 abbrev pub endings : List Place → List Happening
@@ -94,16 +96,16 @@ endings (place ∷ places) = Acts (plainly_at place) action.Close ∷ endings pl
 -- A conditional directive closes those ahead that end next, whatever the next token is. What it does is done as if behind their ends, and a
 -- second one closes no more.
 pub record ClosingAheadIsClosing : Type 0 where
-  pub behind : (files : FileNames) (places : List Place) (m : Between) (w : Compilation) → w.closed ≡ 0
-      → run files (endings places) (passed m (closed_ahead (length places) w)) ≡ passed m (run files (endings places) w)
+  pub behind : (context : Context) (places : List Place) (m : Between) (w : Compilation) → w.closed ≡ 0
+      → run context (endings places) (passed m (closed_ahead (length places) w)) ≡ passed m (run context (endings places) w)
   pub again : (count : ℕ) (m : Between) (w : Compilation) → w.closed ≡ 0
       → closed_ahead count (passed m (closed_ahead count w)) ≡ passed m (closed_ahead count w)
 
 -- The unit of a loop over objects, of a step or of a case leaves the innermost with its labels, and all others as they are.
 pub record UnitsKeepLabels : Type 0 where
-  pub of_loops : (files : FileNames) (place : Place) (c : Construct) (around : List Construct) (w : Compilation) → w.constructs ≡ c ∷ around
-      → let v = act files place action.EndObjectloop w in v.constructs ≡ with_kind_in v.constructs c ∷ around
-  pub of_steps : (files : FileNames) (place : Place) (c : Construct) (around : List Construct) (w : Compilation) → w.constructs ≡ c ∷ around
-      → let v = act files place action.EndForStep w in v.constructs ≡ with_step_in v.constructs c ∷ around
-  pub of_cases : (files : FileNames) (place : Place) (c : Construct) (around : List Construct) (w : Compilation) → w.constructs ≡ c ∷ around
-      → let v = act files place action.EndCase w in v.constructs ≡ with_kind_in v.constructs c ∷ around
+  pub of_loops : (context : Context) (place : Place) (c : Construct) (around : List Construct) (w : Compilation) → w.constructs ≡ c ∷ around
+      → let v = act context place action.EndObjectloop w in v.constructs ≡ with_kind_in v.constructs c ∷ around
+  pub of_steps : (context : Context) (place : Place) (c : Construct) (around : List Construct) (w : Compilation) → w.constructs ≡ c ∷ around
+      → let v = act context place action.EndForStep w in v.constructs ≡ with_step_in v.constructs c ∷ around
+  pub of_cases : (context : Context) (place : Place) (c : Construct) (around : List Construct) (w : Compilation) → w.constructs ≡ c ∷ around
+      → let v = act context place action.EndCase w in v.constructs ≡ with_kind_in v.constructs c ∷ around

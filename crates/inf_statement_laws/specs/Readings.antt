@@ -11,6 +11,7 @@ use Rattle.inf_grammar.specs.Routines.{closings}
 use Rattle.inf_code.specs.Code.{labels}
 use Rattle.inf_output.specs.Output.{begun, full}
 use Rattle.inf_unit.specs.Messages.{FileNames, with_full}
+use Rattle.inf_compilation.specs.Context.{Context}
 use Rattle.inf_unit.specs.Tokens.{SourceToken}
 use Rattle.inf_actions.specs.Acting.{all_acted}
 use Rattle.inf_compilation.specs.Actions.{Compilation, took}
@@ -68,12 +69,12 @@ directed None count w = w
 directed (Some m) count w = passed m (closed_ahead count w)
 
 -- Each is taken behind the actions on the way to it.
-abbrev pub all_taken : FileNames → List Seen → List (Symbol Action) → Compilation → Compilation
-all_taken files [] symbols w = w
-all_taken files (s ∷ seen) symbols w =
+abbrev pub all_taken : Context → List Seen → List (Symbol Action) → Compilation → Compilation
+all_taken context [] symbols w = w
+all_taken context (s ∷ seen) symbols w =
     let n = taken grammar known s.atom symbols in
-    all_taken files seen n.left
-    (directed s.directive (closings n.left) (passed s.behind (took files s.token (all_acted files s.token.place n.actions w))))
+    all_taken context seen n.left
+    (directed s.directive (closings n.left) (passed s.behind (took context s.token (all_acted context s.token.place n.actions w))))
 
 -- Their happenings
 
@@ -126,9 +127,9 @@ routine_happenings r =
     ∷ (r.semicolon.all ++ (happenings r.body ++ Acts r.ends action.EndRoutine ∷ r.last.all))
 
 -- up to its end, and behind it
-abbrev pub body_laid : FileNames → Routine → Compilation → Compilation
-body_laid files r w =
-    laid files r.body (run files r.semicolon.all (happens files (Acts r.heads action.EndLocals) (run files r.header.all w)))
+abbrev pub body_laid : Context → Routine → Compilation → Compilation
+body_laid context r w =
+    laid context r.body (run context r.semicolon.all (happens context (Acts r.heads action.EndLocals) (run context r.header.all w)))
 
-abbrev pub routine_laid : FileNames → Routine → Compilation → Compilation
-routine_laid files r w = run files r.last.all (happens files (Acts r.ends action.EndRoutine) (body_laid files r w))
+abbrev pub routine_laid : Context → Routine → Compilation → Compilation
+routine_laid context r w = run context r.last.all (happens context (Acts r.ends action.EndRoutine) (body_laid context r w))
