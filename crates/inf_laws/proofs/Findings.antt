@@ -1,5 +1,5 @@
 -- The first error of a unit.
-use Rattle.std.proofs.Common.{◌≡◌, ◌⊎◌, inl, inr, ℕ, suc, zero, ◌+◌, ◌<◌, ◌≤◌, nat_eq, List, [], ◌∷◌, ◌++◌, append_assoc, append-nil, length, length-append, cond, not, ◌||◌, ◌&&◌, ltb, Bool, true, false, Option, None, Some, refl, sym, ap, subst, ◌∙◌, arith}
+use Rattle.std.proofs.Common.{◌≡◌, ◌⊎◌, inl, inr, ℕ, suc, zero, ◌+◌, ◌<◌, ◌≤◌, nat_eq, List, [], ◌∷◌, ◌++◌, append_assoc, append-nil, length, length-append, cond, not, ◌&&◌, ltb, Bool, true, false, Option, None, Some, refl, sym, ap, subst, ◌∙◌, arith}
 use Rattle.std.specs.Prelude.{Contains, find, is_some, option_map, slice_index_or}
 use Rattle.std.specs.Str.{bytes_eq, str_eq_ignore_ascii_case}
 use Rattle.std.proofs.lemmas.Bool.{and_parts, cond_both, eqb-true, false_from_ne_true, le-ltb, lt-ltb, ltb-false, ltb-true, or_cases}
@@ -9,13 +9,13 @@ use Rattle.inf_names.specs.Symbols.{Table, declare_fault, declare_fault_by, fold
 use Rattle.inf_names.specs.declared.symbols.Found.{Found as FoundName}
 use Rattle.inf_names.specs.declared.symbols.Found.TheVariants as found
 use Rattle.inf_names.specs.Spellings.{Name}
-use Rattle.inf_names.specs.Locals.{Headed, Local, Repeated, earlier, local_of, most_locals, no_locals, number_from, number_of, with_local_by, with_locals}
+use Rattle.inf_names.specs.Locals.{Headed, Local, Repeated, earlier, local_of, most_locals, no_locals, with_local_by, with_locals}
 use Rattle.inf_unit.specs.Messages.{Diagnostic, FileNames}
 use Rattle.inf_names.specs.declared.symbols.DeclareFault.{DeclareFault}
 use Rattle.inf_unit.specs.Tokens.{SourceToken}
-use Rattle.inf_compilation.specs.Findings.{Again, again_by, again_local, again_told, first_again, header_findings as found_in_header, told_as}
+use Rattle.inf_compilation.specs.Findings.{Again, again_by, again_local, again_told, header_findings as found_in_header, told_as}
 use Rattle.inf_expressions.specs.declared.findings.Finding.{Finding as Found}
-use Rattle.inf_expressions.specs.Findings.{is_before, least_of_both}
+use Rattle.inf_expressions.specs.Findings.{is_before}
 use Rattle.inf_laws.specs.Findings.{Finding, HeadersTellTheFirst, IsBefore, IsLeast, IsLeastOf, IsTold, LeastsAreFound, UnitsTellTheLeast, declared_before, different, first_named, many_locals, repeated_local, repeated_locals, repeated_one, taken_as, taken_name, system_routine, too_many_locals}
 use Rattle.inf_laws.proofs.Choices.{either, either-none}
 use Rattle.inf_laws.proofs.SameNames.{same_names}
@@ -461,4 +461,4 @@ leasts_are_found (Some a) (Some b) = go (is_before b a) refl
         by g (inr is) = not_earlier (Some b) b a g refl is e
 
 pub units_tell_the_least : UnitsTellTheLeast
-units_tell_the_least files first has_last all w = refl
+units_tell_the_least context first has_last all w = refl

@@ -1,10 +1,8 @@
 -- Reading by the tokens that are handed on.
-use Rattle.std.proofs.Common.{◌≡◌, ℕ, List, [], ◌∷◌, ◌++◌, map, cond, Bool, true, false, Option, Some, None, is_some, refl, sym, ap, subst, ◌∙◌, append_assoc}
+use Rattle.std.proofs.Common.{◌≡◌, List, [], ◌∷◌, ◌++◌, map, cond, Bool, true, false, Option, Some, None, is_some, refl, sym, ap, subst, ◌∙◌, append_assoc}
 use Rattle.std.proofs.lemmas.List.{append-nil, map-append}
 use Rattle.inf_scanner.specs.declared.tokens.Place.{Place}
-use Rattle.inf_scanner.specs.declared.tokens.TokenKind.{TokenKind}
-use Rattle.inf_unit.specs.Messages.{FileNames}
-use Rattle.inf_unit.specs.Tokens.{SourceToken, is_end}
+use Rattle.inf_unit.specs.Tokens.{SourceToken, atom_of, is_end}
 use Rattle.inf_unit.proofs.Cases.{of_both}
 use Rattle.inf_machine.specs.declared.symbols.Symbol.{Symbol}
 use Rattle.inf_machine.specs.declared.symbols.Symbol.TheVariants.{Rule}
@@ -20,135 +18,132 @@ use Rattle.inf_grammar.specs.Routines.{is_in_routine}
 use Rattle.inf_grammar.specs.Sources.{is_inside}
 use Rattle.inf_conditionals.specs.declared.filtered.Forwarded.{Forwarded}
 use Rattle.inf_conditionals.specs.declared.filtered.Forwarded.TheVariants as handed
-use Rattle.inf_conditionals.specs.declared.filtered.Filtered.{Filtered}
 use Rattle.inf_conditionals.specs.declared.filtered.Sign.{Sign}
-use Rattle.inf_compilation.specs.Actions.{Compilation, is_class, piece_begun as work_begun}
-use Rattle.inf_reader.specs.Handing.{handed_as, hash, judged_taken, lone_told, sign_taken, token_taken, unfit_in, unit_ended}
+use Rattle.inf_compilation.specs.Context.{Context}
+use Rattle.inf_compilation.specs.Actions.{Compilation, piece_begun as work_begun}
+use Rattle.inf_reader.specs.Handing.{handed_as, hash, lone_told, sign_taken, token_taken, unfit_in, unit_ended}
 use Rattle.inf_reader.specs.Pieces.{BeginsPiece, IsPiece}
-use Rattle.inf_reader.specs.Reading.{Reading, ReaderState, bad, between, judged, passed, piece_begun, piece_rule, read_at, skip_of, step, step_in, took}
+use Rattle.inf_reader.specs.Reading.{Reading, ReaderState, bad, between, judged, passed, piece_begun, piece_rule, read_at, skip_of, step_in, took}
 use Rattle.inf_reader.specs.declared.recovery.Recovery.{Recovery}
 use Rattle.inf_reader.specs.declared.recovery.Recovery.TheVariants as mode
 use Rattle.inf_laws.specs.BadTokens.{skip_behind}
-use Rattle.inf_laws.specs.KeptTokens.{BehindABadToken, BehindAPiece, BehindTheEnd, Given, GoesBehind, GoesOn, InAPiece, IsBad, Kept, KeptTokensAreRead, Seen, Stands, TokensAreHandedOn, Unfit, all_given_to, bad_by, given_as, given_of, given_sign, given_to, given_token, judged_by, kept_by, read_by, rests, seen_atom, skipped, token_in, took_by, unfit_by}
+use Rattle.inf_laws.specs.KeptTokens.{BehindABadToken, BehindAPiece, BehindTheEnd, Given, GoesBehind, InAPiece, IsBad, Kept, KeptTokensAreRead, Stands, TokensAreHandedOn, Unfit, all_given_to, bad_by, given_as, given_sign, given_to, given_token, judged_by, kept_by, read_by, rests, skipped, token_in, took_by, unfit_by}
 use Rattle.inf_laws.proofs.BadTokens.{bracketed}
 
 -- What is read is told by the tokens alone
 
-abbrev seen : SourceToken → Compilation → Seen
-seen t w = record { token = t; is_class = is_class t w }
-
-judged_reads : (files : FileNames) (t : SourceToken) (r : Reading) (w : Compilation) → (judged files t r w).reading ≡ judged_by (seen t w) r
-judged_reads files t r w = go (fits grammar known (seen_atom (seen t w)) r.stack)
+judged_reads : (context : Context) (t : SourceToken) (r : Reading) (w : Compilation) → (judged context t r w).reading ≡ judged_by t r
+judged_reads context t r w = go (fits grammar known (atom_of t) r.stack)
   where
-    go : (b : Bool) → (cond b (took files t r w) (bad files t r w)).reading ≡ cond b (took_by (seen_atom (seen t w)) r) (bad_by t.kind r)
+    go : (b : Bool) → (cond b (took context t r w) (bad context t r w)).reading ≡ cond b (took_by (atom_of t) r) (bad_by t.kind r)
     go true = refl
     go false = refl
 
-reads_at : (files : FileNames) (t : SourceToken) (stack : List (Symbol Action)) (r : Reading) (w : Compilation) →
-    (read_at files t stack r w).reading ≡ read_by stack (seen t w) r
-reads_at files t [] r w = go (is_end t.kind)
+reads_at : (context : Context) (t : SourceToken) (stack : List (Symbol Action)) (r : Reading) (w : Compilation) →
+    (read_at context t stack r w).reading ≡ read_by stack t r
+reads_at context t [] r w = go (is_end t.kind)
   where
     go : (b : Bool) →
-        (cond b (record { reading = record r { mode = mode.Ended }; work = w }) (judged files t (piece_begun r) (work_begun w))).reading
-        ≡ cond b (record r { mode = mode.Ended }) (judged_by (seen t w) (piece_begun r))
+        (cond b (record { reading = record r { mode = mode.Ended }; work = w }) (judged context t (piece_begun r) (work_begun w))).reading
+        ≡ cond b (record r { mode = mode.Ended }) (judged_by t (piece_begun r))
     go true = refl
-    go false = judged_reads files t (piece_begun r) (work_begun w)
-reads_at files t (symbol ∷ symbols) r w = judged_reads files t r w
+    go false = judged_reads context t (piece_begun r) (work_begun w)
+reads_at context t (symbol ∷ symbols) r w = judged_reads context t r w
 
-step_reads : (m : Recovery) (files : FileNames) (t : SourceToken) (r : Reading) (w : Compilation) →
-    (step_in m files t r w).reading ≡ kept_by m (seen t w) r
-step_reads mode.Reads files t r w = reads_at files t r.stack r w
-step_reads mode.SkipsRoutine files t r w = refl
-step_reads mode.SkipsDirective files t r w = refl
-step_reads mode.Ended files t r w = refl
+step_reads : (m : Recovery) (context : Context) (t : SourceToken) (r : Reading) (w : Compilation) →
+    (step_in m context t r w).reading ≡ kept_by m t r
+step_reads mode.Reads context t r w = reads_at context t r.stack r w
+step_reads mode.SkipsRoutine context t r w = refl
+step_reads mode.SkipsDirective context t r w = refl
+step_reads mode.Ended context t r w = refl
 
 -- a token that is passed over needs no grammar
-unfit_step : (m : Recovery) (files : FileNames) (t : SourceToken) (s : ReaderState) → s.reading.mode ≡ m →
-    (unfit_in m files t s).reading ≡ unfit_by m t s.reading
-unfit_step mode.Reads files t s e = refl
-unfit_step mode.SkipsRoutine files t s e = ap (λ m. (step_in m files t s.reading s.work).reading) e
-unfit_step mode.SkipsDirective files t s e = ap (λ m. (step_in m files t s.reading s.work).reading) e
-unfit_step mode.Ended files t s e = ap (λ m. (step_in m files t s.reading s.work).reading) e
+unfit_step : (m : Recovery) (context : Context) (t : SourceToken) (s : ReaderState) → s.reading.mode ≡ m →
+    (unfit_in m context t s).reading ≡ unfit_by m t s.reading
+unfit_step mode.Reads context t s e = refl
+unfit_step mode.SkipsRoutine context t s e = ap (λ m. (step_in m context t s.reading s.work).reading) e
+unfit_step mode.SkipsDirective context t s e = ap (λ m. (step_in m context t s.reading s.work).reading) e
+unfit_step mode.Ended context t s e = ap (λ m. (step_in m context t s.reading s.work).reading) e
 
-handed_reads : (h : Forwarded) (files : FileNames) (t : SourceToken) (s : ReaderState) →
-    (handed_as h files t s).reading ≡ all_given_to (given_as h t s.work) s.reading
-handed_reads handed.Kept files t s = step_reads s.reading.mode files t s.reading s.work
-handed_reads handed.Unfit files t s = unfit_step s.reading.mode files t s refl
-handed_reads handed.Condition files t s = refl
+handed_reads : (h : Forwarded) (context : Context) (t : SourceToken) (s : ReaderState) →
+    (handed_as h context t s).reading ≡ all_given_to (given_as h t) s.reading
+handed_reads handed.Kept context t s = step_reads s.reading.mode context t s.reading s.work
+handed_reads handed.Unfit context t s = unfit_step s.reading.mode context t s refl
+handed_reads handed.Condition context t s = refl
 
-sign_reads : (o : Option Sign) (files : FileNames) (s : ReaderState) →
-    (sign_taken o files s).reading ≡ all_given_to (given_sign o s.work) s.reading
-sign_reads None files s = refl
-sign_reads (Some sign) files s = handed_reads sign.handed files (hash sign.place) s
+sign_reads : (o : Option Sign) (context : Context) (s : ReaderState) →
+    (sign_taken o context s).reading ≡ all_given_to (given_sign o) s.reading
+sign_reads None context s = refl
+sign_reads (Some sign) context s = handed_reads sign.handed context (hash sign.place) s
 
-token_reads : (o : Option Forwarded) (files : FileNames) (t : SourceToken) (s : ReaderState) →
-    (token_taken o files t s).reading ≡ all_given_to (given_token o t s.work) s.reading
-token_reads None files t s = refl
-token_reads (Some h) files t s = handed_reads h files t s
+token_reads : (o : Option Forwarded) (context : Context) (t : SourceToken) (s : ReaderState) →
+    (token_taken o context t s).reading ≡ all_given_to (given_token o t) s.reading
+token_reads None context t s = refl
+token_reads (Some h) context t s = handed_reads h context t s
 
-lone_reading : (o : Option Place) (files : FileNames) (s : ReaderState) → (lone_told o files s).reading ≡ s.reading
-lone_reading None files s = refl
-lone_reading (Some place) files s = refl
+lone_reading : (o : Option Place) (context : Context) (s : ReaderState) → (lone_told o context s).reading ≡ s.reading
+lone_reading None context s = refl
+lone_reading (Some place) context s = refl
 
-ended_reading : (o : Option Place) (files : FileNames) (s : ReaderState) → (unit_ended o files s).reading ≡ s.reading
-ended_reading None files s = refl
-ended_reading (Some place) files s = refl
+ended_reading : (o : Option Place) (context : Context) (s : ReaderState) → (unit_ended o context s).reading ≡ s.reading
+ended_reading None context s = refl
+ended_reading (Some place) context s = refl
 
 pub given_both : (first second : List Given) (r : Reading) → all_given_to (first ++ second) r ≡ all_given_to second (all_given_to first r)
 given_both [] second r = refl
 given_both (g ∷ first) second r = given_both first second (given_to g r)
 
 pub tokens_are_handed_on : TokensAreHandedOn
-tokens_are_handed_on files t j s =
-    let signed = sign_taken j.sign files s in
-    let told = token_taken j.token files t signed in
-    ended_reading j.ended files (lone_told j.unmatched files told)
-    ∙ lone_reading j.unmatched files told
-    ∙ token_reads j.token files t signed
-    ∙ ap (λ (r : Reading). all_given_to (given_token j.token t signed.work) r) (sign_reads j.sign files s)
-    ∙ sym (given_both (given_sign j.sign s.work) (given_token j.token t signed.work) s.reading)
+tokens_are_handed_on context t j s =
+    let signed = sign_taken j.sign context s in
+    let told = token_taken j.token context t signed in
+    ended_reading j.ended context (lone_told j.unmatched context told)
+    ∙ lone_reading j.unmatched context told
+    ∙ token_reads j.token context t signed
+    ∙ ap (λ (r : Reading). all_given_to (given_token j.token t) r) (sign_reads j.sign context s)
+    ∙ sym (given_both (given_sign j.sign) (given_token j.token t) s.reading)
 
 -- A piece so far
 
 abbrev piece : List (Symbol Action)
 piece = Rule piece_rule ∷ []
 
-pub record At (tokens : List Seen) (r : Reading) : Type 0 where
+pub record At (tokens : List SourceToken) (r : Reading) : Type 0 where
   pub reads : r.mode ≡ mode.Reads
-  pub is_read : OneMore grammar known piece (map seen_atom tokens) r.stack
+  pub is_read : OneMore grammar known piece (map atom_of tokens) r.stack
 
-pub begins : (tokens : List Seen) (r : Reading) → At tokens r → BeginsPiece (map seen_atom tokens)
+pub begins : (tokens : List SourceToken) (r : Reading) → At tokens r → BeginsPiece (map atom_of tokens)
 begins tokens r at = record {
-  begins = (bad_tokens_begin_nothing grammar known piece_rule (map seen_atom tokens) language_is_decided).0 (ap is_some at.is_read.is_read);
+  begins = (bad_tokens_begin_nothing grammar known piece_rule (map atom_of tokens) language_is_decided).0 (ap is_some at.is_read.is_read);
 }
 
-pub stops : (tokens : List Seen) (r : Reading) (t : Seen) → At tokens r → fits grammar known (seen_atom t) r.stack ≡ false →
-    BeginsPiece (map seen_atom (tokens ++ t ∷ [])) → ⊥
+pub stops : (tokens : List SourceToken) (r : Reading) (t : SourceToken) → At tokens r → fits grammar known (atom_of t) r.stack ≡ false →
+    BeginsPiece (map atom_of (tokens ++ t ∷ [])) → ⊥
 stops tokens r t at out b =
-    let absent : true ≡ false = sym some ∙ ap (λ atoms. is_some (read grammar known piece atoms)) (map-append seen_atom tokens (t ∷ []))
+    let absent : true ≡ false = sym some ∙ ap (λ atoms. is_some (read grammar known piece atoms)) (map-append atom_of tokens (t ∷ []))
     ∙ ap is_some nothing in cc
   where
-    some : is_some (read grammar known piece (map seen_atom (tokens ++ t ∷ []))) ≡ true
-    some = (bad_tokens_begin_nothing grammar known piece_rule (map seen_atom (tokens ++ t ∷ [])) language_is_decided).1 b.begins
+    some : is_some (read grammar known piece (map atom_of (tokens ++ t ∷ []))) ≡ true
+    some = (bad_tokens_begin_nothing grammar known piece_rule (map atom_of (tokens ++ t ∷ [])) language_is_decided).1 b.begins
 
-    nothing : read grammar known piece (map seen_atom tokens ++ map seen_atom (t ∷ [])) ≡ None
-    nothing = reads_none grammar known piece (map seen_atom tokens) (seen_atom t) r.stack at.is_read out
+    nothing : read grammar known piece (map atom_of tokens ++ map atom_of (t ∷ [])) ≡ None
+    nothing = reads_none grammar known piece (map atom_of tokens) (atom_of t) r.stack at.is_read out
 
-pub goes : (tokens : List Seen) (r : Reading) (t : Seen) → At tokens r → fits grammar known (seen_atom t) r.stack ≡ true →
-    At (tokens ++ t ∷ []) (took_by (seen_atom t) r)
+pub goes : (tokens : List SourceToken) (r : Reading) (t : SourceToken) → At tokens r → fits grammar known (atom_of t) r.stack ≡ true →
+    At (tokens ++ t ∷ []) (took_by (atom_of t) r)
 goes tokens r t at f = record {
   reads = at.reads;
-  is_read = subst (λ atoms. OneMore grammar known piece atoms (took_by (seen_atom t) r).stack) (sym (map-append seen_atom tokens (t ∷ [])))
-      (reads_one grammar known piece (map seen_atom tokens) (seen_atom t) r.stack at.is_read f);
+  is_read = subst (λ atoms. OneMore grammar known piece atoms (took_by (atom_of t) r).stack) (sym (map-append atom_of tokens (t ∷ [])))
+      (reads_one grammar known piece (map atom_of tokens) (atom_of t) r.stack at.is_read f);
 }
 
-ends : (tokens : List Seen) (r : Reading) → At tokens r → r.stack ≡ [] → IsPiece (map seen_atom tokens)
+ends : (tokens : List SourceToken) (r : Reading) → At tokens r → r.stack ≡ [] → IsPiece (map atom_of tokens)
 ends tokens r at empty =
     let q : Read Action = at.is_read.r in
     let nothing_left : [] ≡ q.left = sym (at.is_read.leaves ∙ empty) in
     record {
       events = q.events ++ [];
-      is_text = (texts_are_taken grammar known piece_rule (map seen_atom tokens) (q.events ++ []) language_is_decided).1
+      is_text = (texts_are_taken grammar known piece_rule (map atom_of tokens) (q.events ++ []) language_is_decided).1
           (q, [], at.is_read.is_read, refl, subst (λ symbols. IsText grammar symbols [] []) nothing_left here);
     }
 
@@ -159,22 +154,22 @@ no_token = record {
 }
 
 -- what is passed over behind its tokens is told by their brackets
-skips_as : (tokens : List Seen) (r : Reading) → At tokens r → skip_of r.stack ≡ skip_behind (map seen_atom tokens)
+skips_as : (tokens : List SourceToken) (r : Reading) → At tokens r → skip_of r.stack ≡ skip_behind (map atom_of tokens)
 skips_as tokens r at =
-    let left : is_in_routine r.stack ≡ is_bracket_open (map seen_atom tokens) =
+    let left : is_in_routine r.stack ≡ is_bracket_open (map atom_of tokens) =
     ap is_in_routine (sym at.is_read.leaves) ∙ sym (ap is_inside at.is_read.is_read)
-    ∙ bracketed (map seen_atom tokens) (begins tokens r at) in
+    ∙ bracketed (map atom_of tokens) (begins tokens r at) in
     ap (λ b. cond b mode.SkipsRoutine mode.SkipsDirective) left
 
 -- Where reading stands
 
 pub data Now (given : List Given) (r : Reading) : Type 0 where
-  Inside : (tokens : List Seen) → given ≡ map Kept tokens → At tokens r → (r.stack ≡ [] → ⊥) → Now given r
-  Whole : (tokens : List Seen) → given ≡ map Kept tokens → IsPiece (map seen_atom tokens) → r ≡ between mode.Reads → Now given r
-  Skips : (tokens : List Seen) (wrong : Given) (behind : List Given) → given ≡ map Kept tokens ++ wrong ∷ behind →
-      BeginsPiece (map seen_atom tokens) → IsBad tokens wrong →
-      r ≡ between (skipped (skip_behind (map seen_atom tokens)) (wrong ∷ behind)) → Now given r
-  Ended : (t : Seen) → given ≡ Kept t ∷ [] → is_end t.token.kind ≡ true → r ≡ between mode.Ended → Now given r
+  Inside : (tokens : List SourceToken) → given ≡ map Kept tokens → At tokens r → (r.stack ≡ [] → ⊥) → Now given r
+  Whole : (tokens : List SourceToken) → given ≡ map Kept tokens → IsPiece (map atom_of tokens) → r ≡ between mode.Reads → Now given r
+  Skips : (tokens : List SourceToken) (wrong : Given) (behind : List Given) → given ≡ map Kept tokens ++ wrong ∷ behind →
+      BeginsPiece (map atom_of tokens) → IsBad tokens wrong →
+      r ≡ between (skipped (skip_behind (map atom_of tokens)) (wrong ∷ behind)) → Now given r
+  Ended : (t : SourceToken) → given ≡ Kept t ∷ [] → is_end t.kind ≡ true → r ≡ between mode.Ended → Now given r
 
 pub stands : (given : List Given) (r : Reading) → Now given r → Stands given r
 stands given r (Inside tokens e at some) = InAPiece tokens e (begins tokens r at) at.reads
@@ -183,11 +178,11 @@ stands given r (Skips tokens wrong behind e begun bad_one at) = BehindABadToken 
 stands given r (Ended t e is at) = BehindTheEnd t e is at
 
 -- one more
-kept_more : (tokens : List Seen) (t : Seen) → map Kept tokens ++ Kept t ∷ [] ≡ map Kept (tokens ++ t ∷ [])
+kept_more : (tokens : List SourceToken) (t : SourceToken) → map Kept tokens ++ Kept t ∷ [] ≡ map Kept (tokens ++ t ∷ [])
 kept_more tokens t = sym (map-append Kept tokens (t ∷ []))
 
 -- a token is taken
-taken_now : (given : List Given) (tokens : List Seen) (r : Reading) (t : Seen) → given ≡ map Kept (tokens ++ t ∷ []) →
+taken_now : (given : List Given) (tokens : List SourceToken) (r : Reading) (t : SourceToken) → given ≡ map Kept (tokens ++ t ∷ []) →
     At (tokens ++ t ∷ []) r → Now given r
 taken_now given tokens r t e at = by_stack r.stack refl
   where
@@ -198,20 +193,20 @@ taken_now given tokens r t e at = by_stack r.stack refl
     by_stack (symbol ∷ symbols) some = Inside (tokens ++ t ∷ []) e at (λ empty. let never : [] ≡ symbol ∷ symbols = sym empty ∙ some in cc)
 
 -- or is bad
-wrong_now : (given : List Given) (tokens : List Seen) (r now : Reading) (wrong : Given) → given ≡ map Kept tokens ++ wrong ∷ [] →
+wrong_now : (given : List Given) (tokens : List SourceToken) (r now : Reading) (wrong : Given) → given ≡ map Kept tokens ++ wrong ∷ [] →
     At tokens r → IsBad tokens wrong
     → now ≡ between (passed (skip_of r.stack) (token_in wrong).kind) → Now given now
 wrong_now given tokens r now wrong e at is_bad same =
     Skips tokens wrong [] e (begins tokens r at) is_bad (same ∙ ap (λ m. between (passed m (token_in wrong).kind)) (skips_as tokens r at))
 
-judged_now : (given : List Given) (tokens : List Seen) (r : Reading) (t : Seen) → given ≡ map Kept tokens → At tokens r
+judged_now : (given : List Given) (tokens : List SourceToken) (r : Reading) (t : SourceToken) → given ≡ map Kept tokens → At tokens r
     → Now (given ++ Kept t ∷ []) (judged_by t r)
 judged_now given tokens r t e at =
-    of_both (λ (x : Reading). Now (given ++ Kept t ∷ []) x) (fits grammar known (seen_atom t) r.stack) (took_by (seen_atom t) r)
-    (bad_by t.token.kind r)
-    (λ f. taken_now (given ++ Kept t ∷ []) tokens (took_by (seen_atom t) r) t (ap (λ gs. gs ++ Kept t ∷ []) e ∙ kept_more tokens t)
+    of_both (λ (x : Reading). Now (given ++ Kept t ∷ []) x) (fits grammar known (atom_of t) r.stack) (took_by (atom_of t) r)
+    (bad_by t.kind r)
+    (λ f. taken_now (given ++ Kept t ∷ []) tokens (took_by (atom_of t) r) t (ap (λ gs. gs ++ Kept t ∷ []) e ∙ kept_more tokens t)
     (goes tokens r t at f))
-    (λ out. wrong_now (given ++ Kept t ∷ []) tokens r (bad_by t.token.kind r) (Kept t) (ap (λ gs. gs ++ Kept t ∷ []) e) at
+    (λ out. wrong_now (given ++ Kept t ∷ []) tokens r (bad_by t.kind r) (Kept t) (ap (λ gs. gs ++ Kept t ∷ []) e) at
     (stops tokens r t at out) refl)
 
 -- The first token
@@ -219,7 +214,7 @@ judged_now given tokens r t e at =
 pub first : (g : Given) (r : Reading) → r ≡ between mode.Reads → Now (g ∷ []) (given_to g r)
 first (Kept t) r fresh =
     subst (λ (x : Reading). Now (Kept t ∷ []) x) (sym (ap (λ (x : Reading). given_to (Kept t) x) fresh))
-    (of_both (λ (x : Reading). Now (Kept t ∷ []) x) (is_end t.token.kind) (record (between mode.Reads) { mode = mode.Ended })
+    (of_both (λ (x : Reading). Now (Kept t ∷ []) x) (is_end t.kind) (record (between mode.Reads) { mode = mode.Ended })
     (judged_by t (piece_begun (between mode.Reads)))
     (λ e. Ended t refl e refl)
     (λ _. judged_now [] [] (piece_begun (between mode.Reads)) t refl no_token))
@@ -243,7 +238,7 @@ skips_on mode.SkipsRoutine (Unfit t) r e on = ap (λ (x : Reading). given_to (Un
 skips_on mode.SkipsDirective (Unfit t) r e on = ap (λ (x : Reading). given_to (Unfit t) x) e
 
 -- inside of a piece
-reads_inside : (stack : List (Symbol Action)) (t : Seen) (r : Reading) → (stack ≡ [] → ⊥) → read_by stack t r ≡ judged_by t r
+reads_inside : (stack : List (Symbol Action)) (t : SourceToken) (r : Reading) → (stack ≡ [] → ⊥) → read_by stack t r ≡ judged_by t r
 reads_inside [] t r some = absurd (some refl)
 reads_inside (symbol ∷ symbols) t r some = refl
 
@@ -257,10 +252,10 @@ next (Unfit t) before r (Inside tokens e at some) on =
 next g before r (Whole tokens e is at) on = absurd (let never : true ≡ false = sym (ap rests at) ∙ on in cc)
 next g before r (Ended t e is at) on = absurd (let never : true ≡ false = sym (ap rests at) ∙ on in cc)
 next g before r (Skips tokens wrong behind e begun is_bad at) on =
-    let m = skipped (skip_behind (map seen_atom tokens)) (wrong ∷ behind) in
+    let m = skipped (skip_behind (map atom_of tokens)) (wrong ∷ behind) in
     Skips tokens wrong (behind ++ g ∷ []) (ap (λ gs. gs ++ g ∷ []) e ∙ append_assoc (map Kept tokens) (wrong ∷ behind) (g ∷ [])) begun
     is_bad
-    (skips_on m g r at (sym (ap rests at) ∙ on) ∙ ap between (sym (skipped_more (skip_behind (map seen_atom tokens)) (wrong ∷ behind) g)))
+    (skips_on m g r at (sym (ap rests at) ∙ on) ∙ ap between (sym (skipped_more (skip_behind (map atom_of tokens)) (wrong ∷ behind) g)))
 
 onward : (given before : List Given) (r : Reading) → Now before r → GoesBehind given r → Stands (before ++ given) (all_given_to given r)
 onward [] before r now on = subst (λ gs. Stands gs r) (sym (append-nil before)) (stands before r now)

@@ -1,5 +1,5 @@
 -- The turns of a reading by the tokens that they hand on.
-use Rattle.std.proofs.Common.{◌≡◌, ℕ, zero, suc, List, [], ◌∷◌, ◌++◌, cond, Bool, true, false, refl, sym, ap, subst, ◌∙◌}
+use Rattle.std.proofs.Common.{◌≡◌, ℕ, zero, suc, List, cond, false, refl, sym, ap, subst, ◌∙◌}
 use Rattle.std.proofs.lemmas.List.{append-nil}
 use Rattle.inf_scanner.specs.declared.tokens.Place.{Place}
 use Rattle.inf_files.specs.Files.{Sources}
@@ -7,12 +7,11 @@ use Rattle.inf_sources.specs.Inclusions.{Inclusion, Opens, OpensNone, inclusion}
 use Rattle.inf_sources.specs.declared.open_files.Included.{Included}
 use Rattle.inf_sources.specs.declared.open_files.Included.TheVariants as answer
 use Rattle.inf_unit.specs.Directives.{Request, End, Include, Nothing}
-use Rattle.inf_unit.specs.Messages.{FileNames}
 use Rattle.inf_conditionals.specs.Judging.{judged}
 use Rattle.inf_reader.specs.Handing.{said_told, site_of}
 use Rattle.inf_reader.specs.Reading.{Reading, is_mode_ended}
 use Rattle.inf_session.specs.Choices.{Choices}
-use Rattle.inf_session.specs.Session.{State, answered, asked_nothing, followed, has_ended, carried_out, included_by, is_resting, left, none_included, piece_closed, rested, stand_of, stepped, token_of, turn}
+use Rattle.inf_session.specs.Session.{State, answered, asked_nothing, context_of, has_ended, carried_out, included_by, is_resting, left, none_included, piece_closed, rested, stand_of, stepped, token_of, turn}
 use Rattle.inf_laws.specs.KeptTokens.{Stands, all_given_to}
 use Rattle.inf_laws.specs.KeptTurns.{StayInFile, TurnsReadPieces, given_by, given_in, turned}
 use Rattle.inf_laws.proofs.KeptTokens.{given_both, kept_tokens_are_read, tokens_are_handed_on}
@@ -49,25 +48,25 @@ rested_reading s =
     of_both (λ (x : State). x.reading ≡ s.reading) (has_ended s) s (cond (is_resting s) (piece_closed s) s) (λ _. refl)
     (λ _. of_both (λ (x : State). x.reading ≡ s.reading) (is_resting s) (piece_closed s) s (λ _. refl) (λ _. refl))
 
-pub turn_reading : (sources : Sources) (o : Choices) (s : State) → is_mode_ended (stepped s).reading.mode ≡ false →
-    (turn sources o s).reading ≡ (stepped s).reading
-turn_reading sources o s going = rested_reading (carried_out sources o (stepped s)) ∙ carried_out_reading sources o (stepped s) going
+pub turn_reading : (sources : Sources) (o : Choices) (s : State) → is_mode_ended (stepped o s).reading.mode ≡ false →
+    (turn sources o s).reading ≡ (stepped o s).reading
+turn_reading sources o s going = rested_reading (carried_out sources o (stepped o s)) ∙ carried_out_reading sources o (stepped o s) going
 
 -- By what is handed on
 
-pub stepped_reading : (s : State) → (stepped s).reading ≡ all_given_to (given_by s) s.reading
-stepped_reading s =
-    let t = token_of s.nesting.cursor in
+pub stepped_reading : (o : Choices) (s : State) → (stepped o s).reading ≡ all_given_to (given_by s) s.reading
+stepped_reading o s =
+    let t = token_of s in
     let b = judged (site_of s.reading) s.work.output t s.conditions in
-    tokens_are_handed_on s.nesting.names t b.judged (said_told b.now.said s.nesting.names (stand_of s))
+    tokens_are_handed_on (context_of o s) t b.judged (said_told b.now.said (context_of o s) (stand_of s))
 
 all_reading : (sources : Sources) (o : Choices) (n : ℕ) (s : State) → StayInFile sources o n s
-    → (stepped (turned sources o n s)).reading ≡ all_given_to (given_in sources o (suc n) s) s.reading
-all_reading sources o zero s stay = stepped_reading s ∙ ap (λ gs. all_given_to gs s.reading) (sym (append-nil (given_by s)))
+    → (stepped o (turned sources o n s)).reading ≡ all_given_to (given_in sources o (suc n) s) s.reading
+all_reading sources o zero s stay = stepped_reading o s ∙ ap (λ gs. all_given_to gs s.reading) (sym (append-nil (given_by s)))
 all_reading sources o (suc n) s stay =
     let next = turn sources o s in
     all_reading sources o n next stay.1
-    ∙ ap (λ (r : Reading). all_given_to (given_in sources o (suc n) next) r) (turn_reading sources o s stay.0 ∙ stepped_reading s)
+    ∙ ap (λ (r : Reading). all_given_to (given_in sources o (suc n) next) r) (turn_reading sources o s stay.0 ∙ stepped_reading o s)
     ∙ sym (given_both (given_by s) (given_in sources o (suc n) next) s.reading)
 
 pub turns_read_pieces : TurnsReadPieces

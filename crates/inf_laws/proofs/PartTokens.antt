@@ -1,6 +1,5 @@
 -- Behind a token that conditionals hand on no conditional directive is being read, and no side is left out.
-use Rattle.std.proofs.Common.{◌≡◌, ℕ, List, [], ◌∷◌, ◌&&◌, ◌||◌, ◌⊎◌, inl, inr, cond, not, Bool, true, false, Option, Some, None, refl, sym, ap, subst, ◌∙◌}
-use Rattle.std.specs.Prelude.{unwrap_or}
+use Rattle.std.proofs.Common.{◌≡◌, ℕ, List, [], ◌∷◌, ◌&&◌, ◌||◌, ◌⊎◌, inl, inr, cond, not, Bool, true, false, Option, Some, None, refl, sym, subst}
 use Rattle.inf_scanner.specs.declared.tokens.Mark.TheVariants as mark
 use Rattle.inf_scanner.specs.declared.tokens.Place.{Place}
 use Rattle.inf_scanner.specs.declared.tokens.TokenKind.{TokenKind}
@@ -8,13 +7,12 @@ use Rattle.inf_scanner.specs.declared.tokens.TokenKind.TheVariants as kind
 use Rattle.inf_machine.specs.Machine.{fits}
 use Rattle.inf_grammar.specs.Language.{grammar, known}
 use Rattle.inf_output.specs.Output.{Out}
-use Rattle.inf_unit.specs.Tokens.{SourceToken, is_end, is_mark}
+use Rattle.inf_unit.specs.Tokens.{SourceToken, atom_of, is_end, is_mark, keyword}
 use Rattle.inf_unit.proofs.Cases.{of_both}
-use Rattle.inf_conditionals.specs.Atoms.{atom_of}
 use Rattle.inf_conditionals.specs.Condition.{Condition, condition_begun, condition_took, is_whole, verdict_of}
-use Rattle.inf_conditionals.specs.Open.{Conditions, closed, closed_by, ended_by, ends_at, is_none_open, is_second, latest, turned, turned_by}
+use Rattle.inf_conditionals.specs.Open.{Conditions, closed, closed_by, ended_by, is_none_open, is_second, latest, turned, turned_by}
 use Rattle.inf_conditionals.specs.Said.{too_much, told_by}
-use Rattle.inf_conditionals.specs.Words.{awaits_of, word_of}
+use Rattle.inf_conditionals.specs.Words.{word_of}
 use Rattle.inf_conditionals.specs.declared.condition.Verdict.{Verdict}
 use Rattle.inf_conditionals.specs.declared.filtered.Forwarded.{Forwarded}
 use Rattle.inf_conditionals.specs.declared.filtered.Forwarded.TheVariants as handed
@@ -30,7 +28,7 @@ use Rattle.inf_conditionals.specs.declared.pending.Effect.TheVariants as effect
 use Rattle.inf_conditionals.specs.declared.pending.Pending.{Pending}
 use Rattle.inf_conditionals.specs.declared.words.ConditionalWord.{ConditionalWord}
 use Rattle.inf_conditionals.specs.declared.words.ConditionalWord.TheVariants as word
-use Rattle.inf_conditionals.specs.Judging.{Behind, asked, asked_first, asking, at_front, awaited, awaiting, begun, behind_front, behind_sign, closing, decided, effected, effected_by, given_up, held, in_side, is_none_pending, judged, judged_by, kept, unmatched, named, none_handed, offered, offered_condition, offered_to, passed, passed_by, saying, taken, tokens_counted, turning, unfit, went_on, word_passed}
+use Rattle.inf_conditionals.specs.Judging.{Behind, asked, asking, at_front, awaited, awaiting, begun, behind_front, behind_sign, decided, effected, effected_by, given_up, held, in_side, is_none_pending, judged, judged_by, kept, unmatched, named, offered, offered_to, passed, passed_by, saying, taken, tokens_counted, unfit, went_on}
 
 -- whether something is handed on
 abbrev pub gives : Option Forwarded → Bool
@@ -170,7 +168,7 @@ asked_fine (k ∷ conditions) wanted is_quiet o t p c proper all =
 
 awaited_fine : (a : Awaits) (is_quiet : Bool) (o : Out) (t : SourceToken) (p : Pending) (c : Conditions) → IsLast a c.pending →
     AreProper c.pending → AllKept c → Fine (awaited a is_quiet o t p c)
-awaited_fine awaits.Word is_quiet o t p c last proper all = front_fine (word_of t) t p c last all
+awaited_fine awaits.Word is_quiet o t p c last proper all = front_fine (word_of (keyword t)) t p c last all
 awaited_fine (awaits.Name if_declared) is_quiet o t p c last proper all = named_fine t.kind t.bytes if_declared o p c proper all
 awaited_fine (awaits.Condition wanted) is_quiet o t p c last proper all = asked_fine c.conditions wanted is_quiet o t p c proper all
 awaited_fine (awaits.End e) is_quiet o t p c last proper all =
@@ -191,7 +189,8 @@ word_fine (Some w) t c e all = begun_fine w t t.place false c (none_proper c.pen
 to_fine : (pending : List Pending) (is_front is_quiet : Bool) (o : Out) (t : SourceToken) (c : Conditions) → c.pending ≡ pending →
     AreProper pending → AllKept c → Fine (offered_to pending is_front is_quiet o t c)
 to_fine [] is_front is_quiet o t c e proper all =
-    of_both Fine is_front (at_front (word_of t) t c) (kept c) (λ _. word_fine (word_of t) t c e all) (λ _. kept_fine c e all)
+    of_both Fine is_front (at_front (word_of (keyword t)) t c) (kept c) (λ _. word_fine (word_of (keyword t)) t c e all)
+    (λ _. kept_fine c e all)
 to_fine (p ∷ pending) is_front is_quiet o t c e proper all =
     awaited_fine p.awaits is_quiet o t p (record c { pending = pending }) proper.0 proper.1 all
 
@@ -234,9 +233,9 @@ side_fine : (is_quiet : Bool) (o : Out) (t : SourceToken) (side : LeftOut) (c : 
     Fine (in_side is_quiet o t side c)
 side_fine is_quiet o t side c proper =
     let here = record c { left_out = None; sign = None } in
-    of_both Fine (is_end t.kind) (offered false is_quiet o t here) (passed (passed_by (word_of t) t side c))
+    of_both Fine (is_end t.kind) (offered false is_quiet o t here) (passed (passed_by (word_of (keyword t)) t side c))
     (λ _. offered_fine false is_quiet o t here (λ e. let never : false ≡ true = e in cc) proper refl)
-    (λ _. passed_fine (passed_by (word_of t) t side c) (passed_proper (word_of t) t side c proper))
+    (λ _. passed_fine (passed_by (word_of (keyword t)) t side c) (passed_proper (word_of (keyword t)) t side c proper))
 
 -- Any token
 
@@ -248,7 +247,7 @@ none_waits false pending e = cc
 by_fine : (left : Option LeftOut) (sign : Option Place) (site : Site) (o : Out) (t : SourceToken) (c : Conditions) → c.left_out ≡ left →
     AreProper c.pending → Fine (judged_by left sign site o t c)
 by_fine (Some side) sign site o t c e proper = side_fine site.is_quiet o t side c proper
-by_fine None (Some place) site o t c e proper = sign_fine (word_of t) place site.is_quiet o t c proper e
+by_fine None (Some place) site o t c e proper = sign_fine (word_of (keyword t)) place site.is_quiet o t c proper e
 by_fine None None site o t c e proper =
     offered_fine (site.is_between && is_none_pending c.pending) site.is_quiet o t c (none_waits site.is_between c.pending) proper e
 

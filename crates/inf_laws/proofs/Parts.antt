@@ -1,4 +1,4 @@
--- The parts of a reading are the pieces of its files.
+-- The parts of a reading are the pieces of its context.
 use Rattle.std.proofs.Common.{◌≡◌, ◌⊎◌, inl, inr, ℕ, zero, suc, List, [], ◌∷◌, ◌++◌, ◌&&◌, ◌||◌, map, cond, Bool, true, false, Option, Some, None, refl, sym, ap, subst, ◌∙◌, append_assoc}
 use Rattle.std.proofs.lemmas.List.{append-nil, map-append}
 use Rattle.inf_files.specs.Files.{Sources}
@@ -16,37 +16,32 @@ use Rattle.inf_sources.specs.Inclusions.{Inclusion, Opens, OpensNone, Waiting, i
 use Rattle.inf_sources.specs.declared.open_files.Included.{Included}
 use Rattle.inf_sources.specs.declared.open_files.Included.TheVariants as answer
 use Rattle.inf_unit.specs.Directives.{Request, End, Include, Nothing}
-use Rattle.inf_unit.specs.Messages.{FileNames}
-use Rattle.inf_unit.specs.Tokens.{SourceToken, is_end}
+use Rattle.inf_unit.specs.Tokens.{SourceToken, atom_of, is_end}
 use Rattle.inf_unit.proofs.Cases.{of_both}
 use Rattle.inf_conditionals.specs.declared.filtered.Forwarded.{Forwarded}
 use Rattle.inf_conditionals.specs.declared.filtered.Forwarded.TheVariants as handed
 use Rattle.inf_conditionals.specs.declared.filtered.Filtered.{Filtered}
 use Rattle.inf_conditionals.specs.declared.filtered.Sign.{Sign}
-use Rattle.inf_conditionals.specs.declared.open.LeftOut.{LeftOut}
-use Rattle.inf_conditionals.specs.declared.pending.Pending.{Pending}
 use Rattle.inf_conditionals.specs.Ends.{side_kept}
-use Rattle.inf_conditionals.specs.Judging.{Behind, is_none_pending, judged, may_part}
-use Rattle.inf_conditionals.specs.Open.{Conditions}
-use Rattle.inf_compilation.specs.Actions.{Compilation, is_class}
-use Rattle.inf_reader.specs.Handing.{hash, is_empty, reads, said_told, sign_taken, site_of}
-use Rattle.inf_reader.specs.Reading.{Reading, ReaderState, between, is_mode_ended, passed, piece_rule}
+use Rattle.inf_conditionals.specs.Judging.{Behind, judged, may_part}
+use Rattle.inf_reader.specs.Handing.{hash, is_empty, reads, site_of}
+use Rattle.inf_reader.specs.Reading.{Reading, between, is_mode_ended, passed, piece_rule}
 use Rattle.inf_reader.specs.declared.recovery.Recovery.{Recovery}
 use Rattle.inf_reader.specs.declared.recovery.Recovery.TheVariants as mode
 use Rattle.inf_session.specs.Choices.{Choices}
-use Rattle.inf_session.specs.Session.{State, answered, asked_nothing, file_closed, has_ended, carried_out, included_by, is_parted, is_resting, left, left_by, none_included, piece_closed, rested, stand_of, start, stepped, token_of, turn}
-use Rattle.inf_laws.specs.KeptTokens.{Given, Kept, Seen, Stands, Unfit, all_given_to, given_as, given_of, given_sign, given_to, given_token, rests, seen_atom, skipped, token_in}
+use Rattle.inf_session.specs.Session.{State, answered, asked_nothing, file_closed, has_ended, carried_out, included_by, is_parted, is_resting, left, left_by, none_included, piece_closed, rested, start, stepped, token_of, turn}
+use Rattle.inf_laws.specs.KeptTokens.{Given, Kept, Stands, Unfit, all_given_to, given_as, given_of, given_sign, given_to, given_token, rests, skipped, token_in}
 use Rattle.inf_laws.specs.KeptTurns.{given_by, given_in, turned}
-use Rattle.inf_laws.specs.Parts.{IsOfOnePiece, PartsArePieces, PartsEndWithPieces, StayInPart}
+use Rattle.inf_laws.specs.Parts.{PartsArePieces, PartsEndWithPieces, StayInPart}
 use Rattle.inf_laws.proofs.Hashes.{no_piece_ends_with_a_hash}
-use Rattle.inf_laws.proofs.KeptTokens.{Ended, Inside, Now, Skips, Whole, first, given_both, next, skipped_more, stands, tokens_are_handed_on}
+use Rattle.inf_laws.proofs.KeptTokens.{Ended, Inside, Now, Skips, Whole, first, given_both, next, skipped_more, stands}
 use Rattle.inf_laws.proofs.KeptTurns.{rested_reading, stepped_reading, turn_reading}
 use Rattle.inf_laws.proofs.PartTokens.{AreProper, gives, gives_sign, gives_some, judged_fine}
 
 -- Behind a `#` no piece ends
 
-last_kept : (before : List Given) (h : Given) (tokens : List Seen) → before ++ h ∷ [] ≡ map Kept tokens →
-    (front : List Seen) × (x : Seen) × (tokens ≡ front ++ x ∷ []) × (h ≡ Kept x)
+last_kept : (before : List Given) (h : Given) (tokens : List SourceToken) → before ++ h ∷ [] ≡ map Kept tokens →
+    (front : List SourceToken) × (x : SourceToken) × (tokens ≡ front ++ x ∷ []) × (h ≡ Kept x)
 last_kept [] h [] e = cc
 last_kept [] h (x ∷ []) e = ([], x, refl, cc)
 last_kept [] h (x ∷ y ∷ tokens) e = cc
@@ -93,15 +88,14 @@ hash_goes : (before : List Given) (h : Given) (place : Place) (r : Reading) → 
 hash_goes before h place r is (Inside tokens e at some) = goes_inside r at.reads some
 hash_goes before h place r is (Whole tokens e piece at) =
     let l = last_kept before h tokens e in
-    let token : l.1.token ≡ hash place = ap token_in (sym l.3) ∙ is in
-    let atom : seen_atom l.1 ≡ mark_atom mark.Hash =
-    ap (λ (t : SourceToken). seen_atom (record { token = t; is_class = l.1.is_class })) token in
-    let atoms : map seen_atom tokens ≡ map seen_atom l.0 ++ mark_atom mark.Hash ∷ [] =
-    ap (map seen_atom) l.2 ∙ map-append seen_atom l.0 (l.1 ∷ []) ∙ ap (λ a. map seen_atom l.0 ++ a ∷ []) atom in
-    absurd (no_piece_ends_with_a_hash (map seen_atom l.0) piece.events
+    let token : l.1 ≡ hash place = ap token_in (sym l.3) ∙ is in
+    let atom : atom_of l.1 ≡ mark_atom mark.Hash = ap atom_of token in
+    let atoms : map atom_of tokens ≡ map atom_of l.0 ++ mark_atom mark.Hash ∷ [] =
+    ap (map atom_of) l.2 ∙ map-append atom_of l.0 (l.1 ∷ []) ∙ ap (λ a. map atom_of l.0 ++ a ∷ []) atom in
+    absurd (no_piece_ends_with_a_hash (map atom_of l.0) piece.events
     (subst (λ xs. IsText grammar (Rule piece_rule ∷ []) xs piece.events) atoms piece.is_text))
 hash_goes before h place r is (Skips tokens wrong behind e begun bad at) =
-    let m = skip_behind (map seen_atom tokens) in
+    let m = skip_behind (map atom_of tokens) in
     let l = last_behind before h (map Kept tokens) wrong behind e in
     ap rests at
     ∙ ap (λ gs. rests (between (skipped m gs))) l.1
@@ -109,7 +103,7 @@ hash_goes before h place r is (Skips tokens wrong behind e begun bad at) =
     ∙ ap (λ (t : SourceToken). rests (between (passed (skipped m l.0) t.kind))) is
     ∙ passed_hash (skipped m l.0)
 hash_goes before h place r is (Ended t e ends at) =
-    let same : token_in h ≡ t.token = ap token_in (last_one before h (Kept t) e) in
+    let same : token_in h ≡ t = ap token_in (last_one before h (Kept t) e) in
     absurd (no_end (sym ends ∙ ap (λ (x : SourceToken). is_end x.kind) (sym same ∙ is)))
 
 -- Where a part stands behind some of its tokens
@@ -125,14 +119,14 @@ one_more before g r (Some_yet now on) = next g before r now on
 same_goes : (before : List Given) (r : Reading) → Goes before r → Goes (before ++ []) r
 same_goes before r goes = subst (λ gs. Goes gs r) (sym (append-nil before)) goes
 
-sign_goes : (o : Option Sign) (w : Compilation) (before : List Given) (r : Reading) → Goes before r →
-    Goes (before ++ given_sign o w) (all_given_to (given_sign o w) r)
-sign_goes None w before r goes = same_goes before r goes
-sign_goes (Some sign) w before r goes = go sign.handed
+sign_goes : (o : Option Sign) (before : List Given) (r : Reading) → Goes before r →
+    Goes (before ++ given_sign o) (all_given_to (given_sign o) r)
+sign_goes None before r goes = same_goes before r goes
+sign_goes (Some sign) before r goes = go sign.handed
   where
-    go : (h : Forwarded) → Goes (before ++ given_as h (hash sign.place) w) (all_given_to (given_as h (hash sign.place) w) r)
+    go : (h : Forwarded) → Goes (before ++ given_as h (hash sign.place)) (all_given_to (given_as h (hash sign.place)) r)
     go handed.Kept =
-        let h = Kept (record { token = hash sign.place; is_class = is_class (hash sign.place) w }) in
+        let h = Kept (hash sign.place) in
         let now = one_more before h r goes in Some_yet now (hash_goes before h sign.place (given_to h r) refl now)
     go handed.Unfit =
         let h = Unfit (hash sign.place) in
@@ -163,25 +157,21 @@ one_comes before signed g r goes =
       | inr going ↦ Still (Some_yet now going)
     ]
 
-token_comes : (o : Option Forwarded) (t : SourceToken) (w : Compilation) (before signed : List Given) (r : Reading) →
-    Goes (before ++ signed) r → Comes before (signed ++ given_token o t w) (all_given_to (given_token o t w) r)
-token_comes None t w before signed r goes = Still (subst (λ gs. Goes (before ++ gs) r) (sym (append-nil signed)) goes)
-token_comes (Some handed.Kept) t w before signed r goes =
-    one_comes before signed (Kept (record { token = t; is_class = is_class t w })) r goes
-token_comes (Some handed.Unfit) t w before signed r goes = one_comes before signed (Unfit t) r goes
-token_comes (Some handed.Condition) t w before signed r goes = Still (subst (λ gs. Goes (before ++ gs) r) (sym (append-nil signed)) goes)
+token_comes : (o : Option Forwarded) (t : SourceToken) (before signed : List Given) (r : Reading) →
+    Goes (before ++ signed) r → Comes before (signed ++ given_token o t) (all_given_to (given_token o t) r)
+token_comes None t before signed r goes = Still (subst (λ gs. Goes (before ++ gs) r) (sym (append-nil signed)) goes)
+token_comes (Some handed.Kept) t before signed r goes = one_comes before signed (Kept t) r goes
+token_comes (Some handed.Unfit) t before signed r goes = one_comes before signed (Unfit t) r goes
+token_comes (Some handed.Condition) t before signed r goes = Still (subst (λ gs. Goes (before ++ gs) r) (sym (append-nil signed)) goes)
 
-step_comes : (before : List Given) (s : State) → Goes before s.reading → Comes before (given_by s) (stepped s).reading
-step_comes before s goes =
-    let t = token_of s.nesting.cursor in
+step_comes : (o : Choices) (before : List Given) (s : State) → Goes before s.reading → Comes before (given_by s) (stepped o s).reading
+step_comes o before s goes =
+    let t = token_of s in
     let b = judged (site_of s.reading) s.work.output t s.conditions in
-    let here = said_told b.now.said s.nesting.names (stand_of s) in
-    let signed = given_sign b.judged.sign here.work in
-    let w = (sign_taken b.judged.sign s.nesting.names here).work in
-    let behind_sign = sign_goes b.judged.sign here.work before s.reading goes in
+    let signed = given_sign b.judged.sign in
     subst (λ (r : Reading). Comes before (given_by s) r)
-    (sym (given_both signed (given_token b.judged.token t w) s.reading) ∙ sym (stepped_reading s))
-    (token_comes b.judged.token t w before signed (all_given_to signed s.reading) behind_sign)
+    (sym (given_both signed (given_token b.judged.token t) s.reading) ∙ sym (stepped_reading o s))
+    (token_comes b.judged.token t before signed (all_given_to signed s.reading) (sign_goes b.judged.sign before s.reading goes))
 
 -- The conditionals behind a turn
 
@@ -225,61 +215,60 @@ rested_left s all =
     of_both (λ (x : State). x.conditions.left_out ≡ None) (has_ended s) s (cond (is_resting s) (piece_closed s) s) (λ _. all)
     (λ _. of_both (λ (x : State). x.conditions.left_out ≡ None) (is_resting s) (piece_closed s) s (λ _. ap side_kept all) (λ _. all))
 
-turn_pending : (sources : Sources) (o : Choices) (s : State) → (turn sources o s).conditions.pending ≡ (stepped s).conditions.pending
-turn_pending sources o s = rested_pending (carried_out sources o (stepped s)) ∙ (carried_out_same sources o (stepped s)).0
+turn_pending : (sources : Sources) (o : Choices) (s : State) → (turn sources o s).conditions.pending ≡ (stepped o s).conditions.pending
+turn_pending sources o s = rested_pending (carried_out sources o (stepped o s)) ∙ (carried_out_same sources o (stepped o s)).0
 
-turn_left : (sources : Sources) (o : Choices) (s : State) → (stepped s).conditions.left_out ≡ None →
+turn_left : (sources : Sources) (o : Choices) (s : State) → (stepped o s).conditions.left_out ≡ None →
     (turn sources o s).conditions.left_out ≡ None
-turn_left sources o s all = rested_left (carried_out sources o (stepped s)) ((carried_out_same sources o (stepped s)).1 ∙ all)
+turn_left sources o s all = rested_left (carried_out sources o (stepped o s)) ((carried_out_same sources o (stepped o s)).1 ∙ all)
 
 abbrev Proper : State → Type 0
 Proper s = AreProper s.conditions.pending
 
-step_fine : (s : State) → Proper s → Proper (stepped s)
-step_fine s proper = (judged_fine (site_of s.reading) s.work.output (token_of s.nesting.cursor) s.conditions proper).proper
+step_fine : (o : Choices) (s : State) → Proper s → Proper (stepped o s)
+step_fine o s proper = (judged_fine (site_of s.reading) s.work.output (token_of s) s.conditions proper).proper
 
 turn_proper : (sources : Sources) (o : Choices) (s : State) → Proper s → Proper (turn sources o s)
-turn_proper sources o s proper = subst (λ ps. AreProper ps) (sym (turn_pending sources o s)) (step_fine s proper)
+turn_proper sources o s proper = subst (λ ps. AreProper ps) (sym (turn_pending sources o s)) (step_fine o s proper)
 
 all_proper : (sources : Sources) (o : Choices) (n : ℕ) (s : State) → Proper s → Proper (turned sources o n s)
 all_proper sources o zero s proper = proper
 all_proper sources o (suc n) s proper = all_proper sources o n (turn sources o s) (turn_proper sources o s proper)
 
 -- where something is handed on
-none_signed : (o : Option Sign) (w : Compilation) → gives_sign o ≡ false → given_sign o w ≡ []
-none_signed None w e = refl
-none_signed (Some sign) w e = go sign.handed e
+none_signed : (o : Option Sign) → gives_sign o ≡ false → given_sign o ≡ []
+none_signed None e = refl
+none_signed (Some sign) e = go sign.handed e
   where
-    go : (h : Forwarded) → gives (Some h) ≡ false → given_as h (hash sign.place) w ≡ []
+    go : (h : Forwarded) → gives (Some h) ≡ false → given_as h (hash sign.place) ≡ []
     go handed.Kept e = cc
     go handed.Unfit e = cc
     go handed.Condition e = refl
 
-none_given : (o : Option Forwarded) (t : SourceToken) (w : Compilation) → gives o ≡ false → given_token o t w ≡ []
-none_given None t w e = refl
-none_given (Some handed.Kept) t w e = cc
-none_given (Some handed.Unfit) t w e = cc
-none_given (Some handed.Condition) t w e = refl
+none_given : (o : Option Forwarded) (t : SourceToken) → gives o ≡ false → given_token o t ≡ []
+none_given None t e = refl
+none_given (Some handed.Kept) t e = cc
+none_given (Some handed.Unfit) t e = cc
+none_given (Some handed.Condition) t e = refl
 
 or_parts : (a b : Bool) → (a || b) ≡ false → (a ≡ false) × (b ≡ false)
 or_parts true b e = cc
 or_parts false b e = (refl, e)
 
-nothing_given : (files : FileNames) (j : Filtered) (t : SourceToken) (s : ReaderState) → gives_some j ≡ false → given_of files j t s ≡ []
-nothing_given files j t s e =
+nothing_given : (j : Filtered) (t : SourceToken) → gives_some j ≡ false → given_of j t ≡ []
+nothing_given j t e =
     let parts = or_parts (gives_sign j.sign) (gives j.token) e in
-    let w = (sign_taken j.sign files s).work in
-    ap (λ gs. gs ++ given_token j.token t w) (none_signed j.sign s.work parts.0) ∙ none_given j.token t w parts.1
+    ap (λ gs. gs ++ given_token j.token t) (none_signed j.sign parts.0) ∙ none_given j.token t parts.1
 
 abbrev IsClear : State → Type 0
 IsClear s = (s.conditions.pending ≡ []) × (s.conditions.left_out ≡ None)
 
-clear_behind : (s : State) → Proper s → (given_by s ≡ [] → ⊥) → IsClear (stepped s)
-clear_behind s proper some =
-    let t = token_of s.nesting.cursor in
+clear_behind : (o : Choices) (s : State) → Proper s → (given_by s ≡ [] → ⊥) → IsClear (stepped o s)
+clear_behind o s proper some =
+    let t = token_of s in
     let b = judged (site_of s.reading) s.work.output t s.conditions in
     elim (judged_fine (site_of s.reading) s.work.output t s.conditions proper).clear [
-      | inl none ↦ absurd (some (nothing_given s.nesting.names b.judged t (said_told b.now.said s.nesting.names (stand_of s)) none))
+      | inl none ↦ absurd (some (nothing_given b.judged t none))
       | inr clear ↦ clear
     ]
 
@@ -328,7 +317,7 @@ now_rests : (given : List Given) (r : Reading) → Now given r → rests r ≡ t
 now_rests given r (Inside tokens e at some) rest_now = absurd (no_end (sym rest_now ∙ goes_inside r at.reads some))
 now_rests given r (Whole tokens e piece at) rest_now = inl at
 now_rests given r (Skips tokens wrong behind e begun bad at) rest_now =
-    go (skipped (skip_behind (map seen_atom tokens)) (wrong ∷ behind)) at
+    go (skipped (skip_behind (map atom_of tokens)) (wrong ∷ behind)) at
   where
     go : (m : Recovery) → r ≡ between m → (r ≡ between mode.Reads) ⊎ ((is_mode_ended r.mode ≡ true) × (r.stack ≡ []))
     go mode.Reads same = inl same
@@ -340,18 +329,18 @@ now_rests given r (Ended t e ends at) rest_now = inr (ap (λ (x : Reading). is_m
 going_on : (m : Recovery) → m ≡ mode.Reads → is_mode_ended m ≡ false
 going_on m e = ap is_mode_ended e
 
-rests_parts : (sources : Sources) (o : Choices) (s : State) (given : List Given) → Now given (stepped s).reading →
-    rests (stepped s).reading ≡ true → IsClear (stepped s) → is_parted (turn sources o s) ≡ true
+rests_parts : (sources : Sources) (o : Choices) (s : State) (given : List Given) → Now given (stepped o s).reading →
+    rests (stepped o s).reading ≡ true → IsClear (stepped o s) → is_parted (turn sources o s) ≡ true
 rests_parts sources o s given now rest_now clear =
     let none = turn_pending sources o s ∙ clear.0 in
     let all = turn_left sources o s clear.1 in
-    elim (now_rests given (stepped s).reading now rest_now) [
+    elim (now_rests given (stepped o s).reading now rest_now) [
       | inl fresh ↦ clear_parts (turn sources o s) (turn_reading sources o s (ap (λ (r : Reading). is_mode_ended r.mode) fresh) ∙ fresh)
           none all
-      | inr ended ↦ elim (carried_out_ends sources o (stepped s) ended.0 ended.1) [
+      | inr ended ↦ elim (carried_out_ends sources o (stepped o s) ended.0 ended.1) [
         | inl over ↦ ended_parts (turn sources o s)
-            (ap (λ (r : Reading). is_mode_ended r.mode) (rested_reading (carried_out sources o (stepped s))) ∙ over)
-        | inr fresh ↦ clear_parts (turn sources o s) (rested_reading (carried_out sources o (stepped s)) ∙ fresh) none all
+            (ap (λ (r : Reading). is_mode_ended r.mode) (rested_reading (carried_out sources o (stepped o s))) ∙ over)
+        | inr fresh ↦ clear_parts (turn sources o s) (rested_reading (carried_out sources o (stepped o s)) ∙ fresh) none all
       ]
     ]
 
@@ -364,11 +353,11 @@ rests_goes given r (Some_yet now on) = (or_parts (reads r.mode && is_empty r.sta
 goes_behind : (sources : Sources) (o : Choices) (before : List Given) (s : State) → Proper s → Goes before s.reading →
     is_parted (turn sources o s) ≡ false → Goes (before ++ given_by s) (turn sources o s).reading
 goes_behind sources o before s proper goes on =
-    elim (step_comes before s goes) [
+    elim (step_comes o before s goes) [
       | Still on_now ↦ subst (λ (r : Reading). Goes (before ++ given_by s) r)
-          (sym (turn_reading sources o s (rests_goes (before ++ given_by s) (stepped s).reading on_now))) on_now
+          (sym (turn_reading sources o s (rests_goes (before ++ given_by s) (stepped o s).reading on_now))) on_now
       | Rests now rest_now some ↦ absurd (no_end (sym (rests_parts sources o s (before ++ given_by s) now rest_now
-          (clear_behind s proper some)) ∙ on))
+          (clear_behind o s proper some)) ∙ on))
     ]
 
 -- what comes of the last of them
@@ -382,13 +371,13 @@ last_stands before given r (Rests now rest_now some) = inr (stands (before ++ gi
 
 turns_stand : (sources : Sources) (o : Choices) (n : ℕ) (before : List Given) (s : State) → Proper s → Goes before s.reading →
     StayInPart sources o n s
-    → LastOf (before ++ given_in sources o (suc n) s) (stepped (turned sources o n s)).reading
+    → LastOf (before ++ given_in sources o (suc n) s) (stepped o (turned sources o n s)).reading
 turns_stand sources o zero before s proper goes stay =
-    subst (λ gs. LastOf (before ++ gs) (stepped s).reading) (sym (append-nil (given_by s)))
-    (last_stands before (given_by s) (stepped s).reading (step_comes before s goes))
+    subst (λ gs. LastOf (before ++ gs) (stepped o s).reading) (sym (append-nil (given_by s)))
+    (last_stands before (given_by s) (stepped o s).reading (step_comes o before s goes))
 turns_stand sources o (suc n) before s proper goes stay =
     let now = turn sources o s in
-    subst (λ gs. LastOf gs (stepped (turned sources o n now)).reading) (append_assoc before (given_by s) (given_in sources o (suc n) now))
+    subst (λ gs. LastOf gs (stepped o (turned sources o n now)).reading) (append_assoc before (given_by s) (given_in sources o (suc n) now))
     (turns_stand sources o n (before ++ given_by s) now (turn_proper sources o s proper) (goes_behind sources o before s proper goes stay.0)
     stay.1)
 
@@ -408,14 +397,14 @@ parts_are_pieces sources o name m n fresh stay =
     turns_stand sources o n [] (turned sources o m (start sources o name)) (start_proper sources o name m) (None_yet refl fresh) stay
 
 rests_end : (sources : Sources) (o : Choices) (before : List Given) (s : State) → Proper s → Goes before s.reading → (given_by s ≡ [] → ⊥) →
-    rests (stepped s).reading ≡ true → is_parted (turn sources o s) ≡ true
+    rests (stepped o s).reading ≡ true → is_parted (turn sources o s) ≡ true
 rests_end sources o before s proper goes some rest_now =
-    elim (step_comes before s goes) [
+    elim (step_comes o before s goes) [
       | Still on ↦ still on
-      | Rests now rest given ↦ rests_parts sources o s (before ++ given_by s) now rest_now (clear_behind s proper some)
+      | Rests now rest given ↦ rests_parts sources o s (before ++ given_by s) now rest_now (clear_behind o s proper some)
     ]
   where
-    still : Goes (before ++ given_by s) (stepped s).reading → is_parted (turn sources o s) ≡ true
+    still : Goes (before ++ given_by s) (stepped o s).reading → is_parted (turn sources o s) ≡ true
     still (Some_yet now on) = absurd (no_end (sym rest_now ∙ on))
     still (None_yet e fresh) = absurd (some (none_of before e))
       where

@@ -6,7 +6,7 @@ use Rattle.inf_scanner.specs.declared.tokens.Mark.{Mark}
 use Rattle.inf_scanner.specs.declared.tokens.Mark.TheVariants as mark
 use Rattle.inf_scanner.specs.declared.tokens.TokenKind.{TokenKind}
 use Rattle.inf_scanner.specs.declared.tokens.TokenKind.TheVariants as kind
-use Rattle.inf_unit.specs.Messages.{FileNames}
+use Rattle.inf_compilation.specs.Context.{Context}
 use Rattle.inf_unit.specs.Tokens.{SourceToken, is_end, is_mark}
 use Rattle.inf_reader.specs.Handing.{skips, unfit_in}
 use Rattle.inf_reader.specs.Reading.{ReaderState, passed, passed_mark, step_in}
@@ -17,23 +17,24 @@ use Rattle.inf_laws.specs.Skipping.{at, Lack, PassesTo, PassedTokensDoNothing, D
 
 -- One token
 
-steps_over : (m : Recovery) (files : FileNames) (t : SourceToken) (s : ReaderState) → s.reading.mode ≡ m → skips m ≡ true
-    → step_in m files t s.reading s.work ≡ at (passed m t.kind) s
-steps_over mode.SkipsRoutine files t s e is = refl
-steps_over mode.SkipsDirective files t s e is = refl
-steps_over mode.Reads files t s e is = cc
-steps_over mode.Ended files t s e is = cc
+steps_over : (m : Recovery) (context : Context) (t : SourceToken) (s : ReaderState) → s.reading.mode ≡ m → skips m ≡ true
+    → step_in m context t s.reading s.work ≡ at (passed m t.kind) s
+steps_over mode.SkipsRoutine context t s e is = refl
+steps_over mode.SkipsDirective context t s e is = refl
+steps_over mode.Reads context t s e is = cc
+steps_over mode.Ended context t s e is = cc
 
-unfit_steps : (m : Recovery) (files : FileNames) (t : SourceToken) (s : ReaderState) → s.reading.mode ≡ m → skips m ≡ true
-    → unfit_in m files t s ≡ step_in s.reading.mode files t s.reading s.work
-unfit_steps mode.SkipsRoutine files t s e is = refl
-unfit_steps mode.SkipsDirective files t s e is = refl
-unfit_steps mode.Reads files t s e is = cc
-unfit_steps mode.Ended files t s e is = cc
+unfit_steps : (m : Recovery) (context : Context) (t : SourceToken) (s : ReaderState) → s.reading.mode ≡ m → skips m ≡ true
+    → unfit_in m context t s ≡ step_in s.reading.mode context t s.reading s.work
+unfit_steps mode.SkipsRoutine context t s e is = refl
+unfit_steps mode.SkipsDirective context t s e is = refl
+unfit_steps mode.Reads context t s e is = cc
+unfit_steps mode.Ended context t s e is = cc
 
 pub passed_tokens_do_nothing : PassedTokensDoNothing
-passed_tokens_do_nothing files (Kept t) s is = steps_over s.reading.mode files t.token s refl is
-passed_tokens_do_nothing files (Unfit t) s is = unfit_steps s.reading.mode files t s refl is ∙ steps_over s.reading.mode files t s refl is
+passed_tokens_do_nothing context (Kept t) s is = steps_over s.reading.mode context t s refl is
+passed_tokens_do_nothing context (Unfit t) s is =
+    unfit_steps s.reading.mode context t s refl is ∙ steps_over s.reading.mode context t s refl is
 
 pub sources_end : SourcesEnd
 sources_end m token e = ap (λ b. cond b mode.Ended (passed_mark m token)) e

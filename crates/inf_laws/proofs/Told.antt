@@ -1,36 +1,35 @@
 -- A token of a piece is taken or told as those before it tell.
-use Rattle.std.proofs.Common.{◌≡◌, ◌⊎◌, inl, inr, append_assoc, List, [], ◌∷◌, ◌++◌, map, cond, Bool, true, false, refl, sym, ap, subst, ◌∙◌}
+use Rattle.std.proofs.Common.{◌≡◌, ◌⊎◌, inl, inr, append_assoc, List, [], ◌∷◌, ◌++◌, map, cond, true, false, refl, sym, ap, subst, ◌∙◌}
 use Rattle.std.proofs.lemmas.List.{append-nil}
-use Rattle.inf_unit.specs.Messages.{FileNames}
-use Rattle.inf_unit.specs.Tokens.{SourceToken, is_end}
+use Rattle.inf_unit.specs.Tokens.{SourceToken, atom_of, is_end}
 use Rattle.inf_unit.proofs.Cases.{of_both}
 use Rattle.inf_machine.specs.declared.symbols.Symbol.{Symbol}
 use Rattle.inf_machine.specs.Machine.{fits}
 use Rattle.inf_syntax.specs.declared.actions.Action.{Action}
 use Rattle.inf_grammar.specs.Language.{grammar, known}
-use Rattle.inf_conditionals.specs.Atoms.{atom_as}
-use Rattle.inf_compilation.specs.Actions.{Compilation, is_class, piece_begun as work_begun}
+use Rattle.inf_compilation.specs.Context.{Context}
+use Rattle.inf_compilation.specs.Actions.{Compilation, piece_begun as work_begun}
 use Rattle.inf_reader.specs.Handing.{unfit_in}
 use Rattle.inf_reader.specs.Pieces.{BeginsPiece, at_hand, at_hand_by, work_by}
 use Rattle.inf_reader.specs.Reading.{Reading, ReaderState, bad, between, judged, piece_begun, read_at, step_in, took}
 use Rattle.inf_reader.specs.declared.recovery.Recovery.TheVariants as mode
-use Rattle.inf_laws.specs.KeptTokens.{Given, GoesBehind, Kept, Seen, Unfit, all_given_to, given_to, rests, seen_atom}
+use Rattle.inf_laws.specs.KeptTokens.{Given, GoesBehind, Kept, Unfit, all_given_to, given_to, rests}
 use Rattle.inf_laws.specs.Skipping.{given_at}
 use Rattle.inf_laws.specs.Told.{IsAt, TokensAreTakenOrTold, UnfitTokensAreTold}
 use Rattle.inf_laws.proofs.KeptTokens.{At, Ended, Inside, Now, Skips, Whole, begins, first, goes, next, no_token, stops}
 
 -- The tokens that were kept
 
-abbrev kept_of : List Given → List Seen
+abbrev kept_of : List Given → List SourceToken
 kept_of [] = []
 kept_of (Kept t ∷ given) = t ∷ kept_of given
 kept_of (Unfit t ∷ given) = kept_of given
 
-kept_again : (tokens : List Seen) → kept_of (map Kept tokens) ≡ tokens
+kept_again : (tokens : List SourceToken) → kept_of (map Kept tokens) ≡ tokens
 kept_again [] = refl
 kept_again (t ∷ tokens) = ap (λ ts. t ∷ ts) (kept_again tokens)
 
-same_tokens : (xs ys : List Seen) → map Kept xs ≡ map Kept ys → xs ≡ ys
+same_tokens : (xs ys : List SourceToken) → map Kept xs ≡ map Kept ys → xs ≡ ys
 same_tokens xs ys e = sym (kept_again xs) ∙ ap kept_of e ∙ kept_again ys
 
 onward : (given before : List Given) (r : Reading) → Now before r → GoesBehind given r → Now (before ++ given) (all_given_to given r)
@@ -41,7 +40,7 @@ onward (g ∷ given) before r now on =
 
 -- A piece that goes on
 
-open_at : (tokens : List Seen) (r : Reading) → Now (map Kept tokens) r → r.mode ≡ mode.Reads → rests r ≡ false → At tokens r
+open_at : (tokens : List SourceToken) (r : Reading) → Now (map Kept tokens) r → r.mode ≡ mode.Reads → rests r ≡ false → At tokens r
 open_at tokens r (Inside others e at some) reads on = subst (λ ts. At ts r) (sym (same_tokens tokens others e)) at
 open_at tokens r (Whole others e is at) reads on = absurd (let never : true ≡ false = sym (ap rests at) ∙ on in cc)
 open_at tokens r (Ended t e is at) reads on = absurd (let never : true ≡ false = sym (ap rests at) ∙ on in cc)
@@ -49,7 +48,8 @@ open_at tokens r (Skips others wrong behind e begun is_bad at) reads on =
     let same = ap (λ (x : Reading). x.mode) (sym at) ∙ reads in
     absurd (let never : true ≡ false = sym (ap rests at ∙ ap (λ m. rests (between m)) same) ∙ on in cc)
 
-some_at : (t : Seen) (tokens : List Seen) (s : ReaderState) → IsAt (t ∷ tokens) s → rests s.reading ≡ false → At (t ∷ tokens) s.reading
+some_at : (t : SourceToken) (tokens : List SourceToken) (s : ReaderState) → IsAt (t ∷ tokens) s → rests s.reading ≡ false →
+    At (t ∷ tokens) s.reading
 some_at t tokens s at on =
     open_at (t ∷ tokens) s.reading
     (subst (λ (r : Reading). Now (map Kept (t ∷ tokens)) r) (sym at.is_read)
@@ -65,38 +65,30 @@ open_stack stack r reads e on empty =
 
 -- The token
 
-module _ (files : FileNames) (tokens : List Seen) (t : Seen) (r : Reading) (w : Compilation) (at : At tokens r)
-    (is_seen : t.is_class ≡ is_class t.token w) where
-  as_seen : (b : Bool) → fits grammar known (atom_as (is_class t.token w) t.token) r.stack ≡ b →
-      fits grammar known (seen_atom t) r.stack ≡ b
-  as_seen b f = ap (λ c. fits grammar known (atom_as c t.token) r.stack) is_seen ∙ f
-
-  takes : BeginsPiece (map seen_atom (tokens ++ t ∷ [])) → judged files t.token r w ≡ took files t.token r w
+module _ (context : Context) (tokens : List SourceToken) (t : SourceToken) (r : Reading) (w : Compilation)
+    (at : At tokens r) where
+  takes : BeginsPiece (map atom_of (tokens ++ t ∷ [])) → judged context t r w ≡ took context t r w
   takes begun =
-      of_both (λ (x : ReaderState). x ≡ took files t.token r w) (fits grammar known (atom_as (is_class t.token w) t.token) r.stack)
-      (took files t.token r w) (bad files t.token r w)
+      of_both (λ (x : ReaderState). x ≡ took context t r w) (fits grammar known (atom_of t) r.stack)
+      (took context t r w) (bad context t r w)
       (λ _. refl)
-      (λ out. absurd (stops tokens r t at (as_seen false out) begun))
+      (λ out. absurd (stops tokens r t at out begun))
 
-  tells : (BeginsPiece (map seen_atom (tokens ++ t ∷ [])) → ⊥) → judged files t.token r w ≡ bad files t.token r w
+  tells : (BeginsPiece (map atom_of (tokens ++ t ∷ [])) → ⊥) → judged context t r w ≡ bad context t r w
   tells none =
-      of_both (λ (x : ReaderState). x ≡ bad files t.token r w) (fits grammar known (atom_as (is_class t.token w) t.token) r.stack)
-      (took files t.token r w) (bad files t.token r w)
-      (λ f. absurd (none (begins (tokens ++ t ∷ []) _ (goes tokens r t at (as_seen true f)))))
+      of_both (λ (x : ReaderState). x ≡ bad context t r w) (fits grammar known (atom_of t) r.stack)
+      (took context t r w) (bad context t r w)
+      (λ f. absurd (none (begins (tokens ++ t ∷ []) _ (goes tokens r t at f))))
       (λ _. refl)
 
 -- how it comes to be judged
-comes : (files : FileNames) (t : SourceToken) (stack : List (Symbol Action)) (r : Reading) (w : Compilation) →
+comes : (context : Context) (t : SourceToken) (stack : List (Symbol Action)) (r : Reading) (w : Compilation) →
     (is_end t.kind ≡ false) ⊎ (stack ≡ [] → ⊥)
-    → read_at files t stack r w ≡ judged files t (at_hand_by stack r) (work_by stack w)
-comes files t [] r w (inl going) =
-    ap (λ b. cond b (record { reading = record r { mode = mode.Ended }; work = w }) (judged files t (piece_begun r) (work_begun w))) going
-comes files t [] r w (inr some) = absurd (some refl)
-comes files t (symbol ∷ symbols) r w going = refl
-
-class_stays : (t : SourceToken) (stack : List (Symbol Action)) (w : Compilation) → is_class t w ≡ is_class t (work_by stack w)
-class_stays t [] w = refl
-class_stays t (symbol ∷ symbols) w = refl
+    → read_at context t stack r w ≡ judged context t (at_hand_by stack r) (work_by stack w)
+comes context t [] r w (inl going) =
+    ap (λ b. cond b (record { reading = record r { mode = mode.Ended }; work = w }) (judged context t (piece_begun r) (work_begun w))) going
+comes context t [] r w (inr some) = absurd (some refl)
+comes context t (symbol ∷ symbols) r w going = refl
 
 -- The piece at hand
 
@@ -104,7 +96,8 @@ is_at_hand : (stack : List (Symbol Action)) (r : Reading) → (stack ≡ [] → 
 is_at_hand [] r some = absurd (some refl)
 is_at_hand (symbol ∷ symbols) r some = refl
 
-hand_at : (tokens : List Seen) (s : ReaderState) → IsAt tokens s → (tokens ≡ []) ⊎ (rests s.reading ≡ false) → At tokens (at_hand s.reading)
+hand_at : (tokens : List SourceToken) (s : ReaderState) → IsAt tokens s → (tokens ≡ []) ⊎ (rests s.reading ≡ false) →
+    At tokens (at_hand s.reading)
 hand_at [] s at is_open = subst (λ (r : Reading). At [] (at_hand r)) (sym at.is_read) no_token
 hand_at (t ∷ tokens) s at (inl none) = cc
 hand_at (t ∷ tokens) s at (inr on) =
@@ -118,21 +111,18 @@ goes_by t s reads (inl going) = inl going
 goes_by t s reads (inr on) = inr (open_stack s.reading.stack s.reading reads refl on)
 
 pub tokens_are_taken_or_told : TokensAreTakenOrTold
-tokens_are_taken_or_told files tokens t s at is_seen going = record {
-  taken = λ begun. same ∙ takes files tokens t (at_hand s.reading) (work_by s.reading.stack s.work) hand seen_here begun;
-  told = λ none. same ∙ tells files tokens t (at_hand s.reading) (work_by s.reading.stack s.work) hand seen_here none;
+tokens_are_taken_or_told context tokens t s at going = record {
+  taken = λ begun. same ∙ takes context tokens t (at_hand s.reading) (work_by s.reading.stack s.work) hand begun;
+  told = λ none. same ∙ tells context tokens t (at_hand s.reading) (work_by s.reading.stack s.work) hand none;
 }
   where
     hand : At tokens (at_hand s.reading)
     hand = hand_at tokens s at at.is_open
 
-    seen_here : t.is_class ≡ is_class t.token (work_by s.reading.stack s.work)
-    seen_here = is_seen ∙ class_stays t.token s.reading.stack s.work
-
-    same : given_at files (Kept t) s ≡ judged files t.token (at_hand s.reading) (work_by s.reading.stack s.work)
+    same : given_at context (Kept t) s ≡ judged context t (at_hand s.reading) (work_by s.reading.stack s.work)
     same =
-        ap (λ m. step_in m files t.token s.reading s.work) at.reads
-        ∙ comes files t.token s.reading.stack s.reading s.work (goes_by t.token s at.reads going)
+        ap (λ m. step_in m context t s.reading s.work) at.reads
+        ∙ comes context t s.reading.stack s.reading s.work (goes_by t s at.reads going)
 
 pub unfit_tokens_are_told : UnfitTokensAreTold
-unfit_tokens_are_told files t s reads = ap (λ m. unfit_in m files t s) reads
+unfit_tokens_are_told context t s reads = ap (λ m. unfit_in m context t s) reads

@@ -8,7 +8,8 @@ use Rattle.inf_names.specs.Symbols.{folded}
 use Rattle.inf_report.specs.Messages.{UnusedLocal}
 use Rattle.inf_names.specs.Spellings.{Name}
 use Rattle.inf_names.specs.Locals.{Local, Headed, local_of, most_locals, no_locals, with_all_named, with_local_by, with_locals, with_named}
-use Rattle.inf_unit.specs.Messages.{FileNames, Reported, location, with_warning}
+use Rattle.inf_unit.specs.Messages.{Reported, location, with_warning}
+use Rattle.inf_compilation.specs.Context.{Context}
 use Rattle.inf_compilation.specs.Actions.{with_all_unused}
 use Rattle.inf_laws.specs.UnusedLocals.{AreDifferent, AreNew, AreUnnamed, HeadersMakeNew, UnusedAreWarned, is_local, is_named_by, is_named_in, with_units, with_warnings}
 use Rattle.inf_laws.proofs.Choices.{or-swap}
@@ -78,25 +79,25 @@ with_units-marks (names ∷ units) ls d =
     ∙ with_units-marks units (map (marked (λ n. is_named_by n names)) ls) (different-marked (λ n. is_named_by n names) ls d)
     ∙ marked_twice (λ n. is_named_by n names) (λ n. is_named_in n units) ls
 
-warned : (files : FileNames) (place : Place) (test : List ℕ → Bool) (ls : List Local) (r : Reported) → AreUnnamed ls →
-    with_all_unused files place (map (marked test) ls) r ≡ with_warnings files place (filter (λ l. not (test l.name)) ls) r
-warned files place test [] r un = refl
-warned files place test (l ∷ ls) r un =
+warned : (context : Context) (place : Place) (test : List ℕ → Bool) (ls : List Local) (r : Reported) → AreUnnamed ls →
+    with_all_unused context place (map (marked test) ls) r ≡ with_warnings context place (filter (λ l. not (test l.name)) ls) r
+warned context place test [] r un = refl
+warned context place test (l ∷ ls) r un =
     let parts = and_parts (not l.is_named) (list_all (λ l. not l.is_named) ls) un in
-    go (test l.name) l.is_named (not-true l.is_named parts.0) (λ r. warned files place test ls r parts.1)
+    go (test l.name) l.is_named (not-true l.is_named parts.0) (λ r. warned context place test ls r parts.1)
   where
-    go : (t b : Bool) → b ≡ false → ((r : Reported) → with_all_unused files place (map (marked test) ls) r ≡ with_warnings files place
-        (filter (λ l. not (test l.name)) ls) r) → with_all_unused files place (map (marked test) ls)
-        (cond (t || b) r (with_warning (location files place) (UnusedLocal l.name) r)) ≡ with_warnings files place
+    go : (t b : Bool) → b ≡ false → ((r : Reported) → with_all_unused context place (map (marked test) ls) r ≡ with_warnings context place
+        (filter (λ l. not (test l.name)) ls) r) → with_all_unused context place (map (marked test) ls)
+        (cond (t || b) r (with_warning (location context.names place) (UnusedLocal l.name) r)) ≡ with_warnings context place
         (cond (not t) (l ∷ filter (λ l. not (test l.name)) ls) (filter (λ l. not (test l.name)) ls)) r
     go true b e later = later r
     go false true e later = cc
-    go false false e later = later (with_warning (location files place) (UnusedLocal l.name) r)
+    go false false e later = later (with_warning (location context.names place) (UnusedLocal l.name) r)
 
 pub unused_are_warned : UnusedAreWarned
-unused_are_warned files place units ls r different unnamed =
-    ap (λ xs. with_all_unused files place xs r) (with_units-marks units ls different)
-    ∙ warned files place (λ n. is_named_in n units) ls r unnamed
+unused_are_warned context place units ls r different unnamed =
+    ap (λ xs. with_all_unused context place xs r) (with_units-marks units ls different)
+    ∙ warned context place (λ n. is_named_in n units) ls r unnamed
 
 -- Headers
 

@@ -1,5 +1,5 @@
 -- What is told of a unit: of all that is found the first, by its token and then by its number. And all that the rules find of a header.
-use Rattle.std.specs.Prelude.{◌≡◌, ◌+◌, ◌<◌, ◌⊎◌, ℕ, List, [], ◌∷◌, ◌++◌, length, find, Contains, ◌&&◌, not, nat_lt, if◌then◌else◌, Bool, false, Option, Some, None, is_some}
+use Rattle.std.specs.Prelude.{◌≡◌, ◌+◌, ◌<◌, ◌⊎◌, ℕ, List, [], ◌∷◌, ◌++◌, find, Contains, nat_lt, if◌then◌else◌, Bool, false, Option, Some, None, is_some}
 use Rattle.std.specs.Str.{str_eq_ignore_ascii_case}
 use Rattle.inf_scanner.specs.declared.tokens.Place.{Place}
 use Rattle.inf_names.specs.Symbols.{Table, declare_fault, found_in}
@@ -15,6 +15,7 @@ use Rattle.inf_output.specs.Output.{full}
 use Rattle.inf_unit.specs.Messages.{FileNames, Diagnostic, location, with_fault, with_full}
 use Rattle.inf_unit.specs.Tokens.{SourceToken}
 use Rattle.inf_compilation.specs.Actions.{Compilation, unit_ended}
+use Rattle.inf_compilation.specs.Context.{Context}
 use Rattle.inf_compilation.specs.Findings.{Findings, again_by, header_findings as found_in_header, told_as}
 
 -- What a rule finds: at which token of the unit, counted from 0, the unit's first; the number of the kind of its message; and
@@ -119,6 +120,7 @@ LeastsAreFound = (x y : Option Found) → IsLeastOf x y (least_of_both x y)
 
 -- At its end the least is told, if anything was found, and then the first setting that was passed.
 abbrev pub UnitsTellTheLeast : Type 0
-UnitsTellTheLeast = (files : FileNames) (first : Place) (has_last : Bool) (all : Findings) (w : Compilation)
-    → (unit_ended files first has_last all w).report
-    ≡ with_full files first (full w.output) (with_fault files first (told_as files w.unit.tokens first all) w.report)
+UnitsTellTheLeast = (context : Context) (first : Place) (has_last : Bool) (all : Findings) (w : Compilation)
+    → (unit_ended context first has_last all w).report
+    ≡ with_full context.names first (full w.output)
+    (with_fault context.names first (told_as context.names w.unit.tokens first all) w.report)

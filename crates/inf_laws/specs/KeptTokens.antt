@@ -1,19 +1,17 @@
 -- What reading makes of the tokens that conditionals hand on: of those of a piece the bad one is the first with which they begin none.
 use Rattle.std.specs.Prelude.{◌≡◌, ℕ, List, [], ◌∷◌, ◌++◌, map, Bool, true, false, ◌&&◌, ◌||◌, Option, Some, None, if◌then◌else◌}
-use Rattle.inf_unit.specs.Messages.{FileNames}
-use Rattle.inf_unit.specs.Tokens.{SourceToken, is_end}
+use Rattle.inf_unit.specs.Tokens.{SourceToken, atom_of, is_end}
 use Rattle.inf_scanner.specs.declared.tokens.TokenKind.{TokenKind}
 use Rattle.inf_syntax.specs.declared.actions.Action.{Action}
 use Rattle.inf_machine.specs.declared.symbols.Symbol.{Symbol}
 use Rattle.inf_machine.specs.Machine.{fits, taken}
 use Rattle.inf_grammar.specs.Language.{grammar, known}
-use Rattle.inf_conditionals.specs.Atoms.{atom_as}
 use Rattle.inf_conditionals.specs.declared.filtered.Forwarded.{Forwarded}
 use Rattle.inf_conditionals.specs.declared.filtered.Forwarded.TheVariants as handed
 use Rattle.inf_conditionals.specs.declared.filtered.Filtered.{Filtered}
 use Rattle.inf_conditionals.specs.declared.filtered.Sign.{Sign}
-use Rattle.inf_compilation.specs.Actions.{Compilation, is_class}
-use Rattle.inf_reader.specs.Handing.{hash, is_empty, judged_taken, reads, sign_taken}
+use Rattle.inf_compilation.specs.Context.{Context}
+use Rattle.inf_reader.specs.Handing.{hash, is_empty, judged_taken, reads}
 use Rattle.inf_reader.specs.Pieces.{BeginsPiece, IsPiece}
 use Rattle.inf_reader.specs.Reading.{Reading, ReaderState, between, is_mode_ended, passed, piece_begun, skip_of}
 use Rattle.inf_reader.specs.declared.recovery.Recovery.{Recovery}
@@ -22,41 +20,32 @@ use Rattle.inf_laws.specs.BadTokens.{skip_behind}
 
 -- What is handed on
 
--- a token, and whether it is the name of a class that was declared before it
-pub record Seen : Type 0 where
-  pub token : SourceToken
-  pub is_class : Bool
-
--- how the grammar sees it
-abbrev pub seen_atom : Seen → ℕ
-seen_atom t = atom_as t.is_class t.token
-
 -- A token that is handed on: one that is kept, or one that does not fit the conditional directive in which it stands. Those of conditional
 -- directives, and of sides that are left out, are not handed on.
 pub data Given : Type 0 where
-  Kept : (token : Seen) → Given
+  Kept : (token : SourceToken) → Given
   Unfit : (token : SourceToken) → Given
 
 abbrev pub token_in : Given → SourceToken
-token_in (Kept t) = t.token
+token_in (Kept t) = t
 token_in (Unfit t) = t
 
 -- what is handed on of a token, by what becomes of it: first a `#` that was held back before it
-abbrev pub given_as : Forwarded → SourceToken → Compilation → List Given
-given_as handed.Kept t w = Kept (record { token = t; is_class = is_class t w }) ∷ []
-given_as handed.Unfit t w = Unfit t ∷ []
-given_as handed.Condition t w = []
+abbrev pub given_as : Forwarded → SourceToken → List Given
+given_as handed.Kept t = Kept t ∷ []
+given_as handed.Unfit t = Unfit t ∷ []
+given_as handed.Condition t = []
 
-abbrev pub given_sign : Option Sign → Compilation → List Given
-given_sign None w = []
-given_sign (Some sign) w = given_as sign.handed (hash sign.place) w
+abbrev pub given_sign : Option Sign → List Given
+given_sign None = []
+given_sign (Some sign) = given_as sign.handed (hash sign.place)
 
-abbrev pub given_token : Option Forwarded → SourceToken → Compilation → List Given
-given_token None t w = []
-given_token (Some h) t w = given_as h t w
+abbrev pub given_token : Option Forwarded → SourceToken → List Given
+given_token None t = []
+given_token (Some h) t = given_as h t
 
-abbrev pub given_of : FileNames → Filtered → SourceToken → ReaderState → List Given
-given_of files j t s = given_sign j.sign s.work ++ given_token j.token t (sign_taken j.sign files s).work
+abbrev pub given_of : Filtered → SourceToken → List Given
+given_of j t = given_sign j.sign ++ given_token j.token t
 
 -- Reading alone
 
@@ -67,18 +56,18 @@ took_by atom r = record { mode = r.mode; stack = (taken grammar known atom r.sta
 abbrev pub bad_by : TokenKind → Reading → Reading
 bad_by k r = between (passed (skip_of r.stack) k)
 
-abbrev pub judged_by : Seen → Reading → Reading
-judged_by t r = if fits grammar known (seen_atom t) r.stack then took_by (seen_atom t) r else bad_by t.token.kind r
+abbrev pub judged_by : SourceToken → Reading → Reading
+judged_by t r = if fits grammar known (atom_of t) r.stack then took_by (atom_of t) r else bad_by t.kind r
 
 -- of a new piece, or of the one at hand
-abbrev pub read_by : List (Symbol Action) → Seen → Reading → Reading
-read_by [] t r = if is_end t.token.kind then record r { mode = mode.Ended } else judged_by t (piece_begun r)
+abbrev pub read_by : List (Symbol Action) → SourceToken → Reading → Reading
+read_by [] t r = if is_end t.kind then record r { mode = mode.Ended } else judged_by t (piece_begun r)
 read_by (_ ∷ _) t r = judged_by t r
 
-abbrev pub kept_by : Recovery → Seen → Reading → Reading
+abbrev pub kept_by : Recovery → SourceToken → Reading → Reading
 kept_by mode.Reads t r = read_by r.stack t r
 kept_by mode.Ended t r = r
-kept_by skip t r = record r { mode = passed skip t.token.kind }
+kept_by skip t r = record r { mode = passed skip t.kind }
 
 -- one that does not fit its conditional directive is bad, and among those that are passed over one of them
 abbrev pub unfit_by : Recovery → SourceToken → Reading → Reading
@@ -95,11 +84,11 @@ abbrev pub all_given_to : List Given → Reading → Reading
 all_given_to [] r = r
 all_given_to (g ∷ given) r = all_given_to given (given_to g r)
 
--- How reading goes on depends on nothing else: neither on what there is to tell, nor on what was compiled, but for which names are those of
--- classes.
+-- How reading goes on depends on nothing else: neither on what there is to tell, nor on what was compiled. Which names are those of classes
+-- the tokens say.
 abbrev pub TokensAreHandedOn : Type 0
-TokensAreHandedOn = (files : FileNames) (t : SourceToken) (j : Filtered) (s : ReaderState)
-    → (judged_taken files t j s).reading ≡ all_given_to (given_of files j t s) s.reading
+TokensAreHandedOn = (context : Context) (t : SourceToken) (j : Filtered) (s : ReaderState)
+    → (judged_taken context t j s).reading ≡ all_given_to (given_of j t) s.reading
 
 -- Pieces
 
@@ -118,8 +107,8 @@ GoesOn (g ∷ given) r = GoesBehind given (given_to g r)
 
 -- Behind tokens that begin a piece one that does not fit a conditional directive is bad, and one that is kept where they begin none with
 -- it.
-abbrev pub IsBad : List Seen → Given → Type 0
-IsBad tokens (Kept t) = BeginsPiece (map seen_atom (tokens ++ t ∷ [])) → ⊥
+abbrev pub IsBad : List SourceToken → Given → Type 0
+IsBad tokens (Kept t) = BeginsPiece (map atom_of (tokens ++ t ∷ [])) → ⊥
 IsBad tokens (Unfit t) = Unit {0}
 
 -- how reading goes on behind tokens that are passed over
@@ -129,12 +118,13 @@ skipped m (g ∷ given) = skipped (passed m (token_in g).kind) given
 
 -- Where reading stands behind what was handed on since it stood between two pieces.
 pub data Stands (given : List Given) (r : Reading) : Type 0 where
-  InAPiece : (tokens : List Seen) → given ≡ map Kept tokens → BeginsPiece (map seen_atom tokens) → r.mode ≡ mode.Reads → Stands given r
-  BehindAPiece : (tokens : List Seen) → given ≡ map Kept tokens → IsPiece (map seen_atom tokens) → r ≡ between mode.Reads → Stands given r
-  BehindABadToken : (tokens : List Seen) (bad : Given) (behind : List Given) → given ≡ map Kept tokens ++ bad ∷ behind →
-      BeginsPiece (map seen_atom tokens) → IsBad tokens bad → r ≡ between (skipped (skip_behind (map seen_atom tokens)) (bad ∷ behind)) →
+  InAPiece : (tokens : List SourceToken) → given ≡ map Kept tokens → BeginsPiece (map atom_of tokens) → r.mode ≡ mode.Reads → Stands given r
+  BehindAPiece : (tokens : List SourceToken) → given ≡ map Kept tokens → IsPiece (map atom_of tokens) → r ≡ between mode.Reads →
       Stands given r
-  BehindTheEnd : (t : Seen) → given ≡ Kept t ∷ [] → is_end t.token.kind ≡ true → r ≡ between mode.Ended → Stands given r
+  BehindABadToken : (tokens : List SourceToken) (bad : Given) (behind : List Given) → given ≡ map Kept tokens ++ bad ∷ behind →
+      BeginsPiece (map atom_of tokens) → IsBad tokens bad → r ≡ between (skipped (skip_behind (map atom_of tokens)) (bad ∷ behind)) →
+      Stands given r
+  BehindTheEnd : (t : SourceToken) → given ≡ Kept t ∷ [] → is_end t.kind ≡ true → r ≡ between mode.Ended → Stands given r
 
 -- As long as the first piece goes on: the tokens are kept and begin one, or they are one, and reading stands behind it; or the bad one
 -- among

@@ -2,19 +2,16 @@
 use Rattle.std.specs.Prelude.{◌≡◌, ℕ, zero, suc, List, [], ◌++◌, false}
 use Rattle.inf_files.specs.Files.{Sources}
 use Rattle.inf_conditionals.specs.Judging.{judged}
-use Rattle.inf_reader.specs.Handing.{said_told, site_of}
+use Rattle.inf_reader.specs.Handing.{site_of}
 use Rattle.inf_reader.specs.Reading.{between, is_mode_ended}
 use Rattle.inf_reader.specs.declared.recovery.Recovery.TheVariants as mode
 use Rattle.inf_session.specs.Choices.{Choices}
-use Rattle.inf_session.specs.Session.{State, stand_of, stepped, token_of, turn}
+use Rattle.inf_session.specs.Session.{State, stepped, token_of, turn}
 use Rattle.inf_laws.specs.KeptTokens.{Given, GoesOn, Stands, given_of}
 
 -- of a turn
 abbrev pub given_by : State → List Given
-given_by s =
-    let t = token_of s.nesting.cursor in
-    let b = judged (site_of s.reading) s.work.output t s.conditions in
-    given_of s.nesting.names b.judged t (said_told b.now.said s.nesting.names (stand_of s))
+given_by s = let t = token_of s in given_of (judged (site_of s.reading) s.work.output t s.conditions).judged t
 
 -- so many turns, and what they hand on
 abbrev pub turned : Sources → Choices → ℕ → State → State
@@ -28,7 +25,7 @@ given_in sources o (suc n) s = given_by s ++ given_in sources o n (turn sources 
 -- no file ends in them
 abbrev pub StayInFile : Sources → Choices → ℕ → State → Type 0
 StayInFile sources o zero s = Unit {0}
-StayInFile sources o (suc n) s = (is_mode_ended (stepped s).reading.mode ≡ false) × StayInFile sources o n (turn sources o s)
+StayInFile sources o (suc n) s = (is_mode_ended (stepped o s).reading.mode ≡ false) × StayInFile sources o n (turn sources o s)
 
 -- From between two pieces on, as long as the first one goes on, and behind the token that ends it, the turns of a reading stand where the
 -- tokens tell that
@@ -37,4 +34,4 @@ StayInFile sources o (suc n) s = (is_mode_ended (stepped s).reading.mode ≡ fal
 abbrev pub TurnsReadPieces : Type 0
 TurnsReadPieces = (sources : Sources) (o : Choices) (n : ℕ) (s : State) → s.reading ≡ between mode.Reads → StayInFile sources o n s
     → GoesOn (given_in sources o (suc n) s) s.reading
-    → Stands (given_in sources o (suc n) s) (stepped (turned sources o n s)).reading
+    → Stands (given_in sources o (suc n) s) (stepped o (turned sources o n s)).reading

@@ -16,7 +16,7 @@ StayInPart sources o (suc n) s = (is_parted (turn sources o s) ≡ false) × Sta
 -- what is handed on within a part, and how it is read then: nothing, or tokens that stand as those of one piece
 abbrev pub IsOfOnePiece : Sources → Choices → ℕ → State → Type 0
 IsOfOnePiece sources o n s =
-    (given_in sources o (suc n) s ≡ []) ⊎ Stands (given_in sources o (suc n) s) (stepped (turned sources o n s)).reading
+    (given_in sources o (suc n) s ≡ []) ⊎ Stands (given_in sources o (suc n) s) (stepped o (turned sources o n s)).reading
 
 -- From any place between two pieces of a reading on, the turns of one part hand on nothing, or the tokens of one piece, whole or bad, or of
 -- the end of a file.
@@ -32,5 +32,5 @@ PartsEndWithPieces =
     (sources : Sources) (o : Choices) (name : List ℕ) (m n : ℕ) → (turned sources o m (start sources o name)).reading ≡ between mode.Reads
     → StayInPart sources o n (turned sources o m (start sources o name))
     → (given_by (turned sources o n (turned sources o m (start sources o name))) ≡ [] → ⊥) → rests
-    (stepped (turned sources o n (turned sources o m (start sources o name)))).reading ≡ true
+    (stepped o (turned sources o n (turned sources o m (start sources o name)))).reading ≡ true
     → is_parted (turn sources o (turned sources o n (turned sources o m (start sources o name)))) ≡ true

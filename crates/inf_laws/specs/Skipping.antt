@@ -4,7 +4,7 @@ use Rattle.std.specs.List.{list_all}
 use Rattle.inf_scanner.specs.declared.tokens.Mark.{Mark}
 use Rattle.inf_scanner.specs.declared.tokens.Mark.TheVariants as mark
 use Rattle.inf_scanner.specs.declared.tokens.TokenKind.{TokenKind}
-use Rattle.inf_unit.specs.Messages.{FileNames}
+use Rattle.inf_compilation.specs.Context.{Context}
 use Rattle.inf_unit.specs.Tokens.{is_end, is_mark}
 use Rattle.inf_conditionals.specs.declared.filtered.Forwarded.TheVariants as handed
 use Rattle.inf_reader.specs.Handing.{handed_as, skips}
@@ -16,9 +16,9 @@ use Rattle.inf_laws.specs.KeptTokens.{Given, Kept, Unfit, skipped, token_in}
 -- One token
 
 -- what is read, and what was compiled, behind one that is handed on
-abbrev pub given_at : FileNames → Given → ReaderState → ReaderState
-given_at files (Kept t) s = handed_as handed.Kept files t.token s
-given_at files (Unfit t) s = handed_as handed.Unfit files t s
+abbrev pub given_at : Context → Given → ReaderState → ReaderState
+given_at context (Kept t) s = handed_as handed.Kept context t s
+given_at context (Unfit t) s = handed_as handed.Unfit context t s
 
 -- the same, but for how the next token is read
 abbrev pub at : Recovery → ReaderState → ReaderState
@@ -26,8 +26,8 @@ at m s = record s { reading = record s.reading { mode = m } }
 
 -- One that is passed over changes nothing else: nothing is told of it, and nothing is compiled.
 abbrev pub PassedTokensDoNothing : Type 0
-PassedTokensDoNothing = (files : FileNames) (g : Given) (s : ReaderState) → skips s.reading.mode ≡ true
-    → given_at files g s ≡ at (passed s.reading.mode (token_in g).kind) s
+PassedTokensDoNothing = (context : Context) (g : Given) (s : ReaderState) → skips s.reading.mode ≡ true
+    → given_at context g s ≡ at (passed s.reading.mode (token_in g).kind) s
 
 -- the end of a source ends what is passed over
 abbrev pub SourcesEnd : Type 0

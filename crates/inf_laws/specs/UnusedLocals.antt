@@ -6,7 +6,8 @@ use Rattle.inf_scanner.specs.declared.tokens.Place.{Place}
 use Rattle.inf_report.specs.Messages.{UnusedLocal}
 use Rattle.inf_names.specs.Spellings.{Name}
 use Rattle.inf_names.specs.Locals.{Local, with_all_named, with_locals, no_locals}
-use Rattle.inf_unit.specs.Messages.{FileNames, Reported, location, with_warning}
+use Rattle.inf_unit.specs.Messages.{Reported, location, with_warning}
+use Rattle.inf_compilation.specs.Context.{Context}
 use Rattle.inf_compilation.specs.Actions.{with_all_unused}
 
 -- some local has this name, in any case
@@ -38,16 +39,17 @@ abbrev pub unused : List (List Name) → List Local → List Local
 unused units locals = filter (λ l. not (is_named_in l.name units)) locals
 
 -- a warning for each
-abbrev pub with_warnings : FileNames → Place → List Local → Reported → Reported
-with_warnings files place [] r = r
-with_warnings files place (l ∷ locals) r = with_warnings files place locals (with_warning (location files place) (UnusedLocal l.name) r)
+abbrev pub with_warnings : Context → Place → List Local → Reported → Reported
+with_warnings context place [] r = r
+with_warnings context place (l ∷ locals) r =
+    with_warnings context place locals (with_warning (location context.names place) (UnusedLocal l.name) r)
 
 -- Where the names of a routine's locals differ, and none was named yet, the warnings after some units are those about the locals
 -- that no name of any unit is.
 abbrev pub UnusedAreWarned : Type 0
-UnusedAreWarned = (files : FileNames) (place : Place) (units : List (List Name)) (locals : List Local) (r : Reported)
+UnusedAreWarned = (context : Context) (place : Place) (units : List (List Name)) (locals : List Local) (r : Reported)
     → AreDifferent locals → AreUnnamed locals
-    → with_all_unused files place (with_units units locals) r ≡ with_warnings files place (unused units locals) r
+    → with_all_unused context place (with_units units locals) r ≡ with_warnings context place (unused units locals) r
 
 -- The locals of every header are such.
 pub record AreNew (locals : List Local) : Type 0 where
