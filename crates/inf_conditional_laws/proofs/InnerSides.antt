@@ -4,7 +4,7 @@ use Rattle.inf_output.specs.Output.{Out}
 use Rattle.inf_scanner.specs.declared.tokens.Mark.TheVariants as mark
 use Rattle.inf_scanner.specs.declared.tokens.Place.{Place}
 use Rattle.inf_scanner.specs.declared.tokens.TokenKind.TheVariants as kind
-use Rattle.inf_unit.specs.Tokens.{SourceToken, is_mark}
+use Rattle.inf_unit.specs.Tokens.{SourceToken, is_mark, keyword}
 use Rattle.inf_conditionals.specs.declared.filtered.Site.{Site}
 use Rattle.inf_sources.specs.declared.open_file.Conditional.{Conditional}
 use Rattle.inf_conditionals.specs.declared.open.LeftOut.{LeftOut}
@@ -34,7 +34,7 @@ cut_from : (events : List Event) (c : Conditions) (side : LeftOut) (level : ℕ)
     → level + length events ≤ most_levels → StayIn (is_second (latest c)) level events → Cut events c side level sign
 cut_from [] c side level sign none few stay = record { all = tt; sign_now = sign; leads = refl }
 cut_from (Token site out t ∷ events) c side level sign none few stay =
-    let o = word_of t in
+    let o = word_of (keyword t) in
     let here = inside c side level sign c.declared in
     let next = inside c side (level_behind o level) (sign_behind o t) c.declared in
     let one = token_is site out t c side level sign c.declared stay.0 stay.1.0 (omega (arith, few)) in
@@ -99,7 +99,7 @@ words_end_sides site out t w c side left_out going is ends =
     let same : judged site out t c ≡ passed now =
     ap (λ (o : Option LeftOut). judged_by o c.sign site out t c) left_out
     ∙ ap (λ (b : Bool). cond b (offered false site.is_quiet out t (record c { left_out = None; sign = None }))
-    (passed (passed_by (word_of t) t side c))) going
+    (passed (passed_by (word_of (keyword t)) t side c))) going
     ∙ ap (λ (o : Option ConditionalWord). passed (passed_by o t side c)) is
     ∙ ap (λ (b : Bool). passed (cond b now (record c {
       left_out = Some (record side { levels = levels_behind w side.levels });
@@ -140,7 +140,7 @@ hash_step site out t c inside hash =
     ∙ ap (λ b. passed (held b t.place here)) inside
 
 word_step : (flag : Bool) (site : Site) (out : Out) (w : SourceToken) (o : ConditionalWord) (sign : Place) (c : Conditions) →
-    word_of w ≡ Some o → awaits_of o ≡ awaits.Name flag
+    word_of (keyword w) ≡ Some o → awaits_of o ≡ awaits.Name flag
     → judged site out w (at_sign (Some sign) c) ≡ passed (awaiting sign true (awaits.Name flag) (at_sign None c))
 word_step flag site out w o sign c is awaits =
     ap (λ (x : Option ConditionalWord). behind_sign x sign site.is_quiet out w (at_sign (Some sign) c)) is
@@ -157,7 +157,7 @@ end_step k site out t p c no_hash is =
     ∙ ap (λ (b : Bool). cond b (effected (effect.Opens k) site.is_quiet q (at_sign None c)) (unfit (at_sign None c))) is
 
 first_side : (flag : Bool) (o : ConditionalWord) → awaits_of o ≡ awaits.Name flag → InnerFirstSides o (λ b. cond flag b (not b))
-first_side flag o waits zeroth first second third out hash w end name place c at is_hash is semicolon no_hash =
+first_side flag o waits zeroth first second third out hash w end name place is_class c at is_hash is semicolon no_hash =
     let here = at_sign None c in
     let sign = hash.place in
     let cleared : here ≡ c =
@@ -165,24 +165,24 @@ first_side flag o waits zeroth first second third out hash w end name place c at
     let kept_so = is_kept flag out c.declared name in
     let p : Pending = record { place = sign; is_inner = true; awaits = awaits.Name flag } in
     let q : Pending = record p { awaits = awaits.End (effect.Opens kept_so) } in
-    let name_token : Event = Token second out (record { kind = kind.Name; bytes = name; place = place }) in
+    let name_token : Event = Token second out (record { kind = kind.Name; bytes = name; place = place; is_class = is_class }) in
     let a = hash_step zeroth out hash c at.inside is_hash in
     let b = word_step flag first out w o sign c is waits in
     let d = end_step kept_so third out end p c no_hash semicolon in
-    let whole = signed zeroth first second third out hash w name place end in
+    let whole = signed zeroth first second third out hash w name place is_class end in
     let after_sign = at_sign (Some sign) c in
     let after_word = awaiting sign true (awaits.Name flag) here in
     let after_name : Conditions = record here { pending = q ∷ c.pending } in
     let a_now : behind (Token zeroth out hash) here ≡ after_sign = ap (λ (x : Behind). x.now) a in
     let b_now : behind (Token first out w) after_sign ≡ after_word = ap (λ (x : Behind). x.now) b in
     let all : behind_all whole here ≡ (effected (effect.Opens kept_so) third.is_quiet q here).now =
-    ap (behind_all (directive first second third out w name place end)) a_now
+    ap (behind_all (directive first second third out w name place is_class end)) a_now
     ∙ ap (behind_all (name_token ∷ Token third out end ∷ [])) b_now
     ∙ ap (λ (x : Behind). x.now) d in
     let of_end : NoneHandedOn (Token third out end ∷ []) after_name =
     ((ap (λ (x : Behind). x.judged.sign) d, ap (λ (x : Behind). x.judged.token) d), tt) in
     let of_name : NoneHandedOn (name_token ∷ Token third out end ∷ []) after_word = ((refl, refl), of_end) in
-    let of_word : NoneHandedOn (directive first second third out w name place end) after_sign = (
+    let of_word : NoneHandedOn (directive first second third out w name place is_class end) after_sign = (
       (ap (λ (x : Behind). x.judged.sign) b, ap (λ (x : Behind). x.judged.token) b),
       subst
           (NoneHandedOn (name_token ∷ Token third out end ∷ [])) (sym b_now) of_name,
@@ -190,7 +190,7 @@ first_side flag o waits zeroth first second third out hash w end name place c at
     let of_all : NoneHandedOn whole here = (
       (ap (λ (x : Behind). x.judged.sign) a, ap (λ (x : Behind). x.judged.token) a),
       subst
-          (NoneHandedOn (directive first second third out w name place end)) (sym a_now) of_word,
+          (NoneHandedOn (directive first second third out w name place is_class end)) (sym a_now) of_word,
     ) in (
       subst (NoneHandedOn whole) cleared of_all,
       record {

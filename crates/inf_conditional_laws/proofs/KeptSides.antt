@@ -12,11 +12,11 @@ use Rattle.inf_scanner.specs.declared.tokens.TokenKind.TheVariants as kind
 use Rattle.inf_machine.specs.Machine.{fits}
 use Rattle.inf_grammar.specs.Language.{grammar, known}
 use Rattle.inf_unit.specs.Messages.{FileNames, Reported}
-use Rattle.inf_unit.specs.Tokens.{SourceToken, is_end, is_mark}
+use Rattle.inf_unit.specs.Atoms.{keyword_of_kind}
+use Rattle.inf_unit.specs.Tokens.{SourceToken, atom_of, is_end, is_mark, keyword}
 use Rattle.inf_unit.specs.Units.{outer_tokens}
-use Rattle.inf_conditionals.specs.Atoms.{atom_of}
 use Rattle.inf_conditionals.specs.Condition.{Condition, condition_begun, condition_took, is_whole, verdict_of}
-use Rattle.inf_conditionals.specs.Said.{Said, told_by, too_much}
+use Rattle.inf_conditionals.specs.Said.{told_by, too_much}
 use Rattle.inf_conditionals.specs.declared.condition.Verdict.{Verdict}
 use Rattle.inf_unit.proofs.Cases.{of_both}
 use Rattle.inf_conditionals.specs.declared.filtered.Forwarded.{Forwarded}
@@ -30,12 +30,12 @@ use Rattle.inf_conditionals.specs.declared.pending.Effect.TheVariants as effect
 use Rattle.inf_conditionals.specs.declared.pending.Pending.{Pending}
 use Rattle.inf_conditionals.specs.declared.words.ConditionalWord.{ConditionalWord}
 use Rattle.inf_conditionals.specs.declared.words.ConditionalWord.TheVariants as word
-use Rattle.inf_conditionals.specs.Ends.{file_told, piece_told, side_kept, with_all_lone, with_lone}
+use Rattle.inf_conditionals.specs.Ends.{side_kept, with_all_lone, with_lone}
 use Rattle.inf_conditionals.specs.Judging.{Behind, at_front, asking as asking_on, awaiting, begun, behind_front, behind_sign, decided, effected, held, is_kept, is_none_pending, judged_by, kept, unmatched, named, none_handed, offered, offered_to, passed, passed_by, saying, taken, tokens_counted, unfit, went_on}
-use Rattle.inf_conditionals.specs.Open.{Conditions, ended_by, is_second, latest_among, levels_behind, most_levels, silent, turned_first}
+use Rattle.inf_conditionals.specs.Open.{Conditions, ended_by, is_second, latest_among, levels_behind, most_levels, silent}
 use Rattle.inf_conditionals.specs.Words.{word_of}
 use Rattle.inf_reader.specs.Handing.{hash}
-use Rattle.inf_conditional_laws.specs.KeptSides.{AddsNone, Answers, AreParts, AreTaken, Around, Asking, At, Before, Begins, Closing, First, Follows, Fronted, FrontedWord, GoesOn, Handing, IsAsked, IsCondition, IsFirst, IsName, IsPart, IsPlain, IsSemicolon, IsSign, IsSignedPlain, NoneInside, NoneInsideBehind, NoneInsideFirst, NoParts, OneSideIsKept, Open, Opening, Part, Parts, Passed, Plain, Signed, StayAs, Then, Turning, acted, acting, all_behind, all_handed_on, all_kept, all_told, all_tokens, among, are_kept, as_kept, asking, asking_parts, before_parts, begins, begins_at, behind_name, behind_part, behind_parts, closed, condition_behind, declared_behind, declared_first, declared_sign, declared_tokens, ended_behind, ended_in, ended_places, first_ends, first_side, first_sign, first_tokens, going_on, handed_on, judged_at, kept_of, kept_sides, lone_at, lone_places, missing_in, none_around, opened_more, opening, opening_parts, other_side, part_tokens, passed_by as word_passed, placed_word, places, seconds, sign_ends, signed_tokens, told_of, told_parts, turned, unended, whole_condition}
+use Rattle.inf_conditional_laws.specs.KeptSides.{AddsNone, Answers, AreParts, AreTaken, Around, Asking, At, Before, Begins, Closing, First, Follows, Fronted, FrontedWord, GoesOn, Handing, IsAsked, IsFirst, IsName, IsPart, IsPlain, IsSemicolon, IsSign, IsSignedPlain, NoneInside, NoneInsideBehind, NoneInsideFirst, NoParts, OneSideIsKept, Open, Opening, Part, Parts, Passed, Plain, Signed, StayAs, Then, Turning, acted, all_behind, all_handed_on, all_kept, all_told, all_tokens, among, are_kept, as_kept, asking, begins, begins_at, behind_name, behind_part, behind_parts, closed, condition_behind, declared_behind, declared_first, declared_sign, declared_tokens, ended_behind, ended_in, ended_places, first_ends, first_side, first_sign, first_tokens, going_on, handed_on, judged_at, kept_of, kept_sides, lone_at, lone_places, missing_in, none_around, opened_more, opening, other_side, part_tokens, placed_word, places, seconds, sign_ends, signed_tokens, told_of, told_parts, turned, unended, whole_condition}
 use Rattle.inf_conditional_laws.specs.LoneEnds.{is_lone}
 use Rattle.inf_conditional_laws.specs.MissingEnds.{with_all_at}
 use Rattle.inf_conditional_laws.specs.Sides.{ends_side, level_behind}
@@ -46,37 +46,35 @@ use Rattle.inf_conditional_laws.proofs.Sides.{ends_as, inside as left_inside, si
 -- Tokens
 
 -- the word of a conditional is a name
-word_is_name : (k : TokenKind) (bytes : List ℕ) (place : Place) (w : ConditionalWord) →
-    word_of (record { kind = k; bytes = bytes; place = place }) ≡ Some w → k ≡ kind.Name
-word_is_name kind.Name bytes place w e = refl
-word_is_name (kind.Number n) bytes place w e = cc
-word_is_name kind.Text bytes place w e = cc
-word_is_name (kind.Char x) bytes place w e = cc
-word_is_name (kind.Word x) bytes place w e = cc
-word_is_name (kind.Mark x) bytes place w e = cc
-word_is_name (kind.Bad x) bytes place w e = cc
-word_is_name kind.End bytes place w e = cc
+word_is_name : (k : TokenKind) (bytes : List ℕ) (w : ConditionalWord) → word_of (keyword_of_kind k bytes) ≡ Some w → k ≡ kind.Name
+word_is_name kind.Name bytes w e = refl
+word_is_name (kind.Number n) bytes w e = cc
+word_is_name kind.Text bytes w e = cc
+word_is_name (kind.Char x) bytes w e = cc
+word_is_name (kind.Word x) bytes w e = cc
+word_is_name (kind.Mark x) bytes w e = cc
+word_is_name (kind.Bad x) bytes w e = cc
+word_is_name kind.End bytes w e = cc
 
-is_name : (t : SourceToken) (w : ConditionalWord) → word_of t ≡ Some w → t.kind ≡ kind.Name
-is_name t w e = word_is_name t.kind t.bytes t.place w e
+is_name : (t : SourceToken) (w : ConditionalWord) → word_of (keyword t) ≡ Some w → t.kind ≡ kind.Name
+is_name t w e = word_is_name t.kind t.bytes w e
 
 -- a mark is none, and is not the end
-mark_word : (k : TokenKind) (bytes : List ℕ) (place : Place) → (k ≡ kind.Name → ⊥) →
-    word_of (record { kind = k; bytes = bytes; place = place }) ≡ None
-mark_word kind.Name bytes place other = absurd (other refl)
-mark_word (kind.Number n) bytes place other = refl
-mark_word kind.Text bytes place other = refl
-mark_word (kind.Char x) bytes place other = refl
-mark_word (kind.Word x) bytes place other = refl
-mark_word (kind.Mark x) bytes place other = refl
-mark_word (kind.Bad x) bytes place other = refl
-mark_word kind.End bytes place other = refl
+mark_word : (k : TokenKind) (bytes : List ℕ) → (k ≡ kind.Name → ⊥) → word_of (keyword_of_kind k bytes) ≡ None
+mark_word kind.Name bytes other = absurd (other refl)
+mark_word (kind.Number n) bytes other = refl
+mark_word kind.Text bytes other = refl
+mark_word (kind.Char x) bytes other = refl
+mark_word (kind.Word x) bytes other = refl
+mark_word (kind.Mark x) bytes other = refl
+mark_word (kind.Bad x) bytes other = refl
+mark_word kind.End bytes other = refl
 
-semicolon_word : (t : SourceToken) → is_mark mark.Semicolon t.kind ≡ true → word_of t ≡ None
-semicolon_word t e = mark_word t.kind t.bytes t.place (λ name. let never : true ≡ false = sym e ∙ ap (is_mark mark.Semicolon) name in cc)
+semicolon_word : (t : SourceToken) → is_mark mark.Semicolon t.kind ≡ true → word_of (keyword t) ≡ None
+semicolon_word t e = mark_word t.kind t.bytes (λ name. let never : true ≡ false = sym e ∙ ap (is_mark mark.Semicolon) name in cc)
 
-hash_word : (t : SourceToken) → is_mark mark.Hash t.kind ≡ true → word_of t ≡ None
-hash_word t e = mark_word t.kind t.bytes t.place (λ name. let never : true ≡ false = sym e ∙ ap (is_mark mark.Hash) name in cc)
+hash_word : (t : SourceToken) → is_mark mark.Hash t.kind ≡ true → word_of (keyword t) ≡ None
+hash_word t e = mark_word t.kind t.bytes (λ name. let never : true ≡ false = sym e ∙ ap (is_mark mark.Hash) name in cc)
 
 semicolon_end : (k : TokenKind) → is_mark mark.Semicolon k ≡ true → is_end k ≡ false
 semicolon_end kind.Name e = refl
@@ -103,7 +101,7 @@ semicolon_plain : (is_kept is_within : Bool) (t : At) → IsSemicolon t → IsPl
 semicolon_plain is_kept is_within t is =
     record { no_word = λ _. semicolon_word t.token is.is; no_hash = is.no_hash; goes_on = semicolon_end t.token.kind is.is }
 
-name_plain : (is_within : Bool) (t : At) → t.token.kind ≡ kind.Name → word_of t.token ≡ None → IsPlain false is_within t
+name_plain : (is_within : Bool) (t : At) → t.token.kind ≡ kind.Name → word_of (keyword t.token) ≡ None → IsPlain false is_within t
 name_plain is_within t is none = record { no_word = λ _. none; no_hash = ap (is_mark mark.Hash) is; goes_on = ap is_end is }
 
 -- Conditionals
@@ -145,7 +143,8 @@ plain_kept t c inner among declared none is =
     ∙ ap (λ ps. offered_to ps (t.site.is_between && is_none_pending ps) t.site.is_quiet t.out t.token here) none
     ∙ go t.site.is_between refl
   where
-    go : (b : Bool) → t.site.is_between ≡ b → cond (b && true) (at_front (word_of t.token) t.token (at c inner among None declared))
+    go : (b : Bool) → t.site.is_between ≡ b →
+        cond (b && true) (at_front (word_of (keyword t.token)) t.token (at c inner among None declared))
         (kept (at c inner among None declared)) ≡ kept (at c inner among None declared)
     go true e = ap (λ o. at_front o t.token (at c inner among None declared)) (is.no_word e)
     go false e = refl
@@ -171,7 +170,7 @@ sign_inner t c inner among declared front hash =
 
 -- a word alone, behind a `#` between directives, and inside one
 word_kept : (w : ConditionalWord) (t : At) (c : Conditions) (inner among : List Conditional) (declared : ℕ) → c.pending ≡ [] →
-    t.site.is_between ≡ true → word_of t.token ≡ Some w
+    t.site.is_between ≡ true → word_of (keyword t.token) ≡ Some w
     → judged_at t (at c inner among None declared) ≡ begun w t.token t.token.place false (at c inner among None declared)
 word_kept w t c inner among declared none between is =
     let here = at c inner among None declared in
@@ -179,23 +178,23 @@ word_kept w t c inner among declared none between is =
     (offered_to c.pending (is_front t c) t.site.is_quiet t.out t.token here))
     (is_name t.token w is)
     ∙ ap (λ ps. offered_to ps (t.site.is_between && is_none_pending ps) t.site.is_quiet t.out t.token here) none
-    ∙ ap (λ (b : Bool). cond (b && true) (at_front (word_of t.token) t.token here) (kept here)) between
+    ∙ ap (λ (b : Bool). cond (b && true) (at_front (word_of (keyword t.token)) t.token here) (kept here)) between
     ∙ ap (λ o. at_front o t.token here) is
 
 signed_kept : (w : ConditionalWord) (place : Place) (t : At) (c : Conditions) (inner among : List Conditional) (declared : ℕ) →
-    word_of t.token ≡ Some w
+    word_of (keyword t.token) ≡ Some w
     → judged_at t (reading false place awaits.Word c inner among declared) ≡ begun w t.token place false (at c inner among None declared)
 signed_kept w place t c inner among declared is =
     let here = at c inner among None declared in
     let p = directive false place awaits.Word in
     ap (λ (k : TokenKind). cond (is_mark mark.Hash k)
     (passed (held (t.site.is_between && false) t.token.place (reading false place awaits.Word c inner among declared)))
-    (behind_front (word_of t.token) t.token p here))
+    (behind_front (word_of (keyword t.token)) t.token p here))
     (is_name t.token w is)
     ∙ ap (λ o. behind_front o t.token p here) is
 
 signed_inner : (w : ConditionalWord) (place : Place) (t : At) (c : Conditions) (inner among : List Conditional) (declared : ℕ) →
-    word_of t.token ≡ Some w
+    word_of (keyword t.token) ≡ Some w
     → judged_at t (state c (Some place) inner among None declared) ≡ begun w t.token place true (at c inner among None declared)
 signed_inner w place t c inner among declared is =
     ap (λ o. behind_sign o place t.site.is_quiet t.out t.token (state c (Some place) inner among None declared)) is
@@ -240,15 +239,16 @@ end_is_no_hash (kind.Word x) e = cc
 end_is_no_hash (kind.Mark x) e = cc
 end_is_no_hash (kind.Bad x) e = cc
 
-pub end_word : (t : SourceToken) → is_end t.kind ≡ true → word_of t ≡ None
-end_word t e = mark_word t.kind t.bytes t.place (λ name. let never : true ≡ false = sym e ∙ ap is_end name in cc)
+pub end_word : (t : SourceToken) → is_end t.kind ≡ true → word_of (keyword t) ≡ None
+end_word t e = mark_word t.kind t.bytes (λ name. let never : true ≡ false = sym e ∙ ap is_end name in cc)
 
 pub end_kept_so : (front quiet : Bool) (o : Out) (t : SourceToken) (c : Conditions) → is_end t.kind ≡ true → c.pending ≡ [] →
     offered front quiet o t c ≡ kept c
 end_kept_so front quiet o t c is none =
     ap (λ (b : Bool). cond b (passed (held front t.place c)) (offered_to c.pending front quiet o t c)) (end_is_no_hash t.kind is)
     ∙ ap (λ ps. offered_to ps front quiet o t c) none
-    ∙ of_both (λ (b : Behind). b ≡ kept c) front (at_front (word_of t) t c) (kept c) (λ _. ap (λ w. at_front w t c) (end_word t is))
+    ∙ of_both (λ (b : Behind). b ≡ kept c) front (at_front (word_of (keyword t)) t c) (kept c)
+    (λ _. ap (λ w. at_front w t c) (end_word t is))
     (λ _. refl)
 
 end_stays : (t : At) (c : Conditions) → is_end t.token.kind ≡ true → c.pending ≡ [] → c.sign ≡ None
@@ -262,7 +262,7 @@ end_stays t c is none no_sign = go c.left_out c.sign no_sign
         let cleared = record c { left_out = None; sign = None } in
         let same =
         ap (λ (b : Bool). cond b (offered false t.site.is_quiet t.out t.token cleared)
-        (passed (passed_by (word_of t.token) t.token side c))) is
+        (passed (passed_by (word_of (keyword t.token)) t.token side c))) is
         ∙ end_kept_so false t.site.is_quiet t.out t.token cleared is none in
         (ap (λ (b : Behind). b.now.among) same, ap (λ (b : Behind). b.now.inner) same)
     go None None e =
@@ -313,7 +313,7 @@ sign_left t sign c inner among b n declared hash few =
 
 -- a word that ends no side
 word_left : (w : ConditionalWord) (t : At) (sign : Option Place) (c : Conditions) (inner among : List Conditional) (b : Bool)
-    (n declared : ℕ) → word_of t.token ≡ Some w → n + 1 ≤ most_levels
+    (n declared : ℕ) → word_of (keyword t.token) ≡ Some w → n + 1 ≤ most_levels
     → ends_side (second inner among) n (Some w) ≡ false
     → judged_at t (state c sign inner among (left_at b n) declared) ≡ passed
     (at c inner among (left_at b (level_behind (Some w) n)) declared)
@@ -330,7 +330,7 @@ Acted w b c inner among inner_now among_now = (sign : Option Place) (declared : 
     declared
 
 word_ends : (w : ConditionalWord) (t : At) (sign : Option Place) (c : Conditions) (inner among inner_now among_now : List Conditional)
-    (b : Bool) (declared : ℕ) → word_of t.token ≡ Some w
+    (b : Bool) (declared : ℕ) → word_of (keyword t.token) ≡ Some w
     → ends_side (second inner among) 0 (Some w) ≡ true → Acted w b c inner among inner_now among_now
     → judged_at t (state c sign inner among (left_at b 0) declared) ≡ passed
     (reading false (unwrap_or sign t.token.place) (awaits.End effect.Nothing) c inner_now among_now declared)
@@ -339,7 +339,7 @@ word_ends w t sign c inner among inner_now among_now b declared is ends acted =
     let place = unwrap_or sign t.token.place in
     let now = awaiting place false (awaits.End effect.Nothing) (record (ended_by w here) { left_out = None; sign = None }) in
     ap (λ (x : Bool). cond x (offered false t.site.is_quiet t.out t.token (at c inner among None declared))
-    (passed (passed_by (word_of t.token) t.token (side_at b) here))) (ap is_end (is_name t.token w is))
+    (passed (passed_by (word_of (keyword t.token)) t.token (side_at b) here))) (ap is_end (is_name t.token w is))
     ∙ ap (λ o. passed (passed_by o t.token (side_at b) here)) is
     ∙ ap (λ (x : Bool). passed (cond x now (record here { left_out = left_at b (levels_behind w 0); sign = None })))
     (ends_as w 0 (second inner among) true ends)
@@ -814,7 +814,7 @@ front_kept place t c inner among declared is =
     let p = directive false place awaits.Word in
     ap (λ (b : Bool). cond b (passed (held (t.site.is_between && false) t.token.place
     (reading false place awaits.Word c inner among declared)))
-    (behind_front (word_of t.token) t.token p here)) is.no_hash
+    (behind_front (word_of (keyword t.token)) t.token p here)) is.no_hash
     ∙ ap (λ o. behind_front o t.token p here) is.no_word
 
 -- what is read of conditions is given up there
@@ -910,7 +910,7 @@ pub record Mids (sign : Option At) (t : At) (inner : List Conditional) : Type 0 
 
 pub begins_kept : (r q : Reader) (is_inner : Bool) (w : ConditionalWord) (a : Awaits) (sign : Option At) (t : At) (all : List At)
     (c after : Conditions) (inner among : List Conditional) (declared : ℕ) (places : List Place) (last : Last)
-    → Holds r c → Begins true is_inner (within r) sign t → word_of t.token ≡ Some w → Mids sign t inner
+    → Holds r c → Begins true is_inner (within r) sign t → word_of (keyword t.token) ≡ Some w → Mids sign t inner
     → ((m : ℕ) → begun w t.token (begins_at sign t) is_inner (at c inner among None m) ≡ passed
     (reading is_inner (begins_at sign t) a after inner among m))
     → Led q all (reading is_inner (begins_at sign t) a after inner among (declared_behind t (declared_sign sign declared))) [] places last
@@ -950,7 +950,7 @@ begins_kept r q true w a (Some sign) t all c after inner among declared places l
 -- where a side is left out, one that ends none
 begins_left : (r : Reader) (is_inner is_within : Bool) (w : ConditionalWord) (m : ℕ) (sign : Option At) (t : At) (all : List At)
     (c : Conditions) (inner among : List Conditional) (b : Bool) (n declared : ℕ) (places : List Place) (last : Last)
-    → Begins false is_inner is_within sign t → word_of t.token ≡ Some w → GoesOn is_inner t → CalmLeft is_inner inner b → n + 1 ≤
+    → Begins false is_inner is_within sign t → word_of (keyword t.token) ≡ Some w → GoesOn is_inner t → CalmLeft is_inner inner b → n + 1 ≤
     most_levels → ends_side (second inner among) n (Some w) ≡ false
     → level_behind (Some w) n ≡ m
     → Led r all (at c inner among (left_at b m) (declared_behind t (declared_sign sign declared))) [] places last
@@ -975,8 +975,8 @@ begins_left r is_inner is_within w m (Some sign) t all c inner among b n declare
 -- and one that ends it
 begins_end : (r : Reader) (is_inner is_within : Bool) (w : ConditionalWord) (sign : Option At) (t : At) (all : List At) (c : Conditions)
     (inner among inner_now among_now : List Conditional) (b : Bool) (declared : ℕ) (places : List Place) (last : Last)
-    → Begins false is_inner is_within sign t → word_of t.token ≡ Some w → GoesOn is_inner t → CalmLeft is_inner inner b → Calm is_inner
-    inner_now None → 1 ≤ most_levels → ends_side (second inner among) 0 (Some w) ≡ true
+    → Begins false is_inner is_within sign t → word_of (keyword t.token) ≡ Some w → GoesOn is_inner t → CalmLeft is_inner inner b
+    → Calm is_inner inner_now None → 1 ≤ most_levels → ends_side (second inner among) 0 (Some w) ≡ true
     → Acted w b c inner among inner_now among_now
     → Led r all (reading false (begins_at sign t) (awaits.End effect.Nothing) c inner_now among_now
     (declared_behind t (declared_sign sign declared))) [] places last

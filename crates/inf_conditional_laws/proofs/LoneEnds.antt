@@ -7,8 +7,7 @@ use Rattle.inf_scanner.specs.declared.tokens.TokenKind.{TokenKind}
 use Rattle.inf_scanner.specs.declared.tokens.TokenKind.TheVariants as kind
 use Rattle.inf_machine.specs.Machine.{fits}
 use Rattle.inf_grammar.specs.Language.{grammar, known}
-use Rattle.inf_unit.specs.Tokens.{SourceToken, is_end, is_mark}
-use Rattle.inf_conditionals.specs.Atoms.{atom_of}
+use Rattle.inf_unit.specs.Tokens.{SourceToken, atom_of, is_end, is_mark, keyword}
 use Rattle.inf_conditionals.specs.Condition.{Condition, condition_begun, condition_took, is_whole, verdict_of}
 use Rattle.inf_conditionals.specs.Said.{too_much}
 use Rattle.inf_conditionals.specs.declared.filtered.Site.{Site}
@@ -184,7 +183,8 @@ lones_are_judged site out t c place at =
     ∙ ap (λ place. lone_behind at.ends.others place c) at.begins
 
 pub lones_are_told : LonesAreTold
-lones_are_told files site out t c place s at = ap (λ (b : Behind). judged_taken files t b.judged s) (lones_are_judged site out t c place at)
+lones_are_told context site out t c place s at =
+    ap (λ (b : Behind). judged_taken context t b.judged s) (lones_are_judged site out t c place at)
 
 -- No other token
 
@@ -312,7 +312,7 @@ awaited_lone : (a : Awaits) (quiet : Bool) (out : Out) (t : SourceToken) (p : Pe
     (place : Place) → c.pending ≡ p ∷ others → p.awaits ≡ a
     → is_mark mark.Hash t.kind ≡ false → Tells c quiet t place (awaited a quiet out t p (record c { pending = others }))
 awaited_lone awaits.Word quiet out t p others c place read waits no_hash =
-    λ told. none_some place (sym (behind_front_lone (word_of t) t p (record c { pending = others })) ∙ told)
+    λ told. none_some place (sym (behind_front_lone (word_of (keyword t)) t p (record c { pending = others })) ∙ told)
 awaited_lone (awaits.Name if_declared) quiet out t p others c place read waits no_hash =
     λ told. none_some place (sym (named_lone t.kind t.bytes if_declared out p (record c { pending = others })) ∙ told)
 awaited_lone (awaits.Condition wanted) quiet out t p others c place read waits no_hash =
@@ -326,8 +326,8 @@ offered_to_lone : (ps : List Pending) (front quiet : Bool) (out : Out) (t : Sour
     is_mark mark.Hash t.kind ≡ false
     → Tells c quiet t place (offered_to ps front quiet out t c)
 offered_to_lone [] front quiet out t c place read no_hash =
-    of_both (Tells c quiet t place) front (at_front (word_of t) t c) (kept c)
-    (λ _ told. none_some place (sym (front_lone (word_of t) t c) ∙ told)) (λ _. none_some place)
+    of_both (Tells c quiet t place) front (at_front (word_of (keyword t)) t c) (kept c)
+    (λ _ told. none_some place (sym (front_lone (word_of (keyword t)) t c) ∙ told)) (λ _. none_some place)
 offered_to_lone (p ∷ ps) front quiet out t c place read no_hash = awaited_lone p.awaits quiet out t p ps c place read refl no_hash
 
 offered_lone : (front quiet : Bool) (out : Out) (t : SourceToken) (c : Conditions) (place : Place) →
@@ -359,7 +359,7 @@ only_lones_are site out t c place = by_left c.left_out refl
   where
     by_sign : (o : Option Place) → c.sign ≡ o → c.left_out ≡ None → (judged_by None o site out t c).judged.unmatched ≡ Some place →
         IsLone site t c place
-    by_sign (Some at) e left told = absurd (sign_lone (word_of t) at site.is_quiet out t c place told)
+    by_sign (Some at) e left told = absurd (sign_lone (word_of (keyword t)) at site.is_quiet out t c place told)
     by_sign None e left told =
         let found = offered_lone (site.is_between && is_none_pending c.pending) site.is_quiet out t c place told in
         record {
@@ -384,7 +384,7 @@ only_lones_are site out t c place = by_left c.left_out refl
         IsLone site t c place
     by_left (Some side) e =
         of_both (λ (b : Behind). b.judged.unmatched ≡ Some place → IsLone site t c place) (is_end t.kind)
-        (offered false site.is_quiet out t (record c { left_out = None; sign = None })) (passed (passed_by (word_of t) t side c))
+        (offered false site.is_quiet out t (record c { left_out = None; sign = None })) (passed (passed_by (word_of (keyword t)) t side c))
         (λ end told. absurd (no_end t.kind (offered_lone false site.is_quiet out t (record c { left_out = None; sign = None }) place
         told).is_last end))
         (λ _. none_some place)

@@ -3,8 +3,7 @@ use Rattle.std.proofs.Common.{◌≡◌, ℕ, zero, suc, ◌+◌, ◌≤◌, [],
 use Rattle.std.proofs.lemmas.List.{map-append}
 use Rattle.inf_files.specs.Files.{Sources}
 use Rattle.inf_unit.specs.Directives.{Request, End, Include, Nothing}
-use Rattle.inf_unit.specs.Messages.{FileNames}
-use Rattle.inf_unit.specs.Tokens.{SourceToken}
+use Rattle.inf_unit.specs.Tokens.{SourceToken, keyword}
 use Rattle.inf_unit.proofs.Cases.{of_both}
 use Rattle.inf_conditionals.specs.declared.filtered.Forwarded.{Forwarded}
 use Rattle.inf_conditionals.specs.declared.filtered.Forwarded.TheVariants as handed
@@ -15,11 +14,10 @@ use Rattle.inf_conditionals.specs.Ends.{file_told}
 use Rattle.inf_conditionals.specs.Judging.{Behind, is_none_pending, judged, none_handed}
 use Rattle.inf_conditionals.specs.Open.{Conditions, is_second, latest, most_levels, silent}
 use Rattle.inf_conditionals.specs.Words.{word_of}
-use Rattle.inf_reader.specs.Handing.{judged_taken, said_told, sign_taken, site_of}
-use Rattle.inf_reader.specs.Reading.{Reading, ReaderState, is_mode_ended}
+use Rattle.inf_reader.specs.Handing.{judged_taken, said_told, site_of}
+use Rattle.inf_reader.specs.Reading.{Reading, is_mode_ended}
 use Rattle.inf_session.specs.Choices.{Choices}
-use Rattle.inf_session.specs.Session.{State, answered, asked_nothing, has_ended, carried_out, is_resting, left, piece_closed, rested, stand_of, stepped, token_of, turn}
-use Rattle.inf_compilation.specs.Actions.{Compilation}
+use Rattle.inf_session.specs.Session.{State, answered, asked_nothing, context_of, has_ended, carried_out, is_resting, left, piece_closed, rested, stand_of, stepped, token_of, turn}
 use Rattle.inf_conditional_laws.specs.KeptSides.{all_behind, all_handed_on, ended_behind, going_on, handed_as, handed_on, handed_sign, handed_token, judged_at}
 use Rattle.inf_laws.specs.KeptTokens.{given_as, given_of, given_sign, given_token}
 use Rattle.inf_laws.specs.KeptTurns.{given_by, given_in, turned}
@@ -55,45 +53,43 @@ rested_conditions s = go (has_ended s) (is_resting s)
     go false true = refl
     go false false = refl
 
-turn_conditions : (sources : Sources) (o : Choices) (s : State) → is_mode_ended (stepped s).reading.mode ≡ false →
-    is_inclusion (stepped s).work.asked ≡ false
+turn_conditions : (sources : Sources) (o : Choices) (s : State) → is_mode_ended (stepped o s).reading.mode ≡ false →
+    is_inclusion (stepped o s).work.asked ≡ false
     → (turn sources o s).conditions ≡ going_on (at_turn sources o s) s.conditions
 turn_conditions sources o s going none =
-    rested_conditions (carried_out sources o (stepped s))
-    ∙ ap (ended_behind (ends_there (carried_out sources o (stepped s)))) (carried_out_conditions sources o (stepped s) going none)
+    rested_conditions (carried_out sources o (stepped o s))
+    ∙ ap (ended_behind (ends_there (carried_out sources o (stepped o s)))) (carried_out_conditions sources o (stepped o s) going none)
 
 -- What it hands on
 
-shown_as : (h : Forwarded) (t : SourceToken) (w : Compilation) → map shown (given_as h t w) ≡ handed_as h t
-shown_as handed.Kept t w = refl
-shown_as handed.Unfit t w = refl
-shown_as handed.Condition t w = refl
+shown_as : (h : Forwarded) (t : SourceToken) → map shown (given_as h t) ≡ handed_as h t
+shown_as handed.Kept t = refl
+shown_as handed.Unfit t = refl
+shown_as handed.Condition t = refl
 
-shown_sign : (sign : Option Sign) (w : Compilation) → map shown (given_sign sign w) ≡ handed_sign sign
-shown_sign None w = refl
-shown_sign (Some sign) w = shown_as sign.handed _ w
+shown_sign : (sign : Option Sign) → map shown (given_sign sign) ≡ handed_sign sign
+shown_sign None = refl
+shown_sign (Some sign) = shown_as sign.handed _
 
-shown_token : (h : Option Forwarded) (t : SourceToken) (w : Compilation) → map shown (given_token h t w) ≡ handed_token h t
-shown_token None t w = refl
-shown_token (Some h) t w = shown_as h t w
+shown_token : (h : Option Forwarded) (t : SourceToken) → map shown (given_token h t) ≡ handed_token h t
+shown_token None t = refl
+shown_token (Some h) t = shown_as h t
 
-pub all_shown : (files : FileNames) (j : Filtered) (t : SourceToken) (s : ReaderState) → map shown (given_of files j t s) ≡ handed_on j t
-all_shown files j t s =
-    let behind : Compilation = (sign_taken j.sign files s).work in
-    map-append shown (given_sign j.sign s.work) (given_token j.token t behind)
-    ∙ ap (λ hs. hs ++ map shown (given_token j.token t behind)) (shown_sign j.sign s.work)
-    ∙ ap (λ hs. handed_sign j.sign ++ hs) (shown_token j.token t behind)
+pub all_shown : (j : Filtered) (t : SourceToken) → map shown (given_of j t) ≡ handed_on j t
+all_shown j t =
+    map-append shown (given_sign j.sign) (given_token j.token t)
+    ∙ ap (λ hs. hs ++ map shown (given_token j.token t)) (shown_sign j.sign)
+    ∙ ap (λ hs. handed_sign j.sign ++ hs) (shown_token j.token t)
 
 pub turns_hand_on : TurnsHandOn
 turns_hand_on sources o zero s stay = refl
 turns_hand_on sources o (suc n) s stay =
     let next = turn sources o s in
-    let t = token_of s.nesting.cursor in
+    let t = token_of s in
     let b = judged (site_of s.reading) s.work.output t s.conditions in
     let tokens = at_turns sources o n next in
     map-append shown (given_by s) (given_in sources o n next)
-    ∙ ap (λ hs. hs ++ map shown (given_in sources o n next))
-    (all_shown s.nesting.names b.judged t (said_told b.now.said s.nesting.names (stand_of s)))
+    ∙ ap (λ hs. hs ++ map shown (given_in sources o n next)) (all_shown b.judged t)
     ∙ ap (λ hs. handed_on b.judged t ++ hs) (turns_hand_on sources o n next stay.1.1 ∙ ap (all_handed_on tokens)
     (turn_conditions sources o s stay.0 stay.1.0))
 
@@ -114,7 +110,7 @@ pub turns_tell_missing_ends : TurnsTellMissingEnds
 turns_tell_missing_ends d sources o n s parts stay are_these clear file is_last =
     let behind = turned sources o n s in
     let end = at_turn sources o behind in
-    let last = stepped behind in
+    let last = stepped o behind in
     ap (λ (c : Conditions). file_told last.nesting.names (judged_at end c).now last.work.report)
     (turned_conditions sources o n s stay ∙ ap (λ tokens. all_behind tokens s.conditions) are_these)
     ∙ (one_side_is_kept d parts s.conditions clear file).in_file end last.nesting.names last.work.report is_last
@@ -131,7 +127,7 @@ record Still (sources : Sources) (o : Choices) (s : State) (side : LeftOut) : Ty
   reading : (turn sources o s).reading ≡ s.reading
   asked : (turn sources o s).work.asked ≡ Nothing
   left_out : (turn sources o s).conditions.left_out ≡ Some
-      (record side { levels = level_behind (word_of (token_of s.nesting.cursor)) side.levels })
+      (record side { levels = level_behind (word_of (keyword (token_of s))) side.levels })
   second : is_second (latest (turn sources o s).conditions) ≡ is_second (latest s.conditions)
 
 carried_out_asked : (sources : Sources) (o : Choices) (s : State) → is_mode_ended s.reading.mode ≡ false → s.work.asked ≡ Nothing →
@@ -165,22 +161,22 @@ still : (sources : Sources) (o : Choices) (s : State) (side : LeftOut) → s.con
     (as_event (at_turn sources o s) ∷ []) → Still sources o s side
 still sources o s side left_out inner going none few stay =
     let c = s.conditions in
-    let t = token_of s.nesting.cursor in
+    let t = token_of s in
     let site = site_of s.reading in
     let out = s.work.output in
-    let files = s.nesting.names in
+    let context = context_of o s in
     let b = judged site out t c in
-    let stand = said_told b.now.said files (stand_of s) in
-    let now = inside c side (level_behind (word_of t) side.levels) (sign_behind (word_of t) t) c.declared in
+    let stand = said_told b.now.said context (stand_of s) in
+    let now = inside c side (level_behind (word_of (keyword t)) side.levels) (sign_behind (word_of (keyword t)) t) c.declared in
     let is : inside c side side.levels c.sign c.declared ≡ c = ap (λ (x : Option LeftOut). record c { left_out = x }) (sym left_out) in
     let cut = ap (judged site out t) (sym is) ∙ token_is site out t c side side.levels c.sign c.declared stay.0 stay.1.0 few in
     let judged_so : b.judged ≡ none_handed = ap (λ (x : Behind). x.judged) cut in
     let now_so : b.now ≡ now = ap (λ (x : Behind). x.now) cut in
-    let read : (stepped s).reading ≡ s.reading = ap (λ j. (judged_taken files t j stand).reading) judged_so in
-    let asked_so : (stepped s).work.asked ≡ Nothing = ap (λ j. (judged_taken files t j stand).work.asked) judged_so ∙ none in
-    let goes_on : is_mode_ended (stepped s).reading.mode ≡ false = ap (λ (r : Reading). is_mode_ended r.mode) read ∙ going in
-    let h = carried_out sources o (stepped s) in
-    let h_read : h.reading ≡ s.reading = carried_out_reading sources o (stepped s) goes_on ∙ read in
+    let read : (stepped o s).reading ≡ s.reading = ap (λ j. (judged_taken context t j stand).reading) judged_so in
+    let asked_so : (stepped o s).work.asked ≡ Nothing = ap (λ j. (judged_taken context t j stand).work.asked) judged_so ∙ none in
+    let goes_on : is_mode_ended (stepped o s).reading.mode ≡ false = ap (λ (r : Reading). is_mode_ended r.mode) read ∙ going in
+    let h = carried_out sources o (stepped o s) in
+    let h_read : h.reading ≡ s.reading = carried_out_reading sources o (stepped o s) goes_on ∙ read in
     let not_resting : is_resting h ≡ false =
     ap (λ (r : Reading). (site_of r).is_between && is_none_pending h.conditions.pending) h_read
     ∙ ap (λ x. x && is_none_pending h.conditions.pending) inner in
@@ -188,9 +184,9 @@ still sources o s side left_out inner going none few stay =
     turn_conditions sources o s goes_on (ap is_inclusion asked_so) ∙ ap (λ e. ended_behind e (silent b.now)) (none_ends h not_resting)
     ∙ ap silent now_so in
     record {
-      none_given = ap (λ j. given_of files j t stand) judged_so;
+      none_given = ap (λ j. given_of j t) judged_so;
       reading = turn_reading sources o s goes_on ∙ read;
-      asked = rested_asked h ∙ carried_out_asked sources o (stepped s) goes_on asked_so;
+      asked = rested_asked h ∙ carried_out_asked sources o (stepped o s) goes_on asked_so;
       left_out = ap (λ (x : Conditions). x.left_out) conditions;
       second = ap (λ (x : Conditions). is_second (latest x)) conditions;
     }
@@ -199,13 +195,13 @@ pub turns_cut_inner_sides : TurnsCutInnerSides
 turns_cut_inner_sides sources o zero s side left_out inner going none few stay = record { none_given = refl; reading = refl }
 turns_cut_inner_sides sources o (suc n) s side left_out inner going none few stay =
     let next = turn sources o s in
-    let level = level_behind (word_of (token_of s.nesting.cursor)) side.levels in
+    let level = level_behind (word_of (keyword (token_of s))) side.levels in
     let one = still sources o s side left_out inner going none (omega (arith, few)) (stay.0, (stay.1.0, tt)) in
     let all =
     turns_cut_inner_sides sources o n next (record side { levels = level }) one.left_out
     (ap (λ (r : Reading). (site_of r).is_between) one.reading ∙ inner)
     (ap (λ (r : Reading). is_mode_ended r.mode) one.reading ∙ going) one.asked
-    (omega (arith, few, one_more (word_of (token_of s.nesting.cursor)) side.levels))
+    (omega (arith, few, one_more (word_of (keyword (token_of s))) side.levels))
     (subst (λ b. StayIn b level (map as_event (at_turns sources o n next))) (sym one.second) stay.1.1) in
     record {
       none_given = ap (λ gs. gs ++ given_in sources o n next) one.none_given ∙ all.none_given;

@@ -5,11 +5,8 @@ use Rattle.inf_scanner.specs.declared.tokens.Mark.TheVariants as mark
 use Rattle.inf_scanner.specs.declared.tokens.Place.{Place}
 use Rattle.inf_scanner.specs.declared.tokens.TokenKind.{TokenKind}
 use Rattle.inf_scanner.specs.declared.tokens.TokenKind.TheVariants as kind
-use Rattle.inf_machine.specs.Machine.{fits}
-use Rattle.inf_grammar.specs.Language.{grammar, known}
-use Rattle.inf_unit.specs.Tokens.{SourceToken, is_end, is_mark}
-use Rattle.inf_conditionals.specs.Atoms.{atom_of}
-use Rattle.inf_conditionals.specs.Condition.{Condition, condition_took, is_whole, verdict_of}
+use Rattle.inf_unit.specs.Tokens.{SourceToken, is_end, is_mark, keyword}
+use Rattle.inf_conditionals.specs.Condition.{condition_took, verdict_of}
 use Rattle.inf_conditionals.specs.Said.{too_much}
 use Rattle.inf_conditionals.specs.declared.filtered.Site.{Site}
 use Rattle.inf_conditionals.specs.declared.open.LeftOut.{LeftOut}
@@ -19,10 +16,10 @@ use Rattle.inf_conditionals.specs.declared.pending.Effect.TheVariants as effect
 use Rattle.inf_conditionals.specs.declared.pending.Pending.{Pending}
 use Rattle.inf_conditionals.specs.declared.words.ConditionalWord.{ConditionalWord}
 use Rattle.inf_conditionals.specs.declared.words.ConditionalWord.TheVariants as word
-use Rattle.inf_conditionals.specs.Judging.{Behind, asked, asking, at_front, awaited, awaiting, begun, begun_by, decided, effected, held, is_kept, is_none_pending, judged, judged_by, kept, none_handed, offered, offered_to, passed, passed_by, saying, taken, tokens_counted, unfit, went_on}
+use Rattle.inf_conditionals.specs.Judging.{Behind, asked, asking, at_front, awaited, awaiting, begun_by, decided, effected, held, is_kept, is_none_pending, judged, judged_by, kept, offered, offered_to, passed, passed_by, saying, taken, tokens_counted, unfit, went_on}
 use Rattle.inf_conditionals.specs.Open.{Conditions, ended_by, ends_at, is_second, latest, levels_behind, most_levels}
 use Rattle.inf_conditionals.specs.Words.{awaits_of, word_of}
-use Rattle.inf_conditional_laws.specs.Sides.{AllCut, EndsSide, Event, FirstSides, IsBetween, IsLastOf, Piece, SidesAgree, SidesAreCut, SidesEnd, StayIn, StaysLeftOut, Token, ValuesDecide, became, behind, behind_all, directive, ends_side, is_last, level_after, level_behind, opened_at}
+use Rattle.inf_conditional_laws.specs.Sides.{AllCut, Event, FirstSides, Piece, SidesAgree, SidesAreCut, SidesEnd, StayIn, Token, ValuesDecide, behind, behind_all, directive, ends_side, is_last, level_after, level_behind}
 
 -- Words
 
@@ -83,14 +80,14 @@ passed_is (Some w) t c side level sign declared e few =
 
 pub token_is : (site : Site) (out : Out) (t : SourceToken) (c : Conditions) (side : LeftOut) (level : ℕ) (sign : Option Place)
     (declared : ℕ)
-    → is_end t.kind ≡ false → ends_side (is_second (latest c)) level (word_of t) ≡ false → level + 1 ≤ most_levels
+    → is_end t.kind ≡ false → ends_side (is_second (latest c)) level (word_of (keyword t)) ≡ false → level + 1 ≤ most_levels
     → judged site out t (inside c side level sign declared) ≡ passed
-    (inside c side (level_behind (word_of t) level) (sign_behind (word_of t) t) declared)
+    (inside c side (level_behind (word_of (keyword t)) level) (sign_behind (word_of (keyword t)) t) declared)
 token_is site out t c side level sign declared going e few =
     let here = inside c side level sign declared in
     ap (λ (b : Bool). cond b (offered false site.is_quiet out t (record here { left_out = None; sign = None }))
-    (passed (passed_by (word_of t) t (record side { levels = level }) here))) going
-    ∙ ap passed (passed_is (word_of t) t c side level sign declared e few)
+    (passed (passed_by (word_of (keyword t)) t (record side { levels = level }) here))) going
+    ∙ ap passed (passed_is (word_of (keyword t)) t c side level sign declared e few)
 
 piece_is : (c : Conditions) (side : LeftOut) (level : ℕ) (sign : Option Place) (declared now : ℕ) → side.is_inner ≡ false → c.inner ≡ []
     → behind (Piece now) (inside c side level sign declared) ≡ inside c side level sign now
@@ -111,7 +108,7 @@ cut_from : (events : List Event) (c : Conditions) (side : LeftOut) (level : ℕ)
     → level + length events ≤ most_levels → StayIn (is_second (latest c)) level events → Cut events c side level sign declared
 cut_from [] c side level sign declared outer empty few stay = record { all = tt; sign_now = sign; declared_now = declared; leads = refl }
 cut_from (Token site out t ∷ events) c side level sign declared outer empty few stay =
-    let o = word_of t in
+    let o = word_of (keyword t) in
     let here = inside c side level sign declared in
     let next = inside c side (level_behind o level) (sign_behind o t) declared in
     let one = token_is site out t c side level sign declared stay.0 stay.1.0 (omega (arith, few)) in
@@ -161,13 +158,13 @@ ending (Some w) t c side e =
 
 pub sides_end : SidesEnd
 sides_end site out t c side left_out going e =
-    let is : judged site out t c ≡ passed (passed_by (word_of t) t side c) =
+    let is : judged site out t c ≡ passed (passed_by (word_of (keyword t)) t side c) =
     ap (λ (o : Option LeftOut). judged_by o c.sign site out t c) left_out
     ∙ ap (λ (b : Bool). cond b (offered false site.is_quiet out t (record c { left_out = None; sign = None }))
-    (passed (passed_by (word_of t) t side c))) going in
+    (passed (passed_by (word_of (keyword t)) t side c))) going in
     record {
       is_cut = ap (λ (b : Behind). b.judged) is;
-      kept_on = ap (λ (b : Behind). b.now.left_out) is ∙ ending (word_of t) t c side e;
+      kept_on = ap (λ (b : Behind). b.now.left_out) is ∙ ending (word_of (keyword t)) t c side e;
     }
 
 -- Which side it is
@@ -178,13 +175,13 @@ clear c = record c { left_out = None; sign = None; pending = [] }
 
 -- the word of a directive with a name
 word_step : (flag : Bool) (site : Site) (out : Out) (w : SourceToken) (o : ConditionalWord) (c : Conditions) → site.is_between ≡ true →
-    w.kind ≡ kind.Name → word_of w ≡ Some o
+    w.kind ≡ kind.Name → word_of (keyword w) ≡ Some o
     → awaits_of o ≡ awaits.Name flag → judged site out w (clear c) ≡ passed (awaiting w.place false (awaits.Name flag) (clear c))
 word_step flag site out w o c between is_name is awaits =
     let here = clear c in
     ap (λ (k : TokenKind). cond (is_mark mark.Hash k) (passed (held (site.is_between && true) w.place here))
-    (cond (site.is_between && true) (at_front (word_of w) w here) (kept here))) is_name
-    ∙ ap (λ (b : Bool). cond (b && true) (at_front (word_of w) w here) (kept here)) between
+    (cond (site.is_between && true) (at_front (word_of (keyword w)) w here) (kept here))) is_name
+    ∙ ap (λ (b : Bool). cond (b && true) (at_front (word_of (keyword w)) w here) (kept here)) between
     ∙ ap (λ (x : Option ConditionalWord). at_front x w here) is
     ∙ ap (λ (a : Awaits). begun_by a w false here) awaits
 
@@ -200,23 +197,24 @@ end_step k site out t p c no_hash is =
     ∙ ap (λ (b : Bool). cond b (effected (effect.Opens k) site.is_quiet q (clear c)) (unfit (clear c))) is
 
 first_side : (flag : Bool) (o : ConditionalWord) → awaits_of o ≡ awaits.Name flag → FirstSides o (λ b. cond flag b (not b))
-first_side flag o waits first second third out w end name place c at is_name is semicolon no_hash =
+first_side flag o waits first second third out w end name place is_class c at is_name is semicolon no_hash =
     let here = clear c in
     let cleared : here ≡ c =
     ap (λ l. record c { left_out = l; sign = None; pending = [] }) (sym at.all_kept)
     ∙ ap (λ s. record c { sign = s; pending = [] }) (sym at.no_sign)
     ∙ ap (λ ps. record c { pending = ps }) (sym at.none_pending) in
     let kept_so = is_kept flag out c.declared name in
+    let name_token : SourceToken = record { kind = kind.Name; bytes = name; place = place; is_class = is_class } in
     let word_now : behind (Token first out w) here ≡ awaiting w.place false (awaits.Name flag) here =
     ap (λ (b : Behind). b.now) (word_step flag first out w o c at.between is_name is waits) in
     let p : Pending = record { place = w.place; is_inner = false; awaits = awaits.End (effect.Opens kept_so) } in
     let ended : behind (Token third out end) (record here { pending = p ∷ [] }) ≡
     (effected (effect.Opens kept_so) third.is_quiet p here).now =
     ap (λ (b : Behind). b.now) (end_step kept_so third out end p c no_hash semicolon) in
-    let all : behind_all (directive first second third out w name place end) c ≡
+    let all : behind_all (directive first second third out w name place is_class end) c ≡
     (effected (effect.Opens kept_so) third.is_quiet p here).now =
-    ap (behind_all (directive first second third out w name place end)) (sym cleared)
-    ∙ ap (behind_all (Token second out (record { kind = kind.Name; bytes = name; place = place }) ∷ Token third out end ∷ [])) word_now
+    ap (behind_all (directive first second third out w name place is_class end)) (sym cleared)
+    ∙ ap (behind_all (Token second out name_token ∷ Token third out end ∷ [])) word_now
     ∙ ended in
     (ap (λ (x : Conditions). x.among) all, ap (λ (x : Conditions). x.left_out) all)
 

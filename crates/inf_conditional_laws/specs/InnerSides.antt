@@ -5,7 +5,7 @@ use Rattle.inf_names.specs.Symbols.{declared_before}
 use Rattle.inf_output.specs.Output.{Out}
 use Rattle.inf_scanner.specs.declared.tokens.Mark.TheVariants as mark
 use Rattle.inf_scanner.specs.declared.tokens.Place.{Place}
-use Rattle.inf_unit.specs.Tokens.{SourceToken, is_end, is_mark}
+use Rattle.inf_unit.specs.Tokens.{SourceToken, is_end, is_mark, keyword}
 use Rattle.inf_conditionals.specs.declared.filtered.Filtered.{Filtered}
 use Rattle.inf_conditionals.specs.declared.filtered.Site.{Site}
 use Rattle.inf_conditionals.specs.declared.open.LeftOut.{LeftOut}
@@ -50,7 +50,7 @@ pub record EndsSideBy (w : ConditionalWord) (t : SourceToken) (c now : Condition
 
 abbrev pub WordsEndSides : Type 0
 WordsEndSides = (site : Site) (out : Out) (t : SourceToken) (w : ConditionalWord) (c : Conditions) (side : LeftOut) → c.left_out ≡ Some side
-    → is_end t.kind ≡ false → word_of t ≡ Some w
+    → is_end t.kind ≡ false → word_of (keyword t) ≡ Some w
     → ends_side (is_second (latest c)) side.levels (Some w) ≡ true → EndsSideBy w t c (judged site out t c).now (judged site out t c).judged
 
 -- Its semicolon is not handed on either, and behind it all is read as before the side.
@@ -78,8 +78,9 @@ NoneHandedOn [] c = Unit {0}
 NoneHandedOn (e ∷ events) c = (((became e c).sign ≡ None) × ((became e c).token ≡ None)) × NoneHandedOn events (behind e c)
 
 -- the four tokens of a directive with a name behind a `#`
-abbrev pub signed : Site → Site → Site → Site → Out → SourceToken → SourceToken → List ℕ → Place → SourceToken → List Event
-signed zeroth first second third out hash w name place end = Token zeroth out hash ∷ directive first second third out w name place end
+abbrev pub signed : Site → Site → Site → Site → Out → SourceToken → SourceToken → List ℕ → Place → Bool → SourceToken → List Event
+signed zeroth first second third out hash w name place is_class end =
+    Token zeroth out hash ∷ directive first second third out w name place is_class end
 
 -- inside the directive a conditional is open more, from a place on, whose first side is left out or not
 pub record OpenedInside (place : Place) (is_kept : Bool) (c now : Conditions) : Type 0 where
@@ -94,12 +95,13 @@ pub record OpenedInside (place : Place) (is_kept : Bool) (c now : Conditions) : 
 -- the directive is handed on.
 abbrev pub InnerFirstSides : ConditionalWord → (Bool → Bool) → Type 0
 InnerFirstSides directive_word is_kept =
-    (zeroth first second third : Site) (out : Out) (hash w end : SourceToken) (name : List ℕ) (place : Place) (c : Conditions)
-    → IsInside zeroth c → is_mark mark.Hash hash.kind ≡ true → word_of w ≡ Some directive_word → is_mark mark.Semicolon end.kind ≡ true →
-    is_mark mark.Hash end.kind ≡ false
-    → NoneHandedOn (signed zeroth first second third out hash w name place end) c
+    (zeroth first second third : Site) (out : Out) (hash w end : SourceToken) (name : List ℕ) (place : Place) (is_class : Bool)
+    (c : Conditions)
+    → IsInside zeroth c → is_mark mark.Hash hash.kind ≡ true → word_of (keyword w) ≡ Some directive_word
+    → is_mark mark.Semicolon end.kind ≡ true → is_mark mark.Hash end.kind ≡ false
+    → NoneHandedOn (signed zeroth first second third out hash w name place is_class end) c
     × OpenedInside hash.place (is_kept (declared_before name c.declared out.names)) c
-    (behind_all (signed zeroth first second third out hash w name place end) c)
+    (behind_all (signed zeroth first second third out hash w name place is_class end) c)
 
 -- Where an `Ifnot` is not lone, and the first side of the latest conditional was kept, its second side is left out, inside the directive
 -- where the

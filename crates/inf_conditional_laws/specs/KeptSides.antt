@@ -8,8 +8,7 @@ use Rattle.inf_scanner.specs.declared.tokens.TokenKind.TheVariants as kind
 use Rattle.inf_machine.specs.Machine.{fits}
 use Rattle.inf_grammar.specs.Language.{grammar, known}
 use Rattle.inf_unit.specs.Messages.{FileNames, Reported}
-use Rattle.inf_unit.specs.Tokens.{SourceToken, is_end, is_mark}
-use Rattle.inf_conditionals.specs.Atoms.{atom_of}
+use Rattle.inf_unit.specs.Tokens.{SourceToken, atom_of, is_end, is_mark, keyword}
 use Rattle.inf_conditionals.specs.Condition.{Condition, condition_begun, condition_took, is_whole, verdict_of}
 use Rattle.inf_sources.specs.declared.open_file.Conditional.{Conditional}
 use Rattle.inf_conditionals.specs.declared.filtered.Forwarded.{Forwarded}
@@ -391,7 +390,7 @@ counts is_kept is_within t = not is_kept || (not is_within && t.site.is_between)
 
 -- a token that is neither the end of the file, nor a `#`, nor a word of a conditional where that counts
 pub record IsPlain (is_kept is_within : Bool) (t : At) : Type 0 where
-  pub no_word : counts is_kept is_within t ≡ true → word_of t.token ≡ None
+  pub no_word : counts is_kept is_within t ≡ true → word_of (keyword t.token) ≡ None
   pub no_hash : is_mark mark.Hash t.token.kind ≡ false
   pub goes_on : is_end t.token.kind ≡ false
 
@@ -406,7 +405,7 @@ pub record IsSign (is_inner : Bool) (sign : At) : Type 0 where
 
 -- behind one a word always counts
 pub record IsSignedPlain (t : At) : Type 0 where
-  pub no_word : word_of t.token ≡ None
+  pub no_word : word_of (keyword t.token) ≡ None
   pub no_hash : is_mark mark.Hash t.token.kind ≡ false
   pub goes_on : is_end t.token.kind ≡ false
 
@@ -444,13 +443,13 @@ Follows true true (Some next) = (is_mark mark.Hash next.token.kind ≡ true) × 
 
 pub record IsFirst (is_kept is_inner is_within : Bool) (w : ConditionalWord) (first : First) : Type 0 where
   pub begins : Begins is_kept is_inner is_within first.sign first.word
-  pub is : word_of first.word.token ≡ Some w
+  pub is : word_of (keyword first.word.token) ≡ Some w
   pub goes_on : GoesOn is_inner first.word
 
 -- a name, where it is left out none that is such a word
 pub record IsName (is_kept : Bool) (t : At) : Type 0 where
   pub is : t.token.kind ≡ kind.Name
-  pub no_word : is_kept ≡ false → word_of t.token ≡ None
+  pub no_word : is_kept ≡ false → word_of (keyword t.token) ≡ None
 
 pub record IsSemicolon (t : At) : Type 0 where
   pub is : is_mark mark.Semicolon t.token.kind ≡ true

@@ -5,6 +5,7 @@ use Rattle.inf_report.specs.Messages.{LoneConditional}
 use Rattle.inf_scanner.specs.declared.tokens.Mark.TheVariants as mark
 use Rattle.inf_scanner.specs.declared.tokens.Place.{Place}
 use Rattle.inf_unit.specs.Messages.{FileNames, location, with_error}
+use Rattle.inf_compilation.specs.Context.{Context}
 use Rattle.inf_unit.specs.Tokens.{SourceToken, is_mark}
 use Rattle.inf_conditionals.specs.declared.filtered.Site.{Site}
 use Rattle.inf_sources.specs.declared.open_file.Conditional.{Conditional}
@@ -106,6 +107,6 @@ lone_message files place s =
     record s { work = record s.work { report = with_error (location files place) (location files place) LoneConditional s.work.report } }
 
 abbrev pub LonesAreTold : Type 0
-LonesAreTold = (files : FileNames) (site : Site) (out : Out) (t : SourceToken) (c : Conditions) (place : Place) (s : ReaderState) → IsLone
+LonesAreTold = (context : Context) (site : Site) (out : Out) (t : SourceToken) (c : Conditions) (place : Place) (s : ReaderState) → IsLone
     site t c place
-    → judged_taken files t (judged site out t c).judged s ≡ unit_ended (Some place) files (lone_message files place s)
+    → judged_taken context t (judged site out t c).judged s ≡ unit_ended (Some place) context (lone_message context.names place s)

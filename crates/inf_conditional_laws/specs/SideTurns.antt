@@ -26,9 +26,9 @@ at_turn sources o s =
     record {
       site = site_of s.reading;
       out = s.work.output;
-      token = token_of s.nesting.cursor;
+      token = token_of s;
       ended = ends_there
-          (carried_out sources o (stepped s));
+          (carried_out sources o (stepped o s));
     }
 
 abbrev pub at_turns : Sources → Choices → ℕ → State → List At
@@ -44,12 +44,12 @@ is_inclusion Nothing = false
 abbrev pub StayInOne : Sources → Choices → ℕ → State → Type 0
 StayInOne sources o zero s = Unit {0}
 StayInOne sources o (suc n) s =
-    (is_mode_ended (stepped s).reading.mode ≡ false) ×
-    ((is_inclusion (stepped s).work.asked ≡ false) × StayInOne sources o n (turn sources o s))
+    (is_mode_ended (stepped o s).reading.mode ≡ false) ×
+    ((is_inclusion (stepped o s).work.asked ≡ false) × StayInOne sources o n (turn sources o s))
 
--- what is handed on, without whether a name is that of a class
+-- what is handed on
 abbrev pub shown : Given → Handing
-shown (Kept t) = record { handed = handed.Kept; token = t.token }
+shown (Kept t) = record { handed = handed.Kept; token = t }
 shown (Unfit t) = record { handed = handed.Unfit; token = t }
 
 -- Turns hand on what conditionals do.
@@ -70,8 +70,8 @@ abbrev pub TurnsTellMissingEnds : Type 0
 TurnsTellMissingEnds = (answers : Answers) (sources : Sources) (o : Choices) (n : ℕ) (s : State) (parts : Parts) → StayInOne sources o n s →
     at_turns sources o n s ≡ all_tokens parts
     → IsClear s.conditions → IsFile answers s.conditions.declared parts
-    → is_end (token_of (turned sources o n s).nesting.cursor).kind ≡ true
-    → let last = stepped (turned sources o n s) in let around = behind_parts answers none_around parts in
+    → is_end (token_of (turned sources o n s)).kind ≡ true
+    → let last = stepped o (turned sources o n s) in let around = behind_parts answers none_around parts in
     (file_closed last).work.report ≡ with_all_at last.nesting.names (unended around.inside ++ unended around.between) last.work.report
 
 -- So it is from the first token of a main source on.

@@ -7,12 +7,10 @@ use Rattle.inf_scanner.specs.declared.tokens.Place.{Place}
 use Rattle.inf_scanner.specs.declared.tokens.TokenKind.TheVariants as kind
 use Rattle.inf_machine.specs.Machine.{fits}
 use Rattle.inf_grammar.specs.Language.{grammar, known}
-use Rattle.inf_unit.specs.Tokens.{SourceToken, is_end, is_mark}
-use Rattle.inf_conditionals.specs.Atoms.{atom_of}
+use Rattle.inf_unit.specs.Tokens.{SourceToken, atom_of, is_end, is_mark, keyword}
 use Rattle.inf_conditionals.specs.Condition.{Condition, condition_took, is_whole, verdict_of}
 use Rattle.inf_conditionals.specs.declared.filtered.Filtered.{Filtered}
 use Rattle.inf_conditionals.specs.declared.filtered.Site.{Site}
-use Rattle.inf_sources.specs.declared.open_file.Conditional.{Conditional}
 use Rattle.inf_conditionals.specs.declared.open.LeftOut.{LeftOut}
 use Rattle.inf_conditionals.specs.declared.pending.Awaits.TheVariants as awaits
 use Rattle.inf_conditionals.specs.declared.pending.Pending.{Pending}
@@ -68,12 +66,13 @@ ends_side second level (Some w) = (level == 0) && is_last second w
 abbrev pub StayIn : Bool → ℕ → List Event → Type 0
 StayIn second level [] = Unit {0}
 StayIn second level (Token site out t ∷ events) =
-    (is_end t.kind ≡ false) × ((ends_side second level (word_of t) ≡ false) × StayIn second (level_behind (word_of t) level) events)
+    (is_end t.kind ≡ false)
+    × ((ends_side second level (word_of (keyword t)) ≡ false) × StayIn second (level_behind (word_of (keyword t)) level) events)
 StayIn second level (Piece declared ∷ events) = StayIn second level events
 
 abbrev pub level_after : List Event → ℕ → ℕ
 level_after [] level = level
-level_after (Token site out t ∷ events) level = level_after events (level_behind (word_of t) level)
+level_after (Token site out t ∷ events) level = level_after events (level_behind (word_of (keyword t)) level)
 level_after (Piece declared ∷ events) level = level_after events level
 
 -- all of them are cut out
@@ -103,7 +102,8 @@ pub record EndsSide (c now : Conditions) (j : Filtered) : Type 0 where
 
 abbrev pub SidesEnd : Type 0
 SidesEnd = (site : Site) (out : Out) (t : SourceToken) (c : Conditions) (side : LeftOut) → c.left_out ≡ Some side → is_end t.kind ≡ false
-    → ends_side (is_second (latest c)) side.levels (word_of t) ≡ true → EndsSide c (judged site out t c).now (judged site out t c).judged
+    → ends_side (is_second (latest c)) side.levels (word_of (keyword t)) ≡ true
+    → EndsSide c (judged site out t c).now (judged site out t c).judged
 
 -- Which side is left out
 
@@ -115,9 +115,12 @@ pub record IsBetween (site : Site) (c : Conditions) : Type 0 where
   pub no_sign : c.sign ≡ None
 
 -- the three tokens of a directive with a name, at sites, where names are known
-abbrev pub directive : Site → Site → Site → Out → SourceToken → List ℕ → Place → SourceToken → List Event
-directive first second third out w name place end =
-    Token first out w ∷ Token second out (record { kind = kind.Name; bytes = name; place = place }) ∷ Token third out end ∷ []
+abbrev pub directive : Site → Site → Site → Out → SourceToken → List ℕ → Place → Bool → SourceToken → List Event
+directive first second third out w name place is_class end =
+    Token first out w
+    ∷ Token second out (record { kind = kind.Name; bytes = name; place = place; is_class = is_class })
+    ∷ Token third out end
+    ∷ []
 
 -- a conditional is open more, from a place on, whose first side is left out or not
 abbrev pub opened_at : Place → Bool → Conditions → Conditions → Type 0
@@ -128,11 +131,11 @@ opened_at place is_kept c now =
 -- The first side of `Ifdef` is kept where a directive before this one declared the name, and that of `Ifndef` where none did.
 abbrev pub FirstSides : ConditionalWord → (Bool → Bool) → Type 0
 FirstSides directive_word is_kept =
-    (first second third : Site) (out : Out) (w end : SourceToken) (name : List ℕ) (place : Place) (c : Conditions)
-    → IsBetween first c → w.kind ≡ kind.Name → word_of w ≡ Some directive_word → is_mark mark.Semicolon end.kind ≡ true → is_mark mark.Hash
-    end.kind ≡ false
+    (first second third : Site) (out : Out) (w end : SourceToken) (name : List ℕ) (place : Place) (is_class : Bool) (c : Conditions)
+    → IsBetween first c → w.kind ≡ kind.Name → word_of (keyword w) ≡ Some directive_word → is_mark mark.Semicolon end.kind ≡ true
+    → is_mark mark.Hash end.kind ≡ false
     → opened_at w.place (is_kept (declared_before name c.declared out.names)) c
-    (behind_all (directive first second third out w name place end) c)
+    (behind_all (directive first second third out w name place is_class end) c)
 
 pub record SidesAgree : Type 0 where
   pub of_ifdef : FirstSides word.Ifdef (λ b. b)
