@@ -8,8 +8,7 @@ use Rattle.inf_sources.specs.Inclusions.{Inclusion, Opens, OpensNone, Waiting, i
 use Rattle.inf_sources.specs.declared.open_files.Included.{Included}
 use Rattle.inf_sources.specs.declared.open_files.Included.TheVariants as answer
 use Rattle.inf_unit.specs.Directives.{Request, End, Include, Nothing}
-use Rattle.inf_unit.specs.Messages.{FileNames, Reported}
-use Rattle.inf_unit.specs.Tokens.{SourceToken, is_end, is_mark}
+use Rattle.inf_unit.specs.Tokens.{is_end, is_mark, keyword}
 use Rattle.inf_conditionals.specs.declared.filtered.Forwarded.{Forwarded}
 use Rattle.inf_conditionals.specs.declared.filtered.Forwarded.TheVariants as handed
 use Rattle.inf_conditionals.specs.declared.filtered.Filtered.{Filtered}
@@ -17,15 +16,15 @@ use Rattle.inf_conditionals.specs.declared.filtered.Sign.{Sign}
 use Rattle.inf_sources.specs.declared.open_file.Conditional.{Conditional}
 use Rattle.inf_conditionals.specs.declared.open.LeftOut.{LeftOut}
 use Rattle.inf_conditionals.specs.declared.pending.Pending.{Pending}
-use Rattle.inf_conditionals.specs.Ends.{file_ended, file_told, with_all_lone, with_among}
+use Rattle.inf_conditionals.specs.Ends.{file_ended, with_all_lone, with_among}
 use Rattle.inf_conditionals.specs.Judging.{Behind, behind_sign, judged, judged_by, is_none_pending, kept, none_handed, offered, passed, passed_by}
 use Rattle.inf_conditionals.specs.Open.{Conditions, most_levels, silent}
 use Rattle.inf_conditionals.specs.Words.{word_of}
 use Rattle.inf_unit.proofs.Cases.{of_both}
-use Rattle.inf_reader.specs.Handing.{hash, said_told, site_of}
+use Rattle.inf_reader.specs.Handing.{hash, site_of}
 use Rattle.inf_reader.specs.Reading.{is_mode_ended}
 use Rattle.inf_session.specs.Choices.{Choices}
-use Rattle.inf_session.specs.Session.{State, answered, asked_nothing, carried_out, included_by, left, left_by, file_closed, has_ended, is_resting, none_included, piece_closed, rested, stand_of, stepped, token_of, turn}
+use Rattle.inf_session.specs.Session.{State, answered, asked_nothing, carried_out, included_by, left, left_by, file_closed, has_ended, is_resting, none_included, piece_closed, rested, stepped, token_of, turn}
 use Rattle.inf_included_laws.specs.IncludedFiles.{Alone, AreFiles, AreOfAFile, Breaking, Cut, CutHashLast, CutHashThen, CutHashesLeft, Enters, Files, FilesKeepSides, FilesTellUnended, HashLast, HashThen, HashesLeft, Including, Leaves, Nested, Stays, Step, TurnsKeepFiles, all_unended, around_behind, around_broken, around_included, asked_passage, behind_files, end_handed, end_sign, first_step, handed_by, handed_end, handed_files, left_to, nested, nested_in, opens, passage, behind_passage, passed_files, released, sign_as, standing, staying, step_at, step_behind, steps, steps_at, steps_behind, tokens_behind, told_at, told_behind, told_by, told_files}
 use Rattle.inf_conditional_laws.specs.KeptSides.{Answers, Around, At, Follows, Handing, IsClear, IsPlain, IsSign, NoneInside, Parts, all_behind, all_handed_on, all_kept, all_tokens, all_told, are_kept, as_kept, behind_parts, declared_behind, declared_tokens, ended_behind, ended_in, ended_places, going_on, handed_as, handed_on, handed_sign, handed_token, judged_at, kept_sides, lone_places, missing_in, none_around, places, told_parts, unended}
 use Rattle.inf_included_laws.specs.Unfinished.{AreHashes, Request as HasAsked, Bare, Closes, Fronting, FrontingWord, HasWord, Hashed, HaveBegun, IsMisfit, Misfit, Named, Turns, Unfinished, Unnamed, all_begun_tokens, as_unfit, begun_handed, begun_sign, behind_all_begun, behind_misfit, handed_misfit, misfit_tokens, told_all_begun, told_misfit}
@@ -230,7 +229,7 @@ end_is_kept t c is none no_sign = go c.left_out c.sign refl refl no_sign
         judged_by side sign t.site t.out t.token c ≡ kept cleared
     go (Some side) sign is_left is_sign e =
         ap (λ (b : Bool). cond b (offered false t.site.is_quiet t.out t.token cleared)
-        (passed (passed_by (word_of t.token) t.token side c))) is
+        (passed (passed_by (word_of (keyword t.token)) t.token side c))) is
         ∙ end_kept_so false t.site.is_quiet t.out t.token cleared is none
     go None None is_left is_sign e =
         end_kept_so (t.site.is_between && is_none_pending c.pending) t.site.is_quiet t.out t.token c is none
@@ -610,7 +609,7 @@ end_offered : (end : At) (base : Conditions) (sign : Option Place) (inner among 
 end_offered end base sign inner among b m declared is_last =
     let here = state base sign inner among (left_at b m) declared in
     ap (λ (x : Bool). cond x (offered false end.site.is_quiet end.out end.token (at base inner among None declared))
-    (passed (passed_by (word_of end.token) end.token (record { is_inner = b; levels = m }) here))) is_last
+    (passed (passed_by (word_of (keyword end.token)) end.token (record { is_inner = b; levels = m }) here))) is_last
 
 record LeftEnds (o : Option Sign) (h : Forwarded) (s : Around) (w : List (List Conditional)) (signs : List At) (c : Conditions) : Type 0
   where
@@ -1229,22 +1228,21 @@ rested_waiting s =
 
 turn_steps : (sources : Sources) (o : Choices) (s : State) → nested (turn sources o s) ≡ step_behind (step_at sources o s) (nested s)
 turn_steps sources o s =
-    let done = carried_out sources o (stepped s) in
+    let done = carried_out sources o (stepped o s) in
     ap (λ (c : Conditions). nested_in (map (λ (w : Waiting). w.conditionals) (rested done).nesting.waiting) c) (rested_conditions done)
     ∙ ap (λ (ws : List Waiting). nested_in (map (λ (w : Waiting). w.conditionals) ws) (ended_behind (ends_there done) done.conditions))
     (rested_waiting done)
-    ∙ ap (λ (n : Nested). record n { now = ended_behind (ends_there done) n.now }) (carried_out_passes sources o (stepped s))
+    ∙ ap (λ (n : Nested). record n { now = ended_behind (ends_there done) n.now }) (carried_out_passes sources o (stepped o s))
 
 steps_hand_on : (sources : Sources) (o : Choices) (n : ℕ) (s : State) →
     map shown (given_in sources o n s) ≡ handed_by (steps_at sources o n s) (nested s)
 steps_hand_on sources o zero s = refl
 steps_hand_on sources o (suc n) s =
     let next = turn sources o s in
-    let t = token_of s.nesting.cursor in
+    let t = token_of s in
     let b = judged (site_of s.reading) s.work.output t s.conditions in
     map-append shown (given_by s) (given_in sources o n next)
-    ∙ ap (λ hs. hs ++ map shown (given_in sources o n next))
-    (all_shown s.nesting.names b.judged t (said_told b.now.said s.nesting.names (stand_of s)))
+    ∙ ap (λ hs. hs ++ map shown (given_in sources o n next)) (all_shown b.judged t)
     ∙ ap (λ hs. handed_on b.judged t ++ hs) (steps_hand_on sources o n next ∙ ap (handed_by (steps_at sources o n next))
     (turn_steps sources o s))
 
@@ -1260,14 +1258,14 @@ turns_keep_files d sources o n s f are_these clear are =
     let all = files_keep_sides d f (nested s) clear are in
     let behind = turned sources o n s in
     let end = at_turn sources o behind in
-    let last = stepped behind in
+    let last = stepped o behind in
     let turned_so = steps_turned sources o n s ∙ ap (λ xs. steps_behind xs (nested s)) are_these in
     record {
       handed_on = steps_hand_on sources o n s ∙ ap (λ xs. handed_by xs (nested s)) are_these ∙ all.handed_on;
       end_on = λ is_last.
-          let t = token_of behind.nesting.cursor in
+          let t = token_of behind in
           let b = judged (site_of behind.reading) behind.work.output t behind.conditions in
-          all_shown behind.nesting.names b.judged t (said_told b.now.said behind.nesting.names (stand_of behind))
+          all_shown b.judged t
           ∙ ap (λ (n : Nested). handed_on (judged_at end n.now).judged t) turned_so
           ∙ all.end_on end is_last;
       at_last = λ is_last.

@@ -1,7 +1,6 @@
 -- Conditional directives that are not whole.
-use Rattle.std.proofs.Common.{◌≡◌, ℕ, zero, suc, ◌+◌, ◌≤◌, List, [], ◌∷◌, ◌++◌, drop, length, cond, ◌&&◌, Bool, true, false, Option, Some, None, unwrap_or, refl, sym, ap, subst, ◌∙◌, append_assoc, arith}
+use Rattle.std.proofs.Common.{◌≡◌, ℕ, ◌+◌, ◌≤◌, List, [], ◌∷◌, ◌++◌, drop, length, cond, ◌&&◌, Bool, true, false, Option, Some, None, unwrap_or, refl, sym, ap, subst, ◌∙◌, arith}
 use Rattle.std.proofs.Math.Bool.{and-false}
-use Rattle.std.proofs.lemmas.List.{append-nil}
 use Rattle.inf_output.specs.Output.{Out}
 use Rattle.inf_scanner.specs.declared.tokens.Mark.TheVariants as mark
 use Rattle.inf_scanner.specs.declared.tokens.Place.{Place}
@@ -9,8 +8,7 @@ use Rattle.inf_scanner.specs.declared.tokens.TokenKind.{TokenKind}
 use Rattle.inf_scanner.specs.declared.tokens.TokenKind.TheVariants as kind
 use Rattle.inf_machine.specs.Machine.{fits}
 use Rattle.inf_grammar.specs.Language.{grammar, known}
-use Rattle.inf_unit.specs.Tokens.{SourceToken, is_end, is_mark}
-use Rattle.inf_conditionals.specs.Atoms.{atom_of}
+use Rattle.inf_unit.specs.Tokens.{SourceToken, atom_of, is_end, is_mark, keyword}
 use Rattle.inf_conditionals.specs.Condition.{Condition, condition_begun, condition_took}
 use Rattle.inf_conditionals.specs.declared.filtered.Forwarded.TheVariants as handed
 use Rattle.inf_sources.specs.declared.open_file.Conditional.{Conditional}
@@ -871,7 +869,7 @@ unfit_end d s outer u last toks places c b t so is = ap (judged_at t) b.led.ends
         (end_is_no_hash t.token.kind is) (end_cuts d s outer u t so is)
     go (Some side) =
         ap (λ (x : Bool). cond x (offered false t.site.is_quiet t.out t.token here)
-        (passed (passed_by (word_of t.token) t.token side (at b.led.ends.base inner among (Some side) last.declared)))) is
+        (passed (passed_by (word_of (keyword t.token)) t.token side (at b.led.ends.base inner among (Some side) last.declared)))) is
         ∙ unfit_there d s outer u last toks places c b last.declared false t (end_is_no_hash t.token.kind is) (end_cuts d s outer u t so is)
 
 -- But behind a `#` that begins a directive the end is kept, with that.
@@ -900,7 +898,7 @@ front_there d s outer sign parts last toks places c b declared front t is =
     ap (λ ps. offered front t.site.is_quiet t.out t.token (at (record e.base { pending = ps }) inner among None declared))
     (e.holds.0 ∙ ap (λ x. x ∷ b.others) b.alone.0 ∙ ap (λ others. p ∷ others) b.alone.1)
     ∙ ap (λ (x : Bool). cond x (passed (held front t.token.place (at (record e.base { pending = p ∷ [] }) inner among None declared)))
-    (behind_front (word_of t.token) t.token p cleared)) (end_is_no_hash t.token.kind is)
+    (behind_front (word_of (keyword t.token)) t.token p cleared)) (end_is_no_hash t.token.kind is)
     ∙ ap (λ o. behind_front o t.token p cleared) (end_word t.token is)
 
 pub front_end_kept : (d : Answers) (s : Around) (outer : List Unfinished) (sign : At) (parts : Parts) (last : Last) (toks : List At)
@@ -924,7 +922,7 @@ front_end_kept d s outer sign parts last toks places c b t is = ap (judged_at t)
     go None = front_there d s outer sign parts last toks places c b last.declared (t.site.is_between && is_none_pending base.pending) t is
     go (Some side) =
         ap (λ (x : Bool). cond x (offered false t.site.is_quiet t.out t.token (at base inner among None last.declared))
-        (passed (passed_by (word_of t.token) t.token side (at base inner among (Some side) last.declared)))) is
+        (passed (passed_by (word_of (keyword t.token)) t.token side (at base inner among (Some side) last.declared)))) is
         ∙ front_there d s outer sign parts last toks places c b last.declared false t is
 
 -- a `#` and what is behind it

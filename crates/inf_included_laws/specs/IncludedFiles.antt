@@ -1,7 +1,6 @@
 -- Which tokens are kept of files that include one another: of each file those that its own conditionals keep.
 use Rattle.std.specs.Prelude.{◌≡◌, ◌≤◌, ◌+◌, ℕ, zero, suc, List, [], ◌∷◌, ◌++◌, map, reverse, length, Bool, true, false, if◌then◌else◌, Option, Some, None}
 use Rattle.inf_files.specs.Files.{Sources}
-use Rattle.inf_scanner.specs.declared.tokens.Mark.TheVariants as mark
 use Rattle.inf_scanner.specs.declared.tokens.Place.{Place}
 use Rattle.inf_sources.specs.Inclusions.{Inclusion, Opens, OpensNone, Waiting, inclusion}
 use Rattle.inf_sources.specs.declared.open_file.Conditional.{Conditional}
@@ -367,7 +366,7 @@ passage sources o s =
     if s.work.report.counts.is_over then Stays else if is_mode_ended s.reading.mode then Leaves else asked_passage s.work.asked sources o s
 
 abbrev pub step_at : Sources → Choices → State → Step
-step_at sources o s = record { at = at_turn sources o s; passage = passage sources o (stepped s) }
+step_at sources o s = record { at = at_turn sources o s; passage = passage sources o (stepped o s) }
 
 abbrev pub steps_at : Sources → Choices → ℕ → State → List Step
 steps_at sources o zero s = []
@@ -378,9 +377,9 @@ steps_at sources o (suc n) s = step_at sources o s ∷ steps_at sources o n (tur
 -- in this order, after all else.
 pub record TurnsKeep (answers : Answers) (sources : Sources) (o : Choices) (n : ℕ) (s : State) (files : Files) : Type 0 where
   pub handed_on : map shown (given_in sources o n s) ≡ handed_files answers none_around files
-  pub end_on : let t = token_of (turned sources o n s).nesting.cursor in is_end t.kind ≡ true → map shown (given_by (turned sources o n s))
+  pub end_on : let t = token_of (turned sources o n s) in is_end t.kind ≡ true → map shown (given_by (turned sources o n s))
       ≡ handed_end files t
-  pub at_last : let last = stepped (turned sources o n s) in is_end (token_of (turned sources o n s).nesting.cursor).kind ≡ true
+  pub at_last : let last = stepped o (turned sources o n s) in is_end (token_of (turned sources o n s)).kind ≡ true
       → (file_closed last).work.report ≡ with_all_at last.nesting.names (all_unended (behind_files answers none_around files))
       last.work.report
 

@@ -6,8 +6,7 @@ use Rattle.inf_scanner.specs.declared.tokens.Place.{Place}
 use Rattle.inf_scanner.specs.declared.tokens.TokenKind.TheVariants as kind
 use Rattle.inf_machine.specs.Machine.{fits}
 use Rattle.inf_grammar.specs.Language.{grammar, known}
-use Rattle.inf_unit.specs.Tokens.{SourceToken, is_mark}
-use Rattle.inf_conditionals.specs.Atoms.{atom_of}
+use Rattle.inf_unit.specs.Tokens.{SourceToken, atom_of, is_mark}
 use Rattle.inf_conditionals.specs.Condition.{Condition, condition_begun, condition_took, is_whole}
 use Rattle.inf_conditionals.specs.declared.filtered.Forwarded.{Forwarded}
 use Rattle.inf_conditionals.specs.declared.filtered.Forwarded.TheVariants as handed
