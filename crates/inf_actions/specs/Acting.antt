@@ -1,5 +1,7 @@
 -- What each action of the grammar does.
 use Rattle.std.specs.Prelude.{List, [], ◌∷◌, length, Bool, false, true, ◌&&◌, None, Some, nat_lt, if◌then◌else◌}
+use Rattle.inf_settings.specs.Bounds.{Limits}
+use Rattle.inf_settings.specs.declared.setting.Setting.TheVariants as setting
 use Rattle.inf_scanner.specs.declared.tokens.Place.{Place}
 use Rattle.inf_syntax.specs.declared.actions.Action.{Action}
 use Rattle.inf_compilation.specs.Context.{Context}
@@ -27,38 +29,38 @@ use Rattle.inf_verb_lines.specs.Verbs.{line_ended}
 use Rattle.inf_compilation.specs.declared.parts.Part.TheVariants as part
 
 -- Whether the unit at hand prints more than code may have bytes. Its code then passes that setting, whatever else it prints.
-abbrev pub is_crowded : Compilation → Bool
-is_crowded w = nat_lt w.output.code.limits.code (length w.unit.items)
+abbrev pub is_crowded : Limits → Compilation → Bool
+is_crowded limits w = nat_lt (limits setting.Code) (length w.unit.items)
 
 -- Something is noted of the unit at hand, by which its outermost expression may be too long. Of texts that are printed so many are kept.
 abbrev pub noted_of : Context → Note → Compilation → Compilation
 noted_of context n w = let v = record w { unit = unit_noted n w.unit } in if makes_sure n then sized context v else v
 
-abbrev pub noted : Context → Note → Compilation → Compilation
-noted context n w = if is_text n && is_crowded w then record w { unit = text_passed w.unit } else noted_of context n w
+abbrev pub noted : Limits → Context → Note → Compilation → Compilation
+noted limits context n w = if is_text n && is_crowded limits w then record w { unit = text_passed w.unit } else noted_of context n w
 
 -- The unit at hand ends, before a token at a place.
-abbrev pub ended : Context → Place → Ending → Compilation → Compilation
-ended context place ending.Locals w = header_end context place w
-ended context place ending.Embedded w = embedded_read context place w
-ended context place ending.Routine w = close context place w
-ended context place ending.Directive w = directive_end context place w
-ended context place ending.Header w = header_ended context place w
-ended context place ending.Body w = body_ended w
-ended context place ending.Class w = class_read context place w
-ended context place ending.Attribute w = attribute_read context place w
-ended context place ending.Property w = property_read context place w
-ended context place ending.Value w = value_read context place w
-ended context place ending.Line w = line_ended context place w
-ended context place ending.Entry w = entry_ended context place false w
-ended context place ending.Alone w = entry_ended context place true w
-ended context place ending.Statement w = part_ended context place (part.Statement (statement_at w)) w
-ended context place ending.Condition w = part_ended context place part.Condition w
-ended context place ending.Start w = part_ended context place part.Start w
-ended context place ending.Step w = part_ended context place part.Step w
-ended context place ending.Loop w = part_ended context place part.Loop w
-ended context place ending.Switched w = part_ended context place part.Switched w
-ended context place ending.Case w = part_ended context place part.Case w
+abbrev pub ended : Limits → Context → Place → Ending → Compilation → Compilation
+ended limits context place ending.Locals w = header_end limits context place w
+ended limits context place ending.Embedded w = embedded_read limits context place w
+ended limits context place ending.Routine w = close limits context place w
+ended limits context place ending.Directive w = directive_end limits context place w
+ended limits context place ending.Header w = header_ended limits context place w
+ended limits context place ending.Body w = body_ended w
+ended limits context place ending.Class w = class_read limits context place w
+ended limits context place ending.Attribute w = attribute_read limits context place w
+ended limits context place ending.Property w = property_read limits context place w
+ended limits context place ending.Value w = value_read limits context place w
+ended limits context place ending.Line w = line_ended limits context place w
+ended limits context place ending.Entry w = entry_ended limits context place false w
+ended limits context place ending.Alone w = entry_ended limits context place true w
+ended limits context place ending.Statement w = part_ended limits context place (part.Statement (statement_at w)) w
+ended limits context place ending.Condition w = part_ended limits context place part.Condition w
+ended limits context place ending.Start w = part_ended limits context place part.Start w
+ended limits context place ending.Step w = part_ended limits context place part.Step w
+ended limits context place ending.Loop w = part_ended limits context place part.Loop w
+ended limits context place ending.Switched w = part_ended limits context place part.Switched w
+ended limits context place ending.Case w = part_ended limits context place part.Case w
 
 -- the kind of a statement that begins
 abbrev pub kind_of : Opening → Kind
@@ -70,24 +72,24 @@ kind_of opening.Objectloop = kind.Objects over.Nothing 0
 kind_of opening.Switch = kind.Switch case.Nothing false
 
 -- what an action does that is there for something, before a token at a place
-abbrev pub played : Context → Place → Role → Compilation → Compilation
-played context place (role.Gather s) w = record w { unit = stepped s w.unit }
-played context place (role.Note n) w = noted context n w
-played context place (role.End e) w = ended context place e w
-played context place (role.Open o) w = construct_opened context place (kind_of o) w
-played context place role.Join w = construct_joined w
-played context place role.Close w = construct_closed w
-played context place role.Deeper w = nested context place (is_deep w 1) w
-played context place role.MaybeDeeper w = record w { opening = Some place }
-played context place role.Nothing w = w
+abbrev pub played : Limits → Context → Place → Role → Compilation → Compilation
+played limits context place (role.Gather s) w = record w { unit = stepped s w.unit }
+played limits context place (role.Note n) w = noted limits context n w
+played limits context place (role.End e) w = ended limits context place e w
+played limits context place (role.Open o) w = construct_opened limits context place (kind_of o) w
+played limits context place role.Join w = construct_joined limits w
+played limits context place role.Close w = construct_closed limits w
+played limits context place role.Deeper w = nested context place (is_deep w 1) w
+played limits context place role.MaybeDeeper w = record w { opening = Some place }
+played limits context place role.Nothing w = w
 
-abbrev pub act : Context → Place → Action → Compilation → Compilation
-act context place a w = played context place (role_of a) w
+abbrev pub act : Limits → Context → Place → Action → Compilation → Compilation
+act limits context place a w = played limits context place (role_of a) w
 
-abbrev pub acted : Context → Place → List Action → Compilation → Compilation
-acted context place [] w = w
-acted context place (a ∷ actions) w = acted context place actions (act context place a w)
+abbrev pub acted : Limits → Context → Place → List Action → Compilation → Compilation
+acted limits context place [] w = w
+acted limits context place (a ∷ actions) w = acted limits context place actions (act limits context place a w)
 
 -- what those on the way to a token do
-abbrev pub all_acted : Context → Place → List Action → Compilation → Compilation
-all_acted context place actions w = acted context place actions (record w { opening = None })
+abbrev pub all_acted : Limits → Context → Place → List Action → Compilation → Compilation
+all_acted limits context place actions w = acted limits context place actions (record w { opening = None })

@@ -1,5 +1,6 @@
 -- The headers of directives that have entries, bodies or lines.
 use Rattle.std.specs.Prelude.{List, [], ◌∷◌, false, Option, Some}
+use Rattle.inf_settings.specs.Bounds.{Limits}
 use Rattle.inf_scanner.specs.declared.tokens.Place.{Place}
 use Rattle.inf_names.specs.Spellings.{Name}
 use Rattle.inf_compilation.specs.Context.{Context}
@@ -13,9 +14,9 @@ use Rattle.inf_actions.specs.declared.headers.Heading.{Heading}
 use Rattle.inf_actions.specs.declared.headers.Heading.TheVariants as heading
 use Rattle.inf_listings.specs.Arrays.{array_named}
 
-abbrev pub class_named : Context → Place → List Name → Compilation → Compilation
-class_named context first [] w = passed false w
-class_named context first (name ∷ names) w = class_header context first name w
+abbrev pub class_named : Limits → Context → Place → List Name → Compilation → Compilation
+class_named limits context first [] w = passed false w
+class_named limits context first (name ∷ names) w = class_header limits context first name w
 
 -- A directive that has a header is told by its word; one of an object begins with its own word or with that of a class.
 abbrev pub heading_of : Option Keyword → Heading
@@ -25,16 +26,16 @@ heading_of (Some keyword.Verb) = heading.Verb
 heading_of (Some keyword.Extend) = heading.Extend
 heading_of _ = heading.Object
 
-abbrev pub header_as : Heading → Context → Place → List Name → Compilation → Compilation
-header_as heading.Array context first names w = array_named context first names w
-header_as heading.Class context first names w = class_named context first names w
-header_as heading.Object context first names w = object_header context first w
-header_as heading.Verb context first names w = verb_header context first w
-header_as heading.Extend context first names w = extend_header context first w
+abbrev pub header_as : Limits → Heading → Context → Place → List Name → Compilation → Compilation
+header_as limits heading.Array context first names w = array_named limits context first names w
+header_as limits heading.Class context first names w = class_named limits context first names w
+header_as limits heading.Object context first names w = object_header limits context first w
+header_as limits heading.Verb context first names w = verb_header limits context first w
+header_as limits heading.Extend context first names w = extend_header limits context first w
 
-abbrev pub header_of : Context → Place → List Name → Compilation → Compilation
-header_of context first [] w = passed false w
-header_of context first (word ∷ names) w = header_as (heading_of (directive_word w.unit.tokens)) context first names w
+abbrev pub header_of : Limits → Context → Place → List Name → Compilation → Compilation
+header_of limits context first [] w = passed false w
+header_of limits context first (word ∷ names) w = header_as limits (heading_of (directive_word w.unit.tokens)) context first names w
 
-abbrev pub header_ended : Context → Place → Compilation → Compilation
-header_ended context place w = header_of context (first_place w.unit.tokens place) (names_in w.unit.tokens) w
+abbrev pub header_ended : Limits → Context → Place → Compilation → Compilation
+header_ended limits context place w = header_of limits context (first_place w.unit.tokens place) (names_in w.unit.tokens) w

@@ -59,7 +59,7 @@ pub fn act_all<B: Bounds>(
     place: Place,
     actions: &[Action],
 ) -> Result<(), AllocError>
-    ensures { OnOk result (work compilation.new ≡ all_acted (handed context.now) place actions.now (work compilation.old)) }
+    ensures { OnOk result (work compilation.new ≡ all_acted B.most (handed context.now) place actions.now (work compilation.old)) }
 {
     compilation.opening = None;
     act_each(compilation, context, place, actions)
@@ -72,7 +72,7 @@ fn act_each<B: Bounds>(
     place: Place,
     actions: &[Action],
 ) -> Result<(), AllocError>
-    ensures { OnOk result (work compilation.new ≡ acted (handed context.now) place actions.now (work compilation.old)) }
+    ensures { OnOk result (work compilation.new ≡ acted B.most (handed context.now) place actions.now (work compilation.old)) }
 {
     for action in actions {
         act(compilation, context, place, *action)?;
@@ -87,7 +87,7 @@ fn act<B: Bounds>(
     place: Place,
     action: Action,
 ) -> Result<(), AllocError>
-    ensures { OnOk result (work compilation.new ≡ act (handed context.now) place action (work compilation.old)) }
+    ensures { OnOk result (work compilation.new ≡ act B.most (handed context.now) place action (work compilation.old)) }
 {
     match role_of(action) {
         Role::Gather(step) => compilation.unit.step(step),
@@ -110,7 +110,7 @@ fn act<B: Bounds>(
 
 /// Whether the unit at hand prints more than code may have bytes. Its code then passes that setting, whatever else it prints.
 fn is_crowded<B: Bounds>(compilation: &Compilation<B>) -> bool
-    ensures { result ≡ is_crowded (work compilation.now) }
+    ensures { result ≡ is_crowded B.most (work compilation.now) }
 {
     compilation.unit.items.len() > compilation.output.code.most_bytes()
 }
@@ -122,7 +122,7 @@ fn note<B: Bounds>(
     context: &Context<'_>,
     note: Note,
 ) -> Result<(), AllocError>
-    ensures { OnOk result (work compilation.new ≡ noted (handed context.now) note (work compilation.old)) }
+    ensures { OnOk result (work compilation.new ≡ noted B.most (handed context.now) note (work compilation.old)) }
 {
     if is_text(note) && is_crowded(compilation) {
         compilation.unit.pass_text();
@@ -142,7 +142,7 @@ fn end<B: Bounds>(
     place: Place,
     ending: Ending,
 ) -> Result<(), AllocError>
-    ensures { OnOk result (work compilation.new ≡ ended (handed context.now) place ending (work compilation.old)) }
+    ensures { OnOk result (work compilation.new ≡ ended B.most (handed context.now) place ending (work compilation.old)) }
 {
     match ending {
         Ending::Locals => compilation.end_header(context, place),

@@ -27,7 +27,7 @@ pub(crate) fn end_directive<B: Bounds>(
     context: &Context<'_>,
     place: Place,
 ) -> Result<(), AllocError>
-    ensures { OnOk result (work compilation.new ≡ directive_end (handed context.now) place (work compilation.old)) }
+    ensures { OnOk result (work compilation.new ≡ directive_end B.most (handed context.now) place (work compilation.old)) }
 {
     let names = compilation.unit.tokens.names(compilation.alloc)?;
     let Some((_, names)) = names.split_first() else {
@@ -49,7 +49,7 @@ fn carry_out<B: Bounds>(
     names: &[Name],
 ) -> Result<(), AllocError>
     ensures { OnOk result (work compilation.new
-        ≡ carried_out directive (handed context.now) first (map as_name names.now) (work compilation.old)) }
+        ≡ carried_out B.most directive (handed context.now) first (map as_name names.now) (work compilation.old)) }
 {
     match directive {
         Directive::Include => compilation.asked = inclusion(compilation, first)?,

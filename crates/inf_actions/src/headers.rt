@@ -46,7 +46,7 @@ pub(crate) fn end_directive_header<B: Bounds>(
     context: &Context<'_>,
     place: Place,
 ) -> Result<(), AllocError>
-    ensures { OnOk result (work compilation.new ≡ header_ended (handed context.now) place (work compilation.old)) }
+    ensures { OnOk result (work compilation.new ≡ header_ended B.most (handed context.now) place (work compilation.old)) }
 {
     let names = compilation.unit.tokens.names(compilation.alloc)?;
     let first = compilation.unit.first_place(place);
@@ -60,7 +60,8 @@ fn header_of<B: Bounds>(
     first: Place,
     names: &[Name],
 ) -> Result<(), AllocError>
-    ensures { OnOk result (work compilation.new ≡ header_of (handed context.now) first (map as_name names.now) (work compilation.old)) }
+    ensures { OnOk result (work compilation.new ≡ header_of B.most (handed context.now) first (map as_name names.now)
+        (work compilation.old)) }
 {
     match names.split_first() {
         Some((_, names)) => {
@@ -83,7 +84,7 @@ fn header_as<B: Bounds>(
     names: &[Name],
 ) -> Result<(), AllocError>
     ensures { OnOk result (work compilation.new
-        ≡ header_as heading (handed context.now) first (map as_name names.now) (work compilation.old)) }
+        ≡ header_as B.most heading (handed context.now) first (map as_name names.now) (work compilation.old)) }
 {
     match heading {
         Heading::Array => array_named(compilation, context, first, names),
@@ -101,7 +102,8 @@ fn class_named<B: Bounds>(
     first: Place,
     names: &[Name],
 ) -> Result<(), AllocError>
-    ensures { OnOk result (work compilation.new ≡ class_named (handed context.now) first (map as_name names.now) (work compilation.old)) }
+    ensures { OnOk result (work compilation.new ≡ class_named B.most (handed context.now) first (map as_name names.now)
+        (work compilation.old)) }
 {
     match names.first() {
         Some(name) => class_header(compilation, context, first, name),

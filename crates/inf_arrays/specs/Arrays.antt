@@ -3,6 +3,8 @@ use Rattle.std.specs.Prelude.{ℕ, ◌+◌, ◌*◌, ◌≤◌, List, [], ◌∷
 use Rattle.inf_area.specs.declared.targets.Value.{Value}
 use Rattle.inf_area.specs.declared.targets.Value.TheVariants as value
 use Rattle.inf_cells.specs.declared.cells.Cell.{Cell}
+use Rattle.inf_settings.specs.Bounds.{Limits}
+use Rattle.inf_settings.specs.declared.setting.Setting.TheVariants as setting
 use Rattle.inf_arrays.specs.Kinds.{are_bytes, count_cells, count_size, entries_cells, entry_size, laters_of, misfit_by}
 use Rattle.inf_arrays.specs.declared.arrays.ArrayFault.{ArrayFault}
 use Rattle.inf_arrays.specs.declared.arrays.ArrayFault.TheVariants as fault
@@ -12,26 +14,25 @@ pub record Listed : Type 0 where
   pub kind : ArrayKind
   pub entries : List Value
 
--- those that ended, the one that is open, and how many bytes all may have
+-- those that ended, and the one that is open
 pub record AllArrays : Type 0 where
   pub closed : List Listed
   pub open_one : Option Listed
-  pub limit : ℕ
 
 -- all, in order
 abbrev pub all_of : AllArrays → List Listed
 all_of arrays = arrays.closed ++ option_to_list arrays.open_one
 
-abbrev pub no_arrays : ℕ → AllArrays
-no_arrays limit = record { closed = []; open_one = None; limit = limit }
+abbrev pub no_arrays : AllArrays
+no_arrays = record { closed = []; open_one = None }
 
 -- the open one ends
 abbrev pub closed_one : AllArrays → AllArrays
-closed_one arrays = record { closed = all_of arrays; open_one = None; limit = arrays.limit }
+closed_one arrays = record { closed = all_of arrays; open_one = None }
 
 -- one is opened, where another ends
 abbrev pub opened : ArrayKind → AllArrays → AllArrays
-opened kind arrays = record { closed = all_of arrays; open_one = Some (record { kind = kind; entries = [] }); limit = arrays.limit }
+opened kind arrays = record { closed = all_of arrays; open_one = Some (record { kind = kind; entries = [] }) }
 
 abbrev pub more_entries : List Value → Listed → Listed
 more_entries values array = record { kind = array.kind; entries = array.entries ++ values }
@@ -39,7 +40,7 @@ more_entries values array = record { kind = array.kind; entries = array.entries 
 -- the open one has more entries
 abbrev pub with_entries : List Value → AllArrays → AllArrays
 with_entries values arrays =
-    record { closed = arrays.closed; open_one = option_map (more_entries values) arrays.open_one; limit = arrays.limit }
+    record { closed = arrays.closed; open_one = option_map (more_entries values) arrays.open_one }
 
 -- the characters of a text
 abbrev pub characters : List ℕ → List Value
@@ -60,42 +61,43 @@ arrays_laters [] = 0
 arrays_laters (array ∷ arrays) = laters_of array.kind array.entries + arrays_laters arrays
 
 -- that there is an open one, and room for so many more entries
-abbrev pub RoomIn : Option Listed → ℕ → AllArrays → Type 0
-RoomIn None added arrays = ⊥
-RoomIn (Some array) added arrays = arrays_size (all_of arrays) + entry_size array.kind * added ≤ arrays.limit
+abbrev pub RoomIn : Limits → Option Listed → ℕ → AllArrays → Type 0
+RoomIn limits None added arrays = ⊥
+RoomIn limits (Some array) added arrays = arrays_size (all_of arrays) + entry_size array.kind * added ≤ limits setting.Arrays
 
-abbrev pub HasRoom : ℕ → AllArrays → Type 0
-HasRoom added arrays = RoomIn arrays.open_one added arrays
+abbrev pub HasRoom : Limits → ℕ → AllArrays → Type 0
+HasRoom limits added arrays = RoomIn limits arrays.open_one added arrays
 
 -- why one cannot be opened
-abbrev pub open_fault : ArrayKind → AllArrays → Option ArrayFault
-open_fault kind arrays = if nat_lt arrays.limit (arrays_size (all_of arrays) + count_size kind) then Some fault.Full else None
+abbrev pub open_fault : Limits → ArrayKind → AllArrays → Option ArrayFault
+open_fault limits kind arrays =
+    if nat_lt (limits setting.Arrays) (arrays_size (all_of arrays) + count_size kind) then Some fault.Full else None
 
 -- why the open one cannot have so many more entries, where it is known whether they are bytes
-abbrev pub more_fault : ℕ → Bool → AllArrays → Listed → Option ArrayFault
-more_fault added fit arrays array = option_or (misfit_by array.kind (length array.entries) added fit)
-    (if nat_lt arrays.limit (arrays_size (all_of arrays) + entry_size array.kind * added) then Some fault.Full else None) where
+abbrev pub more_fault : Limits → ℕ → Bool → AllArrays → Listed → Option ArrayFault
+more_fault limits added fit arrays array = option_or (misfit_by array.kind (length array.entries) added fit)
+    (if nat_lt (limits setting.Arrays) (arrays_size (all_of arrays) + entry_size array.kind * added) then Some fault.Full else None) where
       option_or : Option ArrayFault → Option ArrayFault → Option ArrayFault
       option_or None other = other
       option_or (Some f) other = Some f
 
-abbrev pub fault_in : Option Listed → ℕ → Bool → AllArrays → Option ArrayFault
-fault_in None added fit arrays = None
-fault_in (Some array) added fit arrays = more_fault added fit arrays array
+abbrev pub fault_in : Limits → Option Listed → ℕ → Bool → AllArrays → Option ArrayFault
+fault_in limits None added fit arrays = None
+fault_in limits (Some array) added fit arrays = more_fault limits added fit arrays array
 
-abbrev pub fault_by : ℕ → Bool → AllArrays → Option ArrayFault
-fault_by added fit arrays = fault_in arrays.open_one added fit arrays
+abbrev pub fault_by : Limits → ℕ → Bool → AllArrays → Option ArrayFault
+fault_by limits added fit arrays = fault_in limits arrays.open_one added fit arrays
 
-abbrev pub entries_fault : List Value → AllArrays → Option ArrayFault
-entries_fault values arrays = fault_by (length values) (are_bytes values) arrays
+abbrev pub entries_fault : Limits → List Value → AllArrays → Option ArrayFault
+entries_fault limits values arrays = fault_by limits (length values) (are_bytes values) arrays
 
 -- zeros are bytes; there is one at least
-abbrev pub zeros_fault : ℕ → AllArrays → Option ArrayFault
-zeros_fault count arrays = if nat_lt count 1 then Some fault.NoEntries else fault_by count true arrays
+abbrev pub zeros_fault : Limits → ℕ → AllArrays → Option ArrayFault
+zeros_fault limits count arrays = if nat_lt count 1 then Some fault.NoEntries else fault_by limits count true arrays
 
 -- characters are bytes
-abbrev pub characters_fault : List ℕ → AllArrays → Option ArrayFault
-characters_fault text arrays = fault_by (length text) true arrays
+abbrev pub characters_fault : Limits → List ℕ → AllArrays → Option ArrayFault
+characters_fault limits text arrays = fault_by limits (length text) true arrays
 
 -- What an entry of a source adds: a value, so many zeros, or characters.
 pub data Adding : Type 0 where
@@ -108,10 +110,10 @@ values_in (One v) = v ∷ []
 values_in (Zeros count) = replicate count (value.Known 0)
 values_in (Characters text) = characters text
 
-abbrev pub added_fault : Adding → AllArrays → Option ArrayFault
-added_fault (One v) arrays = entries_fault (v ∷ []) arrays
-added_fault (Zeros count) arrays = zeros_fault count arrays
-added_fault (Characters text) arrays = characters_fault text arrays
+abbrev pub added_fault : Limits → Adding → AllArrays → Option ArrayFault
+added_fault limits (One v) arrays = entries_fault limits (v ∷ []) arrays
+added_fault limits (Zeros count) arrays = zeros_fault limits count arrays
+added_fault limits (Characters text) arrays = characters_fault limits text arrays
 
 -- as they are written
 abbrev pub array_cells : Listed → List Cell

@@ -1,10 +1,10 @@
 -- What the code's arrays stand for.
-use Rattle.std.specs.Prelude.{ℕ, List, Option, map, option_map}
+use Rattle.std.specs.Prelude.{List, Option, map, option_map}
 use Rattle.inf_arrays.specs.Arrays.{AllArrays, Listed}
 use Rattle.inf_arrays.specs.declared.arrays.Array.{Array}
 
 abbrev pub listed : Array → Listed
 listed array = record { kind = array.kind; entries = array.entries.items }
 
-abbrev pub seen : List Array → Option Array → ℕ → AllArrays
-seen closed last limit = record { closed = map listed closed; open_one = option_map listed last; limit = limit }
+abbrev pub seen : List Array → Option Array → AllArrays
+seen closed last = record { closed = map listed closed; open_one = option_map listed last }

@@ -1,5 +1,5 @@
 //! Arrays, entry by entry.
-ghost use Rattle.std.specs.Prelude.{◌≡◌, ◌<◌, ◌≤◌, ◌+◌, ◌++◌, ◌∷◌, ◌^◌, [], None, Some, OnOk, OnErr, IfOk, IfErr, IfNone, IsSome, MatchResult, is_some, length, map, option_map, option_to_list, replicate, unwrap_or, true};
+ghost use Rattle.std.specs.Prelude.{◌≡◌, ◌<◌, ◌≤◌, ◌+◌, ◌++◌, ◌∷◌, ◌^◌, [], None, Some, OnOk, OnErr, IfOk, IfErr, IfNone, IsSome, MatchResult, is_some, length, map, option_map, option_to_list, replicate, unwrap_or};
 ghost use Rattle.inf_area.specs.Fixups.{with_fixups};
 ghost use Rattle.inf_area.specs.declared.targets.AreaName.TheVariants as area_name;
 ghost use Rattle.inf_area.specs.declared.targets.Value.TheVariants.{Known};
@@ -70,7 +70,7 @@ pub struct Arrays<B: Bounds> {
     later: usize,
     limit: usize,
     of: PhantomData<B>,
-    ghost is_allowed: { B.allows setting.Arrays limit ≡ true },
+    ghost is_most: { limit ≡ B.most setting.Arrays },
 }
 
 impl<B: Bounds> Model for Arrays<B> {
@@ -81,9 +81,10 @@ impl<B: Bounds> Model for Arrays<B> {
 
     ghost use Rattle.inf_arrays.specs.Listing.{seen};
 
-    ghost view = { λ a. seen a.closed.items a.growing a.limit };
+    ghost view = { λ a. seen a.closed.items a.growing };
 
-    ghost invariant = { λ a. (a.size ≡ arrays_size (all_of (seen a.closed.items a.growing a.limit))) × (a.later ≡ arrays_laters (all_of (seen a.closed.items a.growing a.limit))) × (a.later ≤ a.size) ×
+    ghost invariant = { λ a. (a.size ≡ arrays_size (all_of (seen a.closed.items a.growing))) ×
+        (a.later ≡ arrays_laters (all_of (seen a.closed.items a.growing))) × (a.later ≤ a.size) ×
         (a.size ≤ a.limit) };
 }
 
@@ -139,8 +140,8 @@ fn low_byte(value: Value) -> u8
 impl<B: Bounds> Arrays<B> {
     /// No arrays, which may have so many bytes together. It takes no memory until the second array is opened or the first entry comes.
     pub fn new(alloc: Global, limit: usize) -> Arrays<B>
-        requires { B.allows setting.Arrays limit ≡ true }
-        ensures { result ≡ no_arrays limit }
+        requires { limit ≡ B.most setting.Arrays }
+        ensures { result ≡ no_arrays }
     {
         Arrays {
             alloc,
@@ -156,8 +157,7 @@ impl<B: Bounds> Arrays<B> {
     /// The bytes of all arrays, the open one as if it ended here, which are never more than there may be.
     pub fn size(&self) -> usize
         ensures value { result ≡ arrays_size (all_of self.now) }
-        ensures limited { result ≤ self.now.limit }
-        ensures allowed { B.allows setting.Arrays self.now.limit ≡ true }
+        ensures limited { result ≤ B.most setting.Arrays }
     {
         self.size
     }
@@ -183,7 +183,7 @@ impl<B: Bounds> Arrays<B> {
         ensures ok { OnOk result (self.new ≡ opened kind self.old) }
         ensures place { IfOk result (λ place. place ≡ arrays_size (all_of self.old)) }
         ensures err { OnErr result (self.new ≡ self.old) }
-        ensures fault { let fault = open_fault kind self.old in
+        ensures fault { let fault = open_fault B.most kind self.old in
             MatchResult result (λ _. fault ≡ None) (λ refused. refused ≡ unwrap_or fault Memory) }
     {
         let place = self.size;
@@ -198,7 +198,7 @@ impl<B: Bounds> Arrays<B> {
     // An array begins, where none is open and there is room for it.
     fn begin(&mut self, kind: ArrayKind)
         requires none { self.old.open_one ≡ None }
-        requires room { arrays_size (all_of self.old) + count_size kind ≤ self.old.limit }
+        requires room { arrays_size (all_of self.old) + count_size kind ≤ B.most setting.Arrays }
         ensures { self.new ≡ opened kind self.old }
     {
         let array = Array {
@@ -230,7 +230,7 @@ impl<B: Bounds> Arrays<B> {
     pub fn entry(&mut self, value: Value) -> Result<(), ArrayFault>
         ensures ok { OnOk result (self.new ≡ with_entries (value ∷ []) self.old) }
         ensures err { OnErr result (self.new ≡ self.old) }
-        ensures fault { let fault = entries_fault (value ∷ []) self.old in
+        ensures fault { let fault = entries_fault B.most (value ∷ []) self.old in
             MatchResult result (λ _. fault ≡ None) (λ refused. refused ≡ unwrap_or fault Memory) }
     {
         if self.growing.is_none() {
@@ -249,7 +249,7 @@ impl<B: Bounds> Arrays<B> {
     pub fn zeros(&mut self, count: u16) -> Result<(), ArrayFault>
         ensures ok { OnOk result (self.new ≡ with_entries (replicate count (Known 0)) self.old) }
         ensures err { OnErr result (self.new ≡ self.old) }
-        ensures fault { let fault = zeros_fault count self.old in
+        ensures fault { let fault = zeros_fault B.most count self.old in
             MatchResult result (λ _. fault ≡ None) (λ refused. refused ≡ unwrap_or fault Memory) }
     {
         if count == 0 {
@@ -272,7 +272,7 @@ impl<B: Bounds> Arrays<B> {
     pub fn characters(&mut self, text: &[u8]) -> Result<(), ArrayFault>
         ensures ok { OnOk result (self.new ≡ with_entries (characters text.now) self.old) }
         ensures err { OnErr result (self.new ≡ self.old) }
-        ensures fault { let fault = characters_fault text.now self.old in
+        ensures fault { let fault = characters_fault B.most text.now self.old in
             MatchResult result (λ _. fault ≡ None) (λ refused. refused ≡ unwrap_or fault Memory) }
     {
         if self.growing.is_none() {
@@ -292,7 +292,7 @@ impl<B: Bounds> Arrays<B> {
     pub fn add(&mut self, entries: Entries<'_>) -> Result<(), ArrayFault>
         ensures ok { OnOk result (self.new ≡ with_entries (values_in (added entries.entry)) self.old) }
         ensures err { OnErr result (self.new ≡ self.old) }
-        ensures fault { let fault = added_fault (added entries.entry) self.old in
+        ensures fault { let fault = added_fault B.most (added entries.entry) self.old in
             MatchResult result (λ _. fault ≡ None) (λ refused. refused ≡ unwrap_or fault Memory) }
     {
         match entries {
@@ -304,7 +304,7 @@ impl<B: Bounds> Arrays<B> {
 
     /// Why `add` would refuse these, but for want of memory.
     pub fn add_fault(&self, entries: Entries<'_>) -> Option<ArrayFault>
-        ensures { result ≡ added_fault (added entries.entry) self.now }
+        ensures { result ≡ added_fault B.most (added entries.entry) self.now }
     {
         match entries {
             Entries::One(value) => self.fault_of(1, is_byte(value)),
@@ -317,7 +317,7 @@ impl<B: Bounds> Arrays<B> {
     // Why there cannot be so many more entries, where it is known whether they are bytes; nothing, where no array is open.
     fn fault_of(&self, added: usize, fit: bool) -> Option<ArrayFault>
         requires { added < 2 ^ 63 }
-        ensures { result ≡ fault_by added fit self.now }
+        ensures { result ≡ fault_by B.most added fit self.now }
     {
         if self.growing.is_none() {
             return None;
@@ -329,8 +329,8 @@ impl<B: Bounds> Arrays<B> {
     fn fault(&self, added: usize, fit: bool) -> Option<ArrayFault>
         requires small { added < 2 ^ 63 }
         requires there { IsSome self.now.open_one }
-        ensures value { result ≡ fault_by added fit self.now }
-        ensures room { IfNone result (HasRoom added self.now) }
+        ensures value { result ≡ fault_by B.most added fit self.now }
+        ensures room { IfNone result (HasRoom B.most added self.now) }
     {
         let array = self.growing.as_ref()?;
         if let Some(fault) = misfit_by(array.kind, array.entries.len(), added, fit) {
@@ -344,7 +344,7 @@ impl<B: Bounds> Arrays<B> {
 
     // More entries of the open array, for which there is room.
     fn append(&mut self, values: &[Value]) -> Result<(), AllocError>
-        requires { HasRoom (length values.now) self.old }
+        requires { HasRoom B.most (length values.now) self.old }
         ensures ok { OnOk result (self.new ≡ with_entries values.now self.old) }
         ensures err { OnErr result (self.new ≡ self.old) }
     {

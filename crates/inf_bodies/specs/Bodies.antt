@@ -1,6 +1,7 @@
 -- What stands in the bodies of objects and classes, unit by unit: classes, attributes and properties. Designer's Manual, fourth edition,
 -- sections 3.1 to 3.8.
 use Rattle.std.specs.Prelude.{ℕ, ◌+◌, ◌-◌, ◌%◌, ◌==◌, List, length, Bool, true, false, not, Option, Some, None}
+use Rattle.inf_settings.specs.Bounds.{Limits}
 use Rattle.inf_area.specs.declared.targets.Value.{Value}
 use Rattle.inf_expressions.specs.declared.findings.Finding.{Finding}
 use Rattle.inf_expressions.specs.Findings.{least_of_both, wrong_kind}
@@ -32,13 +33,14 @@ abbrev pub class_finding : Option ℕ → Option AddFault → ℕ → Option Fin
 class_finding None fault at = Some (wrong_kind (order at))
 class_finding (Some number) fault at = refused_finding fault (order at)
 
-abbrev pub class_read_by : Context → Place → ℕ → Option ℕ → Compilation → Compilation
-class_read_by context first at class w =
-    entry_told context first (class_finding class (joined_fault class w.output) at) (record w { output = joined_some class w.output })
+abbrev pub class_read_by : Limits → Context → Place → ℕ → Option ℕ → Compilation → Compilation
+class_read_by limits context first at class w =
+    entry_told limits context first (class_finding class (joined_fault limits class w.output) at)
+    (record w { output = joined_some limits class w.output })
 
-abbrev pub class_read : Context → Place → Compilation → Compilation
-class_read context place w =
-    let at = last_at w.unit.tokens in class_read_by context (first_place w.unit.tokens place) at (class_of (found_at at w)) w
+abbrev pub class_read : Limits → Context → Place → Compilation → Compilation
+class_read limits context place w =
+    let at = last_at w.unit.tokens in class_read_by limits context (first_place w.unit.tokens place) at (class_of (found_at at w)) w
 
 -- Attributes
 
@@ -75,14 +77,14 @@ abbrev pub attribute_finding : Option ℕ → ℕ → Option Finding
 attribute_finding None at = Some (wrong_kind (order at))
 attribute_finding (Some number) at = None
 
-abbrev pub attribute_read_by : Context → Place → ℕ → Option ℕ → Compilation → Compilation
-attribute_read_by context first at number w =
-    entry_told context first (attribute_finding number at)
+abbrev pub attribute_read_by : Limits → Context → Place → ℕ → Option ℕ → Compilation → Compilation
+attribute_read_by limits context first at number w =
+    entry_told limits context first (attribute_finding number at)
     (record w { output = attribute_set_some number (is_given w.unit.tokens at) w.output })
 
-abbrev pub attribute_read : Context → Place → Compilation → Compilation
-attribute_read context place w =
-    let at = last_at w.unit.tokens in attribute_read_by context (first_place w.unit.tokens place) at (attribute_of (found_at at w)) w
+abbrev pub attribute_read : Limits → Context → Place → Compilation → Compilation
+attribute_read limits context place w =
+    let at = last_at w.unit.tokens in attribute_read_by limits context (first_place w.unit.tokens place) at (attribute_of (found_at at w)) w
 
 -- Properties
 
@@ -103,102 +105,103 @@ is_words None = false
 is_words (Some number) = number == 1
 
 -- a new individual property is declared with its name
-abbrev pub individual_declared : Option Name → ℕ → Code
-individual_declared None number o = o
-individual_declared (Some n) number o = declared n.bytes n.place (meaning.IndividualProperty (number % 65536)) o
+abbrev pub individual_declared : Limits → Option Name → ℕ → Code
+individual_declared limits None number o = o
+individual_declared limits (Some n) number o = declared limits n.bytes n.place (meaning.IndividualProperty (number % 65536)) o
 
 -- Behind a property with something wrong further values give nothing. Where its name is new it is declared all the same.
 abbrev pub with_property_lost : Code
 with_property_lost o = with_world (with_lost_property o.tables.world) o
 
-abbrev pub property_lost : Option Name → Code
-property_lost name o = with_property_lost (individual_declared name 0 o)
+abbrev pub property_lost : Limits → Option Name → Code
+property_lost limits name o = with_property_lost (individual_declared limits name 0 o)
 
-abbrev pub property_given_by : Option AddFault → ℕ → Option Value → Code
-property_given_by None number v o = with_world (with_given_property number v o.tables.world) o
-property_given_by (Some f) number v o = noted f o
+abbrev pub property_given_by : Limits → Option AddFault → ℕ → Option Value → Code
+property_given_by limits None number v o = with_world (with_given_property number v o.tables.world) o
+property_given_by limits (Some f) number v o = noted limits f o
 
-abbrev pub property_given : ℕ → Option Value → Code
-property_given number v o = property_given_by (given_property_fault number v o.tables.world) number v o
+abbrev pub property_given : Limits → ℕ → Option Value → Code
+property_given limits number v o = property_given_by limits (given_property_fault limits number v o.tables.world) number v o
 
-abbrev pub individual_named : Option Name → ℕ → Option Value → Code
-individual_named name number v o = property_given number v (individual_declared name number o)
+abbrev pub individual_named : Limits → Option Name → ℕ → Option Value → Code
+individual_named limits name number v o = property_given limits number v (individual_declared limits name number o)
 
-abbrev pub individual_given_by : Option AddFault → Option Name → Option Value → Code
-individual_given_by None name v o =
-    individual_named name (64 + o.tables.world.individuals) v (with_world (with_individual o.tables.world) o)
-individual_given_by (Some f) name v o = o
+abbrev pub individual_given_by : Limits → Option AddFault → Option Name → Option Value → Code
+individual_given_by limits None name v o =
+    individual_named limits name (64 + o.tables.world.individuals) v (with_world (with_individual o.tables.world) o)
+individual_given_by limits (Some f) name v o = o
 
-abbrev pub individual_given : Option Name → Option Value → Code
-individual_given name v o = individual_given_by (individual_fault o.tables.world) name v o
+abbrev pub individual_given : Limits → Option Name → Option Value → Code
+individual_given limits name v o = individual_given_by limits (individual_fault o.tables.world) name v o
 
-abbrev pub further_added_by : Option AddFault → Value → Code
-further_added_by None v o = with_world (with_further_value v o.tables.world) o
-further_added_by (Some f) v o = noted f o
+abbrev pub further_added_by : Limits → Option AddFault → Value → Code
+further_added_by limits None v o = with_world (with_further_value v o.tables.world) o
+further_added_by limits (Some f) v o = noted limits f o
 
-abbrev pub further_added : Value → Code
-further_added v o = further_added_by (further_value_fault v o.tables.world) v o
+abbrev pub further_added : Limits → Value → Code
+further_added limits v o = further_added_by limits (further_value_fault limits v o.tables.world) v o
 
 -- What is wrong with a property, whose name stands at a place, and with its first value. A name that is not declared is that of a new one.
-abbrev pub number_finding : Option ℕ → Option Value → ℕ → Compilation → Option Finding
-number_finding None v at w = Some (wrong_kind (order at))
-number_finding (Some number) v at w = refused_finding (given_property_fault number v w.output.tables.world) (order at)
+abbrev pub number_finding : Limits → Option ℕ → Option Value → ℕ → Compilation → Option Finding
+number_finding limits None v at w = Some (wrong_kind (order at))
+number_finding limits (Some number) v at w = refused_finding (given_property_fault limits number v w.output.tables.world) (order at)
 
-abbrev pub property_finding_by : Found Place → ℕ → Option Value → Compilation → Option Finding
-property_finding_by (found.System m) at v w = number_finding (property_in m) v at w
-property_finding_by (found.Declared m first) at v w = number_finding (property_in m) v at w
-property_finding_by found.Used at v w = None
-property_finding_by found.Unknown at v w = None
+abbrev pub property_finding_by : Limits → Found Place → ℕ → Option Value → Compilation → Option Finding
+property_finding_by limits (found.System m) at v w = number_finding limits (property_in m) v at w
+property_finding_by limits (found.Declared m first) at v w = number_finding limits (property_in m) v at w
+property_finding_by limits found.Used at v w = None
+property_finding_by limits found.Unknown at v w = None
 
-abbrev pub property_finding : ℕ → Option Value → Compilation → Option Finding
-property_finding at v w = property_finding_by (found_at at w) at v w
+abbrev pub property_finding : Limits → ℕ → Option Value → Compilation → Option Finding
+property_finding limits at v w = property_finding_by limits (found_at at w) at v w
 
-abbrev pub further_finding : Value → Compilation → Option Finding
-further_finding v w = refused_finding (further_value_fault v w.output.tables.world) 0
+abbrev pub further_finding : Limits → Value → Compilation → Option Finding
+further_finding limits v w = refused_finding (further_value_fault limits v w.output.tables.world) 0
 
 -- A value goes to the property whose name stands before it, or to the one that was given last.
-abbrev pub place_finding : Option ℕ → Value → Compilation → Option Finding
-place_finding None v w = further_finding v w
-place_finding (Some at) v w = property_finding at (Some v) w
+abbrev pub place_finding : Limits → Option ℕ → Value → Compilation → Option Finding
+place_finding limits None v w = further_finding limits v w
+place_finding limits (Some at) v w = property_finding limits at (Some v) w
 
-abbrev pub property_gives_by : Option ℕ → ℕ → Option Value → Compilation → Compilation
-property_gives_by None at v w = record w { output = individual_given (name_at w.unit.tokens at) v w.output }
-property_gives_by (Some number) at v w = record w { output = property_given number v w.output }
+abbrev pub property_gives_by : Limits → Option ℕ → ℕ → Option Value → Compilation → Compilation
+property_gives_by limits None at v w = record w { output = individual_given limits (name_at w.unit.tokens at) v w.output }
+property_gives_by limits (Some number) at v w = record w { output = property_given limits number v w.output }
 
-abbrev pub property_gives : ℕ → Option Value → Compilation → Compilation
-property_gives at v w = property_gives_by (property_of (found_at at w)) at v w
+abbrev pub property_gives : Limits → ℕ → Option Value → Compilation → Compilation
+property_gives limits at v w = property_gives_by limits (property_of (found_at at w)) at v w
 
-abbrev pub given_with : Option Finding → ℕ → Option Value → Compilation → Compilation
-given_with None at v w = property_gives at v w
-given_with (Some f) at v w = record w { output = property_lost (name_at w.unit.tokens at) w.output }
+abbrev pub given_with : Limits → Option Finding → ℕ → Option Value → Compilation → Compilation
+given_with limits None at v w = property_gives limits at v w
+given_with limits (Some f) at v w = record w { output = property_lost limits (name_at w.unit.tokens at) w.output }
 
 -- with what was found of the value before
-abbrev pub given_finding : ℕ → Option Value → Option Finding → Compilation → Option Finding
-given_finding at v of_value w = least_of_both (property_finding at v w) of_value
+abbrev pub given_finding : Limits → ℕ → Option Value → Option Finding → Compilation → Option Finding
+given_finding limits at v of_value w = least_of_both (property_finding limits at v w) of_value
 
-abbrev pub given : ℕ → Option Value → Option Finding → Compilation → Compilation
-given at v of_value w = given_with (given_finding at v of_value w) at v (record w { is_name = is_words (property_of (found_at at w)) })
+abbrev pub given : Limits → ℕ → Option Value → Option Finding → Compilation → Compilation
+given limits at v of_value w =
+    given_with limits (given_finding limits at v of_value w) at v (record w { is_name = is_words (property_of (found_at at w)) })
 
-abbrev pub further_placed : Option Finding → Value → Compilation → Compilation
-further_placed None v w = record w { output = further_added v w.output }
-further_placed (Some f) v w = w
+abbrev pub further_placed : Limits → Option Finding → Value → Compilation → Compilation
+further_placed limits None v w = record w { output = further_added limits v w.output }
+further_placed limits (Some f) v w = w
 
-abbrev pub further_found : Value → Option Finding → Compilation → Option Finding
-further_found v of_value w = least_of_both of_value (further_finding v w)
+abbrev pub further_found : Limits → Value → Option Finding → Compilation → Option Finding
+further_found limits v of_value w = least_of_both of_value (further_finding limits v w)
 
-abbrev pub further : Value → Option Finding → Compilation → Compilation
-further v of_value w = further_placed (further_found v of_value w) v w
+abbrev pub further : Limits → Value → Option Finding → Compilation → Compilation
+further limits v of_value w = further_placed limits (further_found limits v of_value w) v w
 
-abbrev pub placed_finding : Option ℕ → Value → Option Finding → Compilation → Option Finding
-placed_finding None v of_value w = further_found v of_value w
-placed_finding (Some at) v of_value w = given_finding at (Some v) of_value w
+abbrev pub placed_finding : Limits → Option ℕ → Value → Option Finding → Compilation → Option Finding
+placed_finding limits None v of_value w = further_found limits v of_value w
+placed_finding limits (Some at) v of_value w = given_finding limits at (Some v) of_value w
 
-abbrev pub placed : Option ℕ → Value → Option Finding → Compilation → Compilation
-placed None v of_value w = further v of_value w
-placed (Some at) v of_value w = given at (Some v) of_value w
+abbrev pub placed : Limits → Option ℕ → Value → Option Finding → Compilation → Compilation
+placed limits None v of_value w = further limits v of_value w
+placed limits (Some at) v of_value w = given limits at (Some v) of_value w
 
 -- a property without values
-abbrev pub property_read : Context → Place → Compilation → Compilation
-property_read context place w =
+abbrev pub property_read : Limits → Context → Place → Compilation → Compilation
+property_read limits context place w =
     let at = last_at w.unit.tokens in
-    entry_told context (first_place w.unit.tokens place) (given_finding at None None w) (given at None None w)
+    entry_told limits context (first_place w.unit.tokens place) (given_finding limits at None None w) (given limits at None None w)

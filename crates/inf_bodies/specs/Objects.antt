@@ -1,6 +1,7 @@
 -- Objects and classes: their headers. Designer's Manual, fourth edition, sections 3.1 to 3.8.
 use Rattle.std.specs.Prelude.{ℕ, ◌+◌, ◌-◌, ◌%◌, ◌==◌, nat_lt, List, [], ◌∷◌, ◌++◌, length, codes, Bool, false, if◌then◌else◌, Option, Some, None, unwrap_or, Result, Ok, Err}
 use Rattle.std.specs.Str.{str_eq_ignore_ascii_case}
+use Rattle.inf_settings.specs.Bounds.{Limits}
 use Rattle.inf_characters.specs.Reading.{text_of}
 use Rattle.inf_characters.specs.declared.characters.CharSet.{CharSet}
 use Rattle.inf_characters.specs.declared.reading.Mode.TheVariants as mode
@@ -51,11 +52,11 @@ setting_of world_setting.Objects = setting.Objects
 setting_of world_setting.PropertyTables = setting.PropertyTables
 
 -- A refused entry does nothing; where it would pass a setting, that is passed.
-abbrev pub noted : AddFault → Code
-noted (fault.Limit l) o = o
-noted (fault.Misfit m) o = o
-noted (fault.Full s) o = passed_table (setting_of s) o
-noted fault.Memory o = o
+abbrev pub noted : Limits → AddFault → Code
+noted limits (fault.Limit l) o = o
+noted limits (fault.Misfit m) o = o
+noted limits (fault.Full s) o = passed_table limits (setting_of s) o
+noted limits fault.Memory o = o
 
 -- What is wrong with a refused entry, whose name has an order. That a setting would be passed is no error of the unit.
 abbrev pub refused_finding : Option AddFault → ℕ → Option Finding
@@ -66,8 +67,8 @@ refused_finding (Some (fault.Full s)) name = None
 refused_finding (Some fault.Memory) name = None
 
 -- Units, which begin at a place: what was found is told, that there are too many values at the first token.
-abbrev pub entry_told : Context → Place → Option Finding → Compilation → Compilation
-entry_told context first f w = unit_ended context first false (found_alone f) w
+abbrev pub entry_told : Limits → Context → Place → Option Finding → Compilation → Compilation
+entry_told limits context first f w = unit_ended limits context first false (found_alone f) w
 
 -- What names stand for
 
@@ -174,33 +175,34 @@ abbrev pub lost_begun : Code
 lost_begun o = lost_begun_by (lost_header_fault o.tables.world) o
 
 -- its name is declared; where there is no such class it stands for none
-abbrev pub class_declared : Name → ℕ → Code
-class_declared name number o = declared name.bytes name.place (meaning.Class (number % 65536)) o
+abbrev pub class_declared : Limits → Name → ℕ → Code
+class_declared limits name number o = declared limits name.bytes name.place (meaning.Class (number % 65536)) o
 
-abbrev pub class_lost : Name → Code
-class_lost name o = class_declared name 0 (lost_begun o)
+abbrev pub class_lost : Limits → Name → Code
+class_lost limits name o = class_declared limits name 0 (lost_begun o)
 
 -- One that the world refuses, since it would pass a setting, has a name all the same: that may pass a setting before that one.
-abbrev pub class_refused : AddFault → Name → Code
-class_refused f name o = class_declared name 0 (noted f o)
+abbrev pub class_refused : Limits → AddFault → Name → Code
+class_refused limits f name o = class_declared limits name 0 (noted limits f o)
 
-abbrev pub class_begun_by : Option AddFault → List ℕ → Name → Code
-class_begun_by None short name o =
-    class_declared name (5 + length o.tables.world.objects) (with_world (with_class_header short o.tables.world) o)
-class_begun_by (Some f) short name o = class_refused f name o
+abbrev pub class_begun_by : Limits → Option AddFault → List ℕ → Name → Code
+class_begun_by limits None short name o =
+    class_declared limits name (5 + length o.tables.world.objects) (with_world (with_class_header short o.tables.world) o)
+class_begun_by limits (Some f) short name o = class_refused limits f name o
 
-abbrev pub class_begun : List ℕ → Name → Code
-class_begun short name o = class_begun_by (class_header_fault short o.tables.world) short name o
+abbrev pub class_begun : Limits → List ℕ → Name → Code
+class_begun limits short name o = class_begun_by limits (class_header_fault limits short o.tables.world) short name o
 
-abbrev pub class_opened : Context → Option Finding → Name → Compilation → Compilation
-class_opened context None name w = record w { output = class_begun (bracketed context.set name.bytes) name w.output }
-class_opened context (Some f) name w = record w { output = class_lost name w.output }
+abbrev pub class_opened : Limits → Context → Option Finding → Name → Compilation → Compilation
+class_opened limits context None name w = record w { output = class_begun limits (bracketed context.set name.bytes) name w.output }
+class_opened limits context (Some f) name w = record w { output = class_lost limits name w.output }
 
-abbrev pub class_with : Context → Place → Name → Declared → Compilation → Compilation
-class_with context first name d w = declared_ended context first false name countable.Globals d (class_opened context d.finding name w)
+abbrev pub class_with : Limits → Context → Place → Name → Declared → Compilation → Compilation
+class_with limits context first name d w =
+    declared_ended limits context first false name countable.Globals d (class_opened limits context d.finding name w)
 
-abbrev pub class_header : Context → Place → Name → Compilation → Compilation
-class_header context first name w = class_with context first name (plainly_known name (name_order w.unit.tokens) w) w
+abbrev pub class_header : Limits → Context → Place → Name → Compilation → Compilation
+class_header limits context first name w = class_with limits context first name (plainly_known name (name_order w.unit.tokens) w) w
 
 -- Objects
 
@@ -249,50 +251,50 @@ short_name context h name w = short_by context (header_text context h.text w) na
 abbrev pub class_of_word : Compilation → Option ℕ
 class_of_word w = class_of (found_at (word_place w.unit.tokens) w)
 
-abbrev pub joined_by : Option AddFault → ℕ → Code
-joined_by None number o = with_world (with_class_of number o.tables.world) o
-joined_by (Some f) number o = noted f o
+abbrev pub joined_by : Limits → Option AddFault → ℕ → Code
+joined_by limits None number o = with_world (with_class_of number o.tables.world) o
+joined_by limits (Some f) number o = noted limits f o
 
-abbrev pub joined : ℕ → Code
-joined number o = joined_by (class_of_fault number o.tables.world) number o
+abbrev pub joined : Limits → ℕ → Code
+joined limits number o = joined_by limits (class_of_fault limits number o.tables.world) number o
 
-abbrev pub joined_some : Option ℕ → Code
-joined_some None o = o
-joined_some (Some number) o = joined number o
+abbrev pub joined_some : Limits → Option ℕ → Code
+joined_some limits None o = o
+joined_some limits (Some number) o = joined limits number o
 
-abbrev pub joined_fault : Option ℕ → Out → Option AddFault
-joined_fault None o = None
-joined_fault (Some number) o = class_of_fault number o.tables.world
+abbrev pub joined_fault : Limits → Option ℕ → Out → Option AddFault
+joined_fault limits None o = None
+joined_fault limits (Some number) o = class_of_fault limits number o.tables.world
 
-abbrev pub object_declared : Option Name → ℕ → Code
-object_declared None number o = o
-object_declared (Some n) number o = declared n.bytes n.place (meaning.Object (number % 65536)) o
+abbrev pub object_declared : Limits → Option Name → ℕ → Code
+object_declared limits None number o = o
+object_declared limits (Some n) number o = declared limits n.bytes n.place (meaning.Object (number % 65536)) o
 
-abbrev pub object_named : Option ℕ → Option Name → ℕ → Code
-object_named class name number o = object_declared name number (joined_some class o)
+abbrev pub object_named : Limits → Option ℕ → Option Name → ℕ → Code
+object_named limits class name number o = object_declared limits name number (joined_some limits class o)
 
-abbrev pub object_lost : Option Name → Code
-object_lost name o = object_declared name 0 (lost_begun o)
+abbrev pub object_lost : Limits → Option Name → Code
+object_lost limits name o = object_declared limits name 0 (lost_begun o)
 
 -- one that the world refuses has a name all the same
-abbrev pub object_refused : AddFault → Option Name → Code
-object_refused f name o = object_declared name 0 (noted f o)
+abbrev pub object_refused : Limits → AddFault → Option Name → Code
+object_refused limits f name o = object_declared limits name 0 (noted limits f o)
 
-abbrev pub object_begun_by : Option AddFault → Parent → List ℕ → Option ℕ → Option Name → Code
-object_begun_by None p short class name o =
-    object_named class name (5 + length o.tables.world.objects) (with_world (with_object_header p short o.tables.world) o)
-object_begun_by (Some f) p short class name o = object_refused f name o
+abbrev pub object_begun_by : Limits → Option AddFault → Parent → List ℕ → Option ℕ → Option Name → Code
+object_begun_by limits None p short class name o =
+    object_named limits class name (5 + length o.tables.world.objects) (with_world (with_object_header p short o.tables.world) o)
+object_begun_by limits (Some f) p short class name o = object_refused limits f name o
 
-abbrev pub object_begun : Parent → List ℕ → Option ℕ → Option Name → Code
-object_begun p short class name o = object_begun_by (object_header_fault p short o.tables.world) p short class name o
+abbrev pub object_begun : Limits → Parent → List ℕ → Option ℕ → Option Name → Code
+object_begun limits p short class name o = object_begun_by limits (object_header_fault limits p short o.tables.world) p short class name o
 
-abbrev pub object_new : Context → Header → Option Name → Compilation → Compilation
-object_new context h name w =
-    record w { output = object_begun (parent_in h.parent h.arrows w) (short_name context h name w) (class_of_word w) name w.output }
+abbrev pub object_new : Limits → Context → Header → Option Name → Compilation → Compilation
+object_new limits context h name w =
+    record w { output = object_begun limits (parent_in h.parent h.arrows w) (short_name context h name w) (class_of_word w) name w.output }
 
-abbrev pub object_opened : Context → Option Finding → Header → Option Name → Compilation → Compilation
-object_opened context None h name w = object_new context h name w
-object_opened context (Some f) h name w = record w { output = object_lost name w.output }
+abbrev pub object_opened : Limits → Context → Option Finding → Header → Option Name → Compilation → Compilation
+object_opened limits context None h name w = object_new limits context h name w
+object_opened limits context (Some f) h name w = record w { output = object_lost limits name w.output }
 
 -- what is known of it: what is wrong with its name, and with where it is to stand
 abbrev pub named_known : Context → Header → ℕ → Name → Compilation → Declared
@@ -304,16 +306,17 @@ abbrev pub object_known : Context → Header → Option Name → Compilation →
 object_known context h None w = record { found = found.Unknown; finding = parent_finding h w }
 object_known context h (Some name) w = named_known context h (unwrap_or h.own 0) name w
 
-abbrev pub object_ended : Context → Place → Option Name → Declared → Compilation → Compilation
-object_ended context first None d w = entry_told context first d.finding w
-object_ended context first (Some name) d w = declared_ended context first false name countable.Globals d w
+abbrev pub object_ended : Limits → Context → Place → Option Name → Declared → Compilation → Compilation
+object_ended limits context first None d w = entry_told limits context first d.finding w
+object_ended limits context first (Some name) d w = declared_ended limits context first false name countable.Globals d w
 
-abbrev pub object_with_known : Context → Place → Header → Option Name → Declared → Compilation → Compilation
-object_with_known context first h name d w = object_ended context first name d (object_opened context d.finding h name w)
+abbrev pub object_with_known : Limits → Context → Place → Header → Option Name → Declared → Compilation → Compilation
+object_with_known limits context first h name d w =
+    object_ended limits context first name d (object_opened limits context d.finding h name w)
 
-abbrev pub object_with : Context → Place → Header → Option Name → Compilation → Compilation
-object_with context first h name w = object_with_known context first h name (object_known context h name w) w
+abbrev pub object_with : Limits → Context → Place → Header → Option Name → Compilation → Compilation
+object_with limits context first h name w = object_with_known limits context first h name (object_known context h name w) w
 
-abbrev pub object_header : Context → Place → Compilation → Compilation
-object_header context first w =
-    let h = header_in w.unit.tokens in object_with context first h (own_name h.own w) w
+abbrev pub object_header : Limits → Context → Place → Compilation → Compilation
+object_header limits context first w =
+    let h = header_in w.unit.tokens in object_with limits context first h (own_name h.own w) w

@@ -1,5 +1,6 @@
 -- The values of properties: words of the dictionary, expressions, and routines. Designer's Manual, fourth edition, sections 3.2 to 3.5.
 use Rattle.std.specs.Prelude.{ℕ, ◌+◌, ◌-◌, ◌==◌, List, [], ◌∷◌, length, slice_get, Bool, true, false, not, ◌&&◌, if◌then◌else◌, Option, Some, None, is_some}
+use Rattle.inf_settings.specs.Bounds.{Limits}
 use Rattle.inf_area.specs.declared.targets.AreaName.TheVariants as area
 use Rattle.inf_area.specs.declared.targets.Target.TheVariants as target
 use Rattle.inf_area.specs.declared.targets.Value.{Value}
@@ -83,73 +84,77 @@ word_text context takes w = word_text_by context (word_leaf takes w) w
 abbrev pub text_value : Bool → List TextItem → Value
 text_value has_variables items = if has_variables then value.Known 0 else value.Later (target.Word (dictionary_bytes items))
 
-abbrev pub word_used : Option Finding → List TextItem → Compilation → Compilation
-word_used None items w = record w { output = with_word (dictionary_bytes items) word_use.Other false w.output }
-word_used (Some f) items w = w
+abbrev pub word_used : Limits → Option Finding → List TextItem → Compilation → Compilation
+word_used limits None items w = record w { output = with_word limits (dictionary_bytes items) word_use.Other false w.output }
+word_used limits (Some f) items w = w
 
-abbrev pub text_finding_by : Bool → Option ℕ → List TextItem → Compilation → Option Finding
-text_finding_by is_wrong name items w = placed_finding name (text_value is_wrong items) (wrong_if is_wrong) w
+abbrev pub text_finding_by : Limits → Bool → Option ℕ → List TextItem → Compilation → Option Finding
+text_finding_by limits is_wrong name items w = placed_finding limits name (text_value is_wrong items) (wrong_if is_wrong) w
 
-abbrev pub text_placed_by : Bool → Option ℕ → List TextItem → Compilation → Compilation
-text_placed_by is_wrong name items w =
-    word_used (text_finding_by is_wrong name items w) items (placed name (text_value is_wrong items) (wrong_if is_wrong) w)
+abbrev pub text_placed_by : Limits → Bool → Option ℕ → List TextItem → Compilation → Compilation
+text_placed_by limits is_wrong name items w =
+    word_used limits (text_finding_by limits is_wrong name items w) items
+    (placed limits name (text_value is_wrong items) (wrong_if is_wrong) w)
 
-abbrev pub text_finding : Option ℕ → List TextItem → Compilation → Option Finding
-text_finding name items w = text_finding_by (variables_from items false) name items w
+abbrev pub text_finding : Limits → Option ℕ → List TextItem → Compilation → Option Finding
+text_finding limits name items w = text_finding_by limits (variables_from items false) name items w
 
-abbrev pub text_placed : Option ℕ → List TextItem → Compilation → Compilation
-text_placed name items w = text_placed_by (variables_from items false) name items w
+abbrev pub text_placed : Limits → Option ℕ → List TextItem → Compilation → Compilation
+text_placed limits name items w = text_placed_by limits (variables_from items false) name items w
 
 -- Expressions: what is wrong with one is found before its names are used
 
-abbrev pub settled_work : Context → Compilation → Compilation
-settled_work context w = record w { output = (settled_of context w).out }
+abbrev pub settled_work : Limits → Context → Compilation → Compilation
+settled_work limits context w = record w { output = (settled_of limits context w).out }
 
-abbrev pub settled_finding : Context → Option ℕ → Compilation → Option Finding
-settled_finding context name w = placed_finding name (value_of context w) None (settled_work context w)
+abbrev pub settled_finding : Limits → Context → Option ℕ → Compilation → Option Finding
+settled_finding limits context name w = placed_finding limits name (value_of limits context w) None (settled_work limits context w)
 
-abbrev pub settled_placed : Context → Option ℕ → Compilation → Compilation
-settled_placed context name w = placed name (value_of context w) None (settled_work context w)
+abbrev pub settled_placed : Limits → Context → Option ℕ → Compilation → Compilation
+settled_placed limits context name w = placed limits name (value_of limits context w) None (settled_work limits context w)
 
-abbrev pub value_finding_by : Context → Option Finding → Option ℕ → Option Finding → Value → Compilation → Option Finding
-value_finding_by context None name judged looked w = settled_finding context name w
-value_finding_by context (Some f) name judged looked w = placed_finding name looked judged w
+abbrev pub value_finding_by : Limits → Context → Option Finding → Option ℕ → Option Finding → Value → Compilation → Option Finding
+value_finding_by limits context None name judged looked w = settled_finding limits context name w
+value_finding_by limits context (Some f) name judged looked w = placed_finding limits name looked judged w
 
-abbrev pub value_by : Context → Option Finding → Option ℕ → Option Finding → Value → Compilation → Compilation
-value_by context None name judged looked w = settled_placed context name w
-value_by context (Some f) name judged looked w = placed name looked judged w
+abbrev pub value_by : Limits → Context → Option Finding → Option ℕ → Option Finding → Value → Compilation → Compilation
+value_by limits context None name judged looked w = settled_placed limits context name w
+value_by limits context (Some f) name judged looked w = placed limits name looked judged w
 
-abbrev pub value_with_finding : Context → Option ℕ → Option Finding → Value → Compilation → Option Finding
-value_with_finding context name judged looked w = value_finding_by context (least_of_both judged (place_finding name looked w)) name judged looked w
+abbrev pub value_with_finding : Limits → Context → Option ℕ → Option Finding → Value → Compilation → Option Finding
+value_with_finding limits context name judged looked w =
+    value_finding_by limits context (least_of_both judged (place_finding limits name looked w)) name judged looked w
 
-abbrev pub value_with : Context → Option ℕ → Option Finding → Value → Compilation → Compilation
-value_with context name judged looked w = value_by context (least_of_both judged (place_finding name looked w)) name judged looked w
+abbrev pub value_with : Limits → Context → Option ℕ → Option Finding → Value → Compilation → Compilation
+value_with limits context name judged looked w =
+    value_by limits context (least_of_both judged (place_finding limits name looked w)) name judged looked w
 
-abbrev pub expression_finding : Context → Option ℕ → Compilation → Option Finding
-expression_finding context name w = value_with_finding context name (finding_at 0 wanted.Constant w) (looked_value w) w
+abbrev pub expression_finding : Limits → Context → Option ℕ → Compilation → Option Finding
+expression_finding limits context name w = value_with_finding limits context name (finding_at 0 wanted.Constant w) (looked_value w) w
 
-abbrev pub expression_placed : Context → Option ℕ → Compilation → Compilation
-expression_placed context name w = value_with context name (finding_at 0 wanted.Constant w) (looked_value w) w
+abbrev pub expression_placed : Limits → Context → Option ℕ → Compilation → Compilation
+expression_placed limits context name w = value_with limits context name (finding_at 0 wanted.Constant w) (looked_value w) w
 
-abbrev pub any_finding : Context → Option (List TextItem) → Option ℕ → Compilation → Option Finding
-any_finding context None name w = expression_finding context name w
-any_finding context (Some items) name w = text_finding name items w
+abbrev pub any_finding : Limits → Context → Option (List TextItem) → Option ℕ → Compilation → Option Finding
+any_finding limits context None name w = expression_finding limits context name w
+any_finding limits context (Some items) name w = text_finding limits name items w
 
-abbrev pub any_placed : Context → Option (List TextItem) → Option ℕ → Compilation → Compilation
-any_placed context None name w = expression_placed context name w
-any_placed context (Some items) name w = text_placed name items w
+abbrev pub any_placed : Limits → Context → Option (List TextItem) → Option ℕ → Compilation → Compilation
+any_placed limits context None name w = expression_placed limits context name w
+any_placed limits context (Some items) name w = text_placed limits name items w
 
-abbrev pub value_finding : Context → Option ℕ → Compilation → Option Finding
-value_finding context name w = any_finding context (word_text context (takes_words name w) w) name w
+abbrev pub value_finding : Limits → Context → Option ℕ → Compilation → Option Finding
+value_finding limits context name w = any_finding limits context (word_text context (takes_words name w) w) name w
 
-abbrev pub value_placed : Context → Option ℕ → Compilation → Compilation
-value_placed context name w = any_placed context (word_text context (takes_words name w) w) name w
+abbrev pub value_placed : Limits → Context → Option ℕ → Compilation → Compilation
+value_placed limits context name w = any_placed limits context (word_text context (takes_words name w) w) name w
 
-abbrev pub value_read_at : Context → Place → Option ℕ → Compilation → Compilation
-value_read_at context first name w = entry_told context first (value_finding context name w) (value_placed context name w)
+abbrev pub value_read_at : Limits → Context → Place → Option ℕ → Compilation → Compilation
+value_read_at limits context first name w =
+    entry_told limits context first (value_finding limits context name w) (value_placed limits context name w)
 
-abbrev pub value_read : Context → Place → Compilation → Compilation
-value_read context place w = value_read_at context (first_place w.unit.tokens place) (name_place w.unit.outer) w
+abbrev pub value_read : Limits → Context → Place → Compilation → Compilation
+value_read limits context place w = value_read_at limits context (first_place w.unit.tokens place) (name_place w.unit.outer) w
 
 -- Routines
 
@@ -176,23 +181,25 @@ abbrev pub embedded_findings : Option Finding → Bool → Findings → Findings
 embedded_findings own are_locals header = record header { least = least_of_both own header.least; many = many_by are_locals }
 
 -- its locals stand behind the tokens of its unit
-abbrev pub found_embedded : Option ℕ → Headed → Compilation → Findings
-found_embedded name h w =
-    embedded_findings (place_finding name (next_routine w) w) h.are_too_many (header_findings (order (length w.unit.tokens)) None h)
+abbrev pub found_embedded : Limits → Option ℕ → Headed → Compilation → Findings
+found_embedded limits name h w =
+    embedded_findings (place_finding limits name (next_routine w) w) h.are_too_many (header_findings (order (length w.unit.tokens)) None h)
 
-abbrev pub routine_placed : Option ℕ → Bool → Compilation → Compilation
-routine_placed name is_lost w = placed name (next_routine w) (wrong_if is_lost) w
+abbrev pub routine_placed : Limits → Option ℕ → Bool → Compilation → Compilation
+routine_placed limits name is_lost w = placed limits name (next_routine w) (wrong_if is_lost) w
 
-abbrev pub embedded_opened : Context → Place → Headed → Findings → Compilation → Compilation
-embedded_opened context first h found w = opened_with context first h found (record w { is_embedded = true; is_replaced = false })
+abbrev pub embedded_opened : Limits → Context → Place → Headed → Findings → Compilation → Compilation
+embedded_opened limits context first h found w =
+    opened_with limits context first h found (record w { is_embedded = true; is_replaced = false })
 
-abbrev pub embedded_begun : Context → Place → Option ℕ → Headed → Findings → Compilation → Compilation
-embedded_begun context first name h found w = embedded_opened context first h found (routine_placed name (is_some found.least) w)
+abbrev pub embedded_begun : Limits → Context → Place → Option ℕ → Headed → Findings → Compilation → Compilation
+embedded_begun limits context first name h found w =
+    embedded_opened limits context first h found (routine_placed limits name (is_some found.least) w)
 
-unfoldable pub embedded : Context → Place → Option ℕ → Headed → Compilation → Compilation
-embedded context first name h w = embedded_begun context first name h (found_embedded name h w) w
+unfoldable pub embedded : Limits → Context → Place → Option ℕ → Headed → Compilation → Compilation
+embedded limits context first name h w = embedded_begun limits context first name h (found_embedded limits name h w) w
 
-abbrev pub embedded_read : Context → Place → Compilation → Compilation
-embedded_read context place w =
-    embedded context (first_place w.unit.tokens place) (place_before (bracket_in w.unit.tokens)) w.unit.headed
+abbrev pub embedded_read : Limits → Context → Place → Compilation → Compilation
+embedded_read limits context place w =
+    embedded limits context (first_place w.unit.tokens place) (place_before (bracket_in w.unit.tokens)) w.unit.headed
     (record w { unit = record w.unit { headed = no_locals } })

@@ -145,7 +145,7 @@ fn declare_individual<B: Bounds>(
     number: usize,
     out: &mut Output<B>,
 ) -> Result<(), AllocError>
-    ensures { OnOk result (out.new ≡ individual_declared (option_map as_name name.now) number out.old) }
+    ensures { OnOk result (out.new ≡ individual_declared B.most (option_map as_name name.now) number out.old) }
 {
     match name {
         Some(name) => {
@@ -159,7 +159,7 @@ fn declare_individual<B: Bounds>(
 
 /// A property with something wrong: further values give nothing.
 fn lose_property<B: Bounds>(name: &Option<Name>, out: &mut Output<B>) -> Result<(), AllocError>
-    ensures { OnOk result (out.new ≡ property_lost (option_map as_name name.now) out.old) }
+    ensures { OnOk result (out.new ≡ property_lost B.most (option_map as_name name.now) out.old) }
 {
     declare_individual(name, 0, out)?;
     out.tables.world.lose_property();
@@ -172,7 +172,7 @@ fn give_property<B: Bounds>(
     value: Option<Value>,
     out: &mut Output<B>,
 ) -> Result<(), AllocError>
-    ensures { OnOk result (out.new ≡ property_given number value out.old) }
+    ensures { OnOk result (out.new ≡ property_given B.most number value out.old) }
 {
     match out.tables.world.give_property(number, value) {
         Ok(()) => Ok(()),
@@ -192,7 +192,7 @@ fn give_named<B: Bounds>(
     value: Option<Value>,
     out: &mut Output<B>,
 ) -> Result<(), AllocError>
-    ensures { OnOk result (out.new ≡ individual_named (option_map as_name name.now) number value out.old) }
+    ensures { OnOk result (out.new ≡ individual_named B.most (option_map as_name name.now) number value out.old) }
 {
     declare_individual(name, number, out)?;
     give_property(number, value, out)
@@ -204,7 +204,7 @@ fn give_individual<B: Bounds>(
     value: Option<Value>,
     out: &mut Output<B>,
 ) -> Result<(), AllocError>
-    ensures { OnOk result (out.new ≡ individual_given (option_map as_name name.now) value out.old) }
+    ensures { OnOk result (out.new ≡ individual_given B.most (option_map as_name name.now) value out.old) }
 {
     match out.tables.world.declare_individual() {
         Ok(number) => give_named(name, number, value, out),
@@ -215,7 +215,7 @@ fn give_individual<B: Bounds>(
 
 /// A further value of the property that was given last.
 fn add_further<B: Bounds>(value: Value, out: &mut Output<B>) -> Result<(), AllocError>
-    ensures { OnOk result (out.new ≡ further_added value out.old) }
+    ensures { OnOk result (out.new ≡ further_added B.most value out.old) }
 {
     match out.tables.world.add_value(value) {
         Ok(()) => Ok(()),
@@ -251,7 +251,7 @@ pub fn class_of_body<B: Bounds>(
     context: &Context<'_>,
     place: Place,
 ) -> Result<(), AllocError>
-    ensures { OnOk result (work compilation.new ≡ class_read (handed context.now) place (work compilation.old)) }
+    ensures { OnOk result (work compilation.new ≡ class_read B.most (handed context.now) place (work compilation.old)) }
 {
     let first = compilation.unit.first_place(place);
     let at = last_at(&compilation.unit.tokens);
@@ -266,7 +266,7 @@ pub fn attribute_of_body<B: Bounds>(
     context: &Context<'_>,
     place: Place,
 ) -> Result<(), AllocError>
-    ensures { OnOk result (work compilation.new ≡ attribute_read (handed context.now) place (work compilation.old)) }
+    ensures { OnOk result (work compilation.new ≡ attribute_read B.most (handed context.now) place (work compilation.old)) }
 {
     let first = compilation.unit.first_place(place);
     let at = last_at(&compilation.unit.tokens);
@@ -288,7 +288,7 @@ fn number_finding<B: Bounds>(
     value: Option<Value>,
     at: usize,
 ) -> Option<Finding>
-    ensures { result ≡ number_finding number value at (work compilation.now) }
+    ensures { result ≡ number_finding B.most number value at (work compilation.now) }
 {
     match number {
         Some(number) => refused_finding(
@@ -305,7 +305,7 @@ fn property_finding<B: Bounds>(
     at: usize,
     value: Option<Value>,
 ) -> Option<Finding>
-    ensures { result ≡ property_finding at value (work compilation.now) }
+    ensures { result ≡ property_finding B.most at value (work compilation.now) }
 {
     match found_at(compilation, at) {
         Found::System(meaning) | Found::Declared(meaning, _) => {
@@ -317,7 +317,7 @@ fn property_finding<B: Bounds>(
 
 /// What is wrong with a further value.
 fn further_finding<B: Bounds>(compilation: &Compilation<B>, value: Value) -> Option<Finding>
-    ensures { result ≡ further_finding value (work compilation.now) }
+    ensures { result ≡ further_finding B.most value (work compilation.now) }
 {
     refused_finding(compilation.output.tables.world.value_fault(value), 0)
 }
@@ -328,7 +328,7 @@ pub(crate) fn place_finding<B: Bounds>(
     name: Option<usize>,
     value: Value,
 ) -> Option<Finding>
-    ensures { result ≡ place_finding name value (work compilation.now) }
+    ensures { result ≡ place_finding B.most name value (work compilation.now) }
 {
     match name {
         Some(at) => property_finding(compilation, at, Some(value)),
@@ -342,7 +342,7 @@ fn give<B: Bounds>(
     at: usize,
     value: Option<Value>,
 ) -> Result<(), AllocError>
-    ensures { OnOk result (work compilation.new ≡ property_gives at value (work compilation.old)) }
+    ensures { OnOk result (work compilation.new ≡ property_gives B.most at value (work compilation.old)) }
 {
     match property_of(found_at(compilation, at)) {
         Some(number) => give_property(number, value, &mut compilation.output),
@@ -360,7 +360,7 @@ fn give_with<B: Bounds>(
     at: usize,
     value: Option<Value>,
 ) -> Result<(), AllocError>
-    ensures { OnOk result (work compilation.new ≡ given_with found at value (work compilation.old)) }
+    ensures { OnOk result (work compilation.new ≡ given_with B.most found at value (work compilation.old)) }
 {
     match found {
         Some(_) => {
@@ -378,8 +378,8 @@ fn given<B: Bounds>(
     value: Option<Value>,
     of_value: Option<Finding>,
 ) -> Result<Option<Finding>, AllocError>
-    ensures value { OnOk result (work compilation.new ≡ given at value of_value (work compilation.old)) }
-    ensures finding { IfOk result (λ f. f ≡ given_finding at value of_value (work compilation.old)) }
+    ensures value { OnOk result (work compilation.new ≡ given B.most at value of_value (work compilation.old)) }
+    ensures finding { IfOk result (λ f. f ≡ given_finding B.most at value of_value (work compilation.old)) }
 {
     let found = least_of_both(property_finding(compilation, at, value), of_value);
     compilation.is_name = is_words(property_of(found_at(compilation, at)));
@@ -393,7 +393,7 @@ fn further_with<B: Bounds>(
     found: Option<Finding>,
     value: Value,
 ) -> Result<(), AllocError>
-    ensures { OnOk result (work compilation.new ≡ further_placed found value (work compilation.old)) }
+    ensures { OnOk result (work compilation.new ≡ further_placed B.most found value (work compilation.old)) }
 {
     match found {
         Some(_) => Ok(()),
@@ -407,8 +407,8 @@ fn further<B: Bounds>(
     value: Value,
     of_value: Option<Finding>,
 ) -> Result<Option<Finding>, AllocError>
-    ensures value { OnOk result (work compilation.new ≡ further value of_value (work compilation.old)) }
-    ensures finding { IfOk result (λ f. f ≡ further_found value of_value (work compilation.old)) }
+    ensures value { OnOk result (work compilation.new ≡ further B.most value of_value (work compilation.old)) }
+    ensures finding { IfOk result (λ f. f ≡ further_found B.most value of_value (work compilation.old)) }
 {
     let found = least_of_both(of_value, further_finding(compilation, value));
     further_with(compilation, found, value)?;
@@ -422,8 +422,8 @@ pub(crate) fn placed<B: Bounds>(
     value: Value,
     of_value: Option<Finding>,
 ) -> Result<Option<Finding>, AllocError>
-    ensures value { OnOk result (work compilation.new ≡ placed name value of_value (work compilation.old)) }
-    ensures finding { IfOk result (λ f. f ≡ placed_finding name value of_value (work compilation.old)) }
+    ensures value { OnOk result (work compilation.new ≡ placed B.most name value of_value (work compilation.old)) }
+    ensures finding { IfOk result (λ f. f ≡ placed_finding B.most name value of_value (work compilation.old)) }
 {
     match name {
         Some(at) => given(compilation, at, Some(value), of_value),
@@ -437,7 +437,7 @@ pub fn property_of_body<B: Bounds>(
     context: &Context<'_>,
     place: Place,
 ) -> Result<(), AllocError>
-    ensures { OnOk result (work compilation.new ≡ property_read (handed context.now) place (work compilation.old)) }
+    ensures { OnOk result (work compilation.new ≡ property_read B.most (handed context.now) place (work compilation.old)) }
 {
     let first = compilation.unit.first_place(place);
     let at = last_at(&compilation.unit.tokens);

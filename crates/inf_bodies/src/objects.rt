@@ -179,7 +179,7 @@ fn begin_lost<B: Bounds>(out: &mut Output<B>) -> Result<(), AllocError>
 
 /// What the world refuses does nothing; where it would pass a setting, that is passed.
 fn note<B: Bounds>(fault: WorldFault, out: &mut Output<B>) -> Result<(), AllocError>
-    ensures { OnOk result (out.new ≡ noted fault out.old) }
+    ensures { OnOk result (out.new ≡ noted B.most fault out.old) }
 {
     match fault {
         WorldFault::Memory => Err(AllocError),
@@ -197,7 +197,7 @@ fn declare_class<B: Bounds>(
     number: usize,
     out: &mut Output<B>,
 ) -> Result<(), AllocError>
-    ensures { OnOk result (out.new ≡ class_declared (as_name name.now) number out.old) }
+    ensures { OnOk result (out.new ≡ class_declared B.most (as_name name.now) number out.old) }
 {
     out.declare(
         name.bytes(),
@@ -209,14 +209,14 @@ fn declare_class<B: Bounds>(
 
 /// The name of a class that there is not: it stands for none.
 fn declare_no_class<B: Bounds>(name: &Name, out: &mut Output<B>) -> Result<(), AllocError>
-    ensures { OnOk result (out.new ≡ class_declared (as_name name.now) 0 out.old) }
+    ensures { OnOk result (out.new ≡ class_declared B.most (as_name name.now) 0 out.old) }
 {
     declare_class(name, 0, out)
 }
 
 /// A class with something wrong in its header: its name stands for no class.
 fn lose_class<B: Bounds>(name: &Name, out: &mut Output<B>) -> Result<(), AllocError>
-    ensures { OnOk result (out.new ≡ class_lost (as_name name.now) out.old) }
+    ensures { OnOk result (out.new ≡ class_lost B.most (as_name name.now) out.old) }
 {
     begin_lost(out)?;
     declare_no_class(name, out)
@@ -228,7 +228,7 @@ fn refuse_class<B: Bounds>(
     name: &Name,
     out: &mut Output<B>,
 ) -> Result<(), AllocError>
-    ensures { OnOk result (out.new ≡ class_refused fault (as_name name.now) out.old) }
+    ensures { OnOk result (out.new ≡ class_refused B.most fault (as_name name.now) out.old) }
 {
     note(fault, out)?;
     declare_no_class(name, out)
@@ -240,7 +240,7 @@ fn begin_class<B: Bounds>(
     short: ShortName,
     out: &mut Output<B>,
 ) -> Result<(), AllocError>
-    ensures { OnOk result (out.new ≡ class_begun short (as_name name.now) out.old) }
+    ensures { OnOk result (out.new ≡ class_begun B.most short (as_name name.now) out.old) }
 {
     match out.tables.world.begin_class(short) {
         Ok(number) => declare_class(name, number, out),
@@ -254,7 +254,7 @@ fn declare_object<B: Bounds>(
     number: usize,
     out: &mut Output<B>,
 ) -> Result<(), AllocError>
-    ensures { OnOk result (out.new ≡ object_declared (option_map as_name name.now) number out.old) }
+    ensures { OnOk result (out.new ≡ object_declared B.most (option_map as_name name.now) number out.old) }
 {
     match name {
         Some(name) => {
@@ -271,14 +271,14 @@ fn declare_object<B: Bounds>(
 
 /// The name of an object that there is not, if it has one: it stands for none.
 fn declare_no_object<B: Bounds>(name: &Option<Name>, out: &mut Output<B>) -> Result<(), AllocError>
-    ensures { OnOk result (out.new ≡ object_declared (option_map as_name name.now) 0 out.old) }
+    ensures { OnOk result (out.new ≡ object_declared B.most (option_map as_name name.now) 0 out.old) }
 {
     declare_object(name, 0, out)
 }
 
 /// An object with something wrong in its header: its name stands for no object.
 fn lose_object<B: Bounds>(name: &Option<Name>, out: &mut Output<B>) -> Result<(), AllocError>
-    ensures { OnOk result (out.new ≡ object_lost (option_map as_name name.now) out.old) }
+    ensures { OnOk result (out.new ≡ object_lost B.most (option_map as_name name.now) out.old) }
 {
     begin_lost(out)?;
     declare_no_object(name, out)
@@ -286,8 +286,8 @@ fn lose_object<B: Bounds>(name: &Option<Name>, out: &mut Output<B>) -> Result<()
 
 /// The open body is of the class with a number, unless the world refuses it. Answers why it does.
 fn join<B: Bounds>(number: usize, out: &mut Output<B>) -> Result<Option<WorldFault>, AllocError>
-    ensures value { OnOk result (out.new ≡ joined number out.old) }
-    ensures fault { IfOk result (λ fault. fault ≡ class_of_fault number out.old.tables.world) }
+    ensures value { OnOk result (out.new ≡ joined B.most number out.old) }
+    ensures fault { IfOk result (λ fault. fault ≡ class_of_fault B.most number out.old.tables.world) }
 {
     match out.tables.world.join_class(number) {
         Ok(()) => Ok(None),
@@ -306,8 +306,8 @@ pub(crate) fn join_some<B: Bounds>(
     class: Option<usize>,
     out: &mut Output<B>,
 ) -> Result<Option<WorldFault>, AllocError>
-    ensures value { OnOk result (out.new ≡ joined_some class out.old) }
-    ensures fault { IfOk result (λ fault. fault ≡ joined_fault class out.old) }
+    ensures value { OnOk result (out.new ≡ joined_some B.most class out.old) }
+    ensures fault { IfOk result (λ fault. fault ≡ joined_fault B.most class out.old) }
 {
     match class {
         Some(number) => join(number, out),
@@ -322,7 +322,7 @@ fn name_object<B: Bounds>(
     number: usize,
     out: &mut Output<B>,
 ) -> Result<(), AllocError>
-    ensures { OnOk result (out.new ≡ object_named class (option_map as_name name.now) number out.old) }
+    ensures { OnOk result (out.new ≡ object_named B.most class (option_map as_name name.now) number out.old) }
 {
     join_some(class, out)?;
     declare_object(name, number, out)
@@ -334,7 +334,7 @@ fn refuse_object<B: Bounds>(
     name: &Option<Name>,
     out: &mut Output<B>,
 ) -> Result<(), AllocError>
-    ensures { OnOk result (out.new ≡ object_refused fault (option_map as_name name.now) out.old) }
+    ensures { OnOk result (out.new ≡ object_refused B.most fault (option_map as_name name.now) out.old) }
 {
     note(fault, out)?;
     declare_no_object(name, out)
@@ -348,7 +348,7 @@ fn begin_object<B: Bounds>(
     name: &Option<Name>,
     out: &mut Output<B>,
 ) -> Result<(), AllocError>
-    ensures { OnOk result (out.new ≡ object_begun parent short class (option_map as_name name.now) out.old) }
+    ensures { OnOk result (out.new ≡ object_begun B.most parent short class (option_map as_name name.now) out.old) }
 {
     match out.tables.world.begin_object(parent, short) {
         Ok(number) => name_object(class, name, number, out),
@@ -373,7 +373,7 @@ pub(crate) fn tell_entry<B: Bounds>(
     first: Place,
     found: Option<Finding>,
 ) -> Result<(), AllocError>
-    ensures { OnOk result (work compilation.new ≡ entry_told (handed context.now) first found (work compilation.old)) }
+    ensures { OnOk result (work compilation.new ≡ entry_told B.most (handed context.now) first found (work compilation.old)) }
 {
     compilation.end_unit(context, first, false, &Findings::alone(found))
 }
@@ -387,7 +387,7 @@ pub fn class_header<B: Bounds>(
     first: Place,
     name: &Name,
 ) -> Result<(), AllocError>
-    ensures { OnOk result (work compilation.new ≡ class_header (handed context.now) first (as_name name.now) (work compilation.old)) }
+    ensures { OnOk result (work compilation.new ≡ class_header B.most (handed context.now) first (as_name name.now) (work compilation.old)) }
 {
     let order = compilation.unit.tokens.name_order();
     let declared = plainly_known(compilation, name, order);
@@ -403,7 +403,7 @@ fn class_with<B: Bounds>(
     declared: Declared,
 ) -> Result<(), AllocError>
     ensures { OnOk result (work compilation.new
-        ≡ class_with (handed context.now) first (as_name name.now) declared (work compilation.old)) }
+        ≡ class_with B.most (handed context.now) first (as_name name.now) declared (work compilation.old)) }
 {
     open_class(compilation, context, name, declared.finding)?;
     end_declared(
@@ -424,7 +424,7 @@ fn open_class<B: Bounds>(
     name: &Name,
     found: Option<Finding>,
 ) -> Result<(), AllocError>
-    ensures { OnOk result (work compilation.new ≡ class_opened (handed context.now) found (as_name name.now) (work compilation.old)) }
+    ensures { OnOk result (work compilation.new ≡ class_opened B.most (handed context.now) found (as_name name.now) (work compilation.old)) }
 {
     match found {
         Some(_) => lose_class(name, &mut compilation.output),
@@ -577,7 +577,8 @@ fn open_object<B: Bounds>(
     name: &Option<Name>,
     found: Option<Finding>,
 ) -> Result<(), AllocError>
-    ensures { OnOk result (work compilation.new ≡ object_opened (handed context.now) found header (option_map as_name name.now) (work compilation.old)) }
+    ensures { OnOk result (work compilation.new ≡ object_opened B.most (handed context.now) found header (option_map as_name name.now)
+        (work compilation.old)) }
 {
     match found {
         Some(_) => lose_object(name, &mut compilation.output),
@@ -592,7 +593,8 @@ fn new_object<B: Bounds>(
     header: Header,
     name: &Option<Name>,
 ) -> Result<(), AllocError>
-    ensures { OnOk result (work compilation.new ≡ object_new (handed context.now) header (option_map as_name name.now) (work compilation.old)) }
+    ensures { OnOk result (work compilation.new ≡ object_new B.most (handed context.now) header (option_map as_name name.now)
+        (work compilation.old)) }
 {
     let short = short_name(compilation, context, header, name)?;
     let class = class_of_word(compilation);
@@ -609,7 +611,7 @@ fn end_object<B: Bounds>(
     declared: Declared,
 ) -> Result<(), AllocError>
     ensures { OnOk result (work compilation.new
-        ≡ object_ended (handed context.now) first (option_map as_name name.now) declared (work compilation.old)) }
+        ≡ object_ended B.most (handed context.now) first (option_map as_name name.now) declared (work compilation.old)) }
 {
     match name {
         Some(name) => {
@@ -636,7 +638,7 @@ fn object_with<B: Bounds>(
     name: &Option<Name>,
 ) -> Result<(), AllocError>
     ensures { OnOk result (work compilation.new
-        ≡ object_with (handed context.now) first header (option_map as_name name.now) (work compilation.old)) }
+        ≡ object_with B.most (handed context.now) first header (option_map as_name name.now) (work compilation.old)) }
 {
     let declared = object_known(compilation, context, header, name);
     open_object(compilation, context, header, name, declared.finding)?;
@@ -649,7 +651,7 @@ pub fn object_header<B: Bounds>(
     context: &Context<'_>,
     first: Place,
 ) -> Result<(), AllocError>
-    ensures { OnOk result (work compilation.new ≡ object_header (handed context.now) first (work compilation.old)) }
+    ensures { OnOk result (work compilation.new ≡ object_header B.most (handed context.now) first (work compilation.old)) }
 {
     let header = header_in(&compilation.unit.tokens);
     let name = own_name(compilation, header);

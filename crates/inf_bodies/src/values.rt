@@ -203,7 +203,7 @@ fn use_word<B: Bounds>(
     found: Option<Finding>,
     text: &Text,
 ) -> Result<(), AllocError>
-    ensures { OnOk result (work compilation.new ≡ word_used found text.now (work compilation.old)) }
+    ensures { OnOk result (work compilation.new ≡ word_used B.most found text.now (work compilation.old)) }
 {
     match found {
         Some(_) => Ok(()),
@@ -219,8 +219,8 @@ fn place_text<B: Bounds>(
     name: Option<usize>,
     text: &Text,
 ) -> Result<Option<Finding>, AllocError>
-    ensures value { OnOk result (work compilation.new ≡ text_placed name text.now (work compilation.old)) }
-    ensures finding { IfOk result (λ f. f ≡ text_finding name text.now (work compilation.old)) }
+    ensures value { OnOk result (work compilation.new ≡ text_placed B.most name text.now (work compilation.old)) }
+    ensures finding { IfOk result (λ f. f ≡ text_finding B.most name text.now (work compilation.old)) }
 {
     let is_wrong = has_variables(text.as_slice());
     let value = text_value(is_wrong, text);
@@ -237,8 +237,8 @@ fn place_settled<B: Bounds>(
     context: &Context<'_>,
     name: Option<usize>,
 ) -> Result<Option<Finding>, AllocError>
-    ensures value { OnOk result (work compilation.new ≡ settled_placed (handed context.now) name (work compilation.old)) }
-    ensures finding { IfOk result (λ f. f ≡ settled_finding (handed context.now) name (work compilation.old)) }
+    ensures value { OnOk result (work compilation.new ≡ settled_placed B.most (handed context.now) name (work compilation.old)) }
+    ensures finding { IfOk result (λ f. f ≡ settled_finding B.most (handed context.now) name (work compilation.old)) }
 {
     let value = value(compilation, context)?;
     placed(compilation, name, value, None)
@@ -252,8 +252,8 @@ fn place_with<B: Bounds>(
     judged: Option<Finding>,
     looked: Value,
 ) -> Result<Option<Finding>, AllocError>
-    ensures value { OnOk result (work compilation.new ≡ value_with (handed context.now) name judged looked (work compilation.old)) }
-    ensures finding { IfOk result (λ f. f ≡ value_with_finding (handed context.now) name judged looked (work compilation.old)) }
+    ensures value { OnOk result (work compilation.new ≡ value_with B.most (handed context.now) name judged looked (work compilation.old)) }
+    ensures finding { IfOk result (λ f. f ≡ value_with_finding B.most (handed context.now) name judged looked (work compilation.old)) }
 {
     match least_of_both(judged, place_finding(compilation, name, looked)) {
         Some(_) => placed(compilation, name, looked, judged),
@@ -267,8 +267,8 @@ fn place_expression<B: Bounds>(
     context: &Context<'_>,
     name: Option<usize>,
 ) -> Result<Option<Finding>, AllocError>
-    ensures value { OnOk result (work compilation.new ≡ expression_placed (handed context.now) name (work compilation.old)) }
-    ensures finding { IfOk result (λ f. f ≡ expression_finding (handed context.now) name (work compilation.old)) }
+    ensures value { OnOk result (work compilation.new ≡ expression_placed B.most (handed context.now) name (work compilation.old)) }
+    ensures finding { IfOk result (λ f. f ≡ expression_finding B.most (handed context.now) name (work compilation.old)) }
 {
     let operands = compilation.operands()?;
     let judged = compilation.finding(0, Wanted::Constant, operands.as_slice())?;
@@ -282,8 +282,8 @@ fn place_value<B: Bounds>(
     context: &Context<'_>,
     name: Option<usize>,
 ) -> Result<Option<Finding>, AllocError>
-    ensures value { OnOk result (work compilation.new ≡ value_placed (handed context.now) name (work compilation.old)) }
-    ensures finding { IfOk result (λ f. f ≡ value_finding (handed context.now) name (work compilation.old)) }
+    ensures value { OnOk result (work compilation.new ≡ value_placed B.most (handed context.now) name (work compilation.old)) }
+    ensures finding { IfOk result (λ f. f ≡ value_finding B.most (handed context.now) name (work compilation.old)) }
 {
     match word_text(compilation, context, takes_words(compilation, name))? {
         Some(text) => place_text(compilation, name, &text),
@@ -297,7 +297,7 @@ pub fn value_of_body<B: Bounds>(
     context: &Context<'_>,
     place: Place,
 ) -> Result<(), AllocError>
-    ensures { OnOk result (work compilation.new ≡ value_read (handed context.now) place (work compilation.old)) }
+    ensures { OnOk result (work compilation.new ≡ value_read B.most (handed context.now) place (work compilation.old)) }
 {
     let first = compilation.unit.first_place(place);
     let name = name_place(compilation.unit.outer);
@@ -320,7 +320,7 @@ fn place_routine<B: Bounds>(
     name: Option<usize>,
     is_lost: bool,
 ) -> Result<(), AllocError>
-    ensures { OnOk result (work compilation.new ≡ routine_placed name is_lost (work compilation.old)) }
+    ensures { OnOk result (work compilation.new ≡ routine_placed B.most name is_lost (work compilation.old)) }
 {
     let routine = next_routine(compilation);
     placed(compilation, name, routine, wrong_if(is_lost))?;
@@ -336,7 +336,7 @@ fn open_embedded<B: Bounds>(
     found: &Findings,
 ) -> Result<(), AllocError>
     ensures { OnOk result (work compilation.new
-        ≡ embedded_opened (handed context.now) first (as_headed headed) (found_as found.now) (work compilation.old)) }
+        ≡ embedded_opened B.most (handed context.now) first (as_headed headed) (found_as found.now) (work compilation.old)) }
 {
     compilation.is_embedded = true;
     compilation.is_replaced = false;
@@ -353,7 +353,7 @@ fn begin_embedded<B: Bounds>(
     found: &Findings,
 ) -> Result<(), AllocError>
     ensures { OnOk result (work compilation.new
-        ≡ embedded_begun (handed context.now) first name (as_headed headed) (found_as found.now) (work compilation.old)) }
+        ≡ embedded_begun B.most (handed context.now) first name (as_headed headed) (found_as found.now) (work compilation.old)) }
 {
     place_routine(compilation, name, found.least.is_some())?;
     open_embedded(compilation, context, first, headed, found)
@@ -365,7 +365,7 @@ fn found_embedded<B: Bounds>(
     name: Option<usize>,
     headed: &Headed,
 ) -> Findings
-    ensures { found_as result ≡ found_embedded name (as_headed headed.now) (work compilation.now) }
+    ensures { found_as result ≡ found_embedded B.most name (as_headed headed.now) (work compilation.now) }
 {
     let own = place_finding(compilation, name, next_routine(compilation));
     let behind = order(compilation.unit.tokens.len());
@@ -382,7 +382,7 @@ fn embed<B: Bounds>(
     name: Option<usize>,
     headed: Headed,
 ) -> Result<(), AllocError>
-    ensures { OnOk result (work compilation.new ≡ embedded (handed context.now) first name (as_headed headed) (work compilation.old)) }
+    ensures { OnOk result (work compilation.new ≡ embedded B.most (handed context.now) first name (as_headed headed) (work compilation.old)) }
 {
     let found = found_embedded(compilation, name, &headed);
     begin_embedded(compilation, context, first, name, headed, &found)
@@ -394,7 +394,7 @@ pub fn routine_of_body<B: Bounds>(
     context: &Context<'_>,
     place: Place,
 ) -> Result<(), AllocError>
-    ensures { OnOk result (work compilation.new ≡ embedded_read (handed context.now) place (work compilation.old)) }
+    ensures { OnOk result (work compilation.new ≡ embedded_read B.most (handed context.now) place (work compilation.old)) }
 {
     let first = compilation.unit.first_place(place);
     let name = place_before(bracket_in(&compilation.unit.tokens));

@@ -22,6 +22,8 @@ use Rattle.inf_assembler.specs.declared.routines.Limit.{Limit}
 use Rattle.inf_assembler.specs.declared.routines.Limit.TheVariants as setting
 use Rattle.inf_assembler.specs.Places.{missing, twice_behind}
 use Rattle.inf_assembler.specs.Routines.{State, Contents, IsOpen, contents_of, fresh, with_cells, body_bytes, closing, routine_fixups, is_full, long_places, missing_fault, twice_fault, body_fault}
+use Rattle.inf_settings.specs.Bounds.{Limits as SettingLimits}
+use Rattle.inf_settings.specs.declared.setting.Setting.TheVariants as bound
 use Rattle.inf_code.specs.declared.code.CodeLimits.{CodeLimits}
 
 -- bytes as cells
@@ -90,19 +92,21 @@ pub record Opened : Type 0 where
   pub contents : Contents
   pub is_lost : Bool
 
--- The routines of a story: what it may hold, what packed addresses are multiplied by, whether its code has begun, the finished routines of
+-- The routines of a story: what packed addresses are multiplied by, whether its code has begun, the finished routines of
 -- its source, and
 -- the one that is open, if any. Code begins with a first routine that the source does not have: it calls the source's Main.
 pub record Routines : Type 0 where
-  pub limits : CodeLimits
   pub scale : Scale
   pub has_begun : Bool
   pub finished : List CodeCell
   pub opened : Option Opened
 
--- none, under these limits
-abbrev pub no_routines : CodeLimits → Scale → Routines
-no_routines limits scale = record { limits = limits; scale = scale; has_begun = false; finished = []; opened = None }
+-- what code may hold
+abbrev pub code_limits : SettingLimits → CodeLimits
+code_limits limits = record { labels = limits bound.Labels; code = limits bound.Code; refs = limits bound.References }
+
+abbrev pub no_routines : Scale → Routines
+no_routines scale = record { scale = scale; has_begun = false; finished = []; opened = None }
 
 -- The code with the first routine, which calls what is known then.
 abbrev pub code_cells : Target → List CodeCell → List CodeCell
@@ -175,16 +179,16 @@ full_first limits =
 abbrev pub full_unless : Bool → CodeLimits → Option Limit
 full_unless has_begun limits = if has_begun then None else full_first limits
 
-abbrev pub full_begun : Routines → Option Limit
-full_begun routines = full_unless routines.has_begun routines.limits
+abbrev pub full_begun : SettingLimits → Routines → Option Limit
+full_begun limits routines = full_unless routines.has_begun (code_limits limits)
 
 -- code begins, unless that would pass a limit
 abbrev pub begun_unless : Option Limit → Routines → Routines
 begun_unless None routines = record routines { has_begun = true }
 begun_unless (Some s) routines = routines
 
-abbrev pub begun : Routines → Routines
-begun routines = begun_unless (full_begun routines) routines
+abbrev pub begun : SettingLimits → Routines → Routines
+begun limits routines = begun_unless (full_begun limits routines) routines
 
 -- the bytes of code and the references of a story so far
 abbrev pub code_count : Routines → ℕ
@@ -205,8 +209,8 @@ abbrev pub full_behind_bytes : CodeLimits → Bool → Bool → ℕ → Option L
 full_behind_bytes limits is_lost has_begun place =
     if nat_lt unlimited (place + 1) then Some setting.Code else full_before is_lost has_begun limits
 
-abbrev pub full_opened : Bool → Routines → Option Limit
-full_opened is_lost routines = full_behind_bytes routines.limits is_lost routines.has_begun (place_behind routines.finished)
+abbrev pub full_opened : SettingLimits → Bool → Routines → Option Limit
+full_opened limits is_lost routines = full_behind_bytes (code_limits limits) is_lost routines.has_begun (place_behind routines.finished)
 
 -- another routine of so many locals is open, which is lost or not
 abbrev pub with_opened : ℕ → Bool → Routines → Routines
@@ -252,8 +256,8 @@ abbrev pub rest_behind : Option ℕ → ℕ → Option ℕ
 rest_behind None used = None
 rest_behind (Some left) used = rest left used
 
-abbrev pub labels_left : Routines → Option ℕ
-labels_left routines = rest routines.limits.labels (labels routines)
+abbrev pub labels_left : SettingLimits → Routines → Option ℕ
+labels_left limits routines = rest (limits bound.Labels) (labels routines)
 
 -- The bytes of code so far, with those of the open routine, every branch long. One that is lost has none.
 abbrev pub code_with : ℕ → List CodeCell → Option Opened → ℕ
@@ -264,16 +268,17 @@ abbrev pub bytes_of_code : Routines → ℕ
 bytes_of_code routines = code_with (code_count routines) routines.finished routines.opened
 
 -- how many more there may be
-abbrev pub code_left : Routines → Option ℕ
-code_left routines = rest routines.limits.code (bytes_of_code routines)
+abbrev pub code_left : SettingLimits → Routines → Option ℕ
+code_left limits routines = rest (limits bound.Code) (bytes_of_code routines)
 
 -- The references of the open routine. One that is lost has none.
 abbrev pub references_open : Option Opened → ℕ
 references_open None = 0
 references_open (Some o) = if o.is_lost then 0 else fixup_count o.contents.cells
 
-abbrev pub references_left : Routines → Option ℕ
-references_left routines = rest_behind (rest routines.limits.refs (reference_count routines)) (references_open routines.opened)
+abbrev pub references_left : SettingLimits → Routines → Option ℕ
+references_left limits routines =
+    rest_behind (rest (limits bound.References) (reference_count routines)) (references_open routines.opened)
 
 -- What is wrong with a routine behind so many bytes and references: a label that is missing or stands twice, an offset that does not fit,
 -- the
@@ -304,8 +309,8 @@ fault_end limits scale kind finished (Some o) =
     first_fault (fault_behind (place_behind finished) (references_before o.is_lost finished) o.contents)
     (zeros_fault o.is_lost limits.code (place_behind (finished ++ padded scale (routine_cells (place_behind finished) kind o.contents))))
 
-abbrev pub fault_closed : RoutineKind → Routines → Option CloseFault
-fault_closed kind routines = fault_end routines.limits routines.scale kind routines.finished routines.opened
+abbrev pub fault_closed : SettingLimits → RoutineKind → Routines → Option CloseFault
+fault_closed limits kind routines = fault_end (code_limits limits) routines.scale kind routines.finished routines.opened
 
 -- the bounds of each routine
 abbrev pub routine_bounds : Limits

@@ -8,7 +8,7 @@ ghost use Rattle.inf_assembler.specs.declared.routines.Limit.{Limit};
 ghost use Rattle.inf_assembler.specs.declared.routines.Limit.TheVariants as code_setting;
 ghost use Rattle.inf_assembler.specs.declared.routines.CloseFault.TheVariants as close_fault;
 ghost use Rattle.inf_assembler.specs.Routines.{IsOpen, contents_of, refusal};
-ghost use Rattle.inf_code.specs.Code.{IsSpare, begun, bytes_of_code, code_cells, code_count, code_left, fault_behind, fault_closed, reference_count, references_left, references_open, full_begun, full_behind_bytes, full_first, full_label, full_opened, full_with, labels, labels_left, place_behind, routine_bounds, with_closed, with_item, with_label, with_none_open, with_opened, zeros_behind};
+ghost use Rattle.inf_code.specs.Code.{IsSpare, begun, bytes_of_code, code_cells, code_count, code_left, code_limits, fault_behind, fault_closed, reference_count, references_left, references_open, full_begun, full_behind_bytes, full_first, full_label, full_opened, full_with, labels, labels_left, place_behind, routine_bounds, with_closed, with_item, with_label, with_none_open, with_opened, zeros_behind};
 ghost use Rattle.inf_settings.specs.declared.setting.Setting.TheVariants as setting;
 
 use inf_area::{AddFault, Area, AreaName, Fixup, PagedArea, Refs, Target};
@@ -109,7 +109,7 @@ pub struct Code<B: Bounds> {
     is_lost: bool,
     spare: Refs,
     of: PhantomData<B>,
-    ghost is_allowed: { B.allows setting.Code limits.code ≡ true },
+    ghost is_most: { limits ≡ code_limits B.most },
 }
 
 impl<B: Bounds> Model for Code<B> {
@@ -118,7 +118,6 @@ impl<B: Bounds> Model for Code<B> {
     ghost Value = { Routines };
 
     ghost view = { λ code. record {
-      limits = code.limits;
       scale = code.scale;
       has_begun = code.has_begun;
       finished = source_cells
@@ -135,8 +134,8 @@ impl<B: Bounds> Code<B> {
 
     /// No code, which may hold so much, in a story whose packed addresses are multiplied by this.
     pub fn new(alloc: Global, limits: CodeLimits, scale: Scale) -> Result<Code<B>, AllocError>
-        requires { B.allows setting.Code limits.code ≡ true }
-        ensures { IfOk result (λ code. code ≡ no_routines limits scale) }
+        requires { limits ≡ code_limits B.most }
+        ensures { IfOk result (λ code. code ≡ no_routines scale) }
     {
         let mut area = PagedArea::new(alloc);
         area.append(&FIRST_ROUTINE)?;
@@ -171,8 +170,7 @@ impl<B: Bounds> Code<B> {
     /// The number of bytes of code so far: those of the first routine, once code has begun, and of the finished ones.
     pub fn count(&self) -> usize
         ensures value { result ≡ code_count self.now }
-        ensures few { result ≤ self.now.limits.code }
-        ensures allowed { B.allows setting.Code self.now.limits.code ≡ true }
+        ensures few { result ≤ B.most setting.Code }
     {
         if self.has_begun {
             self.finished
@@ -205,14 +203,14 @@ impl<B: Bounds> Code<B> {
 
     /// The most bytes of code that there may be.
     pub fn most_bytes(&self) -> usize
-        ensures { result ≡ self.now.limits.code }
+        ensures { result ≡ B.most setting.Code }
     {
         self.limits.code
     }
 
     /// How many more labels, branches and jumps the open routine may have; nothing where it has too many.
     pub fn labels_left(&self) -> Option<usize>
-        ensures { result ≡ labels_left self.now }
+        ensures { result ≡ labels_left B.most self.now }
     {
         self.limits.labels.checked_sub(self.labels())
     }
@@ -221,7 +219,7 @@ impl<B: Bounds> Code<B> {
     /// there are
     /// too many. A routine that is lost has none.
     pub fn code_left(&self) -> Option<usize>
-        ensures { result ≡ code_left self.now }
+        ensures { result ≡ code_left B.most self.now }
     {
         self.limits.code.checked_sub(self.bytes())
     }
@@ -243,7 +241,7 @@ impl<B: Bounds> Code<B> {
     /// A
     /// routine that is lost has none.
     pub fn references_left(&self) -> Option<usize>
-        ensures { result ≡ references_left self.now }
+        ensures { result ≡ references_left B.most self.now }
     {
         let left = self.limits.refs.checked_sub(self.references())?;
         left.checked_sub(self.open_references())
@@ -262,8 +260,8 @@ impl<B: Bounds> Code<B> {
     /// Begins code with its first routine, unless it has begun. Answers the limit that this would pass, of two that of bytes; then
     /// it does not begin.
     pub fn begin(&mut self) -> Option<Limit>
-        ensures full { result ≡ full_begun self.old }
-        ensures begun { self.new ≡ begun self.old }
+        ensures full { result ≡ full_begun B.most self.old }
+        ensures begun { self.new ≡ begun B.most self.old }
     {
         if self.has_begun {
             return None;
@@ -283,7 +281,7 @@ impl<B: Bounds> Code<B> {
         requires { locals ≤ 15 }
         ensures ok { OnOk result (self.new ≡ with_opened locals is_lost self.old) }
         ensures err { OnErr result (self.new ≡ with_none_open self.old) }
-        ensures fault { let full = full_opened is_lost self.old in
+        ensures fault { let full = full_opened B.most is_lost self.old in
             MatchResult result (λ _. full ≡ None) (λ fault. fault ≡ refusal full) }
     {
         self.routine = None;
@@ -346,7 +344,7 @@ impl<B: Bounds> Code<B> {
     pub fn close(&mut self, kind: RoutineKind) -> Result<(), CloseFault>
         ensures ok { OnOk result (self.new ≡ with_closed kind self.old) }
         ensures err { OnErr result (self.new ≡ with_none_open self.old) }
-        ensures fault { let wrong = fault_closed kind self.old in
+        ensures fault { let wrong = fault_closed B.most kind self.old in
             MatchResult result (λ _. wrong ≡ None) (λ fault. (fault ≡ close_fault.Memory) ⊎ (wrong ≡ Some fault)) }
     {
         let Some(routine) = self.routine.take() else {

@@ -1,5 +1,6 @@
 -- What the actions of the grammar do. While a unit is read they gather what it has, and at its end it acts, as a whole.
 use Rattle.std.specs.Prelude.{ℕ, ◌+◌, ◌-◌, ◌==◌, max, List, [], ◌∷◌, length, map, nat_lt, Bool, true, false, ◌&&◌, if◌then◌else◌, Option, Some, None, is_some, unwrap_or}
+use Rattle.inf_settings.specs.Bounds.{Limits}
 use Rattle.inf_characters.specs.declared.characters.CharSet.{CharSet}
 use Rattle.inf_scanner.specs.declared.tokens.Mark.{Mark}
 use Rattle.inf_scanner.specs.declared.tokens.Mark.TheVariants as mark
@@ -25,7 +26,6 @@ use Rattle.inf_expressions.specs.Units.{judged, trees_of}
 use Rattle.inf_gathering.specs.declared.gathering.Leaf.{Leaf as UnitLeaf}
 use Rattle.inf_gathering.specs.declared.gathering.Leaf.TheVariants as leaf
 use Rattle.inf_cells.specs.declared.scale.Scale.TheVariants as scale
-use Rattle.inf_code.specs.declared.code.CodeLimits.{CodeLimits}
 use Rattle.inf_code.specs.Code.{fault_closed, labels as labels_of, no_routines, place_behind, with_none_open}
 use Rattle.inf_names.specs.Symbols.{Table, declare_fault, found_in, no_names, refer_fault, with_used}
 use Rattle.inf_names.specs.declared.symbols.DeclareFault.{DeclareFault}
@@ -61,28 +61,21 @@ use Rattle.inf_constructs.specs.Roots.{tree_in}
 use Rattle.inf_world.specs.declared.faults.AddFault.{AddFault}
 use Rattle.inf_world.specs.World.{WorldOf, no_body_fault, with_end}
 
--- what code may hold, as the settings say: the labels, branches and jumps of a routine, bytes, and references
-abbrev pub limits_of : Settings → CodeLimits
-limits_of settings = record {
-  labels = setting_number setting.Labels settings;
-  code = setting_number setting.Code settings;
-  refs = setting_number setting.References settings;
-}
-
-abbrev pub no_output : Settings → Out
-no_output settings = record {
-  code = no_routines (limits_of settings) scale.Four;
-  strings = no_strings (setting_number setting.Strings settings) scale.Four;
-  tables = no_tables settings;
-  names = no_symbols settings;
-  seen = no_names 4294967295 false;
+abbrev pub no_output : Out
+no_output = record {
+  code = no_routines scale.Four;
+  strings = no_strings scale.Four;
+  tables = no_tables;
+  names = no_symbols;
+  seen = no_names false;
   first = nowhere;
   next = 0;
   past = None;
   kept = None;
 }
 
--- What was compiled so far: how many tokens an expression had, and how many labels a routine, where units were finished; the unit at hand; the statements that are open, the innermost first, and how many that are over were closed ahead of
+-- What was compiled so far: how many tokens an expression had, and how many labels a routine, where units were finished; the unit at hand;
+-- the statements that are open, the innermost first, and how many that are over were closed ahead of
 -- a conditional;
 -- where the last token is, if it is the word of a compound statement where a case may stand, too; the labels with names and the locals of
 -- the open routine; the code and the names of the source; the messages; what a directive asks of the reading; the names of
@@ -121,14 +114,14 @@ no_work settings = record {
   opening = None;
   labels = [];
   locals = [];
-  output = no_output settings;
+  output = no_output;
   report = nothing_reported;
   asked = Nothing;
-  replaced = no_symbols settings;
+  replaced = no_symbols;
   is_system = false;
   is_replaced = false;
   listing = record { is_lost = false; has_entries = false };
-  lost = no_arrays 18446744073709551615;
+  lost = no_arrays;
   is_name = false;
   is_embedded = false;
   extending = record { verb = None; place = line_place.Last };
@@ -145,11 +138,12 @@ abbrev pub labels_counted : Compilation → Compilation
 labels_counted w = record w { most_labels = max w.most_labels (labels_of w.output.code) }
 
 -- The end of a unit, which begins at a place: the least of what is wrong with it is told, and then the first limit that was passed.
-abbrev pub unit_ended : Context → Place → Bool → Findings → Compilation → Compilation
-unit_ended context first has_last found w = record w {
+abbrev pub unit_ended : Limits → Context → Place → Bool → Findings → Compilation → Compilation
+unit_ended limits context first has_last found w = record w {
   unit = over has_last w.unit;
   most_labels = max w.most_labels (labels_of w.output.code);
-  report = with_full context.names first (full w.output) (with_fault context.names first (told_as context.names w.unit.tokens first found) w.report);
+  report = with_full context.names first (full limits w.output)
+      (with_fault context.names first (told_as context.names w.unit.tokens first found) w.report);
 }
 
 -- Something is laid for a unit that begins at a place.
@@ -157,13 +151,13 @@ abbrev pub laid : Place → Code → Compilation → Compilation
 laid first code w = record w { output = code (record w.output { first = first }) }
 
 -- Code begins with the first unit that is finished.
-abbrev pub begun_at : FileNames → Place → Compilation → Compilation
-begun_at files first w =
-    let o = begun w.output in record w {
+abbrev pub begun_at : Limits → FileNames → Place → Compilation → Compilation
+begun_at limits files first w =
+    let o = begun limits w.output in record w {
       output = o;
       most_labels = max w.most_labels (labels_of o.code);
       report = with_full files first
-          (full o) w.report;
+          (full limits o) w.report;
     }
 
 -- a message at a place ends the compilation, if there is a place; and else the tokens of the expression are counted
@@ -253,8 +247,9 @@ abbrev pub named : Compilation → Compilation
 named w = record w { locals = stores_named w.unit.tokens w.unit.items (leaves_named w.unit.tokens w.unit.gathering.leaves w.locals) }
 
 -- their trees, when their names were used
-abbrev pub settled_of : Context → Compilation → Settled
-settled_of context w = settled context.set w.locals w.unit.tokens w.unit.gathering.leaves (record { out = w.output; operands = [] })
+abbrev pub settled_of : Limits → Context → Compilation → Settled
+settled_of limits context w =
+    settled limits context.set w.locals w.unit.tokens w.unit.gathering.leaves (record { out = w.output; operands = [] })
 
 abbrev pub trees_at : ℕ → Wanted → List Operand → Compilation → List Rooted
 trees_at first wanted operands w = trees_of wanted first operands w.unit.gathering.symbols
@@ -267,23 +262,24 @@ passed has_last w = record w { unit = over has_last w.unit }
 
 -- A header, which begins at a place, opens a routine with its locals. With an error it still declares its name, where that
 -- is free, and its locals. Z-Machine Standard 1.1, section 5.2.
-abbrev pub opened_with : Context → Place → Headed → Findings → Compilation → Compilation
-opened_with context first h found w =
-    unit_ended context first true found (record w {
-      output = opened (length h.locals) (is_some found.least) w.output;
+abbrev pub opened_with : Limits → Context → Place → Headed → Findings → Compilation → Compilation
+opened_with limits context first h found w =
+    unit_ended limits context first true found (record w {
+      output = opened limits (length h.locals) (is_some found.least) w.output;
       locals = h.locals;
       constructs = [];
       labels = [];
     })
 
-abbrev pub routine_declared : Name → Compilation → Compilation
-routine_declared name w =
-    record w { output = declared name.bytes name.place (meaning.Routine (place_behind w.output.code.finished)) w.output }
+abbrev pub routine_declared : Limits → Name → Compilation → Compilation
+routine_declared limits name w =
+    record w { output = declared limits name.bytes name.place (meaning.Routine (place_behind w.output.code.finished)) w.output }
 
 -- its name stands behind its bracket
-abbrev pub header_with : Context → Place → Name → Headed → Compilation → Compilation
-header_with context first name h w =
-    opened_with context first h (header_findings 1 (again_by name (declare_fault name.bytes w.output.names)) h) (routine_declared name w)
+abbrev pub header_with : Limits → Context → Place → Name → Headed → Compilation → Compilation
+header_with limits context first name h w =
+    opened_with limits context first h (header_findings 1 (again_by name (declare_fault limits name.bytes w.output.names)) h)
+    (routine_declared limits name w)
 
 -- a name that is kept among those of routines that are to be replaced
 abbrev pub is_kept : Found Place → Bool
@@ -295,17 +291,17 @@ abbrev pub is_to_be_replaced : Name → Compilation → Bool
 is_to_be_replaced n w = w.is_system && is_kept (found_in n.bytes w.replaced)
 
 -- behind its bracket a header has the name of its routine; its locals are kept apart
-abbrev pub header_named : Context → Place → Name → Compilation → Compilation
-header_named context first name w =
+abbrev pub header_named : Limits → Context → Place → Name → Compilation → Compilation
+header_named limits context first name w =
     if is_to_be_replaced name w then passed true (record w { is_replaced = true; is_embedded = false; constructs = [] })
-    else header_with context first name w.unit.headed (record w { is_replaced = false; is_embedded = false })
+    else header_with limits context first name w.unit.headed (record w { is_replaced = false; is_embedded = false })
 
-abbrev pub header_of : Context → Place → List Name → Compilation → Compilation
-header_of context first [] w = passed true w
-header_of context first (name ∷ names) w = header_named context first name w
+abbrev pub header_of : Limits → Context → Place → List Name → Compilation → Compilation
+header_of limits context first [] w = passed true w
+header_of limits context first (name ∷ names) w = header_named limits context first name w
 
-abbrev pub header_end : Context → Place → Compilation → Compilation
-header_end context place w = header_of context (first_place w.unit.tokens place) (names_in w.unit.tokens) w
+abbrev pub header_end : Limits → Context → Place → Compilation → Compilation
+header_end limits context place w = header_of limits context (first_place w.unit.tokens place) (names_in w.unit.tokens) w
 
 -- a warning, at a place, for each local that no statement named
 abbrev pub with_unused : Context → Place → Local → Reported → Reported
@@ -321,11 +317,13 @@ with_all_unused context place (l ∷ locals) r = with_all_unused context place l
 abbrev pub with_branch_fault : Context → Place → Option CloseFault → Reported → Reported
 with_branch_fault context place (Some (close_fault.LabelTwice label)) r =
     with_error (location context.names place) (location context.names place) BranchTooFar r
-with_branch_fault context place (Some close_fault.TooFar) r = with_error (location context.names place) (location context.names place) BranchTooFar r
+with_branch_fault context place (Some close_fault.TooFar) r =
+    with_error (location context.names place) (location context.names place) BranchTooFar r
 with_branch_fault context place _ r = r
 
 abbrev pub with_fault_or : Option (List ℕ) → Context → Place → Option CloseFault → Reported → Reported
-with_fault_or (Some name) context place fault r = with_error (location context.names place) (location context.names place) (LabelMissing name) r
+with_fault_or (Some name) context place fault r =
+    with_error (location context.names place) (location context.names place) (LabelMissing name) r
 with_fault_or None context place fault r = with_branch_fault context place fault r
 
 abbrev pub with_routine_fault : Context → Place → List NamedLabel → Option CloseFault → Reported → Reported
@@ -336,29 +334,29 @@ abbrev pub kind_ended : Bool → RoutineKind
 kind_ended is_embedded = if is_embedded then routine_kind.Embedded else routine_kind.Plain
 
 -- The end of a routine of a kind, at a place: what is wrong with it is told, and its unused locals, which are not known behind it.
-abbrev pub close_as : RoutineKind → Context → Place → Compilation → Compilation
-close_as how context place w =
-    let fault = fault_closed how w.output.code in
-    unit_ended context place true nothing_found (record w {
+abbrev pub close_as : Limits → RoutineKind → Context → Place → Compilation → Compilation
+close_as limits how context place w =
+    let fault = fault_closed limits how w.output.code in
+    unit_ended limits context place true nothing_found (record w {
       most_labels = max w.most_labels (labels_of w.output.code);
-      output = closed how w.output;
+      output = closed limits how w.output;
       report = with_all_unused context place w.locals (with_routine_fault context place w.labels fault w.report);
       locals = [];
       is_embedded = false;
     })
 
-abbrev pub code_closed : Context → Place → Compilation → Compilation
-code_closed context place w = close_as (kind_ended w.is_embedded) context place w
+abbrev pub code_closed : Limits → Context → Place → Compilation → Compilation
+code_closed limits context place w = close_as limits (kind_ended w.is_embedded) context place w
 
 -- Before that its own cases end, if it has such. Of one that is passed over nothing ends.
-abbrev pub cases_ended : Compilation → Compilation
-cases_ended w = let laid = ended w.constructs w.output in record w { constructs = laid.0; output = laid.1 }
+abbrev pub cases_ended : Limits → Compilation → Compilation
+cases_ended limits w = let laid = ended limits w.constructs w.output in record w { constructs = laid.0; output = laid.1 }
 
-abbrev pub close_open : Context → Place → Compilation → Compilation
-close_open context place w = code_closed context place (cases_ended w)
+abbrev pub close_open : Limits → Context → Place → Compilation → Compilation
+close_open limits context place w = code_closed limits context place (cases_ended limits w)
 
-abbrev pub close : Context → Place → Compilation → Compilation
-close context place w = if w.is_replaced then passed true w else close_open context place w
+abbrev pub close : Limits → Context → Place → Compilation → Compilation
+close limits context place w = if w.is_replaced then passed true w else close_open limits context place w
 
 -- Directives, which begin at a place
 
@@ -408,38 +406,39 @@ abbrev pub constant_findings : ℕ → Option Again → Option Finding → Findi
 constant_findings order again finding = record (found_alone (least_of_both (again_finding order again) finding)) { again = again }
 
 -- Without an error its text or word is added.
-abbrev pub constant_added : Context → Option Finding → Compilation → Compilation
-constant_added context None w = record w { output = leaf_added context.set w.unit.tokens w.unit.gathering.leaves w.output }
-constant_added context (Some f) w = w
+abbrev pub constant_added : Limits → Context → Option Finding → Compilation → Compilation
+constant_added limits context None w = record w { output = leaf_added limits context.set w.unit.tokens w.unit.gathering.leaves w.output }
+constant_added limits context (Some f) w = w
 
 -- the end of its directive, where the name was refused or not
-abbrev pub constant_ended : Context → Place → Name → Option (DeclareFault Place) → Option Finding → Compilation → Compilation
-constant_ended context first name refused finding w =
+abbrev pub constant_ended : Limits → Context → Place → Name → Option (DeclareFault Place) → Option Finding → Compilation → Compilation
+constant_ended limits context first name refused finding w =
     let found = constant_findings (name_order w.unit.tokens) (again_by name refused) finding in
-    unit_ended context first true found (constant_added context found.least w)
+    unit_ended limits context first true found (constant_added limits context found.least w)
 
-abbrev pub constant_declared : Context → Place → Name → Option Meaning → Option Finding → Compilation → Compilation
-constant_declared context first name m finding w =
-    constant_ended context first name (declare_fault name.bytes w.output.names) finding
-    (record w { output = declared name.bytes name.place (constant_meaning m finding) w.output })
+abbrev pub constant_declared : Limits → Context → Place → Name → Option Meaning → Option Finding → Compilation → Compilation
+constant_declared limits context first name m finding w =
+    constant_ended limits context first name (declare_fault limits name.bytes w.output.names) finding
+    (record w { output = declared limits name.bytes name.place (constant_meaning m finding) w.output })
 
-abbrev pub constant_with : Context → Place → Name → Option Meaning → Option Finding → Compilation → Compilation
-constant_with context first name m found w = constant_declared context first name m (constant_finding m found) w
+abbrev pub constant_with : Limits → Context → Place → Name → Option Meaning → Option Finding → Compilation → Compilation
+constant_with limits context first name m found w = constant_declared limits context first name m (constant_finding m found) w
 
-abbrev pub constant : Context → Place → List Name → Compilation → Compilation
-constant context first [] w = passed true w
-constant context first (name ∷ names) w =
-    constant_with context first name (constant_of (map tree_in (trees_at 0 wanted.Constant (operands_of w) w)) w)
+abbrev pub constant : Limits → Context → Place → List Name → Compilation → Compilation
+constant limits context first [] w = passed true w
+constant limits context first (name ∷ names) w =
+    constant_with limits context first name (constant_of (map tree_in (trees_at 0 wanted.Constant (operands_of w) w)) w)
     (finding_at 0 wanted.Constant w) w
 
 -- The routine of a name is to be replaced where it stands in a file that is marked. That is a use of the name.
-abbrev pub used_name : Name → Table Place → Table Place
-used_name n names = if is_some (refer_fault n.bytes names) then names else with_used n.bytes n.place names
+abbrev pub used_name : Limits → Name → Table Place → Table Place
+used_name limits n names = if is_some (refer_fault limits n.bytes names) then names else with_used n.bytes n.place names
 
-abbrev pub replace : Context → Place → List Name → Compilation → Compilation
-replace context first [] w = passed true w
-replace context first (name ∷ names) w =
-    unit_ended context first true nothing_found (record w { output = referred name.bytes name.place w.output; replaced = used_name name w.replaced })
+abbrev pub replace : Limits → Context → Place → List Name → Compilation → Compilation
+replace limits context first [] w = passed true w
+replace limits context first (name ∷ names) w =
+    unit_ended limits context first true nothing_found
+    (record w { output = referred limits name.bytes name.place w.output; replaced = used_name limits name w.replaced })
 
 -- A stub is a routine of so many locals, four at most, that returns 0. It is one where the name is not declared.
 abbrev pub stub_locals_by : Option TokenKind → ℕ
@@ -449,14 +448,14 @@ stub_locals_by (Some k) = unwrap_or (number_of k) 0
 abbrev pub stub_locals : List SourceToken → ℕ
 stub_locals tokens = stub_locals_by (kind_at tokens (length tokens - 1))
 
-abbrev pub stub_code : ℕ → Code
-stub_code locals o = closed routine_kind.Embedded (opened locals false o)
+abbrev pub stub_code : Limits → ℕ → Code
+stub_code limits locals o = closed limits routine_kind.Embedded (opened limits locals false o)
 
-abbrev pub stubbed : Context → Place → Compilation → Compilation
-stubbed context first w =
+abbrev pub stubbed : Limits → Context → Place → Compilation → Compilation
+stubbed limits context first w =
     let locals = stub_locals w.unit.tokens in
-    if nat_lt 4 locals then unit_ended context first true (found_alone (Some (out_of_range 0))) w
-    else unit_ended context first true nothing_found (record w { output = stub_code locals w.output })
+    if nat_lt 4 locals then unit_ended limits context first true (found_alone (Some (out_of_range 0))) w
+    else unit_ended limits context first true nothing_found (record w { output = stub_code limits locals w.output })
 
 -- whether a name is declared, by what looking for it found
 abbrev pub is_declared : Found Place → Bool
@@ -470,10 +469,11 @@ abbrev pub is_first_declared : List Name → Table Place → Bool
 is_first_declared [] names = false
 is_first_declared (name ∷ others) names = is_declared (found_in name.bytes names)
 
-abbrev pub new_stub : Context → Place → List Name → Compilation → Compilation
-new_stub context first [] w = passed true w
-new_stub context first (name ∷ names) w = stubbed context first (routine_declared name w)
+abbrev pub new_stub : Limits → Context → Place → List Name → Compilation → Compilation
+new_stub limits context first [] w = passed true w
+new_stub limits context first (name ∷ names) w = stubbed limits context first (routine_declared limits name w)
 
-abbrev pub stub : Context → Place → List Name → Compilation → Compilation
-stub context first names w =
-    if is_first_declared names w.output.names then unit_ended context first true nothing_found w else new_stub context first names w
+abbrev pub stub : Limits → Context → Place → List Name → Compilation → Compilation
+stub limits context first names w =
+    if is_first_declared names w.output.names then unit_ended limits context first true nothing_found w else new_stub limits context first
+    names w

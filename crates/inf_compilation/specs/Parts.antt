@@ -1,5 +1,6 @@
 -- The units of a routine that have expressions, and the statements that hold others.
 use Rattle.std.specs.Prelude.{ℕ, ◌-◌, nat_lt, max, List, [], ◌∷◌, map, Bool, true, false, if◌then◌else◌, Option, Some, None}
+use Rattle.inf_settings.specs.Bounds.{Limits}
 use Rattle.inf_scanner.specs.declared.tokens.Place.{Place}
 use Rattle.inf_expressions.specs.declared.findings.Finding.{Finding}
 use Rattle.inf_expressions.specs.declared.units.Wanted.{Wanted}
@@ -50,24 +51,32 @@ place_of _ place w = own_place w.unit place
 -- what a statement goes by beside its trees, and what it is
 abbrev pub site_of : Context → Compilation → Site
 site_of context w =
-    record { set = context.set; tokens = w.unit.tokens; begun = w.unit.begun; items = w.unit.items; locals = w.locals; constructs = w.constructs }
+    record {
+      set = context.set;
+      tokens = w.unit.tokens;
+      begun = w.unit.begun;
+      items = w.unit.items;
+      locals = w.locals;
+      constructs =
+          w.constructs;
+    }
 
 abbrev pub statement_at : Compilation → Statement
 statement_at w = statement_in w.unit.tokens w.unit.begun w.unit.items
 
 -- What is wrong with it: the least of what is found of its expressions and beside them.
-abbrev pub line_finding_of : Context → Compilation → Option Finding
-line_finding_of context w =
-    site_finding (site_of context w) w.output.names (map tree_in (trees_at (order w.unit.begun) wanted.Operand (operands_of w) w))
+abbrev pub line_finding_of : Limits → Context → Compilation → Option Finding
+line_finding_of limits context w =
+    site_finding limits (site_of context w) w.output.names (map tree_in (trees_at (order w.unit.begun) wanted.Operand (operands_of w) w))
 
-abbrev pub own_finding : Context → Part → Compilation → Option Finding
-own_finding context (part.Statement statement.Assembly) w = line_finding_of context w
-own_finding context (part.Statement s) w = statement_finding (site_of context w) w.labels s
-own_finding context part.Case w = only_if (is_late w.constructs) misplaced_default
-own_finding context _ w = None
+abbrev pub own_finding : Limits → Context → Part → Compilation → Option Finding
+own_finding limits context (part.Statement statement.Assembly) w = line_finding_of limits context w
+own_finding limits context (part.Statement s) w = statement_finding (site_of context w) w.labels s
+own_finding limits context part.Case w = only_if (is_late w.constructs) misplaced_default
+own_finding limits context _ w = None
 
-abbrev pub found_in : Context → Part → Compilation → Option Finding
-found_in context p w = least_of_both (finding_at (order_of p w) (wanted_of p) w) (own_finding context p w)
+abbrev pub found_in : Limits → Context → Part → Compilation → Option Finding
+found_in limits context p w = least_of_both (finding_at (order_of p w) (wanted_of p) w) (own_finding limits context p w)
 
 -- Open statements
 
@@ -79,34 +88,37 @@ abbrev pub is_default : List Item → Bool
 is_default (item.Default ∷ items) = true
 is_default _ = false
 
-abbrev pub part_begun : Part → Compilation → Compilation
-part_begun part.Case w = constructs_laid (changed (entered (is_default w.unit.items)) w.constructs) w
-part_begun _ w = w
+abbrev pub part_begun : Limits → Part → Compilation → Compilation
+part_begun limits part.Case w = constructs_laid (changed (entered limits (is_default w.unit.items)) w.constructs) w
+part_begun limits _ w = w
 
 -- What it does, with its trees
-abbrev pub statement_laid_in : Context → Statement → List Rooted → Compilation → Compilation
-statement_laid_in context s trees w =
-    let laid = statement_laid (site_of context w) s (map tree_in trees) w.labels w.output in record w { labels = laid.0; output = laid.1 }
+abbrev pub statement_laid_in : Limits → Context → Statement → List Rooted → Compilation → Compilation
+statement_laid_in limits context s trees w =
+    let laid =
+    statement_laid limits (site_of context w) s (map tree_in trees) w.labels w.output in record w { labels = laid.0; output = laid.1 }
 
-unfoldable pub part_effect : Context → Part → List Rooted → Compilation → Compilation
-part_effect context (part.Statement s) trees w = statement_laid_in context s trees w
-part_effect context part.Condition trees w = record w { output = tested (condition_label w.constructs) (map tree_in trees) w.output }
-part_effect context part.Start trees w = record w { output = alone (map tree_in trees) w.output }
-part_effect context part.Step trees w = constructs_laid (λ o. stepped w.constructs ((apart ▸ alone (map tree_in trees)) o)) w
-part_effect context part.Loop trees w = constructs_laid (looped_over trees w.constructs) w
-part_effect context part.Switched trees w = record w { output = switched (map tree_in trees) w.output }
-part_effect context part.Case trees w = record w { output = case_code (next_case w.constructs) (map tree_in trees) w.output }
+unfoldable pub part_effect : Limits → Context → Part → List Rooted → Compilation → Compilation
+part_effect limits context (part.Statement s) trees w = statement_laid_in limits context s trees w
+part_effect limits context part.Condition trees w =
+    record w { output = tested limits (condition_label w.constructs) (map tree_in trees) w.output }
+part_effect limits context part.Start trees w = record w { output = alone limits (map tree_in trees) w.output }
+part_effect limits context part.Step trees w = constructs_laid (λ o. stepped w.constructs ((apart ▸ alone limits (map tree_in trees)) o)) w
+part_effect limits context part.Loop trees w = constructs_laid (looped_over limits trees w.constructs) w
+part_effect limits context part.Switched trees w = record w { output = switched limits (map tree_in trees) w.output }
+part_effect limits context part.Case trees w = record w { output = case_code limits (next_case w.constructs) (map tree_in trees) w.output }
 
 -- It ends, which begins at a place. With an error it has no effect but that its locals are named, and that a case begins.
-abbrev pub part_carried : Context → Place → Part → Option Finding → Compilation → Compilation
-part_carried context first p (Some f) w = unit_ended context first (has_last p) (found_alone (Some f)) w
-part_carried context first p None w =
-    let s = settled_of context w in
-    unit_ended context first (has_last p) nothing_found
-    (part_effect context p (trees_at (order_of p w) (wanted_of p) s.operands w) (record w { output = record s.out { first = first } }))
+abbrev pub part_carried : Limits → Context → Place → Part → Option Finding → Compilation → Compilation
+part_carried limits context first p (Some f) w = unit_ended limits context first (has_last p) (found_alone (Some f)) w
+part_carried limits context first p None w =
+    let s = settled_of limits context w in
+    unit_ended limits context first (has_last p) nothing_found
+    (part_effect limits context p (trees_at (order_of p w) (wanted_of p) s.operands w)
+    (record w { output = record s.out { first = first } }))
 
-abbrev pub part_finished : Context → Place → Part → Compilation → Compilation
-part_finished context first p w = part_carried context first p (found_in context p w) (named (part_begun p w))
+abbrev pub part_finished : Limits → Context → Place → Part → Compilation → Compilation
+part_finished limits context first p w = part_carried limits context first p (found_in limits context p w) (named (part_begun limits p w))
 
 abbrev pub part_prepared : Compilation → Compilation
 part_prepared w = record w { unit = unit_prepared w.unit }
@@ -116,34 +128,35 @@ abbrev pub actions_named : Bool → Compilation → Compilation
 actions_named true w = record w { unit = record w.unit { gathering = with_actions w.unit.gathering } }
 actions_named false w = w
 
-abbrev pub own_case_prepared : Compilation → Compilation
-own_case_prepared w = let begun = constructs_laid (cases_begun w.constructs) w in actions_named (are_own begun.constructs) begun
+abbrev pub own_case_prepared : Limits → Compilation → Compilation
+own_case_prepared limits w =
+    let begun = constructs_laid (cases_begun limits w.constructs) w in actions_named (are_own begun.constructs) begun
 
-abbrev pub case_prepared : Part → Compilation → Compilation
-case_prepared part.Case w = own_case_prepared w
-case_prepared _ w = w
+abbrev pub case_prepared : Limits → Part → Compilation → Compilation
+case_prepared limits part.Case w = own_case_prepared limits w
+case_prepared limits _ w = w
 
 -- before a token at a place; in a routine that is passed over nothing has an effect
-abbrev pub part_ended : Context → Place → Part → Compilation → Compilation
-part_ended context place p w =
+abbrev pub part_ended : Limits → Context → Place → Part → Compilation → Compilation
+part_ended limits context place p w =
     if w.is_replaced then passed (has_last p) w
-    else let ready = case_prepared p (part_prepared w) in part_finished context (place_of p place ready) p ready
+    else let ready = case_prepared limits p (part_prepared w) in part_finished limits context (place_of p place ready) p ready
 
 -- Statements that hold others: where the word was read that is told where it stands too deep, between their parts, and where they end.
-abbrev pub construct_opened : Context → Place → Kind → Compilation → Compilation
-construct_opened context place kind w =
-    let told = nested context (last_place w.unit.tokens place) (is_deep w 1) w in constructs_laid (begun kind told.constructs) told
+abbrev pub construct_opened : Limits → Context → Place → Kind → Compilation → Compilation
+construct_opened limits context place kind w =
+    let told = nested context (last_place w.unit.tokens place) (is_deep w 1) w in constructs_laid (begun limits kind told.constructs) told
 
-abbrev pub construct_joined : Compilation → Compilation
-construct_joined w = constructs_laid (changed between w.constructs) w
+abbrev pub construct_joined : Limits → Compilation → Compilation
+construct_joined limits w = constructs_laid (changed (between limits) w.constructs) w
 
-abbrev pub construct_ended : Compilation → Compilation
-construct_ended w = constructs_laid (ended w.constructs) w
+abbrev pub construct_ended : Limits → Compilation → Compilation
+construct_ended limits w = constructs_laid (ended limits w.constructs) w
 
 -- The innermost is over. It may have been closed ahead of a conditional.
-abbrev pub construct_closed : Compilation → Compilation
-construct_closed w = if nat_lt 0 w.closed then record w { closed = w.closed - 1 } else construct_ended w
+abbrev pub construct_closed : Limits → Compilation → Compilation
+construct_closed limits w = if nat_lt 0 w.closed then record w { closed = w.closed - 1 } else construct_ended limits w
 
 -- Where a conditional stands next, so many of the innermost are closed that the next token ends, whatever it is.
-abbrev pub closed_ahead : ℕ → Compilation → Compilation
-closed_ahead count w = record (constructs_laid (all_ended (count - w.closed) w.constructs) w) { closed = max w.closed count }
+abbrev pub closed_ahead : Limits → ℕ → Compilation → Compilation
+closed_ahead limits count w = record (constructs_laid (all_ended limits (count - w.closed) w.constructs) w) { closed = max w.closed count }

@@ -1,7 +1,7 @@
 //! What the actions of the grammar do: they gather what a unit has, which acts at its end.
 ghost use Rattle.inf_compilation.specs.Context.{handed, longest};
 ghost use Rattle.std.specs.Prelude.{IfOk, None, OnOk, false, true, ◌<◌, ◌≡◌, ◌≤◌};
-ghost use Rattle.inf_settings.specs.Bounds.{Allows};
+ghost use Rattle.inf_settings.specs.Bounds.{AreSet};
 ghost use Rattle.inf_unit.specs.Atoms.{is_short};
 ghost use Rattle.inf_unit.specs.Messages.{location};
 ghost use Rattle.inf_unit.specs.Spelled.{spelled};
@@ -86,13 +86,13 @@ fn no_output<B: Bounds>(
     settings: &Settings,
     hashing: NameHashing,
 ) -> Result<Output<B>, AllocError>
-    requires { Allows B.allows settings.now }
-    ensures { IfOk result (λ output. output ≡ no_output settings.now) }
+    requires { AreSet B.most settings.now }
+    ensures { IfOk result (λ output. output ≡ no_output) }
 {
     let limits = CodeLimits {
-        labels: settings.of(Setting::Labels) as usize,
+        labels: settings.bound::<B>(Setting::Labels) as usize,
         code: settings.bound::<B>(Setting::Code) as usize,
-        refs: settings.of(Setting::References) as usize,
+        refs: settings.bound::<B>(Setting::References) as usize,
     };
     let code = Code::new(alloc, limits, Scale::Four)?;
     let strings = Strings::new(
@@ -155,7 +155,7 @@ impl<B: Bounds> Compilation<B> {
         settings: &Settings,
         hashing: NameHashing,
     ) -> Result<Compilation<B>, AllocError>
-        requires { Allows B.allows settings.now }
+        requires { AreSet B.most settings.now }
         ensures { IfOk result (λ w. work w ≡ no_work settings.now) }
     {
         Ok(Compilation {
@@ -229,7 +229,7 @@ impl<B: Bounds> Compilation<B> {
     /// A unit that begins at a place is finished, with which code begins, unless it has begun. Where that would pass a setting, it
     /// ends the compilation.
     pub fn begin(&mut self, files: &Stack, first: Place) -> Result<(), AllocError>
-        ensures { OnOk result (work self.new ≡ begun_at files.now.names first (work self.old)) }
+        ensures { OnOk result (work self.new ≡ begun_at B.most files.now.names first (work self.old)) }
     {
         self.output.begin();
         self.count_labels();
@@ -245,7 +245,7 @@ impl<B: Bounds> Compilation<B> {
 
     /// So many of the innermost statements are over, whatever the next token is, and a conditional stands before it: they are closed now.
     pub fn close_ahead(&mut self, count: usize) -> Result<(), AllocError>
-        ensures { OnOk result (work self.new ≡ closed_ahead count (work self.old)) }
+        ensures { OnOk result (work self.new ≡ closed_ahead B.most count (work self.old)) }
     {
         let more = count.saturating_sub(self.closed);
         self.constructs.end_all(more, &mut self.output)?;
@@ -255,7 +255,7 @@ impl<B: Bounds> Compilation<B> {
 
     /// The innermost statement is over. It may have been closed before.
     pub fn close_construct(&mut self) -> Result<(), AllocError>
-        ensures { OnOk result (work self.new ≡ construct_closed (work self.old)) }
+        ensures { OnOk result (work self.new ≡ construct_closed B.most (work self.old)) }
     {
         if self.closed > 0 {
             self.closed -= 1;
@@ -348,7 +348,7 @@ impl<B: Bounds> Compilation<B> {
         has_last: bool,
         found: &Findings,
     ) -> Result<(), AllocError>
-        ensures { OnOk result (work self.new ≡ unit_ended (handed context.now) first has_last (found_as found.now) (work self.old)) }
+        ensures { OnOk result (work self.new ≡ unit_ended B.most (handed context.now) first has_last (found_as found.now) (work self.old)) }
     {
         let blame = found.told(context.files, &self.unit.tokens, first);
         self.report.fault(context.files, first, blame)?;

@@ -120,7 +120,7 @@ impl<B: Bounds> Compilation<B> {
         first: Place,
         part: Part,
     ) -> Result<Forest, AllocError>
-        ensures { IfOk result (λ forest. let s = settled_of (handed context.now) (work self.old) in
+        ensures { IfOk result (λ forest. let s = settled_of B.most (handed context.now) (work self.old) in
             (rooted_in forest ≡ trees_at (order_of part (work self.old)) (wanted_of part) s.operands (work self.old))
             × (work self.new ≡ record (work self.old) { output = record s.out { first = first } })) }
     {
@@ -185,7 +185,7 @@ impl<B: Bounds> Compilation<B> {
         operands: &[Operand],
     ) -> Result<Option<Finding>, AllocError>
         requires { operands.now ≡ operands_of (work self.now) }
-        ensures { IfOk result (λ finding. finding ≡ line_finding_of (handed context.now) (work self.now)) }
+        ensures { IfOk result (λ finding. finding ≡ line_finding_of B.most (handed context.now) (work self.now)) }
     {
         let forest = build(
             self.alloc,
@@ -208,7 +208,7 @@ impl<B: Bounds> Compilation<B> {
         operands: &[Operand],
     ) -> Result<Option<Finding>, AllocError>
         requires { operands.now ≡ operands_of (work self.now) }
-        ensures { IfOk result (λ finding. finding ≡ own_finding (handed context.now) part (work self.now)) }
+        ensures { IfOk result (λ finding. finding ≡ own_finding B.most (handed context.now) part (work self.now)) }
     {
         match part {
             Part::Statement(Statement::Assembly) => self.line_finding(context, operands),
@@ -223,7 +223,7 @@ impl<B: Bounds> Compilation<B> {
 
     /// The least of what is wrong with the unit.
     fn found_in(&self, context: &Context<'_>, part: Part) -> Result<Option<Finding>, AllocError>
-        ensures { IfOk result (λ finding. finding ≡ found_in (handed context.now) part (work self.now)) }
+        ensures { IfOk result (λ finding. finding ≡ found_in B.most (handed context.now) part (work self.now)) }
     {
         let operands = self.operands()?;
         let finding = self.finding(self.order(part), part.wanted(), operands.as_slice())?;
@@ -233,7 +233,7 @@ impl<B: Bounds> Compilation<B> {
 
     /// A case begins, also one with an error.
     fn begin_part(&mut self, part: Part) -> Result<(), AllocError>
-        ensures { OnOk result (work self.new ≡ part_begun part (work self.old)) }
+        ensures { OnOk result (work self.new ≡ part_begun B.most part (work self.old)) }
     {
         match part {
             Part::Case => {
@@ -251,7 +251,8 @@ impl<B: Bounds> Compilation<B> {
         statement: Statement,
         forest: &Forest,
     ) -> Result<(), AllocError>
-        ensures { OnOk result (work self.new ≡ statement_laid_in (handed context.now) statement (rooted_in forest.now) (work self.old)) }
+        ensures { OnOk result (work self.new ≡ statement_laid_in B.most (handed context.now) statement (rooted_in forest.now)
+            (work self.old)) }
     {
         let site = Site {
             alloc: self.alloc,
@@ -279,7 +280,7 @@ impl<B: Bounds> Compilation<B> {
         part: Part,
         forest: &Forest,
     ) -> Result<(), AllocError>
-        ensures { OnOk result (work self.new ≡ part_effect (handed context.now) part (rooted_in forest.now) (work self.old)) }
+        ensures { OnOk result (work self.new ≡ part_effect B.most (handed context.now) part (rooted_in forest.now) (work self.old)) }
     {
         let (tasks, out) = (&mut self.tasks, &mut self.output);
         match part {
@@ -305,7 +306,7 @@ impl<B: Bounds> Compilation<B> {
         part: Part,
         finding: Option<Finding>,
     ) -> Result<(), AllocError>
-        ensures { OnOk result (work self.new ≡ part_carried (handed context.now) first part finding (work self.old)) }
+        ensures { OnOk result (work self.new ≡ part_carried B.most (handed context.now) first part finding (work self.old)) }
     {
         if finding.is_none() {
             let forest = self.settle(context, first, part)?;
@@ -325,7 +326,7 @@ impl<B: Bounds> Compilation<B> {
 
     /// Before a case: one outside of any statement is one of the routine's own.
     fn begin_cases(&mut self) -> Result<(), AllocError>
-        ensures { OnOk result (work self.new ≡ own_case_prepared (work self.old)) }
+        ensures { OnOk result (work self.new ≡ own_case_prepared B.most (work self.old)) }
     {
         self.constructs.begin_cases(&mut self.output)?;
         self.name_actions();
@@ -334,7 +335,7 @@ impl<B: Bounds> Compilation<B> {
 
     /// Before a unit that may be a case.
     fn prepare_case(&mut self, part: Part) -> Result<(), AllocError>
-        ensures { OnOk result (work self.new ≡ case_prepared part (work self.old)) }
+        ensures { OnOk result (work self.new ≡ case_prepared B.most part (work self.old)) }
     {
         match part {
             Part::Case => self.begin_cases(),
@@ -349,7 +350,7 @@ impl<B: Bounds> Compilation<B> {
         place: Place,
         part: Part,
     ) -> Result<(), AllocError>
-        ensures { OnOk result (work self.new ≡ part_ended (handed context.now) place part (work self.old)) }
+        ensures { OnOk result (work self.new ≡ part_ended B.most (handed context.now) place part (work self.old)) }
     {
         if self.is_replaced {
             self.pass(part.has_last());
@@ -367,7 +368,7 @@ impl<B: Bounds> Compilation<B> {
     /// A statement ends, before a token at a place.
     pub fn end_statement(&mut self, context: &Context<'_>, place: Place) -> Result<(), AllocError>
         ensures { let before = work self.old in
-            OnOk result (work self.new ≡ part_ended (handed context.now) place (Part.Statement (statement_at before)) before) }
+            OnOk result (work self.new ≡ part_ended B.most (handed context.now) place (Part.Statement (statement_at before)) before) }
     {
         let statement = self.site(context).statement();
         self.end_part(context, place, Part::Statement(statement))
@@ -380,7 +381,7 @@ impl<B: Bounds> Compilation<B> {
         place: Place,
         kind: Kind,
     ) -> Result<(), AllocError>
-        ensures { OnOk result (work self.new ≡ construct_opened (handed context.now) place kind (work self.old)) }
+        ensures { OnOk result (work self.new ≡ construct_opened B.most (handed context.now) place kind (work self.old)) }
     {
         let word = self.unit.tokens.last_place(place);
         let is_deep = self.is_deep(1);

@@ -87,7 +87,7 @@ impl<B: Bounds> Compilation<B> {
 
     /// The header of a routine ends, before a token at a place.
     pub fn end_header(&mut self, context: &Context<'_>, place: Place) -> Result<(), AllocError>
-        ensures { OnOk result (work self.new ≡ header_end (handed context.now) place (work self.old)) }
+        ensures { OnOk result (work self.new ≡ header_end B.most (handed context.now) place (work self.old)) }
     {
         let names = self.unit.tokens.names(self.alloc)?;
         let Some(name) = names.first() else {
@@ -105,7 +105,7 @@ impl<B: Bounds> Compilation<B> {
         first: Place,
         name: &Name,
     ) -> Result<(), AllocError>
-        ensures { OnOk result (work self.new ≡ header_named (handed context.now) first (as_name name.now) (work self.old)) }
+        ensures { OnOk result (work self.new ≡ header_named B.most (handed context.now) first (as_name name.now) (work self.old)) }
     {
         self.is_embedded = false;
         self.is_replaced = self.is_to_be_replaced(name);
@@ -144,7 +144,7 @@ impl<B: Bounds> Compilation<B> {
         headed: Headed,
     ) -> Result<(), AllocError>
         ensures { OnOk result (work self.new
-            ≡ header_with (handed context.now) first (as_name name.now) (as_headed headed) (work self.old)) }
+            ≡ header_with B.most (handed context.now) first (as_name name.now) (as_headed headed) (work self.old)) }
     {
         let refused = self.declare_routine(name)?;
         let found = header_findings(1, again_by(name, refused), &headed);
@@ -156,8 +156,8 @@ impl<B: Bounds> Compilation<B> {
         &mut self,
         name: &Name,
     ) -> Result<Option<DeclareFault<Place>>, AllocError>
-        ensures value { OnOk result (work self.new ≡ routine_declared (as_name name.now) (work self.old)) }
-        ensures fault { IfOk result (λ refused. refused ≡ declare_fault (as_name name.now).bytes (work self.old).output.names) }
+        ensures value { OnOk result (work self.new ≡ routine_declared B.most (as_name name.now) (work self.old)) }
+        ensures fault { IfOk result (λ refused. refused ≡ declare_fault B.most (as_name name.now).bytes (work self.old).output.names) }
     {
         let routine = Meaning::Routine(self.output.code.next_place());
         self.output.declare(name.bytes(), name.place, routine)
@@ -172,7 +172,7 @@ impl<B: Bounds> Compilation<B> {
         found: &Findings,
     ) -> Result<(), AllocError>
         ensures { OnOk result (work self.new
-            ≡ opened_with (handed context.now) first (as_headed headed) (found_as found.now) (work self.old)) }
+            ≡ opened_with B.most (handed context.now) first (as_headed headed) (found_as found.now) (work self.old)) }
     {
         let locals = headed.locals.count();
         self.output.open(self.alloc, locals, found.least.is_some())?;
@@ -184,7 +184,7 @@ impl<B: Bounds> Compilation<B> {
 
     /// Ends the open routine at a place: tells its unused locals, and finishes its code.
     pub fn close(&mut self, context: &Context<'_>, place: Place) -> Result<(), AllocError>
-        ensures { OnOk result (work self.new ≡ close (handed context.now) place (work self.old)) }
+        ensures { OnOk result (work self.new ≡ close B.most (handed context.now) place (work self.old)) }
     {
         if self.is_replaced {
             self.pass(true);
@@ -196,7 +196,7 @@ impl<B: Bounds> Compilation<B> {
 
     /// The code of the open routine ends, at a place.
     fn close_code(&mut self, context: &Context<'_>, place: Place) -> Result<(), AllocError>
-        ensures { OnOk result (work self.new ≡ code_closed (handed context.now) place (work self.old)) }
+        ensures { OnOk result (work self.new ≡ code_closed B.most (handed context.now) place (work self.old)) }
     {
         self.count_labels();
         let fault = self.output.close(kind_ended(self.is_embedded))?;

@@ -1,5 +1,6 @@
 -- Directives that have no conditional to turn or to end.
 use Rattle.std.proofs.Common.{◌≡◌, ℕ, List, [], ◌∷◌, ◌++◌, cond, not, ◌&&◌, Bool, true, false, Option, Some, None, unwrap_or, refl, sym, ap, ◌∙◌}
+use Rattle.inf_settings.specs.Bounds.{Limits}
 use Rattle.inf_output.specs.Output.{Out}
 use Rattle.inf_scanner.specs.declared.tokens.Mark.TheVariants as mark
 use Rattle.inf_scanner.specs.declared.tokens.Place.{Place}
@@ -182,9 +183,9 @@ lones_are_judged site out t c place at =
     lone_effected at.word site out t at.directive c at.ends at.has_none at.is_told
     ∙ ap (λ place. lone_behind at.ends.others place c) at.begins
 
-pub lones_are_told : LonesAreTold
-lones_are_told context site out t c place s at =
-    ap (λ (b : Behind). judged_taken context t b.judged s) (lones_are_judged site out t c place at)
+pub lones_are_told : (limits : Limits) → LonesAreTold limits
+lones_are_told limits context site out t c place s at =
+    ap (λ (b : Behind). judged_taken limits context t b.judged s) (lones_are_judged site out t c place at)
 
 -- No other token
 

@@ -1,5 +1,6 @@
 -- An `Ifnot` or `Endif` that has no conditional to turn or to end: which one it is, and what is told of it.
 use Rattle.std.specs.Prelude.{◌≡◌, List, [], ◌∷◌, ◌++◌, map, drop, Bool, true, false, Some, None}
+use Rattle.inf_settings.specs.Bounds.{Limits}
 use Rattle.inf_output.specs.Output.{Out}
 use Rattle.inf_report.specs.Messages.{LoneConditional}
 use Rattle.inf_scanner.specs.declared.tokens.Mark.TheVariants as mark
@@ -106,7 +107,9 @@ abbrev pub lone_message : FileNames → Place → ReaderState → ReaderState
 lone_message files place s =
     record s { work = record s.work { report = with_error (location files place) (location files place) LoneConditional s.work.report } }
 
-abbrev pub LonesAreTold : Type 0
-LonesAreTold = (context : Context) (site : Site) (out : Out) (t : SourceToken) (c : Conditions) (place : Place) (s : ReaderState) → IsLone
+abbrev pub LonesAreTold : Limits → Type 0
+LonesAreTold limits =
+    (context : Context) (site : Site) (out : Out) (t : SourceToken) (c : Conditions) (place : Place) (s : ReaderState) → IsLone
     site t c place
-    → judged_taken context t (judged site out t c).judged s ≡ unit_ended (Some place) context (lone_message context.names place s)
+    → judged_taken limits context t (judged site out t c).judged s ≡ unit_ended limits (Some place) context
+    (lone_message context.names place s)

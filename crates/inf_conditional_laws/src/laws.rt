@@ -1,4 +1,5 @@
 //! Laws of conditionals: which tokens are kept, and what is told of those that lack their other end.
+ghost use Rattle.inf_settings.specs.Bounds.{Limits};
 ghost use Rattle.inf_conditional_laws.specs.MissingEnds.{MissingEndsAreTold};
 ghost use Rattle.inf_conditional_laws.specs.InnerSides.{InnerSidesAgree, InnerSidesAreCut, SemicolonsEndThem, WordsEndSides};
 ghost use Rattle.inf_conditional_laws.specs.KeptSides.{OneSideIsKept};
@@ -27,7 +28,7 @@ pub fn inner_sides_are_cut()
     ensures words { WordsEndSides }
     ensures semicolons { SemicolonsEndThem }
     ensures agree { InnerSidesAgree }
-    ensures turns { TurnsCutInnerSides }
+    ensures turns { (limits : Limits) → TurnsCutInnerSides limits }
 {}
 
 /// An `Endif` is told to be without its other end where no conditional is open, and an `Ifnot` where none is, or the latest is in its
@@ -38,7 +39,7 @@ pub fn inner_sides_are_cut()
 pub fn lone_ends_are_told()
     ensures judged { LonesAreJudged }
     ensures alone { OnlyLonesAre }
-    ensures told { LonesAreTold }
+    ensures told { (limits : Limits) → LonesAreTold limits }
     ensures follow { SidesFollow }
 {}
 
@@ -53,9 +54,9 @@ pub fn lone_ends_are_told()
 /// out.
 pub fn one_side_is_kept()
     ensures kept { OneSideIsKept }
-    ensures handed_on { TurnsHandOn }
-    ensures turns { TurnsKeepSides }
-    ensures ends { TurnsTellMissingEnds }
+    ensures handed_on { (limits : Limits) → TurnsHandOn limits }
+    ensures turns { (limits : Limits) → TurnsKeepSides limits }
+    ensures ends { (limits : Limits) → TurnsTellMissingEnds limits }
     ensures start { ReadingsStartClear }
 {}
 

@@ -1,5 +1,6 @@
 -- What the names of a condition stand for: those that were declared by the directives before the one in which it stands.
 use Rattle.std.specs.Prelude.{ℕ, List, [], ◌∷◌, ◌++◌, false, if◌then◌else◌, Option, Some, None}
+use Rattle.inf_settings.specs.Bounds.{Limits}
 use Rattle.inf_area.specs.declared.targets.Target.TheVariants as target
 use Rattle.inf_scanner.specs.declared.tokens.Place.{Place}
 use Rattle.inf_expressions.specs.declared.operators.Function.{Function}
@@ -88,17 +89,17 @@ operands_from declared o tokens (l ∷ leaves) ahead operands =
     let s = operand_behind declared o tokens l ahead in operands_from declared o tokens leaves s.0 (operands ++ s.1 ∷ [])
 
 abbrev pub operands_of : ℕ → Out → List SourceToken → List Leaf → List Operand
-operands_of declared o tokens leaves = operands_from declared o tokens leaves (no_names 4294967295 false) []
+operands_of declared o tokens leaves = operands_from declared o tokens leaves (no_names false) []
 
 -- Where nothing is wrong with a condition its actions appear.
-abbrev pub appeared_by : Option Name → Code
-appeared_by None o = o
-appeared_by (Some n) o = (action_of n.bytes n.place o).0
+abbrev pub appeared_by : Limits → Option Name → Code
+appeared_by limits None o = o
+appeared_by limits (Some n) o = (action_of limits n.bytes n.place o).0
 
-abbrev pub action_added : List SourceToken → Leaf → Code
-action_added tokens (leaf.Action at) o = appeared_by (name_at tokens at) o
-action_added tokens _ o = o
+abbrev pub action_added : Limits → List SourceToken → Leaf → Code
+action_added limits tokens (leaf.Action at) o = appeared_by limits (name_at tokens at) o
+action_added limits tokens _ o = o
 
-abbrev pub actions_added : List SourceToken → List Leaf → Code
-actions_added tokens [] o = o
-actions_added tokens (l ∷ leaves) o = actions_added tokens leaves (action_added tokens l o)
+abbrev pub actions_added : Limits → List SourceToken → List Leaf → Code
+actions_added limits tokens [] o = o
+actions_added limits tokens (l ∷ leaves) o = actions_added limits tokens leaves (action_added limits tokens l o)

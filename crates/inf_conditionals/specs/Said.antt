@@ -1,5 +1,6 @@
 -- What is told of a condition.
 use Rattle.std.specs.Prelude.{ℕ, ◌==◌, List, nat_lt, slice_get, ◌&&◌, if◌then◌else◌, Option, Some, None}
+use Rattle.inf_settings.specs.Bounds.{Limits}
 use Rattle.inf_gathering.specs.declared.gathering.Leaf.{Leaf}
 use Rattle.inf_output.specs.Output.{Code}
 use Rattle.inf_scanner.specs.declared.tokens.Mark.TheVariants as mark
@@ -30,9 +31,9 @@ with_said files (Some (Long place)) r = with_fatal (location files place) (Excee
 with_said files (Some (Deep place)) r = with_fatal (location files place) DeepNesting r
 
 -- what it adds to a story
-abbrev pub with_right : Option Said → Code
-with_right (Some (Right tokens leaves)) o = actions_added tokens leaves o
-with_right _ o = o
+abbrev pub with_right : Limits → Option Said → Code
+with_right limits (Some (Right tokens leaves)) o = actions_added limits tokens leaves o
+with_right limits _ o = o
 
 -- Errors
 

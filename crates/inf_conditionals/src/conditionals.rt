@@ -145,7 +145,7 @@ impl Conditionals {
         out: &mut Output<B>,
     ) -> Result<(), AllocError>
         ensures told { OnOk result (report.new ≡ with_said files.now.names self.old.said report.old) }
-        ensures right { OnOk result (out.new ≡ with_right self.old.said out.old) }
+        ensures right { OnOk result (out.new ≡ with_right B.most self.old.said out.old) }
         ensures silent { OnOk result (self.new ≡ silent self.old) }
     {
         if let Some(said) = &self.said {

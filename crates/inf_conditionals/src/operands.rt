@@ -145,7 +145,7 @@ pub(crate) fn operands_of<B: Bounds>(
 /// An action appears, if there is one.
 fn add_action<B: Bounds>(name: Option<NameToken<'_>>, out: &mut Output<B>) -> Result<(), AllocError>
     requires { IfSome name (λ n. length n.bytes.now ≤ 32) }
-    ensures { OnOk result (out.new ≡ appeared_by (option_map named name.entry) out.old) }
+    ensures { OnOk result (out.new ≡ appeared_by B.most (option_map named name.entry) out.old) }
 {
     if let Some(name) = name {
         out.action(name.bytes, name.place)?;
@@ -159,7 +159,7 @@ fn add_leaf<B: Bounds>(
     leaf: Leaf,
     out: &mut Output<B>,
 ) -> Result<(), AllocError>
-    ensures { OnOk result (out.new ≡ action_added tokens.now leaf out.old) }
+    ensures { OnOk result (out.new ≡ action_added B.most tokens.now leaf out.old) }
 {
     match leaf {
         Leaf::Action(at) => add_action(tokens.name_at(at), out),
@@ -173,7 +173,7 @@ pub(crate) fn add_actions<B: Bounds>(
     leaves: &[Leaf],
     out: &mut Output<B>,
 ) -> Result<(), AllocError>
-    ensures { OnOk result (out.new ≡ actions_added tokens.now leaves.now out.old) }
+    ensures { OnOk result (out.new ≡ actions_added B.most tokens.now leaves.now out.old) }
 {
     for leaf in leaves {
         add_leaf(tokens, *leaf, out)?;

@@ -57,7 +57,7 @@ impl Said {
 
     /// Adds what one uses with which nothing is wrong: its actions appear.
     pub(crate) fn add<B: Bounds>(&self, out: &mut Output<B>) -> Result<(), AllocError>
-        ensures { OnOk result (out.new ≡ with_right (Some (said_of self.now)) out.old) }
+        ensures { OnOk result (out.new ≡ with_right B.most (Some (said_of self.now)) out.old) }
     {
         match self {
             Said::Right(condition) => {

@@ -2,6 +2,7 @@
 use Rattle.std.proofs.Common.{◌≡◌, ℕ, zero, suc, ◌-◌, ◌<◌, List, [], ◌∷◌, ◌++◌, ap, arith}
 use Rattle.std.specs.Prelude.{reverse}
 use Rattle.std.proofs.lemmas.List.{reverse-append}
+use Rattle.inf_settings.specs.Bounds.{Limits}
 use Rattle.inf_output.specs.Output.{Out}
 use Rattle.inf_constructs.specs.Constructs.{all_ended, ended}
 use Rattle.inf_constructs.specs.declared.constructs.Construct.{Construct}
@@ -10,8 +11,8 @@ pub reversed : {A : Type 0} (items : List A) (last : A) → reverse (items ++ la
 reversed items last = reverse-append items (last ∷ [])
 
 -- of some that end the innermost is the next
-pub next_ended : (n : ℕ) (constructs : List Construct) (o : Out) → 0 < n
-    → all_ended n constructs o ≡ all_ended (n - 1) (ended constructs o).0 (ended constructs o).1
-next_ended zero constructs o more = absurd (omega arith)
-next_ended (suc n) constructs o more =
-    let e = ended constructs o in let less : n ≡ suc n - 1 = omega arith in ap (λ k. all_ended k e.0 e.1) less
+pub next_ended : (limits : Limits) (n : ℕ) (constructs : List Construct) (o : Out) → 0 < n
+    → all_ended limits n constructs o ≡ all_ended limits (n - 1) (ended limits constructs o).0 (ended limits constructs o).1
+next_ended limits zero constructs o more = absurd (omega arith)
+next_ended limits (suc n) constructs o more =
+    let e = ended limits constructs o in let less : n ≡ suc n - 1 = omega arith in ap (λ k. all_ended limits k e.0 e.1) less

@@ -1,5 +1,6 @@
 -- The tests of a case. Designer's Manual, fourth edition, section 1.8.
 use Rattle.std.specs.Prelude.{ℕ, nat_lt, Bool, true, false, List, [], ◌∷◌, ◌++◌, length, Option, Some, None, if◌then◌else◌}
+use Rattle.inf_settings.specs.Bounds.{Limits}
 use Rattle.inf_opcode.specs.declared.instructions.Label.{Label}
 use Rattle.inf_opcode.specs.declared.opcodes.Opcode.TheVariants as opcode
 use Rattle.inf_expressions.specs.Questions.{range_of}
@@ -15,29 +16,29 @@ abbrev pub SWITCHED : ℕ
 SWITCHED = 251
 
 -- the operand that a tree is
-abbrev pub operand_in : Tree → Simple
-operand_in t = operand_by (meaning t).operand
+abbrev pub operand_in : Limits → Tree → Simple
+operand_in limits t = operand_by (meaning limits t).operand
 
 -- a group of up to three values: the branch is taken where it has this truth
-unfoldable pub group_tested : List Simple → Bool → Label → Code
-group_tested [] sense label = nothing
-group_tested (a ∷ others) sense label = instruction opcode.Je (Variable SWITCHED ∷ a ∷ others) None (to sense label)
+unfoldable pub group_tested : Limits → List Simple → Bool → Label → Code
+group_tested limits [] sense label = nothing
+group_tested limits (a ∷ others) sense label = instruction limits opcode.Je (Variable SWITCHED ∷ a ∷ others) None (to sense label)
 
 -- a range: the last goes on to the next case where the value is beside it, and another to what the case holds where it is within
-abbrev pub beside : Simple → Simple → Label → Code
-beside a b next =
-    instruction opcode.Jl (Variable SWITCHED ∷ a ∷ []) None (to true next)
-    ▸ instruction opcode.Jg (Variable SWITCHED ∷ b ∷ []) None (to true next)
+abbrev pub beside : Limits → Simple → Simple → Label → Code
+beside limits a b next =
+    instruction limits opcode.Jl (Variable SWITCHED ∷ a ∷ []) None (to true next)
+    ▸ instruction limits opcode.Jg (Variable SWITCHED ∷ b ∷ []) None (to true next)
 
-abbrev pub within : Simple → Simple → Label → Code
-within a b here =
+abbrev pub within : Limits → Simple → Simple → Label → Code
+within limits a b here =
     with_label (λ beyond.
-    instruction opcode.Jl (Variable SWITCHED ∷ a ∷ []) None (to true beyond)
-    ▸ instruction opcode.Jg (Variable SWITCHED ∷ b ∷ []) None (to false here)
-    ▸ marked beyond)
+    instruction limits opcode.Jl (Variable SWITCHED ∷ a ∷ []) None (to true beyond)
+    ▸ instruction limits opcode.Jg (Variable SWITCHED ∷ b ∷ []) None (to false here)
+    ▸ marked limits beyond)
 
-unfoldable pub range_tested : Bool → Simple → Simple → Label → Label → Code
-range_tested is_last a b here next = if is_last then beside a b next else within a b here
+unfoldable pub range_tested : Limits → Bool → Simple → Simple → Label → Label → Code
+range_tested limits is_last a b here next = if is_last then beside limits a b next else within limits a b here
 
 abbrev pub is_empty : List Tree → Bool
 is_empty [] = true
@@ -51,27 +52,28 @@ abbrev pub group_behind : Option (Tree × Tree) → Simple → List Simple → L
 group_behind (Some ends) a group = []
 group_behind None a group = if is_open group then group ++ a ∷ [] else a ∷ []
 
-abbrev pub laid_before : Option (Tree × Tree) → Bool → List Simple → Label → Label → Code
-laid_before (Some ends) is_last group here next =
-    group_tested group true here ▸ range_tested is_last (operand_in ends.0) (operand_in ends.1) here next
-laid_before None is_last group here next = if is_open group then nothing else group_tested group true here
+abbrev pub laid_before : Limits → Option (Tree × Tree) → Bool → List Simple → Label → Label → Code
+laid_before limits (Some ends) is_last group here next =
+    group_tested limits group true here ▸ range_tested limits is_last (operand_in limits ends.0) (operand_in limits ends.1) here next
+laid_before limits None is_last group here next = if is_open group then nothing else group_tested limits group true here
 
-unfoldable pub value_laid : Tree → Bool → List Simple → Label → Label → Code
-value_laid v is_last group here next = laid_before (range_of v) is_last group here next
+unfoldable pub value_laid : Limits → Tree → Bool → List Simple → Label → Label → Code
+value_laid limits v is_last group here next = laid_before limits (range_of v) is_last group here next
 
-unfoldable pub value_grouped : Tree → List Simple → List Simple
-value_grouped v group = group_behind (range_of v) (operand_in v) group
+unfoldable pub value_grouped : Limits → Tree → List Simple → List Simple
+value_grouped limits v group = group_behind (range_of v) (operand_in limits v) group
 
 -- all values behind a group that is open: the last test goes to the next case where it fails
-abbrev pub grouped : List Simple → List Tree → Label → Label → Code
-grouped group [] here next = group_tested group false next
-grouped group (v ∷ values) here next = value_laid v (is_empty values) group here next ▸ grouped (value_grouped v group) values here next
+abbrev pub grouped : Limits → List Simple → List Tree → Label → Label → Code
+grouped limits group [] here next = group_tested limits group false next
+grouped limits group (v ∷ values) here next =
+    value_laid limits v (is_empty values) group here next ▸ grouped limits (value_grouped limits v group) values here next
 
 -- the tests of a case, behind which what it holds begins
-abbrev pub case_tested : List Tree → Label → Code
-case_tested values next = with_label (λ here. grouped [] values here next ▸ marked here)
+abbrev pub case_tested : Limits → List Tree → Label → Code
+case_tested limits values next = with_label (λ here. grouped limits [] values here next ▸ marked limits here)
 
 -- a default has none
-unfoldable pub case_code : Option Label → List Tree → Code
-case_code None values = nothing
-case_code (Some next) values = case_tested values next
+unfoldable pub case_code : Limits → Option Label → List Tree → Code
+case_code limits None values = nothing
+case_code limits (Some next) values = case_tested limits values next

@@ -2,6 +2,7 @@
 -- sections
 -- 1.7 to 1.9.
 use Rattle.std.specs.Prelude.{ℕ, zero, suc, ◌-◌, Bool, true, false, if◌then◌else◌, List, [], ◌∷◌, length, Option, Some, None, unwrap_or}
+use Rattle.inf_settings.specs.Bounds.{Limits}
 use Rattle.inf_opcode.specs.declared.instructions.Label.{Label}
 use Rattle.inf_opcode.specs.declared.opcodes.Opcode.TheVariants as opcode
 use Rattle.inf_area.specs.declared.targets.Target.TheVariants as target
@@ -39,13 +40,13 @@ with_labels k o =
       record o { next = behind end },
     )
 
-abbrev pub front : Kind → Construct → Code
-front kind.While c = marked c.next
-front kind.Do c = marked c.top
-front _ c = nothing
+abbrev pub front : Limits → Kind → Construct → Code
+front limits kind.While c = marked limits c.next
+front limits kind.Do c = marked limits c.top
+front limits _ c = nothing
 
-unfoldable pub opened : Kind → Laying Construct
-opened k o = let c = with_labels k o in giving c.0 (front k c.0) c.1
+unfoldable pub opened : Limits → Kind → Laying Construct
+opened limits k o = let c = with_labels k o in giving c.0 (front limits k c.0) c.1
 
 -- where a branch goes where its condition is not true
 abbrev pub otherwise : Construct → Kind → Label
@@ -58,82 +59,83 @@ abbrev pub kind_behind : Kind → Kind
 kind_behind kind.If = kind.Else
 kind_behind k = k
 
-abbrev pub joint : Construct → Kind → Code
-joint c kind.If = jumped c.end ▸ marked c.next
-joint c kind.Do = marked c.next
-joint c kind.For = marked c.top
-joint c (kind.Objects over.Nothing v) = marked c.top
-joint c _ = nothing
+abbrev pub joint : Limits → Construct → Kind → Code
+joint limits c kind.If = jumped limits c.end ▸ marked limits c.next
+joint limits c kind.Do = marked limits c.next
+joint limits c kind.For = marked limits c.top
+joint limits c (kind.Objects over.Nothing v) = marked limits c.top
+joint limits c _ = nothing
 
-unfoldable pub between : Construct → Laying Construct
-between c o = giving (record c { kind = kind_behind c.kind }) (joint c c.kind) o
+unfoldable pub between : Limits → Construct → Laying Construct
+between limits c o = giving (record c { kind = kind_behind c.kind }) (joint limits c c.kind) o
 
 -- A loop over the children of an object, or over all objects but the first four, of which those that fail a test are passed over.
-abbrev pub over_children : Tree → ℕ → Construct → Code
-over_children e v c = worked opcode.GetChild (part (meaning e) ∷ []) (Some v) (to false c.end) ▸ marked c.top
+abbrev pub over_children : Limits → Tree → ℕ → Construct → Code
+over_children limits e v c = worked limits opcode.GetChild (part (meaning limits e) ∷ []) (Some v) (to false c.end) ▸ marked limits c.top
 
 abbrev pub tested_over : Option Simple → Meaning → Label → Code
 tested_over (Some operand) e next = nothing
 tested_over None e next = e.branch false next
 
-abbrev pub over_all : Meaning → ℕ → Construct → Code
-over_all e v c = naming opcode.Store v (Known 5 ∷ []) None None ▸ marked c.top ▸ tested_over e.operand e c.next
+abbrev pub over_all : Limits → Meaning → ℕ → Construct → Code
+over_all limits e v c = naming limits opcode.Store v (Known 5 ∷ []) None None ▸ marked limits c.top ▸ tested_over e.operand e c.next
 
-abbrev pub looped_by : Option Tree → Tree → ℕ → Construct → Laying Construct
-looped_by (Some parent) e v c = giving (record c { kind = kind.Objects over.Children v }) (over_children parent v c)
-looped_by None e v c = giving (record c { kind = kind.Objects over.All v }) (over_all (meaning e) v c)
+abbrev pub looped_by : Limits → Option Tree → Tree → ℕ → Construct → Laying Construct
+looped_by limits (Some parent) e v c = giving (record c { kind = kind.Objects over.Children v }) (over_children limits parent v c)
+looped_by limits None e v c = giving (record c { kind = kind.Objects over.All v }) (over_all limits (meaning limits e) v c)
 
-unfoldable pub looped : Rooted → Construct → Laying Construct
-looped r c = looped_by (children_of r.tree) r.tree (unwrap_or r.origin.lead.variable 0) c
+unfoldable pub looped : Limits → Rooted → Construct → Laying Construct
+looped limits r c = looped_by limits (children_of r.tree) r.tree (unwrap_or r.origin.lead.variable 0) c
 
 -- where it ends
-abbrev pub looped_on : Over → ℕ → Label → Code
-looped_on over.Nothing v top = nothing
-looped_on over.Children v top = instruction opcode.GetSibling (Variable v ∷ []) (Some v) (to true top)
-looped_on over.All v top = naming opcode.IncChk v (Later (target.System constant.HighestObjectNumber) ∷ []) None (to false top)
+abbrev pub looped_on : Limits → Over → ℕ → Label → Code
+looped_on limits over.Nothing v top = nothing
+looped_on limits over.Children v top = instruction limits opcode.GetSibling (Variable v ∷ []) (Some v) (to true top)
+looped_on limits over.All v top =
+    naming limits opcode.IncChk v (Later (target.System constant.HighestObjectNumber) ∷ []) None (to false top)
 
-abbrev pub case_closed : Case → Label → Code
-case_closed case.Nothing end = nothing
-case_closed (case.Values next) end = jumped end ▸ marked next
-case_closed case.Default end = jumped end
+abbrev pub case_closed : Limits → Case → Label → Code
+case_closed limits case.Nothing end = nothing
+case_closed limits (case.Values next) end = jumped limits end ▸ marked limits next
+case_closed limits case.Default end = jumped limits end
 
-abbrev pub ending : Construct → Kind → Code
-ending c kind.If = marked c.next
-ending c kind.Else = marked c.end
-ending c kind.While = jumped c.next ▸ marked c.end
-ending c kind.Do = marked c.end
-ending c kind.For = marked c.next ▸ laid_all (items_of c.step) ▸ jumped c.top ▸ marked c.end
-ending c (kind.Objects how v) = marked c.next ▸ looped_on how v c.top ▸ marked c.end
-ending c (kind.Switch old had_default) = case_closed old c.end ▸ marked c.end
-ending c (kind.Cases old had_default) = case_closed old c.end ▸ marked c.end
+abbrev pub ending : Limits → Construct → Kind → Code
+ending limits c kind.If = marked limits c.next
+ending limits c kind.Else = marked limits c.end
+ending limits c kind.While = jumped limits c.next ▸ marked limits c.end
+ending limits c kind.Do = marked limits c.end
+ending limits c kind.For = marked limits c.next ▸ laid_all limits (items_of c.step) ▸ jumped limits c.top ▸ marked limits c.end
+ending limits c (kind.Objects how v) = marked limits c.next ▸ looped_on limits how v c.top ▸ marked limits c.end
+ending limits c (kind.Switch old had_default) = case_closed limits old c.end ▸ marked limits c.end
+ending limits c (kind.Cases old had_default) = case_closed limits old c.end ▸ marked limits c.end
 
-unfoldable pub closed : Construct → Code
-closed c = ending c c.kind
+unfoldable pub closed : Limits → Construct → Code
+closed limits c = ending limits c c.kind
 
 -- A case begins, of a `switch` or of a routine itself: what stands before it goes to the end of that.
 abbrev pub with_case : Bool → Case → Bool → Kind
 with_case true open_case had_default = kind.Cases open_case had_default
 with_case false open_case had_default = kind.Switch open_case had_default
 
-abbrev pub default_entered : Bool → Case → Construct → Laying Construct
-default_entered are_own old c o = (record c { kind = with_case are_own case.Default true }, case_closed old c.end o)
+abbrev pub default_entered : Limits → Bool → Case → Construct → Laying Construct
+default_entered limits are_own old c o = (record c { kind = with_case are_own case.Default true }, case_closed limits old c.end o)
 
-abbrev pub values_entered : Bool → Case → Bool → Construct → Laying Construct
-values_entered are_own old had_default c o =
+abbrev pub values_entered : Limits → Bool → Case → Bool → Construct → Laying Construct
+values_entered limits are_own old had_default c o =
     let next : Label = record { number = o.next } in
-    (record c { kind = with_case are_own (case.Values next) had_default }, case_closed old c.end (record o { next = behind o.next }))
+    (record c { kind = with_case are_own (case.Values next) had_default }, case_closed limits old c.end (record o { next = behind o.next }))
 
-abbrev pub case_entered : Bool → Bool → Case → Bool → Construct → Laying Construct
-case_entered are_own true old had_default c o = default_entered are_own old c o
-case_entered are_own false old had_default c o = values_entered are_own old had_default c o
+abbrev pub case_entered : Limits → Bool → Bool → Case → Bool → Construct → Laying Construct
+case_entered limits are_own true old had_default c o = default_entered limits are_own old c o
+case_entered limits are_own false old had_default c o = values_entered limits are_own old had_default c o
 
-abbrev pub entered_by : Kind → Bool → Construct → Laying Construct
-entered_by (kind.Switch old had_default) is_default c o = case_entered false is_default old had_default c o
-entered_by (kind.Cases old had_default) is_default c o = case_entered true is_default old had_default c o
-entered_by _ is_default c o = (c, o)
+abbrev pub entered_by : Limits → Kind → Bool → Construct → Laying Construct
+entered_by limits (kind.Switch old had_default) is_default c o = case_entered limits false is_default old had_default c o
+entered_by limits (kind.Cases old had_default) is_default c o = case_entered limits true is_default old had_default c o
+entered_by limits _ is_default c o = (c, o)
 
-unfoldable pub entered : Bool → Construct → Laying Construct
-entered is_default c o = entered_by c.kind is_default c o
+unfoldable pub entered : Limits → Bool → Construct → Laying Construct
+entered limits is_default c o = entered_by limits c.kind is_default c o
 
 -- Nothing comes behind a default.
 abbrev pub is_late_in : Kind → Bool
@@ -182,17 +184,17 @@ left_to on [] = None
 left_to on (c ∷ constructs) = found_or (left_to_by on c) (left_to on constructs)
 
 -- The statements that are open, the innermost first.
-abbrev pub begun : Kind → List Construct → Laying (List Construct)
-begun k constructs o = let c = opened k o in (c.0 ∷ constructs, c.1)
+abbrev pub begun : Limits → Kind → List Construct → Laying (List Construct)
+begun limits k constructs o = let c = opened limits k o in (c.0 ∷ constructs, c.1)
 
 abbrev pub changed : (Construct → Laying Construct) → List Construct → Laying (List Construct)
 changed change [] o = ([], o)
 changed change (c ∷ constructs) o = let laid = change c o in (laid.0 ∷ constructs, laid.1)
 
 -- A case outside of any statement is one of the routine's own, whose values are actions. Designer's Manual, fourth edition, section 1.9.
-abbrev pub cases_begun : List Construct → Laying (List Construct)
-cases_begun [] o = begun (kind.Cases case.Nothing false) [] o
-cases_begun (c ∷ constructs) o = (c ∷ constructs, o)
+abbrev pub cases_begun : Limits → List Construct → Laying (List Construct)
+cases_begun limits [] o = begun limits (kind.Cases case.Nothing false) [] o
+cases_begun limits (c ∷ constructs) o = (c ∷ constructs, o)
 
 abbrev pub are_cases : Kind → Bool
 are_cases (kind.Cases old had_default) = true
@@ -225,20 +227,20 @@ with_step step (c ∷ constructs) = record c { step = step } ∷ constructs
 abbrev pub stepped : List Construct → Laying (List Construct)
 stepped constructs o = (with_step (Some (items_of o.kept)) constructs, together o)
 
-abbrev pub ended : List Construct → Laying (List Construct)
-ended [] o = ([], o)
-ended (c ∷ constructs) o = (constructs, closed c o)
+abbrev pub ended : Limits → List Construct → Laying (List Construct)
+ended limits [] o = ([], o)
+ended limits (c ∷ constructs) o = (constructs, closed limits c o)
 
 -- so many of them, the innermost first
-abbrev pub all_ended : ℕ → List Construct → Laying (List Construct)
-all_ended zero constructs o = (constructs, o)
-all_ended (suc n) constructs o = let e = ended constructs o in all_ended n e.0 e.1
+abbrev pub all_ended : Limits → ℕ → List Construct → Laying (List Construct)
+all_ended limits zero constructs o = (constructs, o)
+all_ended limits (suc n) constructs o = let e = ended limits constructs o in all_ended limits n e.0 e.1
 
 -- what a condition of the innermost is, and what a loop over objects goes over
 abbrev pub condition_label : List Construct → Option Label
 condition_label [] = None
 condition_label (c ∷ constructs) = Some (otherwise c c.kind)
 
-abbrev pub looped_over : List Rooted → List Construct → Laying (List Construct)
-looped_over [] constructs o = (constructs, o)
-looped_over (r ∷ trees) constructs o = changed (looped r) constructs o
+abbrev pub looped_over : Limits → List Rooted → List Construct → Laying (List Construct)
+looped_over limits [] constructs o = (constructs, o)
+looped_over limits (r ∷ trees) constructs o = changed (looped limits r) constructs o

@@ -31,10 +31,10 @@ fn to(sense: bool, label: Label) -> Option<Branch>
 }
 
 /// The operand that the tree at a place is.
-fn operand_in(nodes: &Nodes, place: usize) -> Simple
-    ensures { result ≡ operand_in (tree_at nodes.now place) }
+fn operand_in<B: Bounds>(nodes: &Nodes, place: usize) -> Simple
+    ensures { result ≡ operand_in B.most (tree_at nodes.now place) }
 {
-    match simple_of(nodes, place) {
+    match simple_of::<B>(nodes, place) {
         Some(operand) => operand,
         None => Simple::Variable(0),
     }
@@ -49,7 +49,7 @@ fn lay_group<B: Bounds>(
     out: &mut Output<B>,
 ) -> Result<(), AllocError>
     requires { length values.now ≤ 3 }
-    ensures { OnOk result (out.new ≡ group_tested values.now sense label out.old) }
+    ensures { OnOk result (out.new ≡ group_tested B.most values.now sense label out.old) }
 {
     let switched = Simple::Variable(SWITCHED);
     let branch = to(sense, label);
@@ -67,7 +67,7 @@ fn lay_beside<B: Bounds>(
     next: Label,
     out: &mut Output<B>,
 ) -> Result<(), AllocError>
-    ensures { OnOk result (out.new ≡ beside a b next out.old) }
+    ensures { OnOk result (out.new ≡ beside B.most a b next out.old) }
 {
     let switched = Simple::Variable(SWITCHED);
     out.instruct(Opcode::Jl, &[switched, a], None, to(true, next))?;
@@ -80,7 +80,7 @@ fn lay_within<B: Bounds>(
     here: Label,
     out: &mut Output<B>,
 ) -> Result<(), AllocError>
-    ensures { OnOk result (out.new ≡ within a b here out.old) }
+    ensures { OnOk result (out.new ≡ within B.most a b here out.old) }
 {
     let switched = Simple::Variable(SWITCHED);
     let beyond = out.label();
@@ -99,7 +99,7 @@ fn lay_range<B: Bounds>(
     next: Label,
     out: &mut Output<B>,
 ) -> Result<(), AllocError>
-    ensures { OnOk result (out.new ≡ range_tested is_last a b here next out.old) }
+    ensures { OnOk result (out.new ≡ range_tested B.most is_last a b here next out.old) }
 {
     if is_last {
         lay_beside(a, b, next, out)
@@ -120,12 +120,15 @@ fn lay_value_of<B: Bounds>(
     out: &mut Output<B>,
 ) -> Result<(), AllocError>
     requires { length group.now ≤ 3 }
-    ensures { OnOk result (out.new ≡ value_laid (tree_at nodes.now place) is_last group.now here next out.old) }
+    ensures { OnOk result (out.new ≡ value_laid B.most (tree_at nodes.now place) is_last group.now here next out.old) }
 {
     match range(nodes, place) {
         Some((least, greatest)) => {
             lay_group(group, true, here, out)?;
-            let (a, b) = (operand_in(nodes, least), operand_in(nodes, greatest));
+            let (a, b) = (
+                operand_in::<B>(nodes, least),
+                operand_in::<B>(nodes, greatest),
+            );
             lay_range(is_last, a, b, here, next, out)
         }
         None if group.len() < MOST_VALUES => Ok(()),
@@ -135,12 +138,12 @@ fn lay_value_of<B: Bounds>(
 
 /// The group that is open behind the tree at a place.
 #[tactic(auto, unfolding(crate::specs::Cases::value_grouped))]
-fn grouped_behind(
+fn grouped_behind<B: Bounds>(
     nodes: &Nodes,
     place: usize,
     group: ArrayVec<Simple, MOST_VALUES>,
 ) -> ArrayVec<Simple, MOST_VALUES>
-    ensures { result.items ≡ value_grouped (tree_at nodes.now place) group.items }
+    ensures { result.items ≡ value_grouped B.most (tree_at nodes.now place) group.items }
 {
     let mut behind = group;
     if range(nodes, place).is_some() {
@@ -150,7 +153,7 @@ fn grouped_behind(
     if behind.is_full() {
         behind.clear();
     }
-    behind.push(operand_in(nodes, place));
+    behind.push(operand_in::<B>(nodes, place));
     behind
 }
 
@@ -172,14 +175,14 @@ fn lay_values<B: Bounds>(
     next: Label,
     out: &mut Output<B>,
 ) -> Result<(), AllocError>
-    ensures { OnOk result (out.new ≡ grouped [] (trees_from nodes.now roots.now) here next out.old) }
+    ensures { OnOk result (out.new ≡ grouped B.most [] (trees_from nodes.now roots.now) here next out.old) }
 {
     let mut group = ArrayVec::new();
     let mut left = roots;
     while let Some((root, others)) = left.split_first() {
         let is_last = are_none(others);
         lay_value_of(nodes, root.place, is_last, &group, here, next, out)?;
-        group = grouped_behind(nodes, root.place, group);
+        group = grouped_behind::<B>(nodes, root.place, group);
         left = others;
     }
     lay_group(&group, false, next, out)
@@ -192,7 +195,7 @@ pub fn lay_case<B: Bounds>(
     forest: &Forest,
     out: &mut Output<B>,
 ) -> Result<(), AllocError>
-    ensures { OnOk result (out.new ≡ case_code next (map tree_in (trees_in forest.now)) out.old) }
+    ensures { OnOk result (out.new ≡ case_code B.most next (map tree_in (trees_in forest.now)) out.old) }
 {
     let Some(next) = next else {
         return Ok(());

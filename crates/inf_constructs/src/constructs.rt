@@ -98,7 +98,7 @@ fn with_labels<B: Bounds>(kind: Kind, out: &mut Output<B>) -> Construct
 
 /// What is laid where its word was read.
 fn lay_front<B: Bounds>(construct: &Construct, out: &mut Output<B>) -> Result<(), AllocError>
-    ensures { OnOk result (out.new ≡ front construct.now.kind construct.now out.old) }
+    ensures { OnOk result (out.new ≡ front B.most construct.now.kind construct.now out.old) }
 {
     match construct.kind {
         Kind::While => out.mark(construct.next),
@@ -110,7 +110,7 @@ fn lay_front<B: Bounds>(construct: &Construct, out: &mut Output<B>) -> Result<()
 /// Where its word was read.
 #[tactic(auto, unfolding(crate::specs::Constructs::opened))]
 fn open<B: Bounds>(kind: Kind, out: &mut Output<B>) -> Result<Construct, AllocError>
-    ensures { IfOk result (λ c. (c, out.new) ≡ opened kind out.old) }
+    ensures { IfOk result (λ c. (c, out.new) ≡ opened B.most kind out.old) }
 {
     let construct = with_labels(kind, out);
     lay_front(&construct, out)?;
@@ -139,7 +139,7 @@ fn kind_behind(kind: Kind) -> Kind
 
 /// What is laid between its parts.
 fn lay_joint<B: Bounds>(construct: &Construct, out: &mut Output<B>) -> Result<(), AllocError>
-    ensures { OnOk result (out.new ≡ joint construct.now construct.now.kind out.old) }
+    ensures { OnOk result (out.new ≡ joint B.most construct.now construct.now.kind out.old) }
 {
     match construct.kind {
         Kind::If => {
@@ -162,7 +162,7 @@ fn lay_over_children<B: Bounds>(
     tasks: &mut Tasks,
     out: &mut Output<B>,
 ) -> Result<(), AllocError>
-    ensures { OnOk result (out.new ≡ over_children (tree_at nodes.now parent) variable construct.now out.old) }
+    ensures { OnOk result (out.new ≡ over_children B.most (tree_at nodes.now parent) variable construct.now out.old) }
 {
     lay_instruction(
         tasks,
@@ -184,9 +184,9 @@ fn lay_test<B: Bounds>(
     tasks: &mut Tasks,
     out: &mut Output<B>,
 ) -> Result<(), AllocError>
-    ensures { OnOk result (out.new ≡ tested_over (at nodes.now place).operand (at nodes.now place) next out.old) }
+    ensures { OnOk result (out.new ≡ tested_over (at B.most nodes.now place).operand (at B.most nodes.now place) next out.old) }
 {
-    match simple_of(nodes, place) {
+    match simple_of::<B>(nodes, place) {
         Some(_) => Ok(()),
         None => lay_branch(tasks, nodes, place, false, next, out),
     }
@@ -201,7 +201,7 @@ fn lay_over_all<B: Bounds>(
     tasks: &mut Tasks,
     out: &mut Output<B>,
 ) -> Result<(), AllocError>
-    ensures { OnOk result (out.new ≡ over_all (at nodes.now place) variable construct.now out.old) }
+    ensures { OnOk result (out.new ≡ over_all B.most (at B.most nodes.now place) variable construct.now out.old) }
 {
     let first = [Simple::Known(FIRST_OBJECT)];
     out.instruct_naming(Opcode::Store, variable, &first, None, None)?;
@@ -219,7 +219,7 @@ fn lay_loop<B: Bounds>(
     out: &mut Output<B>,
 ) -> Result<Construct, AllocError>
     ensures { let e = tree_at nodes.now root.place in
-        IfOk result (λ c. (c, out.new) ≡ looped_by (children_of e) e variable construct out.old) }
+        IfOk result (λ c. (c, out.new) ≡ looped_by B.most (children_of e) e variable construct out.old) }
 {
     match children_of(nodes, root.place) {
         Some(parent) => {
@@ -241,7 +241,7 @@ fn lay_loop_end<B: Bounds>(
     top: Label,
     out: &mut Output<B>,
 ) -> Result<(), AllocError>
-    ensures { OnOk result (out.new ≡ looped_on over variable top out.old) }
+    ensures { OnOk result (out.new ≡ looped_on B.most over variable top out.old) }
 {
     match over {
         Over::Nothing => Ok(()),
@@ -260,7 +260,7 @@ fn lay_loop_end<B: Bounds>(
 
 /// The end of a case.
 fn close_case<B: Bounds>(case: Case, end: Label, out: &mut Output<B>) -> Result<(), AllocError>
-    ensures { OnOk result (out.new ≡ case_closed case end out.old) }
+    ensures { OnOk result (out.new ≡ case_closed B.most case end out.old) }
 {
     match case {
         Case::Nothing => Ok(()),
@@ -274,7 +274,7 @@ fn close_case<B: Bounds>(case: Case, end: Label, out: &mut Output<B>) -> Result<
 
 /// The end of a `for`.
 fn close_for<B: Bounds>(construct: &Construct, out: &mut Output<B>) -> Result<(), AllocError>
-    ensures { OnOk result (out.new ≡ ending construct.now Kind.For out.old) }
+    ensures { OnOk result (out.new ≡ ending B.most construct.now Kind.For out.old) }
 {
     out.mark(construct.next)?;
     if let Some(step) = &construct.step {
@@ -287,7 +287,7 @@ fn close_for<B: Bounds>(construct: &Construct, out: &mut Output<B>) -> Result<()
 /// Where it ends.
 #[tactic(auto, unfolding(crate::specs::Constructs::closed))]
 fn close<B: Bounds>(construct: &Construct, out: &mut Output<B>) -> Result<(), AllocError>
-    ensures { OnOk result (out.new ≡ closed construct.now out.old) }
+    ensures { OnOk result (out.new ≡ closed B.most construct.now out.old) }
 {
     match construct.kind {
         Kind::If => out.mark(construct.next),
@@ -327,7 +327,7 @@ fn enter_default<B: Bounds>(
     mut construct: Construct,
     out: &mut Output<B>,
 ) -> Result<Construct, AllocError>
-    ensures { IfOk result (λ c. (c, out.new) ≡ default_entered are_own case construct out.old) }
+    ensures { IfOk result (λ c. (c, out.new) ≡ default_entered B.most are_own case construct out.old) }
 {
     close_case(case, construct.end, out)?;
     construct.kind = with_case(are_own, Case::Default, true);
@@ -342,7 +342,7 @@ fn enter_values<B: Bounds>(
     mut construct: Construct,
     out: &mut Output<B>,
 ) -> Result<Construct, AllocError>
-    ensures { IfOk result (λ c. (c, out.new) ≡ values_entered are_own case had_default construct out.old) }
+    ensures { IfOk result (λ c. (c, out.new) ≡ values_entered B.most are_own case had_default construct out.old) }
 {
     let next = out.label();
     close_case(case, construct.end, out)?;
@@ -359,7 +359,7 @@ fn enter_case<B: Bounds>(
     construct: Construct,
     out: &mut Output<B>,
 ) -> Result<Construct, AllocError>
-    ensures { IfOk result (λ c. (c, out.new) ≡ case_entered are_own is_default case had_default construct out.old) }
+    ensures { IfOk result (λ c. (c, out.new) ≡ case_entered B.most are_own is_default case had_default construct out.old) }
 {
     if is_default {
         enter_default(are_own, case, construct, out)
@@ -375,7 +375,7 @@ fn enter<B: Bounds>(
     construct: Construct,
     out: &mut Output<B>,
 ) -> Result<Construct, AllocError>
-    ensures { IfOk result (λ c. (c, out.new) ≡ entered is_default construct out.old) }
+    ensures { IfOk result (λ c. (c, out.new) ≡ entered B.most is_default construct out.old) }
 {
     match construct.kind {
         Kind::Switch(case, had_default) => {
@@ -510,7 +510,7 @@ impl Constructs {
 
     /// A statement of a kind begins.
     pub fn begin<B: Bounds>(&mut self, kind: Kind, out: &mut Output<B>) -> Result<(), AllocError>
-        ensures { OnOk result ((self.new, out.new) ≡ begun kind self.old out.old) }
+        ensures { OnOk result ((self.new, out.new) ≡ begun B.most kind self.old out.old) }
     {
         let construct = open(kind, out)?;
         self.list.push(construct)?;
@@ -520,7 +520,7 @@ impl Constructs {
     /// `else`, `until` or the first `:` of the innermost, or what a loop over objects holds begins.
     #[tactic(auto, unfolding(crate::specs::Constructs::between))]
     pub fn go_on<B: Bounds>(&mut self, out: &mut Output<B>) -> Result<(), AllocError>
-        ensures { OnOk result ((self.new, out.new) ≡ changed between self.old out.old) }
+        ensures { OnOk result ((self.new, out.new) ≡ changed (between B.most) self.old out.old) }
     {
         let Some(mut construct) = self.list.pop() else {
             return Ok(());
@@ -556,7 +556,7 @@ impl Constructs {
         tasks: &mut Tasks,
         out: &mut Output<B>,
     ) -> Result<(), AllocError>
-        ensures { OnOk result ((self.new, out.new) ≡ looped_over (trees_in forest.now) self.old out.old) }
+        ensures { OnOk result ((self.new, out.new) ≡ looped_over B.most (trees_in forest.now) self.old out.old) }
     {
         let Some(root) = forest.roots.first() else {
             return Ok(());
@@ -572,7 +572,7 @@ impl Constructs {
 
     /// Before a case: one outside of any statement is one of the routine's own.
     pub fn begin_cases<B: Bounds>(&mut self, out: &mut Output<B>) -> Result<(), AllocError>
-        ensures { OnOk result ((self.new, out.new) ≡ cases_begun self.old out.old) }
+        ensures { OnOk result ((self.new, out.new) ≡ cases_begun B.most self.old out.old) }
     {
         match self.innermost() {
             Some(_) => Ok(()),
@@ -614,7 +614,7 @@ impl Constructs {
         is_default: bool,
         out: &mut Output<B>,
     ) -> Result<(), AllocError>
-        ensures { OnOk result ((self.new, out.new) ≡ changed (entered is_default) self.old out.old) }
+        ensures { OnOk result ((self.new, out.new) ≡ changed (entered B.most is_default) self.old out.old) }
     {
         let Some(construct) = self.list.pop() else {
             return Ok(());
@@ -626,7 +626,7 @@ impl Constructs {
 
     /// The innermost ends.
     pub fn end<B: Bounds>(&mut self, out: &mut Output<B>) -> Result<(), AllocError>
-        ensures { OnOk result ((self.new, out.new) ≡ ended self.old out.old) }
+        ensures { OnOk result ((self.new, out.new) ≡ ended B.most self.old out.old) }
     {
         let Some(construct) = self.list.pop() else {
             return Ok(());
@@ -640,7 +640,7 @@ impl Constructs {
         count: usize,
         out: &mut Output<B>,
     ) -> Result<(), AllocError>
-        ensures { OnOk result ((self.new, out.new) ≡ all_ended count self.old out.old) }
+        ensures { OnOk result ((self.new, out.new) ≡ all_ended B.most count self.old out.old) }
     {
         let mut left = count;
         while left > 0 {

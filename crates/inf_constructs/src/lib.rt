@@ -1,4 +1,5 @@
-//! The statements of a routine that hold others: which are open, with their labels, and the tests of their cases; and the labels with names.
+//! The statements of a routine that hold others: which are open, with their labels, and the tests of their cases; and the labels with
+//! names.
 #![tactic(auto)]
 
 mod cases;

@@ -1,6 +1,7 @@
 -- The directives that declare attributes, properties and global variables. Designer's Manual, fourth edition, sections 2 and 3.
 use Rattle.std.specs.Prelude.{ℕ, ◌+◌, ◌-◌, ◌%◌, ◌==◌, min, nat_le, List, [], ◌∷◌, ◌++◌, length, map, codes, Bool, true, false, ◌||◌, if◌then◌else◌, Option, Some, None}
 use Rattle.std.specs.Str.{str_eq_ignore_ascii_case}
+use Rattle.inf_settings.specs.Bounds.{Limits}
 use Rattle.inf_area.specs.declared.targets.Value.{Value}
 use Rattle.inf_area.specs.declared.targets.Value.TheVariants as value
 use Rattle.inf_scanner.specs.declared.tokens.Place.{Place}
@@ -98,12 +99,12 @@ abbrev pub declared_findings : Name → FixedLimit → Declared → Findings
 declared_findings name kind d = record { least = d.finding; many = kind; again = again_by name (standing_fault d.found) }
 
 -- The end of a declaration, or of the header of one, that begins at a place
-abbrev pub declared_ended : Context → Place → Bool → Name → FixedLimit → Declared → Compilation → Compilation
-declared_ended context first has_last name kind d w =
-    unit_ended context first has_last (declared_findings name kind d) w
+abbrev pub declared_ended : Limits → Context → Place → Bool → Name → FixedLimit → Declared → Compilation → Compilation
+declared_ended limits context first has_last name kind d w =
+    unit_ended limits context first has_last (declared_findings name kind d) w
 
-abbrev pub declaration_ended : Context → Place → Name → FixedLimit → Declared → Compilation → Compilation
-declaration_ended context first name kind d w = declared_ended context first true name kind d w
+abbrev pub declaration_ended : Limits → Context → Place → Name → FixedLimit → Declared → Compilation → Compilation
+declaration_ended limits context first name kind d w = declared_ended limits context first true name kind d w
 
 -- Another name of an attribute or a property
 
@@ -151,21 +152,26 @@ abbrev pub aliased : FixedLimit → Option Meaning → Option Finding → Meanin
 aliased kind (Some m) None = m
 aliased kind _ f = nothing_of kind
 
-abbrev pub alias_with : Context → Place → Name → FixedLimit → Option Meaning → Declared → Compilation → Compilation
-alias_with context first name kind m d w =
-    declaration_ended context first name kind d (record w { output = declared name.bytes name.place (aliased kind m d.finding) w.output })
+abbrev pub alias_with : Limits → Context → Place → Name → FixedLimit → Option Meaning → Declared → Compilation → Compilation
+alias_with limits context first name kind m d w =
+    declaration_ended limits context first name kind d
+    (record w { output = declared limits name.bytes name.place (aliased kind m d.finding) w.output })
 
-abbrev pub alias_by : Option Meaning → Context → Place → Name → ℕ → FixedLimit → Compilation → Compilation
-alias_by m context first name at kind w =
+abbrev pub alias_by : Limits → Option Meaning → Context → Place → Name → ℕ → FixedLimit → Compilation → Compilation
+alias_by limits m context first name at kind w =
     let own = name_known name at false w in
-    alias_with context first name kind m (record { found = own.found; finding = least_of_both own.finding (alias_finding w.unit.tokens m) }) w
+    alias_with limits context first name kind m (record {
+      found = own.found;
+      finding = least_of_both own.finding
+          (alias_finding w.unit.tokens m);
+    }) w
 
 -- what the last name of the unit stands for, where that is one of this kind
 abbrev pub last_meaning : FixedLimit → Compilation → Option Meaning
 last_meaning kind w = alias_meaning kind (found_in (bytes_at w.unit.tokens (length w.unit.tokens - 1)) w.output.names)
 
-abbrev pub alias_told : Context → Place → Name → ℕ → FixedLimit → Compilation → Compilation
-alias_told context first name at kind w = alias_by (last_meaning kind w) context first name at kind w
+abbrev pub alias_told : Limits → Context → Place → Name → ℕ → FixedLimit → Compilation → Compilation
+alias_told limits context first name at kind w = alias_by limits (last_meaning kind w) context first name at kind w
 
 -- Attributes
 
@@ -183,26 +189,27 @@ abbrev pub attribute_number : Out → ℕ
 attribute_number o = o.tables.world.attributes % 256
 
 -- a name with an error stands for the first
-abbrev pub attribute_added : Option Finding → Name → Code
-attribute_added (Some f) name o = declared name.bytes name.place (meaning.Attribute 0) o
-attribute_added None name o = new_attribute (declared name.bytes name.place (meaning.Attribute (attribute_number o)) o)
+abbrev pub attribute_added : Limits → Option Finding → Name → Code
+attribute_added limits (Some f) name o = declared limits name.bytes name.place (meaning.Attribute 0) o
+attribute_added limits None name o = new_attribute (declared limits name.bytes name.place (meaning.Attribute (attribute_number o)) o)
 
-abbrev pub attribute_ended : Context → Place → Name → Declared → Compilation → Compilation
-attribute_ended context first name d w =
-    declaration_ended context first name countable.Attributes d (record w { output = attribute_added d.finding name w.output })
+abbrev pub attribute_ended : Limits → Context → Place → Name → Declared → Compilation → Compilation
+attribute_ended limits context first name d w =
+    declaration_ended limits context first name countable.Attributes d
+    (record w { output = attribute_added limits d.finding name w.output })
 
 abbrev pub has_most_attributes : Out → Bool
 has_most_attributes o = nat_le 48 o.tables.world.attributes
 
-abbrev pub attribute_with : Context → Place → Name → Compilation → Compilation
-attribute_with context first name w =
-    attribute_ended context first name (name_known name (name_order w.unit.tokens) (has_most_attributes w.output) w) w
+abbrev pub attribute_with : Limits → Context → Place → Name → Compilation → Compilation
+attribute_with limits context first name w =
+    attribute_ended limits context first name (name_known name (name_order w.unit.tokens) (has_most_attributes w.output) w) w
 
-abbrev pub attribute : Context → Place → List Name → Compilation → Compilation
-attribute context first [] w = passed true w
-attribute context first (name ∷ names) w =
-    if is_alias names w.unit.gathering.leaves then alias_told context first name (name_order w.unit.tokens) countable.Attributes w
-    else attribute_with context first name w
+abbrev pub attribute : Limits → Context → Place → List Name → Compilation → Compilation
+attribute limits context first [] w = passed true w
+attribute limits context first (name ∷ names) w =
+    if is_alias names w.unit.gathering.leaves then alias_told limits context first name (name_order w.unit.tokens) countable.Attributes w
+    else attribute_with limits context first name w
 
 -- Values: an expression's, or 0
 
@@ -214,8 +221,8 @@ abbrev pub value_in : List Tree → Value
 value_in [] = value.Known 0
 value_in (t ∷ trees) = value_or (constant_in t)
 
-abbrev pub value_of : Context → Compilation → Value
-value_of context w = value_in (map tree_in (trees_at 0 wanted.Constant (settled_of context w).operands w))
+abbrev pub value_of : Limits → Context → Compilation → Value
+value_of limits context w = value_in (map tree_in (trees_at 0 wanted.Constant (settled_of limits context w).operands w))
 
 -- Properties
 
@@ -229,33 +236,35 @@ new_property is_additive v o = new_property_by (property_fault o.tables.world) i
 abbrev pub property_number : Out → ℕ
 property_number o = 4 + length o.tables.world.declared % 252
 
-abbrev pub property_added : Context → Option Finding → Name → Bool → Compilation → Out
-property_added context (Some f) name is_additive w = declared name.bytes name.place (nothing_of countable.Properties) w.output
-property_added context None name is_additive w =
-    let o = (settled_of context w).out in
-    new_property is_additive (value_of context w) (declared name.bytes name.place (meaning.Property (property_number o) is_additive) o)
+abbrev pub property_added : Limits → Context → Option Finding → Name → Bool → Compilation → Out
+property_added limits context (Some f) name is_additive w = declared limits name.bytes name.place (nothing_of countable.Properties) w.output
+property_added limits context None name is_additive w =
+    let o = (settled_of limits context w).out in
+    new_property is_additive (value_of limits context w)
+    (declared limits name.bytes name.place (meaning.Property (property_number o) is_additive) o)
 
 abbrev pub property_order : List SourceToken → Bool → ℕ
 property_order tokens is_additive = if is_additive then min (name_order tokens + 1) 4294967295 else name_order tokens
 
-abbrev pub property_ended : Context → Place → Bool → Name → Declared → Compilation → Compilation
-property_ended context first is_additive name d w =
-    declaration_ended context first name countable.Properties d (record w { output = property_added context d.finding name is_additive w })
+abbrev pub property_ended : Limits → Context → Place → Bool → Name → Declared → Compilation → Compilation
+property_ended limits context first is_additive name d w =
+    declaration_ended limits context first name countable.Properties d
+    (record w { output = property_added limits context d.finding name is_additive w })
 
 abbrev pub has_most_properties : Out → Bool
 has_most_properties o = nat_le 60 (length o.tables.world.declared)
 
-abbrev pub property_with : Context → Place → Bool → Name → Compilation → Compilation
-property_with context first is_additive name w =
+abbrev pub property_with : Limits → Context → Place → Bool → Name → Compilation → Compilation
+property_with limits context first is_additive name w =
     let order = property_order w.unit.tokens is_additive in
-    property_ended context first is_additive name (valued name order (has_most_properties w.output) w) w
+    property_ended limits context first is_additive name (valued name order (has_most_properties w.output) w) w
 
-abbrev pub property_named : Context → Place → Bool → List Name → Compilation → Compilation
-property_named context first is_additive [] w = passed true w
-property_named context first is_additive (name ∷ names) w =
-    if is_alias names w.unit.gathering.leaves then alias_told context first name (property_order w.unit.tokens is_additive)
+abbrev pub property_named : Limits → Context → Place → Bool → List Name → Compilation → Compilation
+property_named limits context first is_additive [] w = passed true w
+property_named limits context first is_additive (name ∷ names) w =
+    if is_alias names w.unit.gathering.leaves then alias_told limits context first name (property_order w.unit.tokens is_additive)
     countable.Properties w
-    else property_with context first is_additive name w
+    else property_with limits context first is_additive name w
 
 -- the word `additive` before its name is no name
 abbrev pub is_additive_word : Name → Bool
@@ -272,8 +281,8 @@ names_behind is_additive (word ∷ names) = if is_additive then names else word 
 abbrev pub property_names : List Name → List Name
 property_names names = names_behind (is_additive names) names
 
-abbrev pub property : Context → Place → List Name → Compilation → Compilation
-property context first names w = property_named context first (is_additive names) (property_names names) w
+abbrev pub property : Limits → Context → Place → List Name → Compilation → Compilation
+property limits context first names w = property_named limits context first (is_additive names) (property_names names) w
 
 -- Global variables
 
@@ -283,23 +292,23 @@ with_variable v o = record o { tables = record o.tables { globals = o.tables.glo
 abbrev pub new_global : Value → Code
 new_global v o = if nat_le 235 (length o.tables.globals) then o else with_variable v o
 
-abbrev pub global_added : Context → Option Finding → Name → Compilation → Out
-global_added context (Some f) name w = declared name.bytes name.place (nothing_of countable.Globals) w.output
-global_added context None name w =
-    let o = (settled_of context w).out in
-    new_global (value_of context w) (declared name.bytes name.place (meaning.Variable (16 + length o.tables.globals)) o)
+abbrev pub global_added : Limits → Context → Option Finding → Name → Compilation → Out
+global_added limits context (Some f) name w = declared limits name.bytes name.place (nothing_of countable.Globals) w.output
+global_added limits context None name w =
+    let o = (settled_of limits context w).out in
+    new_global (value_of limits context w) (declared limits name.bytes name.place (meaning.Variable (16 + length o.tables.globals)) o)
 
-abbrev pub global_ended : Context → Place → Name → Declared → Compilation → Compilation
-global_ended context first name d w =
-    declaration_ended context first name countable.Globals d (record w { output = global_added context d.finding name w })
+abbrev pub global_ended : Limits → Context → Place → Name → Declared → Compilation → Compilation
+global_ended limits context first name d w =
+    declaration_ended limits context first name countable.Globals d (record w { output = global_added limits context d.finding name w })
 
 abbrev pub has_most_globals : Out → Bool
 has_most_globals o = nat_le 235 (length o.tables.globals)
 
-abbrev pub global_with : Context → Place → Name → Compilation → Compilation
-global_with context first name w =
-    global_ended context first name (valued name (name_order w.unit.tokens) (has_most_globals w.output) w) w
+abbrev pub global_with : Limits → Context → Place → Name → Compilation → Compilation
+global_with limits context first name w =
+    global_ended limits context first name (valued name (name_order w.unit.tokens) (has_most_globals w.output) w) w
 
-abbrev pub global_variable : Context → Place → List Name → Compilation → Compilation
-global_variable context first [] w = passed true w
-global_variable context first (name ∷ names) w = global_with context first name w
+abbrev pub global_variable : Limits → Context → Place → List Name → Compilation → Compilation
+global_variable limits context first [] w = passed true w
+global_variable limits context first (name ∷ names) w = global_with limits context first name w

@@ -1,5 +1,6 @@
 -- The directive `Default`.
 use Rattle.std.specs.Prelude.{List, true, None, if◌then◌else◌}
+use Rattle.inf_settings.specs.Bounds.{Limits}
 use Rattle.inf_scanner.specs.declared.tokens.Place.{Place}
 use Rattle.inf_names.specs.Spellings.{Name}
 use Rattle.inf_compilation.specs.Context.{Context}
@@ -7,6 +8,7 @@ use Rattle.inf_compilation.specs.Actions.{Compilation, constant, is_first_declar
 use Rattle.inf_compilation.specs.Findings.{nothing_found}
 
 -- a constant, unless its name is declared
-abbrev pub default : Context → Place → List Name → Compilation → Compilation
-default context first names w =
-    if is_first_declared names w.output.names then unit_ended context first true nothing_found w else constant context first names w
+abbrev pub default : Limits → Context → Place → List Name → Compilation → Compilation
+default limits context first names w =
+    if is_first_declared names w.output.names then unit_ended limits context first true nothing_found w else constant limits context first
+    names w

@@ -235,7 +235,7 @@ pub fn end_declared<B: Bounds>(
     declared: Declared,
 ) -> Result<(), AllocError>
     ensures { OnOk result (work compilation.new
-        ≡ declared_ended (handed context.now) first has_last (as_name name.now) kind declared (work compilation.old)) }
+        ≡ declared_ended B.most (handed context.now) first has_last (as_name name.now) kind declared (work compilation.old)) }
 {
     let found = declared_findings(name, kind, declared);
     compilation.end_unit(context, first, has_last, &found)
@@ -251,7 +251,7 @@ pub(crate) fn end_declaration<B: Bounds>(
     declared: Declared,
 ) -> Result<(), AllocError>
     ensures { OnOk result (work compilation.new
-        ≡ declaration_ended (handed context.now) first (as_name name.now) kind declared (work compilation.old)) }
+        ≡ declaration_ended B.most (handed context.now) first (as_name name.now) kind declared (work compilation.old)) }
 {
     end_declared(compilation, context, first, true, name, kind, declared)
 }
@@ -285,7 +285,8 @@ pub fn attribute<B: Bounds>(
     first: Place,
     names: &[Name],
 ) -> Result<(), AllocError>
-    ensures { OnOk result (work compilation.new ≡ attribute (handed context.now) first (map as_name names.now) (work compilation.old)) }
+    ensures { OnOk result (work compilation.new ≡ attribute B.most (handed context.now) first (map as_name names.now)
+        (work compilation.old)) }
 {
     let Some((name, names)) = names.split_first() else {
         compilation.pass(true);
@@ -319,7 +320,8 @@ fn one_attribute<B: Bounds>(
     first: Place,
     name: &Name,
 ) -> Result<(), AllocError>
-    ensures { OnOk result (work compilation.new ≡ attribute_with (handed context.now) first (as_name name.now) (work compilation.old)) }
+    ensures { OnOk result (work compilation.new ≡ attribute_with B.most (handed context.now) first (as_name name.now)
+        (work compilation.old)) }
 {
     let order = compilation.unit.tokens.name_order();
     let declared = name_known(compilation, name, order, has_most_attributes(compilation));
@@ -334,7 +336,8 @@ fn end_attribute<B: Bounds>(
     name: &Name,
     declared: Declared,
 ) -> Result<(), AllocError>
-    ensures { OnOk result (work compilation.new ≡ attribute_ended (handed context.now) first (as_name name.now) declared (work compilation.old)) }
+    ensures { OnOk result (work compilation.new ≡ attribute_ended B.most (handed context.now) first (as_name name.now) declared
+        (work compilation.old)) }
 {
     add_attribute(compilation, name, declared.finding)?;
     end_declaration(
@@ -361,7 +364,7 @@ fn add_attribute<B: Bounds>(
     found: Option<Finding>,
 ) -> Result<(), AllocError>
     ensures { let before = work compilation.old in
-        OnOk result (work compilation.new ≡ record before { output = attribute_added found (as_name name.now) before.output }) }
+        OnOk result (work compilation.new ≡ record before { output = attribute_added B.most found (as_name name.now) before.output }) }
 {
     if found.is_some() {
         compilation
@@ -410,7 +413,7 @@ pub fn value<B: Bounds>(
     compilation: &mut Compilation<B>,
     context: &Context<'_>,
 ) -> Result<Value, AllocError>
-    ensures { IfOk result (λ value. let s = settled_of (handed context.now) (work compilation.old) in
+    ensures { IfOk result (λ value. let s = settled_of B.most (handed context.now) (work compilation.old) in
         (value ≡ value_in (map tree_in (trees_at 0 Wanted.Constant s.operands (work compilation.old))))
         × (work compilation.new ≡ record (work compilation.old) { output = s.out })) }
 {
@@ -450,7 +453,8 @@ pub(crate) fn alias<B: Bounds>(
     order: u32,
     kind: FixedLimit,
 ) -> Result<(), AllocError>
-    ensures { OnOk result (work compilation.new ≡ alias_told (handed context.now) first (as_name name.now) order kind (work compilation.old)) }
+    ensures { OnOk result (work compilation.new ≡ alias_told B.most (handed context.now) first (as_name name.now) order kind
+        (work compilation.old)) }
 {
     let meaning = last_meaning(compilation, kind);
     let own = name_known(compilation, name, order, false);

@@ -47,7 +47,7 @@ pub fn replace<B: Bounds>(
     names: &[Name],
 ) -> Result<(), AllocError>
     ensures { OnOk result (work compilation.new
-        ≡ replace (handed context.now) first (map as_name names.now) (work compilation.old)) }
+        ≡ replace B.most (handed context.now) first (map as_name names.now) (work compilation.old)) }
 {
     let Some(name) = names.first() else {
         compilation.pass(true);
@@ -60,8 +60,8 @@ pub fn replace<B: Bounds>(
 /// A name is that of a routine that is to be replaced, and is used.
 fn keep_replaced<B: Bounds>(compilation: &mut Compilation<B>, name: &Name) -> Result<(), AllocError>
     ensures { let before = work compilation.old in OnOk result (work compilation.new ≡ record before {
-      output = referred (as_name name.now).bytes name.now.place before.output;
-      replaced = used_name (as_name name.now) before.replaced;
+      output = referred B.most (as_name name.now).bytes name.now.place before.output;
+      replaced = used_name B.most (as_name name.now) before.replaced;
     }) }
 {
     compilation.output.refer(name.bytes(), name.place)?;
@@ -77,7 +77,7 @@ pub fn stub<B: Bounds>(
     names: &[Name],
 ) -> Result<(), AllocError>
     ensures { OnOk result (work compilation.new
-        ≡ stub (handed context.now) first (map as_name names.now) (work compilation.old)) }
+        ≡ stub B.most (handed context.now) first (map as_name names.now) (work compilation.old)) }
 {
     if is_first_declared(compilation, names) {
         compilation.end_unit(context, first, true, &Findings::none())
@@ -93,7 +93,7 @@ fn new_stub<B: Bounds>(
     first: Place,
     names: &[Name],
 ) -> Result<(), AllocError>
-    ensures { OnOk result (work compilation.new ≡ new_stub (handed context.now) first (map as_name names.now) (work compilation.old)) }
+    ensures { OnOk result (work compilation.new ≡ new_stub B.most (handed context.now) first (map as_name names.now) (work compilation.old)) }
 {
     let Some(name) = names.first() else {
         compilation.pass(true);
@@ -109,7 +109,7 @@ fn stub_routine<B: Bounds>(
     context: &Context<'_>,
     first: Place,
 ) -> Result<(), AllocError>
-    ensures { OnOk result (work compilation.new ≡ stubbed (handed context.now) first (work compilation.old)) }
+    ensures { OnOk result (work compilation.new ≡ stubbed B.most (handed context.now) first (work compilation.old)) }
 {
     let locals = stub_locals(&compilation.unit.tokens);
     if locals > MOST_STUB_LOCALS {
@@ -131,7 +131,7 @@ pub fn default<B: Bounds>(
     names: &[Name],
 ) -> Result<(), AllocError>
     ensures { OnOk result (work compilation.new
-        ≡ default (handed context.now) first (map as_name names.now) (work compilation.old)) }
+        ≡ default B.most (handed context.now) first (map as_name names.now) (work compilation.old)) }
 {
     if is_first_declared(compilation, names) {
         compilation.end_unit(context, first, true, &Findings::none())
@@ -158,7 +158,7 @@ pub fn constant<B: Bounds>(
     names: &[Name],
 ) -> Result<(), AllocError>
     ensures { OnOk result (work compilation.new
-        ≡ constant (handed context.now) first (map as_name names.now) (work compilation.old)) }
+        ≡ constant B.most (handed context.now) first (map as_name names.now) (work compilation.old)) }
 {
     let Some(name) = names.first() else {
         compilation.pass(true);
@@ -197,7 +197,8 @@ pub fn message<B: Bounds>(
     names: &[Name],
 ) -> Result<(), AllocError>
     ensures { let before = work compilation.old in OnOk result (work compilation.new ≡ record before {
-      report = with_words (location (handed context.now).names first) (weight_of (map as_name names.now)) (words_of (handed context.now).set before.unit)
+      report = with_words (location (handed context.now).names first) (weight_of (map as_name names.now))
+          (words_of (handed context.now).set before.unit)
           before.report;
     }) }
 {
@@ -261,7 +262,7 @@ fn declare_constant<B: Bounds>(
     found: Option<Finding>,
 ) -> Result<(), AllocError>
     ensures { OnOk result (work compilation.new
-        ≡ constant_with (handed context.now) first (as_name name.now) meaning found (work compilation.old)) }
+        ≡ constant_with B.most (handed context.now) first (as_name name.now) meaning found (work compilation.old)) }
 {
     let finding = constant_finding(meaning, found);
     let stands = constant_meaning(meaning, finding);
@@ -281,7 +282,7 @@ fn end_constant<B: Bounds>(
     finding: Option<Finding>,
 ) -> Result<(), AllocError>
     ensures { OnOk result (work compilation.new
-        ≡ constant_ended (handed context.now) first (as_name name.now) refused finding (work compilation.old)) }
+        ≡ constant_ended B.most (handed context.now) first (as_name name.now) refused finding (work compilation.old)) }
 {
     let order = compilation.unit.tokens.name_order();
     let found = constant_findings(order, again_by(name, refused), finding);
@@ -308,7 +309,7 @@ fn add_leaf<B: Bounds>(
     context: &Context<'_>,
 ) -> Result<(), AllocError>
     ensures { let before = work compilation.old in OnOk result (work compilation.new ≡ record before {
-      output = leaf_added (handed context.now).set before.unit.tokens before.unit.gathering.leaves before.output;
+      output = leaf_added B.most (handed context.now).set before.unit.tokens before.unit.gathering.leaves before.output;
     }) }
 {
     let leaves = compilation.unit.gathering.leaves();
@@ -333,7 +334,7 @@ fn is_declared(found: Found<Place>) -> bool
 
 /// Uses a name, unless it would be one too many.
 fn use_name<B: Bounds>(names: &mut Symbols<Place, B>, name: &Name) -> Result<(), AllocError>
-    ensures { OnOk result (names.new ≡ used_name (as_name name.now) names.old) }
+    ensures { OnOk result (names.new ≡ used_name B.most (as_name name.now) names.old) }
 {
     match names.refer(name.bytes(), name.place) {
         Ok(_) | Err(ReferFault::Full) => Ok(()),

@@ -29,7 +29,8 @@ pub fn global_variable<B: Bounds>(
     first: Place,
     names: &[Name],
 ) -> Result<(), AllocError>
-    ensures { OnOk result (work compilation.new ≡ global_variable (handed context.now) first (map as_name names.now) (work compilation.old)) }
+    ensures { OnOk result (work compilation.new ≡ global_variable B.most (handed context.now) first (map as_name names.now)
+        (work compilation.old)) }
 {
     match names.first() {
         Some(name) => one_global(compilation, context, first, name),
@@ -54,7 +55,7 @@ fn one_global<B: Bounds>(
     first: Place,
     name: &Name,
 ) -> Result<(), AllocError>
-    ensures { OnOk result (work compilation.new ≡ global_with (handed context.now) first (as_name name.now) (work compilation.old)) }
+    ensures { OnOk result (work compilation.new ≡ global_with B.most (handed context.now) first (as_name name.now) (work compilation.old)) }
 {
     let order = compilation.unit.tokens.name_order();
     let declared = valued(compilation, name, order, has_most_globals(compilation))?;
@@ -69,7 +70,8 @@ fn end_global<B: Bounds>(
     name: &Name,
     declared: Declared,
 ) -> Result<(), AllocError>
-    ensures { OnOk result (work compilation.new ≡ global_ended (handed context.now) first (as_name name.now) declared (work compilation.old)) }
+    ensures { OnOk result (work compilation.new ≡ global_ended B.most (handed context.now) first (as_name name.now) declared
+        (work compilation.old)) }
 {
     add_global(compilation, context, name, declared.finding)?;
     end_declaration(
@@ -90,7 +92,8 @@ fn add_global<B: Bounds>(
     found: Option<Finding>,
 ) -> Result<(), AllocError>
     ensures { let before = work compilation.old in
-        OnOk result (work compilation.new ≡ record before { output = global_added (handed context.now) found (as_name name.now) before }) }
+        OnOk result (work compilation.new ≡ record before
+        { output = global_added B.most (handed context.now) found (as_name name.now) before }) }
 {
     if found.is_some() {
         compilation

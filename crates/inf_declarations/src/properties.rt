@@ -70,7 +70,7 @@ pub fn property<B: Bounds>(
     first: Place,
     names: &[Name],
 ) -> Result<(), AllocError>
-    ensures { OnOk result (work compilation.new ≡ property (handed context.now) first (map as_name names.now) (work compilation.old)) }
+    ensures { OnOk result (work compilation.new ≡ property B.most (handed context.now) first (map as_name names.now) (work compilation.old)) }
 {
     property_named(
         compilation,
@@ -90,7 +90,7 @@ fn property_named<B: Bounds>(
     names: &[Name],
 ) -> Result<(), AllocError>
     ensures { OnOk result (work compilation.new
-        ≡ property_named (handed context.now) first is_additive (map as_name names.now) (work compilation.old)) }
+        ≡ property_named B.most (handed context.now) first is_additive (map as_name names.now) (work compilation.old)) }
 {
     let Some((name, names)) = names.split_first() else {
         compilation.pass(true);
@@ -126,7 +126,7 @@ fn one_property<B: Bounds>(
     name: &Name,
 ) -> Result<(), AllocError>
     ensures { OnOk result (work compilation.new
-        ≡ property_with (handed context.now) first is_additive (as_name name.now) (work compilation.old)) }
+        ≡ property_with B.most (handed context.now) first is_additive (as_name name.now) (work compilation.old)) }
 {
     let order = property_order(&compilation.unit.tokens, is_additive);
     let declared = valued(compilation, name, order, has_most_properties(compilation))?;
@@ -143,7 +143,7 @@ fn end_property<B: Bounds>(
     declared: Declared,
 ) -> Result<(), AllocError>
     ensures { OnOk result (work compilation.new
-        ≡ property_ended (handed context.now) first is_additive (as_name name.now) declared (work compilation.old)) }
+        ≡ property_ended B.most (handed context.now) first is_additive (as_name name.now) declared (work compilation.old)) }
 {
     add_property(compilation, context, name, is_additive, declared.finding)?;
     end_declaration(
@@ -172,7 +172,8 @@ fn add_property<B: Bounds>(
     found: Option<Finding>,
 ) -> Result<(), AllocError>
     ensures { let before = work compilation.old in
-        OnOk result (work compilation.new ≡ record before { output = property_added (handed context.now) found (as_name name.now) is_additive before }) }
+        OnOk result (work compilation.new ≡ record before
+        { output = property_added B.most (handed context.now) found (as_name name.now) is_additive before }) }
 {
     if found.is_some() {
         compilation.output.declare(name.bytes(), name.place, nothing_of(FixedLimit::Properties))?;

@@ -4,6 +4,8 @@ use Rattle.std.specs.Ordering.{nat_cmp}
 use Rattle.std.specs.Cmp.Lexicographic.{slice_cmp}
 use Rattle.std.specs.Map.{lookup}
 use Rattle.std.specs.BTreeMap.{is_at, insert_entry}
+use Rattle.inf_settings.specs.Bounds.{Limits}
+use Rattle.inf_settings.specs.declared.setting.Setting.TheVariants as setting
 use Rattle.inf_dictionary.specs.declared.dictionary.AddFault.{AddFault}
 use Rattle.inf_dictionary.specs.declared.dictionary.AddFault.TheVariants as fault
 use Rattle.inf_dictionary.specs.declared.uses.Word.{Word}
@@ -11,10 +13,9 @@ use Rattle.inf_dictionary.specs.declared.uses.WordUse.{WordUse}
 use Rattle.inf_dictionary.specs.declared.uses.WordUse.TheVariants as word_use
 use Rattle.inf_dictionary.specs.Texts.{Text}
 
--- the words in rising order of their texts, and how many there may be
+-- the words in rising order of their texts
 pub record Words : Type 0 where
   pub list : List (Text × Word)
-  pub limit : ℕ
 
 -- what is known of the word with a text
 abbrev pub word_of : Text → List (Text × Word) → Option Word
@@ -65,10 +66,10 @@ is_of_other_verb word how = are_other (verb_in_word word) (verb_in how)
 
 -- why a use cannot be added of a word of which this is known: the word is one of another verb's, or it is new and there are as many
 -- as there may be
-abbrev pub add_fault : Option Word → WordUse → Words → Option AddFault
-add_fault word how words =
-    if is_of_other_verb word how then Some fault.OtherVerb else if is_none word && nat_le words.limit (length words.list) then Some
-    fault.Full else None
+abbrev pub add_fault : Limits → Option Word → WordUse → Words → Option AddFault
+add_fault limits word how words =
+    if is_of_other_verb word how then Some fault.OtherVerb
+    else if is_none word && nat_le (limits setting.DictionaryEntries) (length words.list) then Some fault.Full else None
 
 -- whether a text cannot become that of a word of a new verb, where some stand before: the word is one of a verb's, or is among these
 unfoldable pub is_misfit : List (Text × Word) → List (Text × Unit {0}) → Text → Bool

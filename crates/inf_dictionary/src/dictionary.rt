@@ -1,5 +1,5 @@
 //! The words of a story, and how they are written.
-ghost use Rattle.std.specs.Prelude.{◌≡◌, ◌<◌, ◌≤◌, ◌++◌, ◌∷◌, [], None, OnOk, OnErr, IfOk, IfNone, true, IsNone, MatchResult, length, unwrap_or};
+ghost use Rattle.std.specs.Prelude.{◌≡◌, ◌<◌, ◌≤◌, ◌++◌, ◌∷◌, [], None, OnOk, OnErr, IfOk, IfNone, IsNone, MatchResult, length, unwrap_or};
 ghost use Rattle.inf_dictionary.specs.Words.{add_fault, dictionary_bytes, entry_bytes, first_misfit, is_misfit, verb_of, with_use, word_of};
 ghost use Rattle.inf_dictionary.specs.declared.dictionary.AddFault.TheVariants.{Memory};
 ghost use Rattle.inf_dictionary.specs.Texts.{AreRising, AreWhole, texts_of};
@@ -38,7 +38,7 @@ pub struct Dictionary<B: Bounds> {
     words: BTreeMap<[u8; 6], Word>,
     limit: usize,
     of: PhantomData<B>,
-    ghost is_allowed: { B.allows setting.DictionaryEntries limit ≡ true },
+    ghost is_most: { limit ≡ B.most setting.DictionaryEntries },
 }
 
 impl<B: Bounds> Model for Dictionary<B> {
@@ -48,7 +48,7 @@ impl<B: Bounds> Model for Dictionary<B> {
 
     ghost Value = { Words };
 
-    ghost view = { λ d. record { list = d.words.entries; limit = d.limit } };
+    ghost view = { λ d. record { list = d.words.entries } };
 
     ghost invariant = { λ d. (length d.words.entries ≤ d.limit) × AreRising (texts_of d.words.entries) × AreWhole (texts_of d.words.entries) };
 }
@@ -64,8 +64,8 @@ fn add_entry(bytes: &mut Vec<u8>, text: &[u8; 6], word: Word) -> Result<(), Allo
 impl<B: Bounds> Dictionary<B> {
     /// No words, of which there may be so many. It takes no memory until the first one comes.
     pub fn new(alloc: Global, limit: usize) -> Dictionary<B>
-        requires { B.allows setting.DictionaryEntries limit ≡ true }
-        ensures { result ≡ record { list = []; limit = limit } }
+        requires { limit ≡ B.most setting.DictionaryEntries }
+        ensures { result ≡ record { list = [] } }
     {
         Dictionary {
             words: BTreeMap::new(alloc),
@@ -77,8 +77,7 @@ impl<B: Bounds> Dictionary<B> {
     /// How many words there are, which is never more than there may be.
     pub fn len(&self) -> usize
         ensures value { result ≡ length self.now.list }
-        ensures limited { result ≤ self.now.limit }
-        ensures allowed { B.allows setting.DictionaryEntries self.now.limit ≡ true }
+        ensures limited { result ≤ B.most setting.DictionaryEntries }
     {
         self.words.len()
     }
@@ -104,7 +103,7 @@ impl<B: Bounds> Dictionary<B> {
     pub fn add(&mut self, text: [u8; 6], word_use: WordUse, is_plural: bool) -> Result<(), AddFault>
         ensures ok { OnOk result (self.new ≡ with_use text word_use is_plural self.old) }
         ensures err { OnErr result (self.new ≡ self.old) }
-        ensures fault { let fault = add_fault (word_of text self.old.list) word_use self.old in
+        ensures fault { let fault = add_fault B.most (word_of text self.old.list) word_use self.old in
             MatchResult result (λ _. fault ≡ None) (λ refused. refused ≡ unwrap_or fault Memory) }
     {
         let before = self.word(&text);
@@ -118,8 +117,8 @@ impl<B: Bounds> Dictionary<B> {
 
     // Why a use of a word of which this is known cannot be added, whatever memory there is.
     fn add_fault(&self, before: Option<Word>, word_use: WordUse) -> Option<AddFault>
-        ensures value { result ≡ add_fault before word_use self.now }
-        ensures room { IfNone result (IsNone before → length self.now.list < self.now.limit) }
+        ensures value { result ≡ add_fault B.most before word_use self.now }
+        ensures room { IfNone result (IsNone before → length self.now.list < B.most setting.DictionaryEntries) }
     {
         if is_of_other_verb(before, word_use) {
             return Some(AddFault::OtherVerb);

@@ -1,6 +1,7 @@
 -- Files that include one another keep what each of them keeps.
 use Rattle.std.proofs.Common.{◌≡◌, ℕ, zero, suc, ◌+◌, ◌≤◌, length, List, [], ◌∷◌, ◌++◌, map, reverse, cond, ◌&&◌, Bool, true, false, Option, Some, None, refl, sym, ap, subst, ◌∙◌, append_assoc, arith}
 use Rattle.std.proofs.lemmas.List.{append-nil, map-append}
+use Rattle.inf_settings.specs.Bounds.{Limits}
 use Rattle.inf_scanner.specs.declared.tokens.Mark.TheVariants as mark
 use Rattle.inf_scanner.specs.declared.tokens.Place.{Place}
 use Rattle.inf_files.specs.Files.{Sources}
@@ -61,7 +62,8 @@ behind_both (x ∷ first) second c = behind_both first second (step_behind x c)
 
 hands_staying : (tokens : List At) (c : Nested) → handed_by (map staying tokens) c ≡ all_handed_on tokens c.now
 hands_staying [] c = refl
-hands_staying (t ∷ tokens) c = ap (λ hs. handed_on (judged_at t c.now).judged t.token ++ hs) (hands_staying tokens (step_behind (staying t) c))
+hands_staying (t ∷ tokens) c =
+    ap (λ hs. handed_on (judged_at t c.now).judged t.token ++ hs) (hands_staying tokens (step_behind (staying t) c))
 
 tells_staying : (tokens : List At) (c : Nested) → told_by (map staying tokens) c ≡ all_told tokens c.now
 tells_staying [] c = refl
@@ -479,14 +481,16 @@ led_on h place (x ∷ more) w held free given told frees follows rest =
     }
 
 -- where reading stands makes no difference to it
-standing_led : (is_between : Bool) (more : List Step) (w : List (List Conditional)) (c : Conditions) (place : Place) (inner among : List Conditional) (declared : ℕ)
+standing_led : (is_between : Bool) (more : List Step) (w : List (List Conditional)) (c : Conditions) (place : Place)
+    (inner among : List Conditional) (declared : ℕ)
     (given : List Handing) (told : List Place)
     → StepsLed more (nested_in w (state c (Some place) inner among None declared)) given told → StepsLed (standing is_between more)
     (nested_in w (state c (Some place) inner among None declared)) given told
 standing_led is_between [] w c place inner among declared given told is = is
 standing_led is_between (x ∷ more) w c place inner among declared given told is = record { hands = is.hands; tells = is.tells }
 
-standing_same : (is_between : Bool) (more : List Step) (w : List (List Conditional)) (c : Conditions) (place : Place) (inner among : List Conditional) (declared : ℕ)
+standing_same : (is_between : Bool) (more : List Step) (w : List (List Conditional)) (c : Conditions) (place : Place)
+    (inner among : List Conditional) (declared : ℕ)
     → steps_behind (standing is_between more) (nested_in w (state c (Some place) inner among None declared)) ≡ steps_behind more
     (nested_in w (state c (Some place) inner among None declared))
 standing_same is_between [] w c place inner among declared = refl
@@ -581,7 +585,8 @@ record Passes (signs : List At) (w : List (List Conditional)) (c base : Conditio
   led : StepsLed (map staying signs) (nested_in w c) [] []
   behind : all_behind signs c ≡ state base sign inner among (left_at b m) declared
 
-hashes_pass : (is_inner : Bool) (signs : List At) (w : List (List Conditional)) (c base : Conditions) (sign : Option Place) (inner among : List Conditional) (b : Bool)
+hashes_pass : (is_inner : Bool) (signs : List At) (w : List (List Conditional)) (c base : Conditions) (sign : Option Place)
+    (inner among : List Conditional) (b : Bool)
     (m declared : ℕ) → AreHashes is_inner signs → CalmLeft is_inner inner b
     → m + length signs ≤ most_levels → c ≡ state base sign inner among (left_at b m) declared → Passes signs w c base inner among b m
 hashes_pass is_inner [] w c base sign inner among b m declared are calm few is =
@@ -616,7 +621,8 @@ record LeftEnds (o : Option Sign) (h : Forwarded) (s : Around) (w : List (List C
     led : StepsLed (map staying signs) (nested_in w c) [] []
     ends : EndsAs o h s (all_behind signs c)
 
-left_ends : (r : Reader) (last : Last) (w : List (List Conditional)) (c : Conditions) (is_inner : Bool) (signs : List At) (o : Option Sign) (h : Forwarded)
+left_ends : (r : Reader) (last : Last) (w : List (List Conditional)) (c : Conditions) (is_inner : Bool) (signs : List At) (o : Option Sign)
+    (h : Forwarded)
     (e : StandsAt r last c) → all_kept last.around ≡ false → NoneInside is_inner last.around → AreHashes is_inner signs
     → last.levels + length signs ≤ most_levels → (free : Conditions) → free.pending ≡ []
     → ((declared : ℕ) (end : At) → is_end end.token.kind ≡ true → offered false end.site.is_quiet end.out end.token
@@ -1082,7 +1088,8 @@ files_led d (Breaking parts outer u misfit more) s c b are =
     (subst (λ (x : Nested). StepsLed (steps more) x given others) (sym to_beyond) rest.led) in
     let second : StepsLed (map staying toks ++ (map staying bad ++ steps more)) (nested_in w here) (handed_misfit misfit ++ given)
     (alone ++ (told_bad ++ others)) =
-    joined (map staying toks) (map staying bad ++ steps more) (nested_in w here) [] (handed_misfit misfit ++ given) alone (told_bad ++ others) broken.led
+    joined (map staying toks) (map staying bad ++ steps more) (nested_in w here) [] (handed_misfit misfit ++ given) alone
+    (told_bad ++ others) broken.led
     (subst (λ (x : Nested). StepsLed (map staying bad ++ steps more) x (handed_misfit misfit ++ given) (told_bad ++ others))
     (sym to_there) third) in
     record {
@@ -1226,42 +1233,43 @@ rested_waiting s =
     of_both (λ (t : State). t.nesting.waiting ≡ s.nesting.waiting) (has_ended s) s (cond (is_resting s) (piece_closed s) s) (λ _. refl)
     (λ _. of_both (λ (t : State). t.nesting.waiting ≡ s.nesting.waiting) (is_resting s) (piece_closed s) s (λ _. refl) (λ _. refl))
 
-turn_steps : (sources : Sources) (o : Choices) (s : State) → nested (turn sources o s) ≡ step_behind (step_at sources o s) (nested s)
-turn_steps sources o s =
-    let done = carried_out sources o (stepped o s) in
+turn_steps : (limits : Limits) (sources : Sources) (o : Choices) (s : State) →
+    nested (turn limits sources o s) ≡ step_behind (step_at limits sources o s) (nested s)
+turn_steps limits sources o s =
+    let done = carried_out sources o (stepped limits o s) in
     ap (λ (c : Conditions). nested_in (map (λ (w : Waiting). w.conditionals) (rested done).nesting.waiting) c) (rested_conditions done)
     ∙ ap (λ (ws : List Waiting). nested_in (map (λ (w : Waiting). w.conditionals) ws) (ended_behind (ends_there done) done.conditions))
     (rested_waiting done)
-    ∙ ap (λ (n : Nested). record n { now = ended_behind (ends_there done) n.now }) (carried_out_passes sources o (stepped o s))
+    ∙ ap (λ (n : Nested). record n { now = ended_behind (ends_there done) n.now }) (carried_out_passes sources o (stepped limits o s))
 
-steps_hand_on : (sources : Sources) (o : Choices) (n : ℕ) (s : State) →
-    map shown (given_in sources o n s) ≡ handed_by (steps_at sources o n s) (nested s)
-steps_hand_on sources o zero s = refl
-steps_hand_on sources o (suc n) s =
-    let next = turn sources o s in
+steps_hand_on : (limits : Limits) (sources : Sources) (o : Choices) (n : ℕ) (s : State) →
+    map shown (given_in limits sources o n s) ≡ handed_by (steps_at limits sources o n s) (nested s)
+steps_hand_on limits sources o zero s = refl
+steps_hand_on limits sources o (suc n) s =
+    let next = turn limits sources o s in
     let t = token_of s in
     let b = judged (site_of s.reading) s.work.output t s.conditions in
-    map-append shown (given_by s) (given_in sources o n next)
-    ∙ ap (λ hs. hs ++ map shown (given_in sources o n next)) (all_shown b.judged t)
-    ∙ ap (λ hs. handed_on b.judged t ++ hs) (steps_hand_on sources o n next ∙ ap (handed_by (steps_at sources o n next))
-    (turn_steps sources o s))
+    map-append shown (given_by s) (given_in limits sources o n next)
+    ∙ ap (λ hs. hs ++ map shown (given_in limits sources o n next)) (all_shown b.judged t)
+    ∙ ap (λ hs. handed_on b.judged t ++ hs) (steps_hand_on limits sources o n next ∙ ap (handed_by (steps_at limits sources o n next))
+    (turn_steps limits sources o s))
 
-steps_turned : (sources : Sources) (o : Choices) (n : ℕ) (s : State) →
-    nested (turned sources o n s) ≡ steps_behind (steps_at sources o n s) (nested s)
-steps_turned sources o zero s = refl
-steps_turned sources o (suc n) s =
-    let next = turn sources o s in
-    steps_turned sources o n next ∙ ap (steps_behind (steps_at sources o n next)) (turn_steps sources o s)
+steps_turned : (limits : Limits) (sources : Sources) (o : Choices) (n : ℕ) (s : State) →
+    nested (turned limits sources o n s) ≡ steps_behind (steps_at limits sources o n s) (nested s)
+steps_turned limits sources o zero s = refl
+steps_turned limits sources o (suc n) s =
+    let next = turn limits sources o s in
+    steps_turned limits sources o n next ∙ ap (steps_behind (steps_at limits sources o n next)) (turn_steps limits sources o s)
 
-pub turns_keep_files : TurnsKeepFiles
-turns_keep_files d sources o n s f are_these clear are =
+pub turns_keep_files : (limits : Limits) → TurnsKeepFiles limits
+turns_keep_files limits d sources o n s f are_these clear are =
     let all = files_keep_sides d f (nested s) clear are in
-    let behind = turned sources o n s in
-    let end = at_turn sources o behind in
-    let last = stepped o behind in
-    let turned_so = steps_turned sources o n s ∙ ap (λ xs. steps_behind xs (nested s)) are_these in
+    let behind = turned limits sources o n s in
+    let end = at_turn limits sources o behind in
+    let last = stepped limits o behind in
+    let turned_so = steps_turned limits sources o n s ∙ ap (λ xs. steps_behind xs (nested s)) are_these in
     record {
-      handed_on = steps_hand_on sources o n s ∙ ap (λ xs. handed_by xs (nested s)) are_these ∙ all.handed_on;
+      handed_on = steps_hand_on limits sources o n s ∙ ap (λ xs. handed_by xs (nested s)) are_these ∙ all.handed_on;
       end_on = λ is_last.
           let t = token_of behind in
           let b = judged (site_of behind.reading) behind.work.output t behind.conditions in

@@ -1,5 +1,6 @@
 -- Which tokens are kept of files that include one another: of each file those that its own conditionals keep.
 use Rattle.std.specs.Prelude.{◌≡◌, ◌≤◌, ◌+◌, ℕ, zero, suc, List, [], ◌∷◌, ◌++◌, map, reverse, length, Bool, true, false, if◌then◌else◌, Option, Some, None}
+use Rattle.inf_settings.specs.Bounds.{Limits}
 use Rattle.inf_files.specs.Files.{Sources}
 use Rattle.inf_scanner.specs.declared.tokens.Place.{Place}
 use Rattle.inf_sources.specs.Inclusions.{Inclusion, Opens, OpensNone, Waiting, inclusion}
@@ -284,7 +285,8 @@ abbrev pub AreFiles : Answers → Around → Nested → Files → Type 0
 AreFiles answers s c (Alone parts) = AreOfAFile answers s c.now.declared parts
 AreFiles answers s c (Cut parts outer u) =
     AreOfAFile answers s c.now.declared parts
-    × HaveBegun answers (behind_parts answers s parts) (declared_tokens (all_tokens parts) c.now.declared) (length (all_tokens parts)) outer u
+    × HaveBegun answers (behind_parts answers s parts) (declared_tokens (all_tokens parts) c.now.declared) (length (all_tokens parts)) outer
+    u
 AreFiles answers s c (HashLast parts sign) =
     AreOfAFile answers s c.now.declared parts
     × ((all_kept (behind_parts answers s parts) ≡ true) × ((sign.site.is_between ≡ false) × IsSign true sign))
@@ -292,27 +294,32 @@ AreFiles answers s c (HashThen parts sign behind) =
     AreOfAFile answers s c.now.declared parts
     × (IsThen (behind_parts answers s parts) sign behind
     × ((sign.site.is_between ≡ false)
-    × AreFiles answers (behind_parts answers s parts) (record c { now = released (going_on sign (all_behind (all_tokens parts) c.now)) }) behind))
+    × AreFiles answers (behind_parts answers s parts) (record c { now = released (going_on sign (all_behind (all_tokens parts) c.now)) })
+    behind))
 AreFiles answers s c (HashesLeft parts is_inner signs) =
     AreOfAFile answers s c.now.declared parts × AreLeft (behind_parts answers s parts) (length (all_tokens parts)) is_inner signs
 AreFiles answers s c (CutHashesLeft parts outer u is_inner signs) =
     AreOfAFile answers s c.now.declared parts
-    × (HaveBegun answers (behind_parts answers s parts) (declared_tokens (all_tokens parts) c.now.declared) (length (all_tokens parts)) outer u
+    × (HaveBegun answers (behind_parts answers s parts) (declared_tokens (all_tokens parts) c.now.declared) (length (all_tokens parts))
+    outer u
     × AreLeft (behind_all_begun answers (behind_parts answers s parts) outer u)
     (length (all_tokens parts) + length (all_begun_tokens outer u)) is_inner signs)
 AreFiles answers s c (CutHashLast parts outer u sign) =
     AreOfAFile answers s c.now.declared parts
-    × (HaveBegun answers (behind_parts answers s parts) (declared_tokens (all_tokens parts) c.now.declared) (length (all_tokens parts)) outer u
+    × (HaveBegun answers (behind_parts answers s parts) (declared_tokens (all_tokens parts) c.now.declared) (length (all_tokens parts))
+    outer u
     × ((all_kept (behind_all_begun answers (behind_parts answers s parts) outer u) ≡ true) × IsSign true sign))
 AreFiles answers s c (CutHashThen parts outer u sign is_between behind) =
     AreOfAFile answers s c.now.declared parts
-    × (HaveBegun answers (behind_parts answers s parts) (declared_tokens (all_tokens parts) c.now.declared) (length (all_tokens parts)) outer u
+    × (HaveBegun answers (behind_parts answers s parts) (declared_tokens (all_tokens parts) c.now.declared) (length (all_tokens parts))
+    outer u
     × (IsThen (behind_all_begun answers (behind_parts answers s parts) outer u) sign behind
     × AreFiles answers (behind_all_begun answers (behind_parts answers s parts) outer u)
     (record c { now = released (going_on sign (all_behind (all_begun_tokens outer u) (all_behind (all_tokens parts) c.now))) }) behind))
 AreFiles answers s c (Breaking parts outer u misfit behind) =
     AreOfAFile answers s c.now.declared parts
-    × (HaveBegun answers (behind_parts answers s parts) (declared_tokens (all_tokens parts) c.now.declared) (length (all_tokens parts)) outer u
+    × (HaveBegun answers (behind_parts answers s parts) (declared_tokens (all_tokens parts) c.now.declared) (length (all_tokens parts))
+    outer u
     × (IsMisfit answers (behind_parts answers s parts) outer u misfit
     × AreFiles answers (around_broken answers s parts outer u misfit)
     (tokens_behind (misfit_tokens misfit) (tokens_behind (all_begun_tokens outer u) (tokens_behind (all_tokens parts) c))) behind))
@@ -365,28 +372,29 @@ abbrev pub passage : Sources → Choices → State → Passage
 passage sources o s =
     if s.work.report.counts.is_over then Stays else if is_mode_ended s.reading.mode then Leaves else asked_passage s.work.asked sources o s
 
-abbrev pub step_at : Sources → Choices → State → Step
-step_at sources o s = record { at = at_turn sources o s; passage = passage sources o (stepped o s) }
+abbrev pub step_at : Limits → Sources → Choices → State → Step
+step_at limits sources o s = record { at = at_turn limits sources o s; passage = passage sources o (stepped limits o s) }
 
-abbrev pub steps_at : Sources → Choices → ℕ → State → List Step
-steps_at sources o zero s = []
-steps_at sources o (suc n) s = step_at sources o s ∷ steps_at sources o n (turn sources o s)
+abbrev pub steps_at : Limits → Sources → Choices → ℕ → State → List Step
+steps_at limits sources o zero s = []
+steps_at limits sources o (suc n) s = step_at limits sources o s ∷ steps_at limits sources o n (turn limits sources o s)
 
 -- Turns whose steps are those of files keep what these keep, and the next one hands on the end of the file. That tells what is told behind
 -- its step,
 -- in this order, after all else.
-pub record TurnsKeep (answers : Answers) (sources : Sources) (o : Choices) (n : ℕ) (s : State) (files : Files) : Type 0 where
-  pub handed_on : map shown (given_in sources o n s) ≡ handed_files answers none_around files
-  pub end_on : let t = token_of (turned sources o n s) in is_end t.kind ≡ true → map shown (given_by (turned sources o n s))
-      ≡ handed_end files t
-  pub at_last : let last = stepped o (turned sources o n s) in is_end (token_of (turned sources o n s)).kind ≡ true
-      → (file_closed last).work.report ≡ with_all_at last.nesting.names (all_unended (behind_files answers none_around files))
-      last.work.report
+pub record TurnsKeep (limits : Limits) (answers : Answers) (sources : Sources) (o : Choices) (n : ℕ) (s : State) (files : Files) : Type 0
+  where
+    pub handed_on : map shown (given_in limits sources o n s) ≡ handed_files answers none_around files
+    pub end_on : let t = token_of (turned limits sources o n s) in is_end t.kind ≡ true → map shown (given_by (turned limits sources o n s))
+        ≡ handed_end files t
+    pub at_last : let last = stepped limits o (turned limits sources o n s) in is_end (token_of (turned limits sources o n s)).kind ≡ true
+        → (file_closed last).work.report ≡ with_all_at last.nesting.names (all_unended (behind_files answers none_around files))
+        last.work.report
 
-abbrev pub TurnsKeepFiles : Type 0
-TurnsKeepFiles =
-    (answers : Answers) (sources : Sources) (o : Choices) (n : ℕ) (s : State) (files : Files) → steps_at sources o n s ≡ steps files
-    → IsClear s.conditions → AreFiles answers none_around (nested s) files → TurnsKeep answers sources o n s files
+abbrev pub TurnsKeepFiles : Limits → Type 0
+TurnsKeepFiles limits =
+    (answers : Answers) (sources : Sources) (o : Choices) (n : ℕ) (s : State) (files : Files) → steps_at limits sources o n s ≡ steps files
+    → IsClear s.conditions → AreFiles answers none_around (nested s) files → TurnsKeep limits answers sources o n s files
 
 abbrev pub FilesTellUnended : Type 0
 FilesTellUnended = (files : FileNames) (c : Conditions) (r : Reported) → file_told files c r ≡ with_all_at files (told_behind Leaves c) r

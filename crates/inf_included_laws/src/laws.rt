@@ -1,4 +1,5 @@
 //! Laws of files that include one another, and of conditional directives that are cut.
+ghost use Rattle.inf_settings.specs.Bounds.{Limits};
 ghost use Rattle.inf_included_laws.specs.IncludedFiles.{FilesKeepSides, FilesTellUnended, TurnsKeepFiles};
 
 /// Of files that include one another each keeps the tokens that its own conditionals keep, and around none of them a conditional of the
@@ -13,5 +14,5 @@ ghost use Rattle.inf_included_laws.specs.IncludedFiles.{FilesKeepSides, FilesTel
 pub fn included_files_keep_sides()
     ensures kept { FilesKeepSides }
     ensures ends { FilesTellUnended }
-    ensures turns { TurnsKeepFiles }
+    ensures turns { (limits : Limits) → TurnsKeepFiles limits }
 {}

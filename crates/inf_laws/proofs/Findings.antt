@@ -4,6 +4,7 @@ use Rattle.std.specs.Prelude.{Contains, find, is_some, option_map, slice_index_o
 use Rattle.std.specs.Str.{bytes_eq, str_eq_ignore_ascii_case}
 use Rattle.std.proofs.lemmas.Bool.{and_parts, cond_both, eqb-true, false_from_ne_true, le-ltb, lt-ltb, ltb-false, ltb-true, or_cases}
 use Rattle.std.proofs.lemmas.List.Elements.{Contains-append_cases, Contains-append_left, Contains-append_right}
+use Rattle.inf_settings.specs.Bounds.{Limits}
 use Rattle.inf_scanner.specs.declared.tokens.Place.{Place}
 use Rattle.inf_names.specs.Symbols.{Table, declare_fault, declare_fault_by, folded, found_in, is_full}
 use Rattle.inf_names.specs.declared.symbols.Found.{Found as FoundName}
@@ -313,9 +314,9 @@ routine_told_by files found.Used full name = refl
 routine_told_by files found.Unknown true name = refl
 routine_told_by files found.Unknown false name = refl
 
-routine_told : (files : FileNames) (names : Table Place) (name : Name) →
-    IsTold (name_fault files name (declare_fault name.bytes names)) (taken_name files names name)
-routine_told files names name = routine_told_by files (found_in name.bytes names) (is_full names) name
+routine_told : (limits : Limits) (files : FileNames) (names : Table Place) (name : Name) →
+    IsTold (name_fault files name (declare_fault limits name.bytes names)) (taken_name files names name)
+routine_told limits files names name = routine_told_by files (found_in name.bytes names) (is_full limits names) name
 
 among_routine : (files : FileNames) (f : FoundName Place) (name : Name) (g : Finding) → Contains (taken_as files f name) g → g.token ≡ 1
 among_routine files (found.System meaning) name g among = ap (λ f. f.token) (one_of_one (system_routine name) g among)
@@ -343,16 +344,17 @@ header_fault_is files tokens unit again h = go h.are_too_many again h.repeated
     go false None (Some r) = refl
     go false None None = refl
 
-header_told : (files : FileNames) (unit : Place) (names : Table Place) (name : Name) (locals : List Name) (h : Headed) → Ends [] locals
-    no_locals h → IsTold (header_fault files unit (again_by name (declare_fault name.bytes names)) h)
+header_told : (limits : Limits) (files : FileNames) (unit : Place) (names : Table Place) (name : Name) (locals : List Name) (h : Headed) →
+    Ends [] locals
+    no_locals h → IsTold (header_fault files unit (again_by name (declare_fault limits name.bytes names)) h)
     (taken_name files names name ++ (repeated_locals files [] 2 locals ++ many_locals unit locals))
-header_told files unit names name locals h (Full full more) =
+header_told limits files unit names name locals h (Full full more) =
     let of_name = taken_name files names name in
     let repeats = repeated_locals files [] 2 locals in
-    let fault = name_fault files name (declare_fault name.bytes names) in
+    let fault = name_fault files name (declare_fault limits name.bytes names) in
     let many : many_locals unit locals ≡ too_many_locals unit ∷ [] =
     ap (λ b. found_if b (too_many_locals unit)) (lt-ltb 15 (different [] locals) (omega (arith, more))) in
-    let first : header_fault files unit (again_by name (declare_fault name.bytes names)) h ≡ Some (too_many_locals unit).blame =
+    let first : header_fault files unit (again_by name (declare_fault limits name.bytes names)) h ≡ Some (too_many_locals unit).blame =
     ap (λ b. cond b (Some (too_many_locals unit).blame) (first_fault fault (local_fault files h.repeated))) full in
     subst (λ x. IsTold x (of_name ++ (repeats ++ many_locals unit locals))) (sym first)
     (subst (λ l. IsTold (Some (too_many_locals unit).blame) (of_name ++ (repeats ++ l))) (sym many)
@@ -366,19 +368,19 @@ header_told files unit names name locals h (Full full more) =
         (omega (arith, at, among_routine files (found_in name.bytes names) name g there))
     behind f g is (inr there) = let at : f.token ≡ (too_many_locals unit).token = ap (λ f. f.token) is in inl
         (omega (arith, at, among_repeats files [] 2 locals g there))
-header_told files unit names name locals h (Fits fits few repeated) =
+header_told limits files unit names name locals h (Fits fits few repeated) =
     let of_name = taken_name files names name in
     let repeats = repeated_locals files [] 2 locals in
-    let fault = name_fault files name (declare_fault name.bytes names) in
+    let fault = name_fault files name (declare_fault limits name.bytes names) in
     let again = local_fault files (repeat_of [] locals) in
     let many : many_locals unit locals ≡ [] =
     ap (λ b. found_if b (too_many_locals unit)) (le-ltb 15 (different [] locals) (omega (arith, few))) in
-    let first : header_fault files unit (again_by name (declare_fault name.bytes names)) h ≡ first_fault fault again =
+    let first : header_fault files unit (again_by name (declare_fault limits name.bytes names)) h ≡ first_fault fault again =
     ap (λ b. cond b (Some (too_many_locals unit).blame) (first_fault fault (local_fault files h.repeated))) fits
     ∙ ap (λ r. first_fault fault (local_fault files r)) repeated in
     subst (λ x. IsTold x (of_name ++ (repeats ++ many_locals unit locals))) (sym first)
     (subst (λ l. IsTold (first_fault fault again) (of_name ++ l)) (sym (append-nil repeats) ∙ ap (λ l. repeats ++ l) (sym many))
-    (told_first fault again of_name repeats (routine_told files names name) (repeats_told files [] 2 locals)
+    (told_first fault again of_name repeats (routine_told limits files names name) (repeats_told files [] 2 locals)
     (λ f g here there. inl (omega (
       arith,
       among_routine files (found_in name.bytes names) name f here,
@@ -386,13 +388,13 @@ header_told files unit names name locals h (Fits fits few repeated) =
           there,
     )))))
 
-pub headers_tell_the_first : HeadersTellTheFirst
-headers_tell_the_first files tokens unit names name locals =
+pub headers_tell_the_first : (limits : Limits) → HeadersTellTheFirst limits
+headers_tell_the_first limits files tokens unit names name locals =
     let h = with_locals locals no_locals in
-    let again = again_by name (declare_fault name.bytes names) in
+    let again = again_by name (declare_fault limits name.bytes names) in
     subst (λ b. IsTold b (taken_name files names name ++ (repeated_locals files [] 2 locals ++ many_locals unit locals)))
     (sym (header_fault_is files tokens unit again h))
-    (header_told files unit names name locals h (ends locals [] no_locals (λ name. refl) refl (omega arith)))
+    (header_told limits files unit names name locals h (ends locals [] no_locals (λ name. refl) refl (omega arith)))
 
 -- Any unit
 
@@ -460,5 +462,5 @@ leasts_are_found (Some a) (Some b) = go (is_before b a) refl
         by g (inl is) = not_earlier (Some a) a a g refl is (never_itself a)
         by g (inr is) = not_earlier (Some b) b a g refl is e
 
-pub units_tell_the_least : UnitsTellTheLeast
-units_tell_the_least context first has_last all w = refl
+pub units_tell_the_least : (limits : Limits) → UnitsTellTheLeast limits
+units_tell_the_least limits context first has_last all w = refl

@@ -1,6 +1,7 @@
 -- Reading by the tokens that are handed on.
 use Rattle.std.proofs.Common.{◌≡◌, List, [], ◌∷◌, ◌++◌, map, cond, Bool, true, false, Option, Some, None, is_some, refl, sym, ap, subst, ◌∙◌, append_assoc}
 use Rattle.std.proofs.lemmas.List.{append-nil, map-append}
+use Rattle.inf_settings.specs.Bounds.{Limits}
 use Rattle.inf_scanner.specs.declared.tokens.Place.{Place}
 use Rattle.inf_unit.specs.Tokens.{SourceToken, atom_of, is_end}
 use Rattle.inf_unit.proofs.Cases.{of_both}
@@ -32,75 +33,78 @@ use Rattle.inf_laws.proofs.BadTokens.{bracketed}
 
 -- What is read is told by the tokens alone
 
-judged_reads : (context : Context) (t : SourceToken) (r : Reading) (w : Compilation) → (judged context t r w).reading ≡ judged_by t r
-judged_reads context t r w = go (fits grammar known (atom_of t) r.stack)
+judged_reads : (limits : Limits) (context : Context) (t : SourceToken) (r : Reading) (w : Compilation) →
+    (judged limits context t r w).reading ≡ judged_by t r
+judged_reads limits context t r w = go (fits grammar known (atom_of t) r.stack)
   where
-    go : (b : Bool) → (cond b (took context t r w) (bad context t r w)).reading ≡ cond b (took_by (atom_of t) r) (bad_by t.kind r)
+    go : (b : Bool) → (cond b (took limits context t r w) (bad context t r w)).reading ≡ cond b (took_by (atom_of t) r) (bad_by t.kind r)
     go true = refl
     go false = refl
 
-reads_at : (context : Context) (t : SourceToken) (stack : List (Symbol Action)) (r : Reading) (w : Compilation) →
-    (read_at context t stack r w).reading ≡ read_by stack t r
-reads_at context t [] r w = go (is_end t.kind)
+reads_at : (limits : Limits) (context : Context) (t : SourceToken) (stack : List (Symbol Action)) (r : Reading) (w : Compilation) →
+    (read_at limits context t stack r w).reading ≡ read_by stack t r
+reads_at limits context t [] r w = go (is_end t.kind)
   where
     go : (b : Bool) →
-        (cond b (record { reading = record r { mode = mode.Ended }; work = w }) (judged context t (piece_begun r) (work_begun w))).reading
+        (cond b (record { reading = record r { mode = mode.Ended }; work = w })
+        (judged limits context t (piece_begun r) (work_begun w))).reading
         ≡ cond b (record r { mode = mode.Ended }) (judged_by t (piece_begun r))
     go true = refl
-    go false = judged_reads context t (piece_begun r) (work_begun w)
-reads_at context t (symbol ∷ symbols) r w = judged_reads context t r w
+    go false = judged_reads limits context t (piece_begun r) (work_begun w)
+reads_at limits context t (symbol ∷ symbols) r w = judged_reads limits context t r w
 
-step_reads : (m : Recovery) (context : Context) (t : SourceToken) (r : Reading) (w : Compilation) →
-    (step_in m context t r w).reading ≡ kept_by m t r
-step_reads mode.Reads context t r w = reads_at context t r.stack r w
-step_reads mode.SkipsRoutine context t r w = refl
-step_reads mode.SkipsDirective context t r w = refl
-step_reads mode.Ended context t r w = refl
+step_reads : (limits : Limits) (m : Recovery) (context : Context) (t : SourceToken) (r : Reading) (w : Compilation) →
+    (step_in limits m context t r w).reading ≡ kept_by m t r
+step_reads limits mode.Reads context t r w = reads_at limits context t r.stack r w
+step_reads limits mode.SkipsRoutine context t r w = refl
+step_reads limits mode.SkipsDirective context t r w = refl
+step_reads limits mode.Ended context t r w = refl
 
 -- a token that is passed over needs no grammar
-unfit_step : (m : Recovery) (context : Context) (t : SourceToken) (s : ReaderState) → s.reading.mode ≡ m →
-    (unfit_in m context t s).reading ≡ unfit_by m t s.reading
-unfit_step mode.Reads context t s e = refl
-unfit_step mode.SkipsRoutine context t s e = ap (λ m. (step_in m context t s.reading s.work).reading) e
-unfit_step mode.SkipsDirective context t s e = ap (λ m. (step_in m context t s.reading s.work).reading) e
-unfit_step mode.Ended context t s e = ap (λ m. (step_in m context t s.reading s.work).reading) e
+unfit_step : (limits : Limits) (m : Recovery) (context : Context) (t : SourceToken) (s : ReaderState) → s.reading.mode ≡ m →
+    (unfit_in limits m context t s).reading ≡ unfit_by m t s.reading
+unfit_step limits mode.Reads context t s e = refl
+unfit_step limits mode.SkipsRoutine context t s e = ap (λ m. (step_in limits m context t s.reading s.work).reading) e
+unfit_step limits mode.SkipsDirective context t s e = ap (λ m. (step_in limits m context t s.reading s.work).reading) e
+unfit_step limits mode.Ended context t s e = ap (λ m. (step_in limits m context t s.reading s.work).reading) e
 
-handed_reads : (h : Forwarded) (context : Context) (t : SourceToken) (s : ReaderState) →
-    (handed_as h context t s).reading ≡ all_given_to (given_as h t) s.reading
-handed_reads handed.Kept context t s = step_reads s.reading.mode context t s.reading s.work
-handed_reads handed.Unfit context t s = unfit_step s.reading.mode context t s refl
-handed_reads handed.Condition context t s = refl
+handed_reads : (limits : Limits) (h : Forwarded) (context : Context) (t : SourceToken) (s : ReaderState) →
+    (handed_as limits h context t s).reading ≡ all_given_to (given_as h t) s.reading
+handed_reads limits handed.Kept context t s = step_reads limits s.reading.mode context t s.reading s.work
+handed_reads limits handed.Unfit context t s = unfit_step limits s.reading.mode context t s refl
+handed_reads limits handed.Condition context t s = refl
 
-sign_reads : (o : Option Sign) (context : Context) (s : ReaderState) →
-    (sign_taken o context s).reading ≡ all_given_to (given_sign o) s.reading
-sign_reads None context s = refl
-sign_reads (Some sign) context s = handed_reads sign.handed context (hash sign.place) s
+sign_reads : (limits : Limits) (o : Option Sign) (context : Context) (s : ReaderState) →
+    (sign_taken limits o context s).reading ≡ all_given_to (given_sign o) s.reading
+sign_reads limits None context s = refl
+sign_reads limits (Some sign) context s = handed_reads limits sign.handed context (hash sign.place) s
 
-token_reads : (o : Option Forwarded) (context : Context) (t : SourceToken) (s : ReaderState) →
-    (token_taken o context t s).reading ≡ all_given_to (given_token o t) s.reading
-token_reads None context t s = refl
-token_reads (Some h) context t s = handed_reads h context t s
+token_reads : (limits : Limits) (o : Option Forwarded) (context : Context) (t : SourceToken) (s : ReaderState) →
+    (token_taken limits o context t s).reading ≡ all_given_to (given_token o t) s.reading
+token_reads limits None context t s = refl
+token_reads limits (Some h) context t s = handed_reads limits h context t s
 
 lone_reading : (o : Option Place) (context : Context) (s : ReaderState) → (lone_told o context s).reading ≡ s.reading
 lone_reading None context s = refl
 lone_reading (Some place) context s = refl
 
-ended_reading : (o : Option Place) (context : Context) (s : ReaderState) → (unit_ended o context s).reading ≡ s.reading
-ended_reading None context s = refl
-ended_reading (Some place) context s = refl
+ended_reading : (limits : Limits) (o : Option Place) (context : Context) (s : ReaderState) →
+    (unit_ended limits o context s).reading ≡ s.reading
+ended_reading limits None context s = refl
+ended_reading limits (Some place) context s = refl
 
 pub given_both : (first second : List Given) (r : Reading) → all_given_to (first ++ second) r ≡ all_given_to second (all_given_to first r)
 given_both [] second r = refl
 given_both (g ∷ first) second r = given_both first second (given_to g r)
 
-pub tokens_are_handed_on : TokensAreHandedOn
-tokens_are_handed_on context t j s =
-    let signed = sign_taken j.sign context s in
-    let told = token_taken j.token context t signed in
-    ended_reading j.ended context (lone_told j.unmatched context told)
+pub tokens_are_handed_on : (limits : Limits) → TokensAreHandedOn limits
+tokens_are_handed_on limits context t j s =
+    let signed = sign_taken limits j.sign context s in
+    let told = token_taken limits j.token context t signed in
+    ended_reading limits j.ended context (lone_told j.unmatched context told)
     ∙ lone_reading j.unmatched context told
-    ∙ token_reads j.token context t signed
-    ∙ ap (λ (r : Reading). all_given_to (given_token j.token t) r) (sign_reads j.sign context s)
+    ∙ token_reads limits j.token context t signed
+    ∙ ap (λ (r : Reading). all_given_to (given_token j.token t) r) (sign_reads limits j.sign context s)
     ∙ sym (given_both (given_sign j.sign) (given_token j.token t) s.reading)
 
 -- A piece so far

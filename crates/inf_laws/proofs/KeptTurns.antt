@@ -1,6 +1,7 @@
 -- The turns of a reading by the tokens that they hand on.
 use Rattle.std.proofs.Common.{◌≡◌, ℕ, zero, suc, List, cond, false, refl, sym, ap, subst, ◌∙◌}
 use Rattle.std.proofs.lemmas.List.{append-nil}
+use Rattle.inf_settings.specs.Bounds.{Limits}
 use Rattle.inf_scanner.specs.declared.tokens.Place.{Place}
 use Rattle.inf_files.specs.Files.{Sources}
 use Rattle.inf_sources.specs.Inclusions.{Inclusion, Opens, OpensNone, inclusion}
@@ -48,28 +49,31 @@ rested_reading s =
     of_both (λ (x : State). x.reading ≡ s.reading) (has_ended s) s (cond (is_resting s) (piece_closed s) s) (λ _. refl)
     (λ _. of_both (λ (x : State). x.reading ≡ s.reading) (is_resting s) (piece_closed s) s (λ _. refl) (λ _. refl))
 
-pub turn_reading : (sources : Sources) (o : Choices) (s : State) → is_mode_ended (stepped o s).reading.mode ≡ false →
-    (turn sources o s).reading ≡ (stepped o s).reading
-turn_reading sources o s going = rested_reading (carried_out sources o (stepped o s)) ∙ carried_out_reading sources o (stepped o s) going
+pub turn_reading : (limits : Limits) (sources : Sources) (o : Choices) (s : State) →
+    is_mode_ended (stepped limits o s).reading.mode ≡ false →
+    (turn limits sources o s).reading ≡ (stepped limits o s).reading
+turn_reading limits sources o s going =
+    rested_reading (carried_out sources o (stepped limits o s)) ∙ carried_out_reading sources o (stepped limits o s) going
 
 -- By what is handed on
 
-pub stepped_reading : (o : Choices) (s : State) → (stepped o s).reading ≡ all_given_to (given_by s) s.reading
-stepped_reading o s =
+pub stepped_reading : (limits : Limits) (o : Choices) (s : State) → (stepped limits o s).reading ≡ all_given_to (given_by s) s.reading
+stepped_reading limits o s =
     let t = token_of s in
     let b = judged (site_of s.reading) s.work.output t s.conditions in
-    tokens_are_handed_on (context_of o s) t b.judged (said_told b.now.said (context_of o s) (stand_of s))
+    tokens_are_handed_on limits (context_of o s) t b.judged (said_told limits b.now.said (context_of o s) (stand_of s))
 
-all_reading : (sources : Sources) (o : Choices) (n : ℕ) (s : State) → StayInFile sources o n s
-    → (stepped o (turned sources o n s)).reading ≡ all_given_to (given_in sources o (suc n) s) s.reading
-all_reading sources o zero s stay = stepped_reading o s ∙ ap (λ gs. all_given_to gs s.reading) (sym (append-nil (given_by s)))
-all_reading sources o (suc n) s stay =
-    let next = turn sources o s in
-    all_reading sources o n next stay.1
-    ∙ ap (λ (r : Reading). all_given_to (given_in sources o (suc n) next) r) (turn_reading sources o s stay.0 ∙ stepped_reading o s)
-    ∙ sym (given_both (given_by s) (given_in sources o (suc n) next) s.reading)
+all_reading : (limits : Limits) (sources : Sources) (o : Choices) (n : ℕ) (s : State) → StayInFile limits sources o n s
+    → (stepped limits o (turned limits sources o n s)).reading ≡ all_given_to (given_in limits sources o (suc n) s) s.reading
+all_reading limits sources o zero s stay = stepped_reading limits o s ∙ ap (λ gs. all_given_to gs s.reading) (sym (append-nil (given_by s)))
+all_reading limits sources o (suc n) s stay =
+    let next = turn limits sources o s in
+    all_reading limits sources o n next stay.1
+    ∙ ap (λ (r : Reading). all_given_to (given_in limits sources o (suc n) next) r)
+    (turn_reading limits sources o s stay.0 ∙ stepped_reading limits o s)
+    ∙ sym (given_both (given_by s) (given_in limits sources o (suc n) next) s.reading)
 
-pub turns_read_pieces : TurnsReadPieces
-turns_read_pieces sources o n s fresh stay goes =
-    subst (λ (r : Reading). Stands (given_in sources o (suc n) s) r) (sym (all_reading sources o n s stay))
-    (kept_tokens_are_read (given_in sources o (suc n) s) s.reading fresh goes)
+pub turns_read_pieces : (limits : Limits) → TurnsReadPieces limits
+turns_read_pieces limits sources o n s fresh stay goes =
+    subst (λ (r : Reading). Stands (given_in limits sources o (suc n) s) r) (sym (all_reading limits sources o n s stay))
+    (kept_tokens_are_read (given_in limits sources o (suc n) s) s.reading fresh goes)

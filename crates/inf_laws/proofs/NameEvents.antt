@@ -5,6 +5,8 @@ use Rattle.std.specs.List.{list_any}
 use Rattle.std.specs.Str.{bytes_eq}
 use Rattle.std.proofs.lemmas.Bool.{lt-leb, or_from, or_left, or_parts}
 use Rattle.std.proofs.lemmas.List.Elements.{filter-append}
+use Rattle.inf_settings.specs.Bounds.{Limits}
+use Rattle.inf_settings.specs.declared.setting.Setting.TheVariants as setting
 use Rattle.inf_scanner.specs.declared.tokens.Place.{Place}
 use Rattle.inf_names.specs.SystemNames.{meaning_if, name_of, system_meaning, system_names}
 use Rattle.inf_names.specs.Symbols.{IsDeclared, IsUsed, Named, Standing, Table, declare_fault, declare_fault_by, folded, found_as, found_in, is_full, no_names, put, refer_fault, refer_fault_by, standing_of, with_declared, with_used_by}
@@ -26,35 +28,37 @@ use Rattle.inf_laws.proofs.SameNames.{bytes_eq-sym, key_same, same_key}
 
 -- What the compiler does is an event
 
-pub units_declare : UnitsDeclare
-units_declare n m o = go (declare_fault n.bytes o.names)
+pub units_declare : (limits : Limits) → UnitsDeclare limits
+units_declare limits n m o = go (declare_fault limits n.bytes o.names)
   where
     go : (f : Option (DeclareFault Place)) →
-        (declared_by f n.bytes n.place m o).names ≡ cond (is_some f) o.names (with_declared n.bytes n.place m o.names)
+        (declared_by limits f n.bytes n.place m o).names ≡ cond (is_some f) o.names (with_declared n.bytes n.place m o.names)
     go None = refl
     go (Some declaring.Full) = refl
     go (Some declaring.Memory) = refl
     go (Some (declaring.Present place)) = refl
 
-pub operands_use : OperandsUse
-operands_use n o = go (refer_fault n.bytes o.names)
+pub operands_use : (limits : Limits) → OperandsUse limits
+operands_use limits n o = go (refer_fault limits n.bytes o.names)
   where
     go : (r : Option ReferFault) →
-        (referred_by r n.bytes n.place o).names ≡ cond (is_some r) o.names (with_used_by (found_in n.bytes o.names) n.bytes n.place o.names)
+        (referred_by limits r n.bytes n.place o).names ≡ cond (is_some r) o.names
+        (with_used_by (found_in n.bytes o.names) n.bytes n.place o.names)
     go None = refl
     go (Some fault) = refl
 
 -- Room for names
 
-no_fault : (e : Event) (t : Table Place) → is_full t ≡ false → is_too_many e t ≡ false
-no_fault (Declares name m place) t room = ap (λ full. is_full_fault (declare_fault_by (found_in name t) full)) room ∙ go (found_in name t)
+no_fault : (limits : Limits) (e : Event) (t : Table Place) → is_full limits t ≡ false → is_too_many limits e t ≡ false
+no_fault limits (Declares name m place) t room =
+    ap (λ full. is_full_fault (declare_fault_by (found_in name t) full)) room ∙ go (found_in name t)
   where
     go : (f : Found Place) → is_full_fault (declare_fault_by f false) ≡ false
     go (found.System x) = refl
     go (found.Declared x first) = refl
     go found.Used = refl
     go found.Unknown = refl
-no_fault (Uses name place) t room = ap (λ full. is_some (refer_fault_by (found_in name t) full)) room ∙ go (found_in name t)
+no_fault limits (Uses name place) t room = ap (λ full. is_some (refer_fault_by (found_in name t) full)) room ∙ go (found_in name t)
   where
     go : (f : Found Place) → is_some (refer_fault_by f false) ≡ false
     go (found.System x) = refl
@@ -64,7 +68,7 @@ no_fault (Uses name place) t room = ap (λ full. is_some (refer_fault_by (found_
 
 -- one name more, at most, of as many as before
 abbrev OneMore : Table Place → Table Place → Type 0
-OneMore t new = (new.limit ≡ t.limit) × (length new.names ≤ length t.names + 1)
+OneMore t new = length new.names ≤ length t.names + 1
 
 put_one : (key : List ℕ) (s : Standing Place) (names : List (Named Place)) → length (put key s names) ≤ length names + 1
 put_one key s names = go (is_some (standing_of key names)) (length-put key s names)
@@ -73,30 +77,34 @@ put_one key s names = go (is_some (standing_of key names)) (length-put key s nam
     go true e = omega (arith, e)
     go false e = omega (arith, e)
 
-one_more : (e : Event) (t : Table Place) → OneMore t (with_event e t)
-one_more (Declares name m place) t = go (is_some (declare_fault name t))
+one_more : (limits : Limits) (e : Event) (t : Table Place) → OneMore t (with_event limits e t)
+one_more limits (Declares name m place) t = go (is_some (declare_fault limits name t))
   where
     go : (b : Bool) → OneMore t (cond b t (with_declared name place m t))
-    go true = (refl, omega arith)
-    go false = (refl, put_one (folded name) (IsDeclared t.declared m place) t.names)
-one_more (Uses name place) t = go (is_some (refer_fault name t)) (found_in name t)
+    go true = omega arith
+    go false = put_one (folded name) (IsDeclared t.declared m place) t.names
+one_more limits (Uses name place) t = go (is_some (refer_fault limits name t)) (found_in name t)
   where
     go : (b : Bool) (f : Found Place) → OneMore t (cond b t (with_used_by f name place t))
-    go true f = (refl, omega arith)
-    go false (found.System m) = (refl, omega arith)
-    go false (found.Declared m first) = (refl, omega arith)
-    go false found.Used = (refl, omega arith)
-    go false found.Unknown = (refl, put_one (folded name) (IsUsed name place) t.names)
+    go true f = omega arith
+    go false (found.System m) = omega arith
+    go false (found.Declared m first) = omega arith
+    go false found.Used = omega arith
+    go false found.Unknown = put_one (folded name) (IsUsed name place) t.names
 
-few_fit : (events : List Event) (t : Table Place) → length t.names + length events ≤ t.limit → HaveRoom events t
-few_fit [] t few = tt
-few_fit (e ∷ events) t few =
-    let more = one_more e t in
-    let room : length t.names < t.limit = omega (arith, few) in
-    (no_fault e t (lt-leb t.limit (length t.names) room), few_fit events (with_event e t) (omega (arith, few, more.0, more.1)))
+few_fit : (limits : Limits) (events : List Event) (t : Table Place) → length t.names + length events ≤ limits setting.Symbols →
+    HaveRoom limits events t
+few_fit limits [] t few = tt
+few_fit limits (e ∷ events) t few =
+    let more = one_more limits e t in
+    let room : length t.names < limits setting.Symbols = omega (arith, few) in (
+      no_fault limits e t (lt-leb (limits setting.Symbols) (length t.names) room),
+      few_fit limits events (with_event limits e t)
+          (omega (arith, few, more)),
+    )
 
-pub few_have_room : FewHaveRoom
-few_have_room limit debugging events few = few_fit events (no_names limit debugging) (omega (arith, few))
+pub few_have_room : (limits : Limits) → FewHaveRoom limits
+few_have_room limits debugging events few = few_fit limits events (no_names debugging) (omega (arith, few))
 
 -- What is found after an event
 
@@ -170,9 +178,10 @@ found-put name other s t e =
     ap (found_as (system_meaning t.is_debugging name))
     (standing_of-put (folded name) (folded other) s t.names ∙ ap (λ b. cond b (Some s) (standing_of (folded name) t.names)) e)
 
-declared_behind : (name other : List ℕ) (m : Meaning) (place : Place) (t : Table Place) → is_too_many (Declares other m place) t ≡ false →
-    found_in name (with_event (Declares other m place) t) ≡ behind_event name (Declares other m place) (found_in name t)
-declared_behind name other m place t room = go (bytes_eq (folded name) (folded other)) refl
+declared_behind : (limits : Limits) (name other : List ℕ) (m : Meaning) (place : Place) (t : Table Place) →
+    is_too_many limits (Declares other m place) t ≡ false →
+    found_in name (with_event limits (Declares other m place) t) ≡ behind_event name (Declares other m place) (found_in name t)
+declared_behind limits name other m place t room = go (bytes_eq (folded name) (folded other)) refl
   where
     new : Standing Place
     new = IsDeclared t.declared m place
@@ -192,15 +201,15 @@ declared_behind name other m place t room = go (bytes_eq (folded name) (folded o
     same found.Unknown false is e room = found-put name other new t e
 
     go : (b : Bool) → bytes_eq (folded name) (folded other) ≡ b →
-        found_in name (with_event (Declares other m place) t) ≡ behind_declared b m place (found_in name t)
-    go false e = apart (is_some (declare_fault other t)) e ∙ sym (other_declared m place (found_in name t))
+        found_in name (with_event limits (Declares other m place) t) ≡ behind_declared b m place (found_in name t)
+    go false e = apart (is_some (declare_fault limits other t)) e ∙ sym (other_declared m place (found_in name t))
     go true e =
         let alike = found_same name other t (same_key (folded name) (folded other) e) in
-        same (found_in other t) (is_full t) alike e room ∙ ap (behind_declared true m place) (sym alike)
+        same (found_in other t) (is_full limits t) alike e room ∙ ap (behind_declared true m place) (sym alike)
 
-used_behind : (name other : List ℕ) (place : Place) (t : Table Place) → is_too_many (Uses other place) t ≡ false →
-    found_in name (with_event (Uses other place) t) ≡ behind_event name (Uses other place) (found_in name t)
-used_behind name other place t room = go (bytes_eq (folded name) (folded other)) refl
+used_behind : (limits : Limits) (name other : List ℕ) (place : Place) (t : Table Place) → is_too_many limits (Uses other place) t ≡ false →
+    found_in name (with_event limits (Uses other place) t) ≡ behind_event name (Uses other place) (found_in name t)
+used_behind limits name other place t room = go (bytes_eq (folded name) (folded other)) refl
   where
     new : Standing Place
     new = IsUsed other place
@@ -223,16 +232,16 @@ used_behind name other place t room = go (bytes_eq (folded name) (folded other))
     same found.Unknown false is e room = found-put name other new t e
 
     go : (b : Bool) → bytes_eq (folded name) (folded other) ≡ b →
-        found_in name (with_event (Uses other place) t) ≡ behind_used b (found_in name t)
-    go false e = apart (is_some (refer_fault other t)) (found_in other t) e ∙ sym (other_used (found_in name t))
+        found_in name (with_event limits (Uses other place) t) ≡ behind_used b (found_in name t)
+    go false e = apart (is_some (refer_fault limits other t)) (found_in other t) e ∙ sym (other_used (found_in name t))
     go true e =
         let alike = found_same name other t (same_key (folded name) (folded other) e) in
-        same (found_in other t) (is_full t) alike e room ∙ ap (behind_used true) (sym alike)
+        same (found_in other t) (is_full limits t) alike e room ∙ ap (behind_used true) (sym alike)
 
-found_behind : (name : List ℕ) (e : Event) (t : Table Place) → is_too_many e t ≡ false →
-    found_in name (with_event e t) ≡ behind_event name e (found_in name t)
-found_behind name (Declares other m place) t room = declared_behind name other m place t room
-found_behind name (Uses other place) t room = used_behind name other place t room
+found_behind : (limits : Limits) (name : List ℕ) (e : Event) (t : Table Place) → is_too_many limits e t ≡ false →
+    found_in name (with_event limits e t) ≡ behind_event name e (found_in name t)
+found_behind limits name (Declares other m place) t room = declared_behind limits name other m place t room
+found_behind limits name (Uses other place) t room = used_behind limits name other place t room
 
 -- What is found after some events
 
@@ -284,33 +293,36 @@ stands_behind name (Uses other place) system first is_used = go system first is_
     go None None false true = refl
     go None None false false = refl
 
-are_of-event : (debugging : Bool) (e : Event) (before : List Event) (t : Table Place) → is_too_many e t ≡ false → AreOf debugging before t →
-    AreOf debugging (before ++ e ∷ []) (with_event e t)
-are_of-event debugging e before t room of name =
+are_of-event : (limits : Limits) (debugging : Bool) (e : Event) (before : List Event) (t : Table Place) → is_too_many limits e t ≡ false →
+    AreOf debugging before t →
+    AreOf debugging (before ++ e ∷ []) (with_event limits e t)
+are_of-event limits debugging e before t room of name =
     let system = system_meaning debugging name in
-    found_behind name e t room
+    found_behind limits name e t room
     ∙ ap (behind_event name e) (of name)
     ∙ stands_behind name e system (first_declaration name before) (list_any (uses name) before)
     ∙ ap (λ d. stands_for system d (list_any (uses name) before || list_any (uses name) (e ∷ []))) (sym (first-append name before (e ∷ [])))
     ∙ ap (stands_for system (first_declaration name (before ++ e ∷ []))) (sym (any-append (uses name) before (e ∷ [])))
 
-are_of-events : (debugging : Bool) (events before : List Event) (t : Table Place) → HaveRoom events t → AreOf debugging before t →
-    AreOf debugging (before ++ events) (with_events events t)
-are_of-events debugging [] before t room of = subst (λ es. AreOf debugging es t) (sym (append-nil before)) of
-are_of-events debugging (e ∷ events) before t room of =
-    subst (λ es. AreOf debugging es (with_events events (with_event e t))) (append_assoc before (e ∷ []) events)
-    (are_of-events debugging events (before ++ e ∷ []) (with_event e t) room.1 (are_of-event debugging e before t room.0 of))
+are_of-events : (limits : Limits) (debugging : Bool) (events before : List Event) (t : Table Place) → HaveRoom limits events t →
+    AreOf debugging before t →
+    AreOf debugging (before ++ events) (with_events limits events t)
+are_of-events limits debugging [] before t room of = subst (λ es. AreOf debugging es t) (sym (append-nil before)) of
+are_of-events limits debugging (e ∷ events) before t room of =
+    subst (λ es. AreOf debugging es (with_events limits events (with_event limits e t))) (append_assoc before (e ∷ []) events)
+    (are_of-events limits debugging events (before ++ e ∷ []) (with_event limits e t) room.1
+    (are_of-event limits debugging e before t room.0 of))
 
-nothing_known : (limit : ℕ) (debugging : Bool) → AreOf debugging [] (no_names limit debugging)
-nothing_known limit debugging name = go (system_meaning debugging name)
+nothing_known : (debugging : Bool) → AreOf debugging [] (no_names debugging)
+nothing_known debugging name = go (system_meaning debugging name)
   where
     go : (system : Option Meaning) → found_as system None ≡ stands_for system None false
     go None = refl
     go (Some m) = refl
 
-pub first_declarations_count : FirstDeclarationsCount
-first_declarations_count limit debugging events name room =
-    are_of-events debugging events [] (no_names limit debugging) room (nothing_known limit debugging) name
+pub first_declarations_count : (limits : Limits) → FirstDeclarationsCount limits
+first_declarations_count limits debugging events name room =
+    are_of-events limits debugging events [] (no_names debugging) room (nothing_known debugging) name
 
 -- Undeclared names
 
@@ -375,13 +387,13 @@ sound-put new s (n ∷ names) keyed sound = go (bytes_eq new n.name) refl (sound
       later,
     )
 
-sound-event : (e : Event) (t : Table Place) → Sound t.names → Sound (with_event e t).names
-sound-event (Declares name m place) t sound = go (is_some (declare_fault name t))
+sound-event : (limits : Limits) (e : Event) (t : Table Place) → Sound t.names → Sound (with_event limits e t).names
+sound-event limits (Declares name m place) t sound = go (is_some (declare_fault limits name t))
   where
     go : (b : Bool) → Sound (cond b t (with_declared name place m t)).names
     go true = sound
     go false = sound-put (folded name) (IsDeclared t.declared m place) t.names tt sound
-sound-event (Uses name place) t sound = go (is_some (refer_fault name t)) (found_in name t)
+sound-event limits (Uses name place) t sound = go (is_some (refer_fault limits name t)) (found_in name t)
   where
     go : (b : Bool) (f : Found Place) → Sound (cond b t (with_used_by f name place t)).names
     go true f = sound
@@ -449,9 +461,10 @@ used_of-declared key number m place (n ∷ names) sound = go (bytes_eq key n.nam
     go true e later = sym (others-behind key n names sound e) ∙ sym (others-drop key n.name n.standing (used_of names) sound.1 e)
     go false e later = ap (λ u. use_in n.standing ++ u) later ∙ sym (others-split key n.name n.standing (used_of names) sound.1 e)
 
-used_of-declaring : (name : List ℕ) (m : Meaning) (place : Place) (t : Table Place) → Sound t.names →
-    used_of (with_event (Declares name m place) t).names ≡ others (folded name) (used_of t.names)
-used_of-declaring name m place t sound = go (system_meaning t.is_debugging name) (standing_of (folded name) t.names) (is_full t) refl
+used_of-declaring : (limits : Limits) (name : List ℕ) (m : Meaning) (place : Place) (t : Table Place) → Sound t.names →
+    used_of (with_event limits (Declares name m place) t).names ≡ others (folded name) (used_of t.names)
+used_of-declaring limits name m place t sound =
+    go (system_meaning t.is_debugging name) (standing_of (folded name) t.names) (is_full limits t) refl
   where
     declared : used_of (with_declared name place m t).names ≡ others (folded name) (used_of t.names)
     declared = used_of-declared (folded name) t.declared m place t.names sound
@@ -489,9 +502,10 @@ is_unknown _ = false
 abbrev one_use : List ℕ → Place → List Use
 one_use name place = record { name = name; place = place } ∷ []
 
-used_of-using : (name : List ℕ) (place : Place) (t : Table Place) → is_too_many (Uses name place) t ≡ false →
-    used_of (with_event (Uses name place) t).names ≡ used_of t.names ++ cond (is_unknown (found_in name t)) (one_use name place) []
-used_of-using name place t room = go (system_meaning t.is_debugging name) (standing_of (folded name) t.names) (is_full t) refl room
+used_of-using : (limits : Limits) (name : List ℕ) (place : Place) (t : Table Place) → is_too_many limits (Uses name place) t ≡ false →
+    used_of (with_event limits (Uses name place) t).names ≡ used_of t.names ++ cond (is_unknown (found_in name t)) (one_use name place) []
+used_of-using limits name place t room =
+    go (system_meaning t.is_debugging name) (standing_of (folded name) t.names) (is_full limits t) refl room
   where
     as_it_was : used_of t.names ≡ used_of t.names ++ []
     as_it_was = sym (append-nil (used_of t.names))
@@ -530,28 +544,28 @@ abbrev fresh_use : Table Place → List Event → Event → List Use
 fresh_use t events (Declares name m place) = []
 fresh_use t events (Uses name place) = left events (cond (is_unknown (found_in name t)) (one_use name place) [])
 
-abbrev fresh : Table Place → List Event → List Use
-fresh t [] = []
-fresh t (e ∷ events) = fresh_use t events e ++ fresh (with_event e t) events
+abbrev fresh : Limits → Table Place → List Event → List Use
+fresh limits t [] = []
+fresh limits t (e ∷ events) = fresh_use t events e ++ fresh limits (with_event limits e t) events
 
-left-fresh : (e : Event) (events : List Event) (t : Table Place) → is_too_many e t ≡ false → Sound t.names →
-    left events (used_of (with_event e t).names) ≡ left (e ∷ events) (used_of t.names) ++ fresh_use t events e
-left-fresh (Declares name m place) events t room sound =
-    ap (left events) (used_of-declaring name m place t sound)
+left-fresh : (limits : Limits) (e : Event) (events : List Event) (t : Table Place) → is_too_many limits e t ≡ false → Sound t.names →
+    left events (used_of (with_event limits e t).names) ≡ left (e ∷ events) (used_of t.names) ++ fresh_use t events e
+left-fresh limits (Declares name m place) events t room sound =
+    ap (left events) (used_of-declaring limits name m place t sound)
     ∙ left-others name m place events (used_of t.names)
     ∙ sym (append-nil (left (Declares name m place ∷ events) (used_of t.names)))
-left-fresh (Uses name place) events t room sound =
-    ap (left events) (used_of-using name place t room)
+left-fresh limits (Uses name place) events t room sound =
+    ap (left events) (used_of-using limits name place t room)
     ∙ filter-append (λ u. not (list_any (declares u.name) events)) (used_of t.names)
     (cond (is_unknown (found_in name t)) (one_use name place) [])
 
-used_then : (events : List Event) (t : Table Place) → HaveRoom events t → Sound t.names →
-    used_of (with_events events t).names ≡ left events (used_of t.names) ++ fresh t events
-used_then [] t room sound = sym (append-nil (left [] (used_of t.names)) ∙ all_left (used_of t.names))
-used_then (e ∷ events) t room sound =
-    used_then events (with_event e t) room.1 (sound-event e t sound)
-    ∙ ap (λ u. u ++ fresh (with_event e t) events) (left-fresh e events t room.0 sound)
-    ∙ append_assoc (left (e ∷ events) (used_of t.names)) (fresh_use t events e) (fresh (with_event e t) events)
+used_then : (limits : Limits) (events : List Event) (t : Table Place) → HaveRoom limits events t → Sound t.names →
+    used_of (with_events limits events t).names ≡ left events (used_of t.names) ++ fresh limits t events
+used_then limits [] t room sound = sym (append-nil (left [] (used_of t.names)) ∙ all_left (used_of t.names))
+used_then limits (e ∷ events) t room sound =
+    used_then limits events (with_event limits e t) room.1 (sound-event limits e t sound)
+    ∙ ap (λ u. u ++ fresh limits (with_event limits e t) events) (left-fresh limits e events t room.0 sound)
+    ∙ append_assoc (left (e ∷ events) (used_of t.names)) (fresh_use t events e) (fresh limits (with_event limits e t) events)
 
 -- some event declares a name where there is a first declaration
 first_declared : (name : List ℕ) (events : List Event) → is_some (first_declaration name events) ≡ list_any (declares name) events
@@ -586,18 +600,21 @@ fresh-is_undeclared debugging (Uses name place) before events t of =
     go None None false true e = ap (λ b. cond (not b) (one_use name place) []) e
     go None None false false e = ap (λ b. cond (not b) (one_use name place) []) e
 
-fresh_are_undeclared : (debugging : Bool) (events before : List Event) (t : Table Place) → HaveRoom events t → AreOf debugging before t →
-    fresh t events ≡ undeclared_uses debugging (before ++ events) before events
-fresh_are_undeclared debugging [] before t room of = refl
-fresh_are_undeclared debugging (e ∷ events) before t room of =
-    ap (λ u. u ++ fresh (with_event e t) events) (fresh-is_undeclared debugging e before events t of)
+fresh_are_undeclared : (limits : Limits) (debugging : Bool) (events before : List Event) (t : Table Place) → HaveRoom limits events t →
+    AreOf debugging before t →
+    fresh limits t events ≡ undeclared_uses debugging (before ++ events) before events
+fresh_are_undeclared limits debugging [] before t room of = refl
+fresh_are_undeclared limits debugging (e ∷ events) before t room of =
+    ap (λ u. u ++ fresh limits (with_event limits e t) events) (fresh-is_undeclared debugging e before events t of)
     ∙ ap (λ u. undeclared_use debugging (before ++ e ∷ events) before e ++ u)
-    (fresh_are_undeclared debugging events (before ++ e ∷ []) (with_event e t) room.1 (are_of-event debugging e before t room.0 of)
+    (fresh_are_undeclared limits debugging events (before ++ e ∷ []) (with_event limits e t) room.1
+    (are_of-event limits debugging e before t room.0 of)
     ∙ ap (λ all. undeclared_uses debugging all (before ++ e ∷ []) events) (append_assoc before (e ∷ []) events))
 
-pub undeclared_are_told : UndeclaredAreTold
-undeclared_are_told files limit debugging events r room =
-    let begun : Table Place = no_names limit debugging in
-    told files (with_events events begun).names r
-    ∙ ap (λ us. with_uses_told files us r) (used_then events begun room tt ∙ fresh_are_undeclared debugging events [] begun room
-    (nothing_known limit debugging))
+pub undeclared_are_told : (limits : Limits) → UndeclaredAreTold limits
+undeclared_are_told limits files debugging events r room =
+    let begun : Table Place = no_names debugging in
+    told files (with_events limits events begun).names r
+    ∙ ap (λ us. with_uses_told files us r) (used_then limits events begun room tt ∙ fresh_are_undeclared limits debugging events [] begun
+    room
+    (nothing_known debugging))

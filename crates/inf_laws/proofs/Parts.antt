@@ -1,6 +1,7 @@
 -- The parts of a reading are the pieces of its context.
 use Rattle.std.proofs.Common.{◌≡◌, ◌⊎◌, inl, inr, ℕ, zero, suc, List, [], ◌∷◌, ◌++◌, ◌&&◌, ◌||◌, map, cond, Bool, true, false, Option, Some, None, refl, sym, ap, subst, ◌∙◌, append_assoc}
 use Rattle.std.proofs.lemmas.List.{append-nil, map-append}
+use Rattle.inf_settings.specs.Bounds.{Limits}
 use Rattle.inf_files.specs.Files.{Sources}
 use Rattle.inf_scanner.specs.declared.tokens.Mark.TheVariants as mark
 use Rattle.inf_scanner.specs.declared.tokens.Place.{Place}
@@ -164,13 +165,14 @@ token_comes (Some handed.Kept) t before signed r goes = one_comes before signed 
 token_comes (Some handed.Unfit) t before signed r goes = one_comes before signed (Unfit t) r goes
 token_comes (Some handed.Condition) t before signed r goes = Still (subst (λ gs. Goes (before ++ gs) r) (sym (append-nil signed)) goes)
 
-step_comes : (o : Choices) (before : List Given) (s : State) → Goes before s.reading → Comes before (given_by s) (stepped o s).reading
-step_comes o before s goes =
+step_comes : (limits : Limits) (o : Choices) (before : List Given) (s : State) → Goes before s.reading →
+    Comes before (given_by s) (stepped limits o s).reading
+step_comes limits o before s goes =
     let t = token_of s in
     let b = judged (site_of s.reading) s.work.output t s.conditions in
     let signed = given_sign b.judged.sign in
     subst (λ (r : Reading). Comes before (given_by s) r)
-    (sym (given_both signed (given_token b.judged.token t) s.reading) ∙ sym (stepped_reading o s))
+    (sym (given_both signed (given_token b.judged.token t) s.reading) ∙ sym (stepped_reading limits o s))
     (token_comes b.judged.token t before signed (all_given_to signed s.reading) (sign_goes b.judged.sign before s.reading goes))
 
 -- The conditionals behind a turn
@@ -215,25 +217,29 @@ rested_left s all =
     of_both (λ (x : State). x.conditions.left_out ≡ None) (has_ended s) s (cond (is_resting s) (piece_closed s) s) (λ _. all)
     (λ _. of_both (λ (x : State). x.conditions.left_out ≡ None) (is_resting s) (piece_closed s) s (λ _. ap side_kept all) (λ _. all))
 
-turn_pending : (sources : Sources) (o : Choices) (s : State) → (turn sources o s).conditions.pending ≡ (stepped o s).conditions.pending
-turn_pending sources o s = rested_pending (carried_out sources o (stepped o s)) ∙ (carried_out_same sources o (stepped o s)).0
+turn_pending : (limits : Limits) (sources : Sources) (o : Choices) (s : State) →
+    (turn limits sources o s).conditions.pending ≡ (stepped limits o s).conditions.pending
+turn_pending limits sources o s =
+    rested_pending (carried_out sources o (stepped limits o s)) ∙ (carried_out_same sources o (stepped limits o s)).0
 
-turn_left : (sources : Sources) (o : Choices) (s : State) → (stepped o s).conditions.left_out ≡ None →
-    (turn sources o s).conditions.left_out ≡ None
-turn_left sources o s all = rested_left (carried_out sources o (stepped o s)) ((carried_out_same sources o (stepped o s)).1 ∙ all)
+turn_left : (limits : Limits) (sources : Sources) (o : Choices) (s : State) → (stepped limits o s).conditions.left_out ≡ None →
+    (turn limits sources o s).conditions.left_out ≡ None
+turn_left limits sources o s all =
+    rested_left (carried_out sources o (stepped limits o s)) ((carried_out_same sources o (stepped limits o s)).1 ∙ all)
 
 abbrev Proper : State → Type 0
 Proper s = AreProper s.conditions.pending
 
-step_fine : (o : Choices) (s : State) → Proper s → Proper (stepped o s)
-step_fine o s proper = (judged_fine (site_of s.reading) s.work.output (token_of s) s.conditions proper).proper
+step_fine : (limits : Limits) (o : Choices) (s : State) → Proper s → Proper (stepped limits o s)
+step_fine limits o s proper = (judged_fine (site_of s.reading) s.work.output (token_of s) s.conditions proper).proper
 
-turn_proper : (sources : Sources) (o : Choices) (s : State) → Proper s → Proper (turn sources o s)
-turn_proper sources o s proper = subst (λ ps. AreProper ps) (sym (turn_pending sources o s)) (step_fine o s proper)
+turn_proper : (limits : Limits) (sources : Sources) (o : Choices) (s : State) → Proper s → Proper (turn limits sources o s)
+turn_proper limits sources o s proper = subst (λ ps. AreProper ps) (sym (turn_pending limits sources o s)) (step_fine limits o s proper)
 
-all_proper : (sources : Sources) (o : Choices) (n : ℕ) (s : State) → Proper s → Proper (turned sources o n s)
-all_proper sources o zero s proper = proper
-all_proper sources o (suc n) s proper = all_proper sources o n (turn sources o s) (turn_proper sources o s proper)
+all_proper : (limits : Limits) (sources : Sources) (o : Choices) (n : ℕ) (s : State) → Proper s → Proper (turned limits sources o n s)
+all_proper limits sources o zero s proper = proper
+all_proper limits sources o (suc n) s proper =
+    all_proper limits sources o n (turn limits sources o s) (turn_proper limits sources o s proper)
 
 -- where something is handed on
 none_signed : (o : Option Sign) → gives_sign o ≡ false → given_sign o ≡ []
@@ -263,8 +269,8 @@ nothing_given j t e =
 abbrev IsClear : State → Type 0
 IsClear s = (s.conditions.pending ≡ []) × (s.conditions.left_out ≡ None)
 
-clear_behind : (o : Choices) (s : State) → Proper s → (given_by s ≡ [] → ⊥) → IsClear (stepped o s)
-clear_behind o s proper some =
+clear_behind : (limits : Limits) (o : Choices) (s : State) → Proper s → (given_by s ≡ [] → ⊥) → IsClear (stepped limits o s)
+clear_behind limits o s proper some =
     let t = token_of s in
     let b = judged (site_of s.reading) s.work.output t s.conditions in
     elim (judged_fine (site_of s.reading) s.work.output t s.conditions proper).clear [
@@ -329,18 +335,20 @@ now_rests given r (Ended t e ends at) rest_now = inr (ap (λ (x : Reading). is_m
 going_on : (m : Recovery) → m ≡ mode.Reads → is_mode_ended m ≡ false
 going_on m e = ap is_mode_ended e
 
-rests_parts : (sources : Sources) (o : Choices) (s : State) (given : List Given) → Now given (stepped o s).reading →
-    rests (stepped o s).reading ≡ true → IsClear (stepped o s) → is_parted (turn sources o s) ≡ true
-rests_parts sources o s given now rest_now clear =
-    let none = turn_pending sources o s ∙ clear.0 in
-    let all = turn_left sources o s clear.1 in
-    elim (now_rests given (stepped o s).reading now rest_now) [
-      | inl fresh ↦ clear_parts (turn sources o s) (turn_reading sources o s (ap (λ (r : Reading). is_mode_ended r.mode) fresh) ∙ fresh)
+rests_parts : (limits : Limits) (sources : Sources) (o : Choices) (s : State) (given : List Given) →
+    Now given (stepped limits o s).reading →
+    rests (stepped limits o s).reading ≡ true → IsClear (stepped limits o s) → is_parted (turn limits sources o s) ≡ true
+rests_parts limits sources o s given now rest_now clear =
+    let none = turn_pending limits sources o s ∙ clear.0 in
+    let all = turn_left limits sources o s clear.1 in
+    elim (now_rests given (stepped limits o s).reading now rest_now) [
+      | inl fresh ↦ clear_parts (turn limits sources o s)
+          (turn_reading limits sources o s (ap (λ (r : Reading). is_mode_ended r.mode) fresh) ∙ fresh)
           none all
-      | inr ended ↦ elim (carried_out_ends sources o (stepped o s) ended.0 ended.1) [
-        | inl over ↦ ended_parts (turn sources o s)
-            (ap (λ (r : Reading). is_mode_ended r.mode) (rested_reading (carried_out sources o (stepped o s))) ∙ over)
-        | inr fresh ↦ clear_parts (turn sources o s) (rested_reading (carried_out sources o (stepped o s)) ∙ fresh) none all
+      | inr ended ↦ elim (carried_out_ends sources o (stepped limits o s) ended.0 ended.1) [
+        | inl over ↦ ended_parts (turn limits sources o s)
+            (ap (λ (r : Reading). is_mode_ended r.mode) (rested_reading (carried_out sources o (stepped limits o s))) ∙ over)
+        | inr fresh ↦ clear_parts (turn limits sources o s) (rested_reading (carried_out sources o (stepped limits o s)) ∙ fresh) none all
       ]
     ]
 
@@ -350,14 +358,14 @@ rests_goes : (given : List Given) (r : Reading) → Goes given r → is_mode_end
 rests_goes given r (None_yet e fresh) = ap (λ (x : Reading). is_mode_ended x.mode) fresh
 rests_goes given r (Some_yet now on) = (or_parts (reads r.mode && is_empty r.stack) (is_mode_ended r.mode) on).1
 
-goes_behind : (sources : Sources) (o : Choices) (before : List Given) (s : State) → Proper s → Goes before s.reading →
-    is_parted (turn sources o s) ≡ false → Goes (before ++ given_by s) (turn sources o s).reading
-goes_behind sources o before s proper goes on =
-    elim (step_comes o before s goes) [
+goes_behind : (limits : Limits) (sources : Sources) (o : Choices) (before : List Given) (s : State) → Proper s → Goes before s.reading →
+    is_parted (turn limits sources o s) ≡ false → Goes (before ++ given_by s) (turn limits sources o s).reading
+goes_behind limits sources o before s proper goes on =
+    elim (step_comes limits o before s goes) [
       | Still on_now ↦ subst (λ (r : Reading). Goes (before ++ given_by s) r)
-          (sym (turn_reading sources o s (rests_goes (before ++ given_by s) (stepped o s).reading on_now))) on_now
-      | Rests now rest_now some ↦ absurd (no_end (sym (rests_parts sources o s (before ++ given_by s) now rest_now
-          (clear_behind o s proper some)) ∙ on))
+          (sym (turn_reading limits sources o s (rests_goes (before ++ given_by s) (stepped limits o s).reading on_now))) on_now
+      | Rests now rest_now some ↦ absurd (no_end (sym (rests_parts limits sources o s (before ++ given_by s) now rest_now
+          (clear_behind limits o s proper some)) ∙ on))
     ]
 
 -- what comes of the last of them
@@ -369,42 +377,49 @@ last_stands before given r (Still (None_yet e fresh)) = inl e
 last_stands before given r (Still (Some_yet now on)) = inr (stands (before ++ given) r now)
 last_stands before given r (Rests now rest_now some) = inr (stands (before ++ given) r now)
 
-turns_stand : (sources : Sources) (o : Choices) (n : ℕ) (before : List Given) (s : State) → Proper s → Goes before s.reading →
-    StayInPart sources o n s
-    → LastOf (before ++ given_in sources o (suc n) s) (stepped o (turned sources o n s)).reading
-turns_stand sources o zero before s proper goes stay =
-    subst (λ gs. LastOf (before ++ gs) (stepped o s).reading) (sym (append-nil (given_by s)))
-    (last_stands before (given_by s) (stepped o s).reading (step_comes o before s goes))
-turns_stand sources o (suc n) before s proper goes stay =
-    let now = turn sources o s in
-    subst (λ gs. LastOf gs (stepped o (turned sources o n now)).reading) (append_assoc before (given_by s) (given_in sources o (suc n) now))
-    (turns_stand sources o n (before ++ given_by s) now (turn_proper sources o s proper) (goes_behind sources o before s proper goes stay.0)
+turns_stand : (limits : Limits) (sources : Sources) (o : Choices) (n : ℕ) (before : List Given) (s : State) → Proper s →
+    Goes before s.reading →
+    StayInPart limits sources o n s
+    → LastOf (before ++ given_in limits sources o (suc n) s) (stepped limits o (turned limits sources o n s)).reading
+turns_stand limits sources o zero before s proper goes stay =
+    subst (λ gs. LastOf (before ++ gs) (stepped limits o s).reading) (sym (append-nil (given_by s)))
+    (last_stands before (given_by s) (stepped limits o s).reading (step_comes limits o before s goes))
+turns_stand limits sources o (suc n) before s proper goes stay =
+    let now = turn limits sources o s in
+    subst (λ gs. LastOf gs (stepped limits o (turned limits sources o n now)).reading)
+    (append_assoc before (given_by s) (given_in limits sources o (suc n) now))
+    (turns_stand limits sources o n (before ++ given_by s) now (turn_proper limits sources o s proper)
+    (goes_behind limits sources o before s proper goes stay.0)
     stay.1)
 
-turns_go : (sources : Sources) (o : Choices) (n : ℕ) (before : List Given) (s : State) → Proper s → Goes before s.reading →
-    StayInPart sources o n s
-    → (given : List Given) × Goes given (turned sources o n s).reading
-turns_go sources o zero before s proper goes stay = (before, goes)
-turns_go sources o (suc n) before s proper goes stay =
-    turns_go sources o n (before ++ given_by s) (turn sources o s) (turn_proper sources o s proper)
-    (goes_behind sources o before s proper goes stay.0) stay.1
+turns_go : (limits : Limits) (sources : Sources) (o : Choices) (n : ℕ) (before : List Given) (s : State) → Proper s →
+    Goes before s.reading →
+    StayInPart limits sources o n s
+    → (given : List Given) × Goes given (turned limits sources o n s).reading
+turns_go limits sources o zero before s proper goes stay = (before, goes)
+turns_go limits sources o (suc n) before s proper goes stay =
+    turns_go limits sources o n (before ++ given_by s) (turn limits sources o s) (turn_proper limits sources o s proper)
+    (goes_behind limits sources o before s proper goes stay.0) stay.1
 
-start_proper : (sources : Sources) (o : Choices) (name : List ℕ) (m : ℕ) → Proper (turned sources o m (start sources o name))
-start_proper sources o name m = all_proper sources o m (start sources o name) tt
+start_proper : (limits : Limits) (sources : Sources) (o : Choices) (name : List ℕ) (m : ℕ) →
+    Proper (turned limits sources o m (start sources o name))
+start_proper limits sources o name m = all_proper limits sources o m (start sources o name) tt
 
-pub parts_are_pieces : PartsArePieces
-parts_are_pieces sources o name m n fresh stay =
-    turns_stand sources o n [] (turned sources o m (start sources o name)) (start_proper sources o name m) (None_yet refl fresh) stay
+pub parts_are_pieces : (limits : Limits) → PartsArePieces limits
+parts_are_pieces limits sources o name m n fresh stay =
+    turns_stand limits sources o n [] (turned limits sources o m (start sources o name)) (start_proper limits sources o name m)
+    (None_yet refl fresh) stay
 
-rests_end : (sources : Sources) (o : Choices) (before : List Given) (s : State) → Proper s → Goes before s.reading → (given_by s ≡ [] → ⊥) →
-    rests (stepped o s).reading ≡ true → is_parted (turn sources o s) ≡ true
-rests_end sources o before s proper goes some rest_now =
-    elim (step_comes o before s goes) [
+rests_end : (limits : Limits) (sources : Sources) (o : Choices) (before : List Given) (s : State) → Proper s → Goes before s.reading →
+    (given_by s ≡ [] → ⊥) →
+    rests (stepped limits o s).reading ≡ true → is_parted (turn limits sources o s) ≡ true
+rests_end limits sources o before s proper goes some rest_now =
+    elim (step_comes limits o before s goes) [
       | Still on ↦ still on
-      | Rests now rest given ↦ rests_parts sources o s (before ++ given_by s) now rest_now (clear_behind o s proper some)
+      | Rests now rest given ↦ rests_parts limits sources o s (before ++ given_by s) now rest_now (clear_behind limits o s proper some)
     ]
   where
-    still : Goes (before ++ given_by s) (stepped o s).reading → is_parted (turn sources o s) ≡ true
+    still : Goes (before ++ given_by s) (stepped limits o s).reading → is_parted (turn limits sources o s) ≡ true
     still (Some_yet now on) = absurd (no_end (sym rest_now ∙ on))
     still (None_yet e fresh) = absurd (some (none_of before e))
       where
@@ -412,8 +427,9 @@ rests_end sources o before s proper goes some rest_now =
         none_of [] e = e
         none_of (x ∷ xs) e = cc
 
-pub parts_end_with_pieces : PartsEndWithPieces
-parts_end_with_pieces sources o name m n fresh stay some rest_now =
-    let s = turned sources o m (start sources o name) in
-    let g = turns_go sources o n [] s (start_proper sources o name m) (None_yet refl fresh) stay in
-    rests_end sources o g.0 (turned sources o n s) (all_proper sources o n s (start_proper sources o name m)) g.1 some rest_now
+pub parts_end_with_pieces : (limits : Limits) → PartsEndWithPieces limits
+parts_end_with_pieces limits sources o name m n fresh stay some rest_now =
+    let s = turned limits sources o m (start sources o name) in
+    let g = turns_go limits sources o n [] s (start_proper limits sources o name m) (None_yet refl fresh) stay in
+    rests_end limits sources o g.0 (turned limits sources o n s) (all_proper limits sources o n s (start_proper limits sources o name m))
+    g.1 some rest_now

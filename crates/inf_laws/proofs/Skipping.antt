@@ -2,6 +2,7 @@
 use Rattle.std.proofs.Common.{◌≡◌, ℕ, suc, zero, ◌≤◌, List, [], ◌∷◌, ◌++◌, length, take, cond, not, ◌||◌, true, false, refl, ap, ◌∙◌, arith}
 use Rattle.std.specs.List.{list_all}
 use Rattle.std.proofs.lemmas.Bool.{and_parts, not-true, or_parts}
+use Rattle.inf_settings.specs.Bounds.{Limits}
 use Rattle.inf_scanner.specs.declared.tokens.Mark.{Mark}
 use Rattle.inf_scanner.specs.declared.tokens.Mark.TheVariants as mark
 use Rattle.inf_scanner.specs.declared.tokens.TokenKind.{TokenKind}
@@ -17,24 +18,24 @@ use Rattle.inf_laws.specs.Skipping.{at, Lack, PassesTo, PassedTokensDoNothing, D
 
 -- One token
 
-steps_over : (m : Recovery) (context : Context) (t : SourceToken) (s : ReaderState) → s.reading.mode ≡ m → skips m ≡ true
-    → step_in m context t s.reading s.work ≡ at (passed m t.kind) s
-steps_over mode.SkipsRoutine context t s e is = refl
-steps_over mode.SkipsDirective context t s e is = refl
-steps_over mode.Reads context t s e is = cc
-steps_over mode.Ended context t s e is = cc
+steps_over : (limits : Limits) (m : Recovery) (context : Context) (t : SourceToken) (s : ReaderState) → s.reading.mode ≡ m → skips m ≡ true
+    → step_in limits m context t s.reading s.work ≡ at (passed m t.kind) s
+steps_over limits mode.SkipsRoutine context t s e is = refl
+steps_over limits mode.SkipsDirective context t s e is = refl
+steps_over limits mode.Reads context t s e is = cc
+steps_over limits mode.Ended context t s e is = cc
 
-unfit_steps : (m : Recovery) (context : Context) (t : SourceToken) (s : ReaderState) → s.reading.mode ≡ m → skips m ≡ true
-    → unfit_in m context t s ≡ step_in s.reading.mode context t s.reading s.work
-unfit_steps mode.SkipsRoutine context t s e is = refl
-unfit_steps mode.SkipsDirective context t s e is = refl
-unfit_steps mode.Reads context t s e is = cc
-unfit_steps mode.Ended context t s e is = cc
+unfit_steps : (limits : Limits) (m : Recovery) (context : Context) (t : SourceToken) (s : ReaderState) → s.reading.mode ≡ m → skips m ≡ true
+    → unfit_in limits m context t s ≡ step_in limits s.reading.mode context t s.reading s.work
+unfit_steps limits mode.SkipsRoutine context t s e is = refl
+unfit_steps limits mode.SkipsDirective context t s e is = refl
+unfit_steps limits mode.Reads context t s e is = cc
+unfit_steps limits mode.Ended context t s e is = cc
 
-pub passed_tokens_do_nothing : PassedTokensDoNothing
-passed_tokens_do_nothing context (Kept t) s is = steps_over s.reading.mode context t s refl is
-passed_tokens_do_nothing context (Unfit t) s is =
-    unfit_steps s.reading.mode context t s refl is ∙ steps_over s.reading.mode context t s refl is
+pub passed_tokens_do_nothing : (limits : Limits) → PassedTokensDoNothing limits
+passed_tokens_do_nothing limits context (Kept t) s is = steps_over limits s.reading.mode context t s refl is
+passed_tokens_do_nothing limits context (Unfit t) s is =
+    unfit_steps limits s.reading.mode context t s refl is ∙ steps_over limits s.reading.mode context t s refl is
 
 pub sources_end : SourcesEnd
 sources_end m token e = ap (λ b. cond b mode.Ended (passed_mark m token)) e

@@ -1,6 +1,7 @@
 -- A token of a piece is taken or told as those before it tell.
 use Rattle.std.proofs.Common.{◌≡◌, ◌⊎◌, inl, inr, append_assoc, List, [], ◌∷◌, ◌++◌, map, cond, true, false, refl, sym, ap, subst, ◌∙◌}
 use Rattle.std.proofs.lemmas.List.{append-nil}
+use Rattle.inf_settings.specs.Bounds.{Limits}
 use Rattle.inf_unit.specs.Tokens.{SourceToken, atom_of, is_end}
 use Rattle.inf_unit.proofs.Cases.{of_both}
 use Rattle.inf_machine.specs.declared.symbols.Symbol.{Symbol}
@@ -65,30 +66,31 @@ open_stack stack r reads e on empty =
 
 -- The token
 
-module _ (context : Context) (tokens : List SourceToken) (t : SourceToken) (r : Reading) (w : Compilation)
+module _ (limits : Limits) (context : Context) (tokens : List SourceToken) (t : SourceToken) (r : Reading) (w : Compilation)
     (at : At tokens r) where
-  takes : BeginsPiece (map atom_of (tokens ++ t ∷ [])) → judged context t r w ≡ took context t r w
+  takes : BeginsPiece (map atom_of (tokens ++ t ∷ [])) → judged limits context t r w ≡ took limits context t r w
   takes begun =
-      of_both (λ (x : ReaderState). x ≡ took context t r w) (fits grammar known (atom_of t) r.stack)
-      (took context t r w) (bad context t r w)
+      of_both (λ (x : ReaderState). x ≡ took limits context t r w) (fits grammar known (atom_of t) r.stack)
+      (took limits context t r w) (bad context t r w)
       (λ _. refl)
       (λ out. absurd (stops tokens r t at out begun))
 
-  tells : (BeginsPiece (map atom_of (tokens ++ t ∷ [])) → ⊥) → judged context t r w ≡ bad context t r w
+  tells : (BeginsPiece (map atom_of (tokens ++ t ∷ [])) → ⊥) → judged limits context t r w ≡ bad context t r w
   tells none =
       of_both (λ (x : ReaderState). x ≡ bad context t r w) (fits grammar known (atom_of t) r.stack)
-      (took context t r w) (bad context t r w)
+      (took limits context t r w) (bad context t r w)
       (λ f. absurd (none (begins (tokens ++ t ∷ []) _ (goes tokens r t at f))))
       (λ _. refl)
 
 -- how it comes to be judged
-comes : (context : Context) (t : SourceToken) (stack : List (Symbol Action)) (r : Reading) (w : Compilation) →
+comes : (limits : Limits) (context : Context) (t : SourceToken) (stack : List (Symbol Action)) (r : Reading) (w : Compilation) →
     (is_end t.kind ≡ false) ⊎ (stack ≡ [] → ⊥)
-    → read_at context t stack r w ≡ judged context t (at_hand_by stack r) (work_by stack w)
-comes context t [] r w (inl going) =
-    ap (λ b. cond b (record { reading = record r { mode = mode.Ended }; work = w }) (judged context t (piece_begun r) (work_begun w))) going
-comes context t [] r w (inr some) = absurd (some refl)
-comes context t (symbol ∷ symbols) r w going = refl
+    → read_at limits context t stack r w ≡ judged limits context t (at_hand_by stack r) (work_by stack w)
+comes limits context t [] r w (inl going) =
+    ap (λ b. cond b (record { reading = record r { mode = mode.Ended }; work = w })
+    (judged limits context t (piece_begun r) (work_begun w))) going
+comes limits context t [] r w (inr some) = absurd (some refl)
+comes limits context t (symbol ∷ symbols) r w going = refl
 
 -- The piece at hand
 
@@ -110,19 +112,19 @@ goes_by : (t : SourceToken) (s : ReaderState) → s.reading.mode ≡ mode.Reads 
 goes_by t s reads (inl going) = inl going
 goes_by t s reads (inr on) = inr (open_stack s.reading.stack s.reading reads refl on)
 
-pub tokens_are_taken_or_told : TokensAreTakenOrTold
-tokens_are_taken_or_told context tokens t s at going = record {
-  taken = λ begun. same ∙ takes context tokens t (at_hand s.reading) (work_by s.reading.stack s.work) hand begun;
-  told = λ none. same ∙ tells context tokens t (at_hand s.reading) (work_by s.reading.stack s.work) hand none;
+pub tokens_are_taken_or_told : (limits : Limits) → TokensAreTakenOrTold limits
+tokens_are_taken_or_told limits context tokens t s at going = record {
+  taken = λ begun. same ∙ takes limits context tokens t (at_hand s.reading) (work_by s.reading.stack s.work) hand begun;
+  told = λ none. same ∙ tells limits context tokens t (at_hand s.reading) (work_by s.reading.stack s.work) hand none;
 }
   where
     hand : At tokens (at_hand s.reading)
     hand = hand_at tokens s at at.is_open
 
-    same : given_at context (Kept t) s ≡ judged context t (at_hand s.reading) (work_by s.reading.stack s.work)
+    same : given_at limits context (Kept t) s ≡ judged limits context t (at_hand s.reading) (work_by s.reading.stack s.work)
     same =
-        ap (λ m. step_in m context t s.reading s.work) at.reads
-        ∙ comes context t s.reading.stack s.reading s.work (goes_by t s at.reads going)
+        ap (λ m. step_in limits m context t s.reading s.work) at.reads
+        ∙ comes limits context t s.reading.stack s.reading s.work (goes_by t s at.reads going)
 
-pub unfit_tokens_are_told : UnfitTokensAreTold
-unfit_tokens_are_told context t s reads = ap (λ m. unfit_in m context t s) reads
+pub unfit_tokens_are_told : (limits : Limits) → UnfitTokensAreTold limits
+unfit_tokens_are_told limits context t s reads = ap (λ m. unfit_in limits m context t s) reads

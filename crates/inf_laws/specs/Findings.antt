@@ -1,6 +1,7 @@
 -- What is told of a unit: of all that is found the first, by its token and then by its number. And all that the rules find of a header.
 use Rattle.std.specs.Prelude.{◌≡◌, ◌+◌, ◌<◌, ◌⊎◌, ℕ, List, [], ◌∷◌, ◌++◌, find, Contains, nat_lt, if◌then◌else◌, Bool, false, Option, Some, None, is_some}
 use Rattle.std.specs.Str.{str_eq_ignore_ascii_case}
+use Rattle.inf_settings.specs.Bounds.{Limits}
 use Rattle.inf_scanner.specs.declared.tokens.Place.{Place}
 use Rattle.inf_names.specs.Symbols.{Table, declare_fault, found_in}
 use Rattle.inf_names.specs.declared.symbols.Found.{Found as FoundName}
@@ -98,10 +99,11 @@ header_findings files unit names name locals =
 
 -- What is told of a unit that begins at this place
 
-abbrev pub HeadersTellTheFirst : Type 0
-HeadersTellTheFirst = (files : FileNames) (tokens : List SourceToken) (unit : Place) (names : Table Place) (name : Name)
+abbrev pub HeadersTellTheFirst : Limits → Type 0
+HeadersTellTheFirst limits = (files : FileNames) (tokens : List SourceToken) (unit : Place) (names : Table Place) (name : Name)
     (locals : List Name)
-    → IsTold (told_as files tokens unit (found_in_header 1 (again_by name (declare_fault name.bytes names)) (with_locals locals no_locals)))
+    → IsTold (told_as files tokens unit (found_in_header 1 (again_by name (declare_fault limits name.bytes names))
+    (with_locals locals no_locals)))
     (header_findings files unit names name locals)
 
 -- Any unit
@@ -119,8 +121,8 @@ abbrev pub LeastsAreFound : Type 0
 LeastsAreFound = (x y : Option Found) → IsLeastOf x y (least_of_both x y)
 
 -- At its end the least is told, if anything was found, and then the first setting that was passed.
-abbrev pub UnitsTellTheLeast : Type 0
-UnitsTellTheLeast = (context : Context) (first : Place) (has_last : Bool) (all : Findings) (w : Compilation)
-    → (unit_ended context first has_last all w).report
-    ≡ with_full context.names first (full w.output)
+abbrev pub UnitsTellTheLeast : Limits → Type 0
+UnitsTellTheLeast limits = (context : Context) (first : Place) (has_last : Bool) (all : Findings) (w : Compilation)
+    → (unit_ended limits context first has_last all w).report
+    ≡ with_full context.names first (full limits w.output)
     (with_fault context.names first (told_as context.names w.unit.tokens first all) w.report)

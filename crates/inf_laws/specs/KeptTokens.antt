@@ -1,5 +1,6 @@
 -- What reading makes of the tokens that conditionals hand on: of those of a piece the bad one is the first with which they begin none.
 use Rattle.std.specs.Prelude.{◌≡◌, ℕ, List, [], ◌∷◌, ◌++◌, map, Bool, true, false, ◌&&◌, ◌||◌, Option, Some, None, if◌then◌else◌}
+use Rattle.inf_settings.specs.Bounds.{Limits}
 use Rattle.inf_unit.specs.Tokens.{SourceToken, atom_of, is_end}
 use Rattle.inf_scanner.specs.declared.tokens.TokenKind.{TokenKind}
 use Rattle.inf_syntax.specs.declared.actions.Action.{Action}
@@ -86,9 +87,9 @@ all_given_to (g ∷ given) r = all_given_to given (given_to g r)
 
 -- How reading goes on depends on nothing else: neither on what there is to tell, nor on what was compiled. Which names are those of classes
 -- the tokens say.
-abbrev pub TokensAreHandedOn : Type 0
-TokensAreHandedOn = (context : Context) (t : SourceToken) (j : Filtered) (s : ReaderState)
-    → (judged_taken context t j s).reading ≡ all_given_to (given_of j t) s.reading
+abbrev pub TokensAreHandedOn : Limits → Type 0
+TokensAreHandedOn limits = (context : Context) (t : SourceToken) (j : Filtered) (s : ReaderState)
+    → (judged_taken limits context t j s).reading ≡ all_given_to (given_of j t) s.reading
 
 -- Pieces
 

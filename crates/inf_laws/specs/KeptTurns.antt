@@ -1,5 +1,6 @@
 -- The tokens that the turns of a whole reading hand on, with the files that include one another.
 use Rattle.std.specs.Prelude.{◌≡◌, ℕ, zero, suc, List, [], ◌++◌, false}
+use Rattle.inf_settings.specs.Bounds.{Limits}
 use Rattle.inf_files.specs.Files.{Sources}
 use Rattle.inf_conditionals.specs.Judging.{judged}
 use Rattle.inf_reader.specs.Handing.{site_of}
@@ -14,24 +15,26 @@ abbrev pub given_by : State → List Given
 given_by s = let t = token_of s in given_of (judged (site_of s.reading) s.work.output t s.conditions).judged t
 
 -- so many turns, and what they hand on
-abbrev pub turned : Sources → Choices → ℕ → State → State
-turned sources o zero s = s
-turned sources o (suc n) s = turned sources o n (turn sources o s)
+abbrev pub turned : Limits → Sources → Choices → ℕ → State → State
+turned limits sources o zero s = s
+turned limits sources o (suc n) s = turned limits sources o n (turn limits sources o s)
 
-abbrev pub given_in : Sources → Choices → ℕ → State → List Given
-given_in sources o zero s = []
-given_in sources o (suc n) s = given_by s ++ given_in sources o n (turn sources o s)
+abbrev pub given_in : Limits → Sources → Choices → ℕ → State → List Given
+given_in limits sources o zero s = []
+given_in limits sources o (suc n) s = given_by s ++ given_in limits sources o n (turn limits sources o s)
 
 -- no file ends in them
-abbrev pub StayInFile : Sources → Choices → ℕ → State → Type 0
-StayInFile sources o zero s = Unit {0}
-StayInFile sources o (suc n) s = (is_mode_ended (stepped o s).reading.mode ≡ false) × StayInFile sources o n (turn sources o s)
+abbrev pub StayInFile : Limits → Sources → Choices → ℕ → State → Type 0
+StayInFile limits sources o zero s = Unit {0}
+StayInFile limits sources o (suc n) s =
+    (is_mode_ended (stepped limits o s).reading.mode ≡ false) × StayInFile limits sources o n (turn limits sources o s)
 
 -- From between two pieces on, as long as the first one goes on, and behind the token that ends it, the turns of a reading stand where the
 -- tokens tell that
 -- they handed on: in a piece that these begin, behind one that they are, or behind the bad one, which is the first with which they begin
 -- none.
-abbrev pub TurnsReadPieces : Type 0
-TurnsReadPieces = (sources : Sources) (o : Choices) (n : ℕ) (s : State) → s.reading ≡ between mode.Reads → StayInFile sources o n s
-    → GoesOn (given_in sources o (suc n) s) s.reading
-    → Stands (given_in sources o (suc n) s) (stepped o (turned sources o n s)).reading
+abbrev pub TurnsReadPieces : Limits → Type 0
+TurnsReadPieces limits =
+    (sources : Sources) (o : Choices) (n : ℕ) (s : State) → s.reading ≡ between mode.Reads → StayInFile limits sources o n s
+    → GoesOn (given_in limits sources o (suc n) s) s.reading
+    → Stands (given_in limits sources o (suc n) s) (stepped limits o (turned limits sources o n s)).reading

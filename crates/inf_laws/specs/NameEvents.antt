@@ -2,6 +2,8 @@
 use Rattle.std.specs.Prelude.{◌≡◌, ◌≤◌, ℕ, List, [], ◌∷◌, ◌++◌, length, Bool, true, false, ◌||◌, if◌then◌else◌, Option, Some, None, is_some, ⊤}
 use Rattle.std.specs.List.{list_any}
 use Rattle.std.specs.Str.{str_eq_ignore_ascii_case}
+use Rattle.inf_settings.specs.Bounds.{Limits}
+use Rattle.inf_settings.specs.declared.setting.Setting.TheVariants as setting
 use Rattle.inf_scanner.specs.declared.tokens.Place.{Place}
 use Rattle.inf_names.specs.SystemNames.{system_meaning}
 use Rattle.inf_names.specs.Symbols.{Table, declare_fault, found_in, no_names, refer_fault, with_declared, with_used}
@@ -23,13 +25,13 @@ pub data Event : Type 0 where
   Uses : (name : List ℕ) (place : Place) → Event
 
 -- The names after an event: what the names refuse changes nothing.
-abbrev pub with_event : Event → Table Place → Table Place
-with_event (Declares name m place) t = if is_some (declare_fault name t) then t else with_declared name place m t
-with_event (Uses name place) t = if is_some (refer_fault name t) then t else with_used name place t
+abbrev pub with_event : Limits → Event → Table Place → Table Place
+with_event limits (Declares name m place) t = if is_some (declare_fault limits name t) then t else with_declared name place m t
+with_event limits (Uses name place) t = if is_some (refer_fault limits name t) then t else with_used name place t
 
-abbrev pub with_events : List Event → Table Place → Table Place
-with_events [] t = t
-with_events (e ∷ events) t = with_events events (with_event e t)
+abbrev pub with_events : Limits → List Event → Table Place → Table Place
+with_events limits [] t = t
+with_events limits (e ∷ events) t = with_events limits events (with_event limits e t)
 
 -- whether a name is not declared for want of room
 abbrev pub is_full_fault : Option (DeclareFault Place) → Bool
@@ -37,27 +39,29 @@ is_full_fault (Some declaring.Full) = true
 is_full_fault _ = false
 
 -- whether the name of an event is one more than there may be, which ends a compilation
-abbrev pub is_too_many : Event → Table Place → Bool
-is_too_many (Declares name m place) t = is_full_fault (declare_fault name t)
-is_too_many (Uses name place) t = is_some (refer_fault name t)
+abbrev pub is_too_many : Limits → Event → Table Place → Bool
+is_too_many limits (Declares name m place) t = is_full_fault (declare_fault limits name t)
+is_too_many limits (Uses name place) t = is_some (refer_fault limits name t)
 
 -- None is.
-abbrev pub HaveRoom : List Event → Table Place → Type 0
-HaveRoom [] t = ⊤
-HaveRoom (e ∷ events) t = (is_too_many e t ≡ false) × HaveRoom events (with_event e t)
+abbrev pub HaveRoom : Limits → List Event → Table Place → Type 0
+HaveRoom limits [] t = ⊤
+HaveRoom limits (e ∷ events) t = (is_too_many limits e t ≡ false) × HaveRoom limits events (with_event limits e t)
 
 -- So it is where there may be as many names as there are events.
-abbrev pub FewHaveRoom : Type 0
-FewHaveRoom = (limit : ℕ) (debugging : Bool) (events : List Event) → length events ≤ limit → HaveRoom events (no_names limit debugging)
+abbrev pub FewHaveRoom : Limits → Type 0
+FewHaveRoom limits =
+    (debugging : Bool) (events : List Event) → length events ≤ limits setting.Symbols → HaveRoom limits events (no_names debugging)
 
 -- What a name is declared with is such an event: the place of a routine, by its header, or the number of a constant. So is an operand
 -- that is no local.
-abbrev pub UnitsDeclare : Type 0
-UnitsDeclare = (n : Name) (stands_for : Meaning) (o : Out)
-    → (declared n.bytes n.place stands_for o).names ≡ with_event (Declares n.bytes stands_for n.place) o.names
+abbrev pub UnitsDeclare : Limits → Type 0
+UnitsDeclare limits = (n : Name) (stands_for : Meaning) (o : Out)
+    → (declared limits n.bytes n.place stands_for o).names ≡ with_event limits (Declares n.bytes stands_for n.place) o.names
 
-abbrev pub OperandsUse : Type 0
-OperandsUse = (n : Name) (o : Out) → (settled_by None n.bytes n.place o).0.names ≡ with_event (Uses n.bytes n.place) o.names
+abbrev pub OperandsUse : Limits → Type 0
+OperandsUse limits =
+    (n : Name) (o : Out) → (settled_by limits None n.bytes n.place o).0.names ≡ with_event limits (Uses n.bytes n.place) o.names
 
 -- The first declaration of a name counts
 
@@ -84,10 +88,10 @@ stands_for (Some m) first is_used = found.System m
 stands_for None (Some first) is_used = found.Declared first.0 first.1
 stands_for None None is_used = if is_used then found.Used else found.Unknown
 
-abbrev pub FirstDeclarationsCount : Type 0
-FirstDeclarationsCount = (limit : ℕ) (debugging : Bool) (events : List Event) (name : List ℕ)
-    → HaveRoom events (no_names limit debugging)
-    → found_in name (with_events events (no_names limit debugging))
+abbrev pub FirstDeclarationsCount : Limits → Type 0
+FirstDeclarationsCount limits = (debugging : Bool) (events : List Event) (name : List ℕ)
+    → HaveRoom limits events (no_names debugging)
+    → found_in name (with_events limits events (no_names debugging))
     ≡ stands_for (system_meaning debugging name) (first_declaration name events) (list_any (uses name) events)
 
 -- Each undeclared name is told once
@@ -120,8 +124,9 @@ with_uses_told files [] r = r
 with_uses_told files (u ∷ uses) r =
     with_uses_told files uses (with_error (location files u.place) (location files u.place) (Undeclared u.name) r)
 
-abbrev pub UndeclaredAreTold : Type 0
-UndeclaredAreTold = (files : FileNames) (limit : ℕ) (debugging : Bool) (events : List Event) (r : Reported)
-    → HaveRoom events (no_names limit debugging)
-    → with_all_undeclared files (with_events events (no_names limit debugging)).names r ≡ with_uses_told files (undeclared debugging events)
+abbrev pub UndeclaredAreTold : Limits → Type 0
+UndeclaredAreTold limits = (files : FileNames) (debugging : Bool) (events : List Event) (r : Reported)
+    → HaveRoom limits events (no_names debugging)
+    → with_all_undeclared files (with_events limits events (no_names debugging)).names r ≡ with_uses_told files
+    (undeclared debugging events)
     r

@@ -1,5 +1,6 @@
 -- The parts of a reading, which its steps read, and the pieces of its files.
 use Rattle.std.specs.Prelude.{◌≡◌, ◌⊎◌, ℕ, zero, suc, List, [], true, false}
+use Rattle.inf_settings.specs.Bounds.{Limits}
 use Rattle.inf_files.specs.Files.{Sources}
 use Rattle.inf_reader.specs.Reading.{between}
 use Rattle.inf_reader.specs.declared.recovery.Recovery.TheVariants as mode
@@ -9,28 +10,31 @@ use Rattle.inf_laws.specs.KeptTokens.{Stands, rests}
 use Rattle.inf_laws.specs.KeptTurns.{given_by, given_in, turned}
 
 -- none of so many turns ends a part
-abbrev pub StayInPart : Sources → Choices → ℕ → State → Type 0
-StayInPart sources o zero s = Unit {0}
-StayInPart sources o (suc n) s = (is_parted (turn sources o s) ≡ false) × StayInPart sources o n (turn sources o s)
+abbrev pub StayInPart : Limits → Sources → Choices → ℕ → State → Type 0
+StayInPart limits sources o zero s = Unit {0}
+StayInPart limits sources o (suc n) s = (is_parted (turn limits sources o s) ≡ false) × StayInPart limits sources o n (turn limits sources o s)
 
 -- what is handed on within a part, and how it is read then: nothing, or tokens that stand as those of one piece
-abbrev pub IsOfOnePiece : Sources → Choices → ℕ → State → Type 0
-IsOfOnePiece sources o n s =
-    (given_in sources o (suc n) s ≡ []) ⊎ Stands (given_in sources o (suc n) s) (stepped o (turned sources o n s)).reading
+abbrev pub IsOfOnePiece : Limits → Sources → Choices → ℕ → State → Type 0
+IsOfOnePiece limits sources o n s =
+    (given_in limits sources o (suc n) s ≡ []) ⊎ Stands (given_in limits sources o (suc n) s)
+    (stepped limits o (turned limits sources o n s)).reading
 
 -- From any place between two pieces of a reading on, the turns of one part hand on nothing, or the tokens of one piece, whole or bad, or of
 -- the end of a file.
-abbrev pub PartsArePieces : Type 0
-PartsArePieces =
-    (sources : Sources) (o : Choices) (name : List ℕ) (m n : ℕ) → (turned sources o m (start sources o name)).reading ≡ between mode.Reads
-    → StayInPart sources o n (turned sources o m (start sources o name)) → IsOfOnePiece sources o n
-    (turned sources o m (start sources o name))
+abbrev pub PartsArePieces : Limits → Type 0
+PartsArePieces limits =
+    (sources : Sources) (o : Choices) (name : List ℕ) (m n : ℕ) → (turned limits sources o m (start sources o name)).reading ≡ between
+    mode.Reads
+    → StayInPart limits sources o n (turned limits sources o m (start sources o name)) → IsOfOnePiece limits sources o n
+    (turned limits sources o m (start sources o name))
 
 -- And where the tokens of a turn bring reading to the end of a piece, or of a file, a part ends with it.
-abbrev pub PartsEndWithPieces : Type 0
-PartsEndWithPieces =
-    (sources : Sources) (o : Choices) (name : List ℕ) (m n : ℕ) → (turned sources o m (start sources o name)).reading ≡ between mode.Reads
-    → StayInPart sources o n (turned sources o m (start sources o name))
-    → (given_by (turned sources o n (turned sources o m (start sources o name))) ≡ [] → ⊥) → rests
-    (stepped o (turned sources o n (turned sources o m (start sources o name)))).reading ≡ true
-    → is_parted (turn sources o (turned sources o n (turned sources o m (start sources o name)))) ≡ true
+abbrev pub PartsEndWithPieces : Limits → Type 0
+PartsEndWithPieces limits =
+    (sources : Sources) (o : Choices) (name : List ℕ) (m n : ℕ) → (turned limits sources o m (start sources o name)).reading ≡ between
+    mode.Reads
+    → StayInPart limits sources o n (turned limits sources o m (start sources o name))
+    → (given_by (turned limits sources o n (turned limits sources o m (start sources o name))) ≡ [] → ⊥) → rests
+    (stepped limits o (turned limits sources o n (turned limits sources o m (start sources o name)))).reading ≡ true
+    → is_parted (turn limits sources o (turned limits sources o n (turned limits sources o m (start sources o name)))) ≡ true

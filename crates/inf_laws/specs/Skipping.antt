@@ -1,6 +1,7 @@
 -- How a bad piece is skipped, said of the tokens that conditionals hand on behind its bad token.
 use Rattle.std.specs.Prelude.{◌≡◌, ◌≤◌, ℕ, List, ◌∷◌, ◌++◌, length, take, true, not, ◌||◌}
 use Rattle.std.specs.List.{list_all}
+use Rattle.inf_settings.specs.Bounds.{Limits}
 use Rattle.inf_scanner.specs.declared.tokens.Mark.{Mark}
 use Rattle.inf_scanner.specs.declared.tokens.Mark.TheVariants as mark
 use Rattle.inf_scanner.specs.declared.tokens.TokenKind.{TokenKind}
@@ -16,18 +17,18 @@ use Rattle.inf_laws.specs.KeptTokens.{Given, Kept, Unfit, skipped, token_in}
 -- One token
 
 -- what is read, and what was compiled, behind one that is handed on
-abbrev pub given_at : Context → Given → ReaderState → ReaderState
-given_at context (Kept t) s = handed_as handed.Kept context t s
-given_at context (Unfit t) s = handed_as handed.Unfit context t s
+abbrev pub given_at : Limits → Context → Given → ReaderState → ReaderState
+given_at limits context (Kept t) s = handed_as limits handed.Kept context t s
+given_at limits context (Unfit t) s = handed_as limits handed.Unfit context t s
 
 -- the same, but for how the next token is read
 abbrev pub at : Recovery → ReaderState → ReaderState
 at m s = record s { reading = record s.reading { mode = m } }
 
 -- One that is passed over changes nothing else: nothing is told of it, and nothing is compiled.
-abbrev pub PassedTokensDoNothing : Type 0
-PassedTokensDoNothing = (context : Context) (g : Given) (s : ReaderState) → skips s.reading.mode ≡ true
-    → given_at context g s ≡ at (passed s.reading.mode (token_in g).kind) s
+abbrev pub PassedTokensDoNothing : Limits → Type 0
+PassedTokensDoNothing limits = (context : Context) (g : Given) (s : ReaderState) → skips s.reading.mode ≡ true
+    → given_at limits context g s ≡ at (passed s.reading.mode (token_in g).kind) s
 
 -- the end of a source ends what is passed over
 abbrev pub SourcesEnd : Type 0

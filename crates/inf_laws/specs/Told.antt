@@ -1,5 +1,6 @@
 -- What becomes of a token that is handed on in a piece: it is taken, or it is told, and the unit that it cuts gives nothing.
 use Rattle.std.specs.Prelude.{◌≡◌, ◌⊎◌, List, [], ◌∷◌, ◌++◌, map, false}
+use Rattle.inf_settings.specs.Bounds.{Limits}
 use Rattle.inf_unit.specs.Tokens.{SourceToken, atom_of, is_end}
 use Rattle.inf_compilation.specs.Context.{Context}
 use Rattle.inf_reader.specs.Pieces.{BeginsPiece, at_hand, work_by}
@@ -17,19 +18,21 @@ pub record IsAt (tokens : List SourceToken) (s : ReaderState) : Type 0 where
 
 -- Where they begin a piece with one more it is taken, first the actions on the way to it; where they begin none it is told where it stands,
 -- in the words of its kind, and the unit that it cuts gives nothing.
-pub record IsTakenOrTold (context : Context) (tokens : List SourceToken) (t : SourceToken) (s : ReaderState) : Type 0 where
-  pub taken : BeginsPiece (map atom_of (tokens ++ t ∷ [])) →
-      given_at context (Kept t) s ≡ took context t (at_hand s.reading) (work_by s.reading.stack s.work)
-  pub told : (BeginsPiece (map atom_of (tokens ++ t ∷ [])) → ⊥) → given_at context (Kept t) s ≡ bad context t (at_hand s.reading)
-      (work_by s.reading.stack s.work)
+pub record IsTakenOrTold (limits : Limits) (context : Context) (tokens : List SourceToken) (t : SourceToken) (s : ReaderState) : Type 0
+  where
+    pub taken : BeginsPiece (map atom_of (tokens ++ t ∷ [])) →
+        given_at limits context (Kept t) s ≡ took limits context t (at_hand s.reading) (work_by s.reading.stack s.work)
+    pub told : (BeginsPiece (map atom_of (tokens ++ t ∷ [])) → ⊥) → given_at limits context (Kept t) s ≡ bad context t (at_hand s.reading)
+        (work_by s.reading.stack s.work)
 
 -- of any token but the end of a source between two pieces, which is none of a piece
-abbrev pub TokensAreTakenOrTold : Type 0
-TokensAreTakenOrTold =
+abbrev pub TokensAreTakenOrTold : Limits → Type 0
+TokensAreTakenOrTold limits =
     (context : Context) (tokens : List SourceToken) (t : SourceToken) (s : ReaderState) → IsAt tokens s
-    → (is_end t.kind ≡ false) ⊎ (rests s.reading ≡ false) → IsTakenOrTold context tokens t s
+    → (is_end t.kind ≡ false) ⊎ (rests s.reading ≡ false) → IsTakenOrTold limits context tokens t s
 
 -- One that does not fit its conditional directive is told wherever it is not passed over.
-abbrev pub UnfitTokensAreTold : Type 0
-UnfitTokensAreTold = (context : Context) (t : SourceToken) (s : ReaderState) → s.reading.mode ≡ mode.Reads → given_at context (Unfit t) s ≡
+abbrev pub UnfitTokensAreTold : Limits → Type 0
+UnfitTokensAreTold limits =
+    (context : Context) (t : SourceToken) (s : ReaderState) → s.reading.mode ≡ mode.Reads → given_at limits context (Unfit t) s ≡
     bad context t s.reading s.work

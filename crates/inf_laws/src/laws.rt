@@ -1,4 +1,5 @@
 //! What the definitions give together.
+ghost use Rattle.inf_settings.specs.Bounds.{Limits};
 ghost use Rattle.inf_laws.specs.Counts.{LimitsCountTheStory};
 ghost use Rattle.inf_laws.specs.Findings.{HeadersTellTheFirst, LeastsAreFound, UnitsTellTheLeast};
 ghost use Rattle.inf_laws.specs.KeptTokens.{KeptTokensAreRead, TokensAreHandedOn};
@@ -16,30 +17,30 @@ use inf_world::written_as_counted;
 /// Of all errors that its rules find, a header of a routine tells the first by token, and of two at one token the one whose
 /// message has the lower number.
 pub fn first_errors_are_told()
-    ensures { HeadersTellTheFirst }
+    ensures { (limits : Limits) → HeadersTellTheFirst limits }
 {}
 
 /// At the end of each unit the least is told of what is wrong with it, by the order of its token and then by its number. Where two rules
 /// find something, the least of both is one of these, and none of these comes before it.
 pub fn least_findings_are_told()
     ensures least { LeastsAreFound }
-    ensures told { UnitsTellTheLeast }
+    ensures told { (limits : Limits) → UnitsTellTheLeast limits }
 {}
 
 /// A name that is used and never declared, and that the language does not have, is told once, at its
 /// first use, in the order of these. This holds as long as there is room for the names.
 pub fn undeclared_names_are_told_once()
-    ensures { UndeclaredAreTold }
+    ensures { (limits : Limits) → UndeclaredAreTold limits }
 {}
 
 /// What a name stands for is what the language has, or else its first declaration, whatever else is
 /// declared and used, as long as there is room for the names. Headers and constants declare names, and
 /// operands use them. There is room where there may be as many names as there are events.
 pub fn first_declarations_count()
-    ensures count { FirstDeclarationsCount }
-    ensures declares { UnitsDeclare }
-    ensures operands { OperandsUse }
-    ensures room { FewHaveRoom }
+    ensures count { (limits : Limits) → FirstDeclarationsCount limits }
+    ensures declares { (limits : Limits) → UnitsDeclare limits }
+    ensures operands { (limits : Limits) → OperandsUse limits }
+    ensures room { (limits : Limits) → FewHaveRoom limits }
 {}
 
 /// The warnings at the end of a routine are about the locals that no name in a statement is, in
@@ -53,7 +54,7 @@ pub fn unused_locals_are_warned()
 /// the
 /// source. A token that is passed over does nothing else.
 pub fn bad_pieces_are_skipped()
-    ensures alone { PassedTokensDoNothing }
+    ensures alone { (limits : Limits) → PassedTokensDoNothing limits }
     ensures directives { DirectivesAreSkipped }
     ensures routines { RoutinesAreSkipped }
     ensures sources { SourcesEnd }
@@ -63,8 +64,8 @@ pub fn bad_pieces_are_skipped()
 /// told, where it
 /// stands; so is one that does not fit its conditional directive. The unit that a bad token cuts gives nothing.
 pub fn bad_tokens_are_told()
-    ensures kept { TokensAreTakenOrTold }
-    ensures unfit { UnfitTokensAreTold }
+    ensures kept { (limits : Limits) → TokensAreTakenOrTold limits }
+    ensures unfit { (limits : Limits) → UnfitTokensAreTold limits }
 {}
 
 /// How pieces are read is told by the tokens that conditionals hand on: those that are kept, and those that do not fit a conditional
@@ -73,9 +74,9 @@ pub fn bad_tokens_are_told()
 /// turns of a
 /// reading of files that include one another.
 pub fn kept_tokens_are_read()
-    ensures handed_on { TokensAreHandedOn }
+    ensures handed_on { (limits : Limits) → TokensAreHandedOn limits }
     ensures read { KeptTokensAreRead }
-    ensures turns { TurnsReadPieces }
+    ensures turns { (limits : Limits) → TurnsReadPieces limits }
 {}
 
 /// The parts of a reading, which the steps of a session read, are the pieces of its files: from any place between two pieces on, the turns
@@ -84,8 +85,8 @@ pub fn kept_tokens_are_read()
 /// the end of a file.
 /// Where a piece or a file ends with a turn, so does the part.
 pub fn parts_are_pieces()
-    ensures pieces { PartsArePieces }
-    ensures ends { PartsEndWithPieces }
+    ensures pieces { (limits : Limits) → PartsArePieces limits }
+    ensures ends { (limits : Limits) → PartsEndWithPieces limits }
 {}
 
 /// What the limits of code and of references look at are the bytes of the story's code and the references of all of its areas.

@@ -1,4 +1,6 @@
 //! Routines written out, with the bytes that the Z-Machine Standard 1.1 gives for them.
+ghost use Rattle.std.specs.Prelude.{◌≡◌};
+ghost use Rattle.inf_code.specs.Code.{code_limits};
 
 use crate::expecting::expect;
 use inf_area::{AddFault, Area, AreaName, Fixup, PagedArea, Refs, Target};
@@ -6,8 +8,9 @@ use inf_assembler::{CloseFault, GrowFault, Limit, RoutineKind};
 use inf_cells::Scale;
 use inf_code::code::{Code, CodeLimits};
 use inf_opcode::{Branch, Destination, Instruction, Label, Opcode, Operand};
-use inf_settings::bounds::Unbounded;
+use inf_settings::bounds::Bounds;
 use std::alloc::{AllocError, Global};
+use std::marker::Brand;
 use std::process::Abort;
 use std::test::Fail;
 
@@ -69,26 +72,30 @@ fn routine(number: usize) -> Target {
 }
 
 /// Calls a routine with the first local.
-fn emit_call(code: &mut Code<Unbounded>, number: usize) -> Result<(), GrowFault> {
+fn emit_call<B: Bounds>(code: &mut Code<B>, number: usize) -> Result<(), GrowFault> {
     let operands = [Operand::Later(routine(number)), Operand::Variable(1)];
     code.emit(&Instruction::new(Opcode::Call2n, &operands, None))
 }
 
 /// Returns the number of a routine.
-fn emit_return(code: &mut Code<Unbounded>, number: usize) -> Result<(), GrowFault> {
+fn emit_return<B: Bounds>(code: &mut Code<B>, number: usize) -> Result<(), GrowFault> {
     let operands = [Operand::Later(routine(number))];
     code.emit(&Instruction::new(Opcode::Ret, &operands, None))
 }
 
 /// Adds a routine of one local, which calls a routine with it.
-fn add_whole(alloc: Global, code: &mut Code<Unbounded>, number: usize) -> Result<(), CloseFault> {
+fn add_whole<B: Bounds>(
+    alloc: Global,
+    code: &mut Code<B>,
+    number: usize,
+) -> Result<(), CloseFault> {
     grown(code.open(alloc, 1, false))?;
     grown(emit_call(code, number))?;
     code.close(RoutineKind::Plain)
 }
 
 /// A branch where the first local is not 0.
-fn emit_branch(code: &mut Code<Unbounded>, number: u32) -> Result<(), GrowFault> {
+fn emit_branch<B: Bounds>(code: &mut Code<B>, number: u32) -> Result<(), GrowFault> {
     let branch = Branch {
         sense: false,
         target: Destination::To(Label { number }),
@@ -107,10 +114,10 @@ fn grown(grown: Result<(), GrowFault>) -> Result<(), CloseFault> {
 }
 
 /// Adds this.
-fn add(
+fn add<B: Bounds>(
     rt: &impl Abort,
     alloc: Global,
-    code: &mut Code<Unbounded>,
+    code: &mut Code<B>,
     addition: &Addition,
 ) -> Result<(), CloseFault> {
     match addition {
@@ -130,10 +137,10 @@ fn add(
 }
 
 /// Takes a step, at this place of a case.
-fn take(
+fn take<B: Bounds>(
     rt: &impl Abort,
     alloc: Global,
-    code: &mut Code<Unbounded>,
+    code: &mut Code<B>,
     step: &Step,
     at: (&str, usize),
 ) {
@@ -159,10 +166,10 @@ fn take(
 }
 
 /// Takes the steps of a case in turn.
-fn take_all(
+fn take_all<B: Bounds>(
     rt: &impl Abort,
     alloc: Global,
-    code: &mut Code<Unbounded>,
+    code: &mut Code<B>,
     case: &str,
     steps: &[Step],
 ) {
@@ -273,7 +280,7 @@ fn bytes_of(alloc: Global, area: &PagedArea) -> Result<Vec<u8>, AllocError> {
 }
 
 /// The area of some code and its fixups, where its first routine calls the place 8.
-fn handed_over(alloc: Global, code: Code<Unbounded>) -> Result<(Vec<u8>, Refs), AddFault> {
+fn handed_over<B: Bounds>(alloc: Global, code: Code<B>) -> Result<(Vec<u8>, Refs), AddFault> {
     let mut refs = Refs::new(alloc, 100);
     let area = code.into_area(Target::Place(AreaName::Code, 8), &mut refs)?;
     Ok((bytes_of(alloc, &area)?, refs))
@@ -311,13 +318,33 @@ fn expect_written(
     }
 }
 
+/// The name of a case, by its bytes.
+fn text_of(case: &[u8]) -> &str {
+    str::from_utf8(case).unwrap_or("")
+}
+
+/// Code that takes the steps of a case, where there may be so much, and is handed over.
+fn written_under<B: Bounds>(
+    rt: &impl Abort,
+    alloc: Global,
+    limits: CodeLimits,
+    case: &[u8],
+    steps: &[Step],
+) -> Result<(Vec<u8>, Refs), AddFault>
+    requires { limits ≡ code_limits B.most }
+{
+    let Ok(mut code) = Code::<B>::new(alloc, limits, Scale::Four) else {
+        return Err(AddFault::Memory);
+    };
+    take_all(rt, alloc, &mut code, text_of(case), steps);
+    handed_over(alloc, code)
+}
+
 #[test]
 fn routines_are_written_out(rt: HostRuntime) -> Result<(), Fail> {
     let alloc = rt.alloc();
     for (case, steps, fixups, bytes) in WRITTEN {
-        let mut code = Code::new(alloc, ROOMY, Scale::Four)?;
-        take_all(&rt, alloc, &mut code, case, steps);
-        let Ok(written) = handed_over(alloc, code) else {
+        let Ok(written) = written_under::<Brand>(&rt, alloc, ROOMY, case.as_bytes(), steps) else {
             return Err(Fail::new("no memory"));
         };
         expect_written(&rt, case, &written, fixups, bytes);
@@ -494,6 +521,21 @@ const LIMITED: [(&str, usize, usize, &[Step]); 13] = [
     ),
 ];
 
+/// Takes the steps of a case where there may be so much.
+fn take_under<B: Bounds>(
+    rt: &impl Abort,
+    alloc: Global,
+    limits: CodeLimits,
+    case: &[u8],
+    steps: &[Step],
+) -> Result<(), AllocError>
+    requires { limits ≡ code_limits B.most }
+{
+    let mut code = Code::<B>::new(alloc, limits, Scale::Four)?;
+    take_all(rt, alloc, &mut code, text_of(case), steps);
+    Ok(())
+}
+
 #[test]
 fn each_limit_is_reached_and_not_passed(rt: HostRuntime) -> Result<(), Fail> {
     for (case, bytes, refs, steps) in LIMITED {
@@ -502,8 +544,7 @@ fn each_limit_is_reached_and_not_passed(rt: HostRuntime) -> Result<(), Fail> {
             code: bytes,
             refs,
         };
-        let mut code = Code::new(rt.alloc(), limits, Scale::Four)?;
-        take_all(&rt, rt.alloc(), &mut code, case, steps);
+        take_under::<Brand>(&rt, rt.alloc(), limits, case.as_bytes(), steps)?;
     }
     Ok(())
 }

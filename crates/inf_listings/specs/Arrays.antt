@@ -1,6 +1,7 @@
 -- The directive `Array`: its header, and entry by entry what stands in it. Designer's Manual, fourth edition, section 2.4.
 use Rattle.std.specs.Prelude.{ℕ, ◌+◌, ◌==◌, List, [], ◌∷◌, length, map, codes, Bool, true, false, not, ◌&&◌, ◌||◌, if◌then◌else◌, Option, Some, None}
 use Rattle.std.specs.Str.{str_eq_ignore_ascii_case}
+use Rattle.inf_settings.specs.Bounds.{Limits, unbounded}
 use Rattle.inf_area.specs.declared.targets.Value.{Value}
 use Rattle.inf_area.specs.declared.targets.Value.TheVariants as value
 use Rattle.inf_arrays.specs.Arrays.{Adding, One, Zeros, Characters, AllArrays, added_fault, all_of, arrays_size, no_arrays, open_fault, opened, values_in, with_entries}
@@ -53,46 +54,45 @@ abbrev pub with_arrays : AllArrays → Code
 with_arrays arrays o = record o { tables = record o.tables { arrays = arrays } }
 
 -- its name is declared: it begins at a place
-abbrev pub array_declared : Name → ℕ → Code
-array_declared name place o = declared name.bytes name.place (meaning.Array place) o
+abbrev pub array_declared : Limits → Name → ℕ → Code
+array_declared limits name place o = declared limits name.bytes name.place (meaning.Array place) o
 
 -- One that would pass the limit is none, and has its name all the same: that may pass a limit before that one.
-abbrev pub array_refused : Name → Code
-array_refused name o = array_declared name 0 (passed_table setting.Arrays o)
+abbrev pub array_refused : Limits → Name → Code
+array_refused limits name o = array_declared limits name 0 (passed_table limits setting.Arrays o)
 
 -- One more array of the story, with its name.
-abbrev pub array_opened_by : Option ArrayFault → ArrayKind → Name → Code
-array_opened_by None k name o = array_declared name (arrays_size (all_of o.tables.arrays)) (with_arrays (opened k o.tables.arrays) o)
-array_opened_by (Some f) k name o = array_refused name o
+abbrev pub array_opened_by : Limits → Option ArrayFault → ArrayKind → Name → Code
+array_opened_by limits None k name o =
+    array_declared limits name (arrays_size (all_of o.tables.arrays)) (with_arrays (opened k o.tables.arrays) o)
+array_opened_by limits (Some f) k name o = array_refused limits name o
 
-abbrev pub array_opened : ArrayKind → Name → Code
-array_opened k name o = array_opened_by (open_fault k o.tables.arrays) k name o
+abbrev pub array_opened : Limits → ArrayKind → Name → Code
+array_opened limits k name o = array_opened_by limits (open_fault limits k o.tables.arrays) k name o
 
 -- An array whose header has an error is none of the story: its entries are read, and kept apart.
-abbrev pub unlimited : ℕ
-unlimited = 18446744073709551615
-
 abbrev pub apart_by : Option ArrayFault → ArrayKind → AllArrays → AllArrays
 apart_by None k arrays = opened k arrays
 apart_by (Some f) k arrays = arrays
 
 abbrev pub apart : ArrayKind → AllArrays
-apart k = apart_by (open_fault k (no_arrays unlimited)) k (no_arrays unlimited)
+apart k = apart_by (open_fault unbounded k no_arrays) k no_arrays
 
-abbrev pub listed : Option Finding → ArrayKind → Name → Compilation → Compilation
-listed None k name w = record w { listing = record { is_lost = false; has_entries = false }; output = array_opened k name w.output }
-listed (Some f) k name w = record w { listing = record { is_lost = true; has_entries = false }; lost = apart k }
+abbrev pub listed : Limits → Option Finding → ArrayKind → Name → Compilation → Compilation
+listed limits None k name w =
+    record w { listing = record { is_lost = false; has_entries = false }; output = array_opened limits k name w.output }
+listed limits (Some f) k name w = record w { listing = record { is_lost = true; has_entries = false }; lost = apart k }
 
-abbrev pub header_with : Context → Place → Name → Declared → Compilation → Compilation
-header_with context first name d w =
-    declared_ended context first false name countable.Globals d (listed d.finding (kind_in w.unit.tokens) name w)
+abbrev pub header_with : Limits → Context → Place → Name → Declared → Compilation → Compilation
+header_with limits context first name d w =
+    declared_ended limits context first false name countable.Globals d (listed limits d.finding (kind_in w.unit.tokens) name w)
 
-abbrev pub array_header : Context → Place → Name → Compilation → Compilation
-array_header context first name w = header_with context first name (plainly_known name (name_order w.unit.tokens) w) w
+abbrev pub array_header : Limits → Context → Place → Name → Compilation → Compilation
+array_header limits context first name w = header_with limits context first name (plainly_known name (name_order w.unit.tokens) w) w
 
-abbrev pub array_named : Context → Place → List Name → Compilation → Compilation
-array_named context first [] w = passed false w
-array_named context first (name ∷ names) w = array_header context first name w
+abbrev pub array_named : Limits → Context → Place → List Name → Compilation → Compilation
+array_named limits context first [] w = passed false w
+array_named limits context first (name ∷ names) w = array_header limits context first name w
 
 -- Entries
 
@@ -133,19 +133,17 @@ refused (Some fault.Full) = None
 refused (Some fault.Memory) = None
 refused None = None
 
--- the arrays of which the last one is read
-abbrev pub arrays_of : Compilation → AllArrays
-arrays_of w = if w.listing.is_lost then w.lost else w.output.tables.arrays
+abbrev pub added_finding : Limits → Adding → Compilation → Option Finding
+added_finding limits a w =
+    refused (if w.listing.is_lost then added_fault unbounded a w.lost else added_fault limits a w.output.tables.arrays)
 
-abbrev pub added_finding : Adding → Compilation → Option Finding
-added_finding a w = refused (added_fault a (arrays_of w))
+abbrev pub items_finding : Limits → Bool → List TextItem → Compilation → Option Finding
+items_finding limits has_variables items w =
+    if has_variables then Some (out_of_range 0) else added_finding limits (Characters (codes_of items)) w
 
-abbrev pub items_finding : Bool → List TextItem → Compilation → Option Finding
-items_finding has_variables items w = if has_variables then Some (out_of_range 0) else added_finding (Characters (codes_of items)) w
-
-abbrev pub text_finding : Option (List TextItem) → Compilation → Option Finding
-text_finding None w = Some (out_of_range 0)
-text_finding (Some items) w = items_finding (variables_from items false) items w
+abbrev pub text_finding : Limits → Option (List TextItem) → Compilation → Option Finding
+text_finding limits None w = Some (out_of_range 0)
+text_finding limits (Some items) w = items_finding limits (variables_from items false) items w
 
 abbrev pub adding : Bool → Value → Adding
 adding true (value.Known count) = Zeros count
@@ -156,51 +154,53 @@ adding false v = One v
 abbrev pub looked_value : Compilation → Value
 looked_value w = value_in (map tree_in (trees_at 0 wanted.Constant (operands_of w) w))
 
-abbrev pub own_finding : Context → Option ℕ → Bool → Compilation → Option Finding
-own_finding context (Some at) alone w = text_finding (text_at context.set w.unit.tokens at) w
-own_finding context None alone w = added_finding (adding alone (looked_value w)) w
+abbrev pub own_finding : Limits → Context → Option ℕ → Bool → Compilation → Option Finding
+own_finding limits context (Some at) alone w = text_finding limits (text_at context.set w.unit.tokens at) w
+own_finding limits context None alone w = added_finding limits (adding alone (looked_value w)) w
 
-abbrev pub entry_finding : Context → Bool → Compilation → Option Finding
-entry_finding context alone w = least_of_both (finding_at 0 wanted.Constant w) (own_finding context (bare_text alone w) alone w)
+abbrev pub entry_finding : Limits → Context → Bool → Compilation → Option Finding
+entry_finding limits context alone w =
+    least_of_both (finding_at 0 wanted.Constant w) (own_finding limits context (bare_text alone w) alone w)
 
 -- more entries of the open array of the story, or of the one that is kept apart
-abbrev pub story_added : Option ArrayFault → Adding → Code
-story_added None a o = with_arrays (with_entries (values_in a) o.tables.arrays) o
-story_added (Some f) a o = passed_table setting.Arrays o
+abbrev pub story_added : Limits → Option ArrayFault → Adding → Code
+story_added limits None a o = with_arrays (with_entries (values_in a) o.tables.arrays) o
+story_added limits (Some f) a o = passed_table limits setting.Arrays o
 
 abbrev pub lost_added : Option ArrayFault → Adding → AllArrays → AllArrays
 lost_added None a arrays = with_entries (values_in a) arrays
 lost_added (Some f) a arrays = arrays
 
-abbrev pub added : Adding → Compilation → Compilation
-added a w =
-    if w.listing.is_lost then record w { lost = lost_added (added_fault a w.lost) a w.lost }
-    else record w { output = story_added (added_fault a w.output.tables.arrays) a w.output }
+abbrev pub added : Limits → Adding → Compilation → Compilation
+added limits a w =
+    if w.listing.is_lost then record w { lost = lost_added (added_fault unbounded a w.lost) a w.lost }
+    else record w { output = story_added limits (added_fault limits a w.output.tables.arrays) a w.output }
 
-abbrev pub text_added : Option (List TextItem) → Compilation → Compilation
-text_added None w = w
-text_added (Some items) w = added (Characters (codes_of items)) w
+abbrev pub text_added : Limits → Option (List TextItem) → Compilation → Compilation
+text_added limits None w = w
+text_added limits (Some items) w = added limits (Characters (codes_of items)) w
 
-abbrev pub value_added : Context → Bool → Compilation → Compilation
-value_added context alone w = added (adding alone (value_of context w)) (record w { output = (settled_of context w).out })
+abbrev pub value_added : Limits → Context → Bool → Compilation → Compilation
+value_added limits context alone w =
+    added limits (adding alone (value_of limits context w)) (record w { output = (settled_of limits context w).out })
 
-abbrev pub entry_added_by : Context → Option ℕ → Bool → Compilation → Compilation
-entry_added_by context (Some at) alone w = text_added (text_at context.set w.unit.tokens at) w
-entry_added_by context None alone w = value_added context alone w
+abbrev pub entry_added_by : Limits → Context → Option ℕ → Bool → Compilation → Compilation
+entry_added_by limits context (Some at) alone w = text_added limits (text_at context.set w.unit.tokens at) w
+entry_added_by limits context None alone w = value_added limits context alone w
 
-abbrev pub entry_added : Context → Bool → Compilation → Compilation
-entry_added context alone w = entry_added_by context (bare_text alone w) alone w
+abbrev pub entry_added : Limits → Context → Bool → Compilation → Compilation
+entry_added limits context alone w = entry_added_by limits context (bare_text alone w) alone w
 
-abbrev pub entry_with : Context → Place → Bool → Option Finding → Compilation → Compilation
-entry_with context first alone None w = unit_ended context first false nothing_found (entry_added context alone w)
-entry_with context first alone (Some f) w = unit_ended context first false (found_alone (Some f)) w
+abbrev pub entry_with : Limits → Context → Place → Bool → Option Finding → Compilation → Compilation
+entry_with limits context first alone None w = unit_ended limits context first false nothing_found (entry_added limits context alone w)
+entry_with limits context first alone (Some f) w = unit_ended limits context first false (found_alone (Some f)) w
 
 -- an array has an entry, with an error or without
 abbrev pub one_more : Compilation → Compilation
 one_more w = record w { listing = record w.listing { has_entries = true } }
 
-abbrev pub entry_judged : Context → Place → Bool → Compilation → Compilation
-entry_judged context first alone w = entry_with context first alone (entry_finding context alone w) (one_more w)
+abbrev pub entry_judged : Limits → Context → Place → Bool → Compilation → Compilation
+entry_judged limits context first alone w = entry_with limits context first alone (entry_finding limits context alone w) (one_more w)
 
-abbrev pub entry_ended : Context → Place → Bool → Compilation → Compilation
-entry_ended context place is_last w = entry_judged context (first_place w.unit.tokens place) (is_alone is_last w) w
+abbrev pub entry_ended : Limits → Context → Place → Bool → Compilation → Compilation
+entry_ended limits context place is_last w = entry_judged limits context (first_place w.unit.tokens place) (is_alone is_last w) w

@@ -151,7 +151,7 @@ fn declare_array<B: Bounds>(
     place: usize,
     out: &mut Output<B>,
 ) -> Result<(), AllocError>
-    ensures { OnOk result (out.new ≡ array_declared (as_name name.now) place out.old) }
+    ensures { OnOk result (out.new ≡ array_declared B.most (as_name name.now) place out.old) }
 {
     out.declare(name.bytes(), name.place, Meaning::Array(place))?;
     Ok(())
@@ -159,7 +159,7 @@ fn declare_array<B: Bounds>(
 
 /// An array that would pass the limit has its name all the same.
 fn refuse_array<B: Bounds>(name: &Name, out: &mut Output<B>) -> Result<(), AllocError>
-    ensures { OnOk result (out.new ≡ array_refused (as_name name.now) out.old) }
+    ensures { OnOk result (out.new ≡ array_refused B.most (as_name name.now) out.old) }
 {
     out.pass_table(Setting::Arrays);
     declare_array(name, 0, out)
@@ -171,7 +171,7 @@ fn open_array<B: Bounds>(
     name: &Name,
     out: &mut Output<B>,
 ) -> Result<(), AllocError>
-    ensures { OnOk result (out.new ≡ array_opened kind (as_name name.now) out.old) }
+    ensures { OnOk result (out.new ≡ array_opened B.most kind (as_name name.now) out.old) }
 {
     match out.tables.arrays.open(kind) {
         Ok(place) => declare_array(name, place, out),
@@ -184,7 +184,8 @@ fn open_array<B: Bounds>(
 
 /// More entries of the open array of a story.
 fn add_to_story<B: Bounds>(entries: Entries<'_>, out: &mut Output<B>) -> Result<(), AllocError>
-    ensures { let a = adding_of entries.entry in OnOk result (out.new ≡ story_added (added_fault a out.old.tables.arrays) a out.old) }
+    ensures { let a = adding_of entries.entry in OnOk result
+        (out.new ≡ story_added B.most (added_fault B.most a out.old.tables.arrays) a out.old) }
 {
     match out.tables.arrays.add(entries) {
         Ok(()) => Ok(()),
@@ -200,7 +201,7 @@ fn add_to_story<B: Bounds>(entries: Entries<'_>, out: &mut Output<B>) -> Result<
 
 /// More entries of an array that is kept apart.
 fn add_to_lost<B: Bounds>(entries: Entries<'_>, arrays: &mut Arrays<B>) -> Result<(), AllocError>
-    ensures { let a = adding_of entries.entry in OnOk result (arrays.new ≡ lost_added (added_fault a arrays.old) a arrays.old) }
+    ensures { let a = adding_of entries.entry in OnOk result (arrays.new ≡ lost_added (added_fault B.most a arrays.old) a arrays.old) }
 {
     match arrays.add(entries) {
         Ok(()) => Ok(()),
@@ -218,7 +219,8 @@ pub fn array_named<B: Bounds>(
     first: Place,
     names: &[Name],
 ) -> Result<(), AllocError>
-    ensures { OnOk result (work compilation.new ≡ array_named (handed context.now) first (map as_name names.now) (work compilation.old)) }
+    ensures { OnOk result (work compilation.new ≡ array_named B.most (handed context.now) first (map as_name names.now)
+        (work compilation.old)) }
 {
     match names.first() {
         Some(name) => array_header(compilation, context, first, name),
@@ -236,7 +238,7 @@ fn array_header<B: Bounds>(
     first: Place,
     name: &Name,
 ) -> Result<(), AllocError>
-    ensures { OnOk result (work compilation.new ≡ array_header (handed context.now) first (as_name name.now) (work compilation.old)) }
+    ensures { OnOk result (work compilation.new ≡ array_header B.most (handed context.now) first (as_name name.now) (work compilation.old)) }
 {
     let order = compilation.unit.tokens.name_order();
     let declared = plainly_known(compilation, name, order);
@@ -252,7 +254,7 @@ fn header_with<B: Bounds>(
     declared: Declared,
 ) -> Result<(), AllocError>
     ensures { OnOk result (work compilation.new
-        ≡ header_with (handed context.now) first (as_name name.now) declared (work compilation.old)) }
+        ≡ header_with B.most (handed context.now) first (as_name name.now) declared (work compilation.old)) }
 {
     let kind = kind_in(&compilation.unit.tokens);
     list(compilation, kind, name, declared.finding)?;
@@ -274,7 +276,7 @@ fn list<B: Bounds>(
     name: &Name,
     found: Option<Finding>,
 ) -> Result<(), AllocError>
-    ensures { OnOk result (work compilation.new ≡ listed found kind (as_name name.now) (work compilation.old)) }
+    ensures { OnOk result (work compilation.new ≡ listed B.most found kind (as_name name.now) (work compilation.old)) }
 {
     compilation.listing = Listing {
         is_lost: found.is_some(),
@@ -317,7 +319,7 @@ pub fn text_at<B: Bounds>(
 
 /// What is wrong with what an entry adds.
 fn added_finding<B: Bounds>(compilation: &Compilation<B>, entries: Entries<'_>) -> Option<Finding>
-    ensures { result ≡ added_finding (adding_of entries.entry) (work compilation.now) }
+    ensures { result ≡ added_finding B.most (adding_of entries.entry) (work compilation.now) }
 {
     refused(if compilation.listing.is_lost {
         compilation.lost.add_fault(entries)
@@ -331,7 +333,7 @@ fn items_finding<B: Bounds>(
     compilation: &Compilation<B>,
     items: &[TextItem],
 ) -> Result<Option<Finding>, AllocError>
-    ensures { IfOk result (λ f. f ≡ items_finding (variables_from items.now false) items.now (work compilation.now)) }
+    ensures { IfOk result (λ f. f ≡ items_finding B.most (variables_from items.now false) items.now (work compilation.now)) }
 {
     if has_variables(items) {
         return Ok(Some(Finding::out_of_range(0)));
@@ -346,7 +348,8 @@ fn text_finding<B: Bounds>(
     context: &Context<'_>,
     at: usize,
 ) -> Result<Option<Finding>, AllocError>
-    ensures { let w = work compilation.now in IfOk result (λ f. f ≡ text_finding (text_at (handed context.now).set w.unit.tokens at) w) }
+    ensures { let w = work compilation.now in IfOk result
+        (λ f. f ≡ text_finding B.most (text_at (handed context.now).set w.unit.tokens at) w) }
 {
     match text_at(compilation, context, at)? {
         Some(text) => items_finding(compilation, text.as_slice()),
@@ -380,7 +383,8 @@ fn own_entry_finding<B: Bounds>(
     operands: &[Operand],
 ) -> Result<Option<Finding>, AllocError>
     requires { operands.now ≡ operands_of (work compilation.now) }
-    ensures { let w = work compilation.now in IfOk result (λ f. f ≡ own_finding (handed context.now) (bare_text is_alone w) is_alone w) }
+    ensures { let w = work compilation.now in IfOk result
+        (λ f. f ≡ own_finding B.most (handed context.now) (bare_text is_alone w) is_alone w) }
 {
     match bare_text(compilation, is_alone) {
         Some(at) => text_finding(compilation, context, at),
@@ -397,7 +401,7 @@ fn entry_finding<B: Bounds>(
     context: &Context<'_>,
     is_alone: bool,
 ) -> Result<Option<Finding>, AllocError>
-    ensures { IfOk result (λ f. f ≡ entry_finding (handed context.now) is_alone (work compilation.now)) }
+    ensures { IfOk result (λ f. f ≡ entry_finding B.most (handed context.now) is_alone (work compilation.now)) }
 {
     let operands = compilation.operands()?;
     let judged = compilation.finding(0, Wanted::Constant, operands.as_slice())?;
@@ -407,7 +411,7 @@ fn entry_finding<B: Bounds>(
 
 /// More entries of the array that is read.
 fn add<B: Bounds>(compilation: &mut Compilation<B>, entries: Entries<'_>) -> Result<(), AllocError>
-    ensures { OnOk result (work compilation.new ≡ added (adding_of entries.entry) (work compilation.old)) }
+    ensures { OnOk result (work compilation.new ≡ added B.most (adding_of entries.entry) (work compilation.old)) }
 {
     if compilation.listing.is_lost {
         add_to_lost(entries, &mut compilation.lost)
@@ -423,7 +427,7 @@ fn add_text<B: Bounds>(
     at: usize,
 ) -> Result<(), AllocError>
     ensures { let before = work compilation.old in
-        OnOk result (work compilation.new ≡ text_added (text_at (handed context.now).set before.unit.tokens at) before) }
+        OnOk result (work compilation.new ≡ text_added B.most (text_at (handed context.now).set before.unit.tokens at) before) }
 {
     let Some(text) = text_at(compilation, context, at)? else {
         return Ok(());
@@ -438,7 +442,7 @@ fn add_value<B: Bounds>(
     context: &Context<'_>,
     is_alone: bool,
 ) -> Result<(), AllocError>
-    ensures { OnOk result (work compilation.new ≡ value_added (handed context.now) is_alone (work compilation.old)) }
+    ensures { OnOk result (work compilation.new ≡ value_added B.most (handed context.now) is_alone (work compilation.old)) }
 {
     let value = value(compilation, context)?;
     add(compilation, adding(is_alone, value))
@@ -450,7 +454,7 @@ fn add_entry<B: Bounds>(
     context: &Context<'_>,
     is_alone: bool,
 ) -> Result<(), AllocError>
-    ensures { OnOk result (work compilation.new ≡ entry_added (handed context.now) is_alone (work compilation.old)) }
+    ensures { OnOk result (work compilation.new ≡ entry_added B.most (handed context.now) is_alone (work compilation.old)) }
 {
     match bare_text(compilation, is_alone) {
         Some(at) => add_text(compilation, context, at),
@@ -466,7 +470,7 @@ fn entry_with<B: Bounds>(
     is_alone: bool,
     found: Option<Finding>,
 ) -> Result<(), AllocError>
-    ensures { OnOk result (work compilation.new ≡ entry_with (handed context.now) first is_alone found (work compilation.old)) }
+    ensures { OnOk result (work compilation.new ≡ entry_with B.most (handed context.now) first is_alone found (work compilation.old)) }
 {
     if found.is_none() {
         add_entry(compilation, context, is_alone)?;
@@ -481,7 +485,7 @@ fn judge_entry<B: Bounds>(
     first: Place,
     is_alone: bool,
 ) -> Result<(), AllocError>
-    ensures { OnOk result (work compilation.new ≡ entry_judged (handed context.now) first is_alone (work compilation.old)) }
+    ensures { OnOk result (work compilation.new ≡ entry_judged B.most (handed context.now) first is_alone (work compilation.old)) }
 {
     let found = entry_finding(compilation, context, is_alone)?;
     compilation.listing.has_entries = true;
@@ -495,7 +499,7 @@ pub fn end_entry<B: Bounds>(
     place: Place,
     is_last: bool,
 ) -> Result<(), AllocError>
-    ensures { OnOk result (work compilation.new ≡ entry_ended (handed context.now) place is_last (work compilation.old)) }
+    ensures { OnOk result (work compilation.new ≡ entry_ended B.most (handed context.now) place is_last (work compilation.old)) }
 {
     let first = compilation.unit.first_place(place);
     let is_alone = is_last && !compilation.listing.has_entries;

@@ -2,6 +2,8 @@
 use Rattle.std.specs.Prelude.{ℕ, ◌+◌, List, [], ◌∷◌, length, map, Bool, false, nat_lt, nat_le, slice_get, if◌then◌else◌, Option, Some, None, is_some}
 use Rattle.std.specs.Char.{to_ascii_lowercase}
 use Rattle.std.specs.Str.{bytes_eq}
+use Rattle.inf_settings.specs.Bounds.{Limits}
+use Rattle.inf_settings.specs.declared.setting.Setting.TheVariants as setting
 use Rattle.inf_names.specs.SystemNames.{system_meaning}
 use Rattle.inf_names.specs.declared.meanings.Meaning.{Meaning}
 use Rattle.inf_names.specs.declared.symbols.Found.{Found}
@@ -26,15 +28,14 @@ pub record Named (P : Type 0) : Type 0 where
   pub name : List ℕ
   pub standing : Standing P
 
--- The names, how many of them were declared, how many names there may be, and whether the language has the name DEBUG too.
+-- The names, how many of them were declared, and whether the language has the name DEBUG too.
 pub record Table (P : Type 0) : Type 0 where
   pub names : List (Named P)
   pub declared : ℕ
-  pub limit : ℕ
   pub is_debugging : Bool
 
-abbrev pub no_names : {P : Type 0} → ℕ → Bool → Table P
-no_names limit debugging = record { names = []; declared = 0; limit = limit; is_debugging = debugging }
+abbrev pub no_names : {P : Type 0} → Bool → Table P
+no_names debugging = record { names = []; declared = 0; is_debugging = debugging }
 
 abbrev pub standing_of : {P : Type 0} → List ℕ → List (Named P) → Option (Standing P)
 standing_of key [] = None
@@ -69,8 +70,8 @@ abbrev pub found_in : {P : Type 0} → List ℕ → Table P → Found P
 found_in name t = found_as (system_meaning t.is_debugging name) (standing_of (folded name) t.names)
 
 -- whether there are as many names as there may be
-abbrev pub is_full : {P : Type 0} → Table P → Bool
-is_full t = nat_le t.limit (length t.names)
+abbrev pub is_full : {P : Type 0} → Limits → Table P → Bool
+is_full limits t = nat_le (limits setting.Symbols) (length t.names)
 
 -- why a name cannot be declared: it stands already, and then its place is told where it was declared; or it would be one more
 -- than there may be
@@ -80,8 +81,8 @@ declare_fault_by (found.Declared meaning place) full = Some (declaring.Present (
 declare_fault_by found.Used full = None
 declare_fault_by found.Unknown full = if full then Some declaring.Full else None
 
-abbrev pub declare_fault : {P : Type 0} → List ℕ → Table P → Option (DeclareFault P)
-declare_fault name t = declare_fault_by (found_in name t) (is_full t)
+abbrev pub declare_fault : {P : Type 0} → Limits → List ℕ → Table P → Option (DeclareFault P)
+declare_fault limits name t = declare_fault_by (found_in name t) (is_full limits t)
 
 -- what is refused by a fault, or where memory runs out
 abbrev pub declare_refusal : {P : Type 0} → Option (DeclareFault P) → DeclareFault P
@@ -98,8 +99,8 @@ abbrev pub refer_fault_by : {P : Type 0} → Found P → Bool → Option ReferFa
 refer_fault_by found.Unknown full = if full then Some referring.Full else None
 refer_fault_by other full = None
 
-abbrev pub refer_fault : {P : Type 0} → List ℕ → Table P → Option ReferFault
-refer_fault name t = refer_fault_by (found_in name t) (is_full t)
+abbrev pub refer_fault : {P : Type 0} → Limits → List ℕ → Table P → Option ReferFault
+refer_fault limits name t = refer_fault_by (found_in name t) (is_full limits t)
 
 abbrev pub refer_refusal : Option ReferFault → ReferFault
 refer_refusal None = referring.Memory

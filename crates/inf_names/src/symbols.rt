@@ -1,5 +1,5 @@
 //! The names that a source declares or uses.
-ghost use Rattle.std.specs.Prelude.{◌≡◌, ◌≤◌, ◌+◌, IfOk, OnOk, OnErr, MatchResult, None, Some, length, option_map, true};
+ghost use Rattle.std.specs.Prelude.{◌≡◌, ◌≤◌, ◌+◌, IfOk, OnOk, OnErr, MatchResult, None, Some, length, option_map};
 ghost use Rattle.inf_settings.specs.declared.setting.Setting.TheVariants as setting;
 
 use crate::hashing::NameHashing;
@@ -88,7 +88,7 @@ pub struct Symbols<P: Copy, B: Bounds> {
     is_debugging: bool,
     hashing: NameHashing,
     of: PhantomData<B>,
-    ghost is_allowed: { B.allows setting.Symbols limit ≡ true },
+    ghost is_most: { limit ≡ B.most setting.Symbols },
 }
 
 impl<P: Copy, B: Bounds> Model for Symbols<P, B> {
@@ -101,7 +101,6 @@ impl<P: Copy, B: Bounds> Model for Symbols<P, B> {
     ghost view = { λ s. record {
       names = map as_named s.entries.entries;
       declared = s.declared;
-      limit = s.limit;
       is_debugging =
           s.is_debugging;
     } };
@@ -125,11 +124,12 @@ impl<P: Copy, B: Bounds> Symbols<P, B> {
     ghost use Rattle.inf_names.specs.Symbols.{declare_fault, declare_refusal, declared_before, found_as, found_in, folded as key_of, is_full, meaning_in, no_names, number_among, number_of, refer_fault, refer_refusal, standing_at, standing_of, use_in, with_declared, with_used};
     ghost use Rattle.inf_names.specs.Entries.{standing};
 
-    /// No names, of which there may be so many. With debugging the language has the name `DEBUG` from the start. It takes no
+    /// No names, of which there may be so many as the type tells. With debugging the language has the name `DEBUG` from the start. It takes
+    /// no
     /// memory.
     pub fn new(alloc: Global, limit: u32, is_debugging: bool, hashing: NameHashing) -> Symbols<P, B>
-        requires { B.allows setting.Symbols limit ≡ true }
-        ensures { result ≡ no_names limit is_debugging }
+        requires { limit ≡ B.most setting.Symbols }
+        ensures { result ≡ no_names is_debugging }
     {
         Symbols {
             entries: IndexMap::with_hasher(alloc, hashing),
@@ -149,8 +149,7 @@ impl<P: Copy, B: Bounds> Symbols<P, B> {
     /// How many names were declared or used.
     pub fn len(&self) -> usize
         ensures count { result ≡ length self.now.names }
-        ensures within { result ≤ self.now.limit }
-        ensures allowed { B.allows setting.Symbols self.now.limit ≡ true }
+        ensures within { result ≤ B.most setting.Symbols }
     {
         self.entries.len()
     }
@@ -191,7 +190,7 @@ impl<P: Copy, B: Bounds> Symbols<P, B> {
         ensures ok { OnOk result (self.new ≡ with_declared name.now place meaning self.old) }
         ensures count { IfOk result (λ n. n ≡ self.old.declared + 1) }
         ensures err { OnErr result (self.new ≡ self.old) }
-        ensures fault { let fault = declare_fault name.now self.old in
+        ensures fault { let fault = declare_fault B.most name.now self.old in
             MatchResult result (λ _. fault ≡ None) (λ refused. refused ≡ declare_refusal fault) }
     {
         if let Some(fault) = self.declare_fault(name) {
@@ -212,7 +211,7 @@ impl<P: Copy, B: Bounds> Symbols<P, B> {
         ensures ok { OnOk result (self.new ≡ with_used name.now place self.old) }
         ensures number { IfOk result (λ n. n ≡ number_of name.now self.old) }
         ensures err { OnErr result (self.new ≡ self.old) }
-        ensures fault { let fault = refer_fault name.now self.old in
+        ensures fault { let fault = refer_fault B.most name.now self.old in
             MatchResult result (λ _. fault ≡ None) (λ refused. refused ≡ refer_refusal fault) }
     {
         let (_, number) = self.find_and_refer(name, place)?;
@@ -230,7 +229,7 @@ impl<P: Copy, B: Bounds> Symbols<P, B> {
         ensures found { IfOk result (λ r. r.0 ≡ found_in name.now self.old) }
         ensures number { IfOk result (λ r. r.1 ≡ number_of name.now self.old) }
         ensures err { OnErr result (self.new ≡ self.old) }
-        ensures fault { let fault = refer_fault name.now self.old in
+        ensures fault { let fault = refer_fault B.most name.now self.old in
             MatchResult result (λ _. fault ≡ None) (λ refused. refused ≡ refer_refusal fault) }
     {
         let key = Key::of(name);
@@ -318,7 +317,7 @@ impl<P: Copy, B: Bounds> Symbols<P, B> {
 
     /// Whether there are as many names as there may be.
     fn is_full(&self) -> bool
-        ensures { result ≡ is_full self.now }
+        ensures { result ≡ is_full B.most self.now }
     {
         self.len() >= self.limit as usize
     }
@@ -326,7 +325,7 @@ impl<P: Copy, B: Bounds> Symbols<P, B> {
     /// Why a name cannot be declared, but for want of memory.
     fn declare_fault(&self, name: &[u8]) -> Option<DeclareFault<P>>
         requires { length name.now ≤ 35 }
-        ensures { result ≡ declare_fault name.now self.now }
+        ensures { result ≡ declare_fault B.most name.now self.now }
     {
         match self.look(name) {
             Found::System(_) => Some(DeclareFault::Present(None)),

@@ -2,8 +2,33 @@
 use inf_names::hashing::NameHashing;
 use inf_names::meanings::Meaning;
 use inf_names::symbols::{DeclareFault, Found, LONGEST_NAME, ReferFault, Symbols};
-use inf_settings::bounds::Unbounded;
+use inf_settings::bounds::Bounds;
 use std::process::Abort;
+
+/// At most two of each, three, ten and a hundred.
+struct Two;
+
+impl Bounds for Two {
+    ghost most = { λ _. 2 };
+}
+
+struct Three;
+
+impl Bounds for Three {
+    ghost most = { λ _. 3 };
+}
+
+struct Ten;
+
+impl Bounds for Ten {
+    ghost most = { λ _. 10 };
+}
+
+struct Hundred;
+
+impl Bounds for Hundred {
+    ghost most = { λ _. 100 };
+}
 
 /// A file and a line.
 type Place = (u16, u32);
@@ -31,7 +56,7 @@ use Asked::*;
 use Held::*;
 
 /// Asks about a name.
-fn ask(rt: &impl Abort, symbols: &mut Symbols<Place, Unbounded>, name: &[u8], asked: &Asked) {
+fn ask<B: Bounds>(rt: &impl Abort, symbols: &mut Symbols<Place, B>, name: &[u8], asked: &Asked) {
     assert!(rt; name.len() <= LONGEST_NAME);
     let holds = match asked {
         Declare(place, meaning, wanted) => symbols.declare(name, *place, *meaning) == *wanted,
@@ -43,14 +68,14 @@ fn ask(rt: &impl Abort, symbols: &mut Symbols<Place, Unbounded>, name: &[u8], as
 }
 
 /// Asks these in turn.
-fn ask_all(rt: &impl Abort, symbols: &mut Symbols<Place, Unbounded>, rows: &[(&str, Asked)]) {
+fn ask_all<B: Bounds>(rt: &impl Abort, symbols: &mut Symbols<Place, B>, rows: &[(&str, Asked)]) {
     for (name, asked) in rows {
         ask(rt, symbols, name.as_bytes(), asked);
     }
 }
 
 /// Asserts these of the names.
-fn hold_all(rt: &impl Abort, symbols: &Symbols<Place, Unbounded>, rows: &[Held]) {
+fn hold_all<B: Bounds>(rt: &impl Abort, symbols: &Symbols<Place, B>, rows: &[Held]) {
     for (row, held) in rows.iter().enumerate() {
         let holds = match held {
             NoUse(number) => symbols.use_at(*number).is_none(),
@@ -71,7 +96,7 @@ const COUNTED: [(&str, Asked); 4] = [
 
 #[test]
 fn counts_what_is_declared(rt: HostRuntime) {
-    let mut symbols: Symbols<Place, Unbounded> = Symbols::new(
+    let mut symbols: Symbols<Place, Ten> = Symbols::new(
         rt.alloc(),
         10,
         false,
@@ -101,7 +126,7 @@ const DECLARED_AGAIN: [(&str, Asked); 7] = [
 
 #[test]
 fn finds_the_first_declaration(rt: HostRuntime) {
-    let mut symbols: Symbols<Place, Unbounded> = Symbols::new(
+    let mut symbols: Symbols<Place, Ten> = Symbols::new(
         rt.alloc(),
         10,
         false,
@@ -134,7 +159,7 @@ const HELD_IN_ORDER: [Held; 5] = [
 
 #[test]
 fn keeps_the_first_uses_in_order(rt: HostRuntime) {
-    let mut symbols: Symbols<Place, Unbounded> = Symbols::new(
+    let mut symbols: Symbols<Place, Ten> = Symbols::new(
         rt.alloc(),
         10,
         false,
@@ -155,7 +180,7 @@ const DECLARED_IN_ORDER: [(&str, Asked); 4] = [
 /// Where there are several declarations, a name is there from its own on.
 #[test]
 fn tells_what_was_declared_before(rt: HostRuntime) {
-    let mut symbols: Symbols<Place, Unbounded> = Symbols::new(
+    let mut symbols: Symbols<Place, Ten> = Symbols::new(
         rt.alloc(),
         10,
         false,
@@ -194,7 +219,7 @@ const LIMITED: [(&str, Asked); 9] = [
 
 #[test]
 fn has_a_limit(rt: HostRuntime) {
-    let mut symbols: Symbols<Place, Unbounded> = Symbols::new(
+    let mut symbols: Symbols<Place, Two> = Symbols::new(
         rt.alloc(),
         2,
         false,
@@ -207,7 +232,7 @@ fn has_a_limit(rt: HostRuntime) {
 /// Names of which only the last letter is another.
 #[test]
 fn takes_the_longest_name(rt: HostRuntime) {
-    let mut symbols: Symbols<Place, Unbounded> = Symbols::new(
+    let mut symbols: Symbols<Place, Three> = Symbols::new(
         rt.alloc(),
         3,
         false,
@@ -221,7 +246,7 @@ fn takes_the_longest_name(rt: HostRuntime) {
 }
 
 /// Declares or uses the name of a line. Answers whether its growth was refused.
-fn is_refused(symbols: &mut Symbols<Place, Unbounded>, name: &[u8; 2], line: u32) -> bool {
+fn is_refused<B: Bounds>(symbols: &mut Symbols<Place, B>, name: &[u8; 2], line: u32) -> bool {
     if line % 3 == 0 {
         matches!(symbols.refer(name, (0, line)), Err(ReferFault::Memory))
     } else {
@@ -233,7 +258,7 @@ fn is_refused(symbols: &mut Symbols<Place, Unbounded>, name: &[u8; 2], line: u32
 /// Each growth refused in turn leaves the names as they were.
 #[test]
 fn refused_growths_change_nothing(rt: HostRuntime) {
-    let mut symbols: Symbols<Place, Unbounded> = Symbols::new(
+    let mut symbols: Symbols<Place, Hundred> = Symbols::new(
         rt.alloc(),
         100,
         false,

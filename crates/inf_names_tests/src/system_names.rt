@@ -3,7 +3,7 @@ use inf_names::hashing::NameHashing;
 use inf_names::meanings::{Function, Meaning};
 use inf_names::symbols::{DeclareFault, Found, LONGEST_NAME, Symbols};
 use inf_names::system_names::system_meaning;
-use inf_settings::bounds::Unbounded;
+use inf_settings::bounds::Bounds;
 use std::process::Abort;
 
 /// Names and what they stand for, as the manual of the language lists them.
@@ -37,8 +37,15 @@ const LISTED: [(&str, Meaning); 21] = [
     ("temp_global", Meaning::Variable(255)),
 ];
 
+/// At most five of each.
+struct Five;
+
+impl Bounds for Five {
+    ghost most = { λ _. 5 };
+}
+
 /// Nothing that is asked about this name of the language changes what it stands for.
-fn stays(rt: &impl Abort, symbols: &mut Symbols<u32, Unbounded>, name: &[u8], meaning: Meaning) {
+fn stays(rt: &impl Abort, symbols: &mut Symbols<u32, Five>, name: &[u8], meaning: Meaning) {
     assert!(rt; name.len() <= LONGEST_NAME);
     assert!(rt; symbols.declared_before(name, 0));
     let declared = symbols.declare(name, 1, Meaning::Number(7));
@@ -49,12 +56,7 @@ fn stays(rt: &impl Abort, symbols: &mut Symbols<u32, Unbounded>, name: &[u8], me
 
 #[test]
 fn has_the_listed_names(rt: HostRuntime) {
-    let mut symbols: Symbols<u32, Unbounded> = Symbols::new(
-        rt.alloc(),
-        5,
-        false,
-        NameHashing::new(b""),
-    );
+    let mut symbols: Symbols<u32, Five> = Symbols::new(rt.alloc(), 5, false, NameHashing::new(b""));
     for (name, meaning) in LISTED {
         let name = name.as_bytes();
         assert_eq!(rt; system_meaning(name, false), Some(meaning));
@@ -82,13 +84,8 @@ fn finds_them_in_any_case_and_debug_where_it_is_asked_for(rt: HostRuntime) {
 
 #[test]
 fn symbols_have_debug_where_it_is_asked_for(rt: HostRuntime) {
-    let with: Symbols<u32, Unbounded> = Symbols::new(rt.alloc(), 5, true, NameHashing::new(b""));
+    let with: Symbols<u32, Five> = Symbols::new(rt.alloc(), 5, true, NameHashing::new(b""));
     assert_eq!(rt; with.look(b"debug"), Found::System(Meaning::Number(0)));
-    let without: Symbols<u32, Unbounded> = Symbols::new(
-        rt.alloc(),
-        5,
-        false,
-        NameHashing::new(b""),
-    );
+    let without: Symbols<u32, Five> = Symbols::new(rt.alloc(), 5, false, NameHashing::new(b""));
     assert_eq!(rt; without.look(b"debug"), Found::Unknown);
 }

@@ -1,5 +1,6 @@
 -- What is written up to the end of a compilation, or up to where it was given up.
 use Rattle.std.proofs.Common.{◌≡◌, ◌⊎◌, ℕ, zero, ◌+◌, ◌-◌, ◌<◌, ◌≤◌, List, [], ◌∷◌, ◌++◌, length, length-append, map, min, reverse, get_or, unwrap_or, cond, drop, Bool, true, false, Option, Some, None, arith, Result, Ok, Err, IfOk, IfErr, OnErr, inl, inr, refl, sym, ap, subst, ◌∙◌, append_assoc}
+use Rattle.inf_settings.specs.Bounds.{limits_of, Limits}
 use Rattle.inf_files.specs.Files.{Opening, Openings, Sources, last_count, opened}
 use Rattle.inf_files.specs.declared.files.Files.{Ghosts as Files}
 use Rattle.inf_characters.specs.declared.characters.CharSet.{CharSet}
@@ -36,18 +37,19 @@ front_behind : (xs ys zs : List ℕ) → IsFront ys zs → IsFront (xs ++ ys) (x
 front_behind xs ys zs f = record { rest = f.rest; is_cut = ap (λ l. xs ++ l) f.is_cut ∙ sym (append_assoc xs ys f.rest) }
 
 -- behind reading to the end, the ending's messages were written
-pub concludes : (sources : Sources) (o : Choices) (serial : List ℕ) (was now : List ℕ → State) (start after : Openings) (f : Open)
+pub concludes : (limits : Limits) (sources : Sources) (o : Choices) (serial : List ℕ) (was now : List ℕ → State) (start after : Openings)
+    (f : Open)
     (old mid new : Option (List ℕ)) (turns : ℕ) (c : Compiled)
-    → Writes (run sources o turns) was now old mid → ((told : List ℕ) → has_ended (now told) ≡ true) →
+    → Writes (run limits sources o turns) was now old mid → ((told : List ℕ) → has_ended (now told) ≡ true) →
     ((told : List ℕ) → (now told).told ≡ told)
     → IsNested start after f → ((told : List ℕ) → (now told).nesting ≡ nesting sources start after f)
-    → ((told : List ℕ) → Delivers (finished serial (now told).nesting.names (now told).work) c mid new)
-    → Concludes sources o serial (was []) start after f old new c
-concludes sources o serial was now start after f old mid new turns c w over told_is nested files d = record {
+    → ((told : List ℕ) → Delivers (finished limits serial (now told).nesting.names (now told).work) c mid new)
+    → Concludes limits sources o serial (was []) start after f old new c
+concludes limits sources o serial was now start after f old mid new turns c w over told_is nested files d = record {
   final = now w.lines;
   is_read = record { turns = turns; leads = sym (w.same []); ends = over w.lines };
   delivers = record {
-    messages = takes_then old mid new (now w.lines).told (finished serial (now w.lines).nesting.names (now w.lines).work).messages
+    messages = takes_then old mid new (now w.lines).told (finished limits serial (now w.lines).nesting.names (now w.lines).work).messages
         (subst (λ l. Takes old mid l) (sym (told_is w.lines)) w.takes) (d w.lines).messages;
     story = (d w.lines).story;
     status = (d w.lines).status;
@@ -57,41 +59,45 @@ concludes sources o serial was now start after f old mid new turns c w over told
 }
 
 -- reading was given up
-pub stops_reading : (sources : Sources) (o : Choices) (serial : List ℕ) (was : List ℕ → State) (old new : Option (List ℕ)) (turns : ℕ)
-    → CutsShort (run sources o turns) was old new → Stops sources o serial (was []) old new
-stops_reading sources o serial was old new turns cut = record {
+pub stops_reading : (limits : Limits) (sources : Sources) (o : Choices) (serial : List ℕ) (was : List ℕ → State) (old new : Option (List ℕ))
+    (turns : ℕ)
+    → CutsShort (run limits sources o turns) was old new → Stops limits sources o serial (was []) old new
+stops_reading limits sources o serial was old new turns cut = record {
   front = cut.front;
   takes = cut.takes;
   begins = λ final read.
       let s = was [] in
-      let some : IsFront (run sources o turns s).told final.told =
-      subst (λ (t : State). IsFront (run sources o turns s).told t.told) read.leads
-      (end_begins sources o turns read.turns s (ap has_ended read.leads ∙ read.ends)) in
-      front_then cut.front final.told (ending_of serial final).messages
-      (front_then cut.front (run sources o turns s).told final.told (cut.begins []) some)
-      (front_more final.told (finished serial final.nesting.names final.work).messages);
+      let some : IsFront (run limits sources o turns s).told final.told =
+      subst (λ (t : State). IsFront (run limits sources o turns s).told t.told) read.leads
+      (end_begins limits sources o turns read.turns s (ap has_ended read.leads ∙ read.ends)) in
+      front_then cut.front final.told (ending_of limits serial final).messages
+      (front_then cut.front (run limits sources o turns s).told final.told (cut.begins []) some)
+      (front_more final.told (finished limits serial final.nesting.names final.work).messages);
 }
 
 -- all was read, and the last messages were not all written
-pub stops_ending : (sources : Sources) (o : Choices) (serial : List ℕ) (was now : List ℕ → State) (old mid new : Option (List ℕ))
+pub stops_ending : (limits : Limits) (sources : Sources) (o : Choices) (serial : List ℕ) (was now : List ℕ → State)
+    (old mid new : Option (List ℕ))
     (turns : ℕ)
-    → Writes (run sources o turns) was now old mid → ((told : List ℕ) → has_ended (now told) ≡ true) →
+    → Writes (run limits sources o turns) was now old mid → ((told : List ℕ) → has_ended (now told) ≡ true) →
     ((told : List ℕ) → (now told).told ≡ told)
-    → ((told : List ℕ) → TakesFront (finished serial (now told).nesting.names (now told).work).messages mid new) → Stops sources o serial
+    → ((told : List ℕ) → TakesFront (finished limits serial (now told).nesting.names (now told).work).messages mid new) → Stops limits
+    sources o serial
     (was []) old new
-stops_ending sources o serial was now old mid new turns w over told_is t = record {
+stops_ending limits sources o serial was now old mid new turns w over told_is t = record {
   front = w.lines ++ (t w.lines).front;
   takes = takes_then old mid new w.lines (t w.lines).front w.takes (t w.lines).takes;
   begins = λ final read.
       let s = was [] in
-      let here : run sources o turns s ≡ now w.lines = sym (w.same []) in
+      let here : run limits sources o turns s ≡ now w.lines = sym (w.same []) in
       let same : now w.lines ≡ final =
-      sym here ∙ same_end sources o turns read.turns s (ap has_ended here ∙ over w.lines) (ap has_ended read.leads ∙ read.ends)
+      sym here ∙ same_end limits sources o turns read.turns s (ap has_ended here ∙ over w.lines) (ap has_ended read.leads ∙ read.ends)
       ∙ read.leads in
-      subst (λ (x : State). IsFront (w.lines ++ (t w.lines).front) (ending_of serial x).messages) same
-      (subst (λ l. IsFront (w.lines ++ (t w.lines).front) (l ++ (finished serial (now w.lines).nesting.names (now w.lines).work).messages))
+      subst (λ (x : State). IsFront (w.lines ++ (t w.lines).front) (ending_of limits serial x).messages) same
+      (subst (λ l. IsFront (w.lines ++ (t w.lines).front)
+      (l ++ (finished limits serial (now w.lines).nesting.names (now w.lines).work).messages))
       (sym (told_is w.lines))
-      (front_behind w.lines (t w.lines).front (finished serial (now w.lines).nesting.names (now w.lines).work).messages
+      (front_behind w.lines (t w.lines).front (finished limits serial (now w.lines).nesting.names (now w.lines).work).messages
       (t w.lines).begins));
 }
 
@@ -207,17 +213,18 @@ pub comes_of : (s : Sources) (o : Choices) (serial name : List ℕ) (old now new
     (before after : Option (List ℕ)) (c : Compiled)
     → (s name ≡ None → ⊥) → was ≡ start s o name → new ≡ closed_to old now → AllGiven s (length old.all) now f → Each Fits (length old.all)
     now.all
-    → Concludes s o serial was old now f before after c → Comes s o serial name old new before after c
+    → Concludes (limits_of o.settings) s o serial was old now f before after c → Comes s o serial name old new before after c
 comes_of s o serial name old now new f was before after c there begun closed given fit k =
     let n : ℕ = length old.all in
-    let read : IsRead s o (start s o name) k.final = subst (λ (x : State). IsRead s o x k.final) begun k.is_read in
+    let read : IsRead (limits_of o.settings) s o (start s o name) k.final =
+    subst (λ (x : State). IsRead (limits_of o.settings) s o x k.final) begun k.is_read in
     let all : new.all ≡ now.all = ap (λ (p : Openings). p.all) closed in
     let at : AreAt n (length now.all) f.nest.names now.all (reverse now.open_places) (numbers_of (nesting s old now f)) =
     subst (λ (fs : List ℕ). AreAt n (length now.all) f.nest.names now.all (reverse now.open_places) fs)
     (sym (files_are s old now f k.nested)) (at_all s old now f k.nested given) in
     record {
-      ending = ending_of serial k.final;
-      is_outcome = outcome_of (s name) s o serial name (ending_of serial k.final) there
+      ending = ending_of (limits_of o.settings) serial k.final;
+      is_outcome = outcome_of (s name) s o serial name (ending_of (limits_of o.settings) serial k.final) there
           (record { final = k.final; is_read = read; is_ending = refl });
       delivers = k.delivers;
       opened = opened_of (s name) s o name old new there (record {
@@ -238,14 +245,15 @@ comes_of s o serial name old now new f was before after c there begun closed giv
     }
 
 pub begins_of : (s : Sources) (o : Choices) (serial name : List ℕ) (was : State) (before after : Option (List ℕ))
-    → (s name ≡ None → ⊥) → was ≡ start s o name → Stops s o serial was before after → Begins s o serial name before after
+    → (s name ≡ None → ⊥) → was ≡ start s o name → Stops (limits_of o.settings) s o serial was before after → Begins s o serial name before
+    after
 begins_of s o serial name was before after there begun k = record {
   front = k.front;
   takes = k.takes;
   begins = λ e outcome.
       let c = compiled_of (s name) s o serial name e there outcome in
       subst (λ (x : Outcome). IsFront k.front x.messages) (sym c.is_ending)
-      (k.begins c.final (subst (λ (x : State). IsRead s o x c.final) (sym begun) c.is_read));
+      (k.begins c.final (subst (λ (x : State). IsRead (limits_of o.settings) s o x c.final) (sym begun) c.is_read));
 }
 
 -- a session at the front of the main source
@@ -270,7 +278,8 @@ begun_is s o name old now x files at going none unquoted =
 
 -- nothing was given of a file at its front
 pub none_given : (set : CharSet) (limit : ℕ) (f : Open) → (f.lexer ≡ at_front set limit 0) × (f.outer ≡ []) → given_all f ≡ 0
-none_given set limit f front = omega (arith, ap (λ (r : Reader). r.window.given) front.0, ap (λ (fs : List OpenFile). given_to (lexers_of fs)) front.1)
+none_given set limit f front =
+    omega (arith, ap (λ (r : Reader). r.window.given) front.0, ap (λ (fs : List OpenFile). given_to (lexers_of fs)) front.1)
 
 -- A file was not read, between the moment when the main source was entered and that when all were closed.
 pub unread_by : {S : Type 0} (f : Files S) (first entered read last : S) (main now : Open) → Kept f first entered →
@@ -319,58 +328,65 @@ stops_reading_of failed s t old now new f told all nested given h =
       name_is = h.name_is;
     }
 
-stops_of : (failed : Type 0) (s : Sources) (o : Choices) (t : State) (old now new : Openings) (f : Open) (told : List ℕ) →
+stops_of : (limits : Limits) (failed : Type 0) (s : Sources) (o : Choices) (t : State) (old now new : Openings) (f : Open) (told : List ℕ) →
     new.all ≡ now.all → IsNested old now f
-    → AllGiven s (length old.all) now f → StopsFor failed s o t old now f told
-    → StopsReading failed s t old new told ⊎ StopsAtInclusion failed s o (stepped o t) (opened_since old new) told
-stops_of failed s o t old now new f told all nested given (inl h) = inl (stops_reading_of failed s t old now new f told all nested given h)
-stops_of failed s o t old now new f told all nested given (inr h) =
-    inr (subst (λ (names : List (List ℕ)). StopsAtInclusion failed s o (stepped o t) names told)
+    → AllGiven s (length old.all) now f → StopsFor limits failed s o t old now f told
+    → StopsReading failed s t old new told ⊎ StopsAtInclusion failed s o (stepped limits o t) (opened_since old new) told
+stops_of limits failed s o t old now new f told all nested given (inl h) =
+    inl (stops_reading_of failed s t old now new f told all nested given h)
+stops_of limits failed s o t old now new f told all nested given (inr h) =
+    inr (subst (λ (names : List (List ℕ)). StopsAtInclusion failed s o (stepped limits o t) names told)
     (ap (λ (xs : List Opening). map (λ (q : Opening). q.name) (drop (length old.all) xs)) (sym all)) h)
 
 -- all was written that comes with some turns
 heard_of : (failed : Type 0) (s : Sources) (o : Choices) (name : List ℕ) (was : List ℕ → State) (old now new : Openings) (f : Open)
     (before after : Option (List ℕ)) (told : List ℕ)
-    → was [] ≡ start s o name → new.all ≡ now.all → IsNested old now f → AllGiven s (length old.all) now f → GivenUp failed s o was before
+    → was [] ≡ start s o name → new.all ≡ now.all → IsNested old now f → AllGiven s (length old.all) now f → GivenUp (limits_of o.settings)
+    failed s o was before
     after old now f told
     → Heard failed s o name old new before after told
 heard_of failed s o name was old now new f before after told begun all nested given g = inr (record {
   turns = g.turns;
-  takes = subst (λ (x : State). Takes before after (run s o g.turns x).told) begun
+  takes = subst (λ (x : State). Takes before after (run (limits_of o.settings) s o g.turns x).told) begun
       (subst (λ (lines : List ℕ). Takes before after lines) (sym (g.wrote.same [])) g.wrote.takes);
-  goes_on = ap (λ (x : State). has_ended (run s o g.turns x)) (sym begun) ∙ g.goes_on [];
-  stops = subst (λ (x : State). StopsReading failed s (run s o g.turns x) old new told ⊎ StopsAtInclusion failed s o
-      (stepped o (run s o g.turns x)) (opened_since old new) told) begun
-      (stops_of failed s o (run s o g.turns (was [])) old now new f told all nested given (g.stops []));
+  goes_on = ap (λ (x : State). has_ended (run (limits_of o.settings) s o g.turns x)) (sym begun) ∙ g.goes_on [];
+  stops = subst (λ (x : State). StopsReading failed s (run (limits_of o.settings) s o g.turns x) old new told ⊎ StopsAtInclusion failed s o
+      (stepped (limits_of o.settings) o (run (limits_of o.settings) s o g.turns x)) (opened_since old new) told) begun
+      (stops_of (limits_of o.settings) failed s o (run (limits_of o.settings) s o g.turns (was [])) old now new f told all nested given
+      (g.stops []));
 })
 
 pub heard_from : {T : Type 0} (r : Result T Fault) (failed : Type 0) (s : Sources) (o : Choices) (name : List ℕ) (was : List ℕ → State)
     (old now new : Openings) (f : Open)
     (before after : Option (List ℕ)) → was [] ≡ start s o name → new.all ≡ now.all → IsNested old now f → AllGiven s (length old.all) now f
-    → IfErr r (λ x. IfRead x (λ told. GivenUp failed s o was before after old now f told)) → IfErr r
+    → IfErr r (λ x. IfRead x (λ told. GivenUp (limits_of o.settings) failed s o was before after old now f told)) → IfErr r
     (λ x. IfRead x (λ told. Heard failed s o name old new before after told))
 heard_from r failed s o name was old now new f before after begun all nested given g =
-    if_read_more r (λ told. GivenUp failed s o was before after old now f told) (λ told. Heard failed s o name old new before after told)
+    if_read_more r (λ told. GivenUp (limits_of o.settings) failed s o was before after old now f told)
+    (λ told. Heard failed s o name old new before after told)
     (λ told h. heard_of failed s o name was old now new f before after told begun all nested given h) g
 
 -- the cause lies between later moments
-given_up_more : (failed more : Type 0) (s : Sources) (o : Choices) (was : List ℕ → State) (old new : Option (List ℕ)) (start now : Openings)
+given_up_more : (limits : Limits) (failed more : Type 0) (s : Sources) (o : Choices) (was : List ℕ → State) (old new : Option (List ℕ))
+    (start now : Openings)
     (f : Open) (told : List ℕ) → (failed → more)
-    → GivenUp failed s o was old new start now f told → GivenUp more s o was old new start now f told
-given_up_more failed more s o was old new start now f told later g = record {
+    → GivenUp limits failed s o was old new start now f told → GivenUp limits more s o was old new start now f told
+given_up_more limits failed more s o was old new start now f told later g = record {
   turns = g.turns;
   wrote = g.wrote;
   goes_on = g.goes_on;
-  stops = λ lines. stops_more failed more s o (run s o g.turns (was lines)) start now f told later (g.stops lines);
+  stops = λ lines. stops_more limits failed more s o (run limits s o g.turns (was lines)) start now f told later (g.stops lines);
 }
 
-pub given_up_between : {T : Type 0} (r : Result T Fault) (failed more : Type 0) (s : Sources) (o : Choices) (was : List ℕ → State)
+pub given_up_between : {T : Type 0} (limits : Limits) (r : Result T Fault) (failed more : Type 0) (s : Sources) (o : Choices)
+    (was : List ℕ → State)
     (old new : Option (List ℕ)) (start now : Openings) (f : Open)
-    → (failed → more) → IfErr r (λ x. IfRead x (λ told. GivenUp failed s o was old new start now f told)) → IfErr r
-    (λ x. IfRead x (λ told. GivenUp more s o was old new start now f told))
-given_up_between r failed more s o was old new start now f later g =
-    if_read_more r (λ told. GivenUp failed s o was old new start now f told) (λ told. GivenUp more s o was old new start now f told)
-    (λ told h. given_up_more failed more s o was old new start now f told later h) g
+    → (failed → more) → IfErr r (λ x. IfRead x (λ told. GivenUp limits failed s o was old new start now f told)) → IfErr r
+    (λ x. IfRead x (λ told. GivenUp limits more s o was old new start now f told))
+given_up_between limits r failed more s o was old new start now f later g =
+    if_read_more r (λ told. GivenUp limits failed s o was old new start now f told)
+    (λ told. GivenUp limits more s o was old new start now f told)
+    (λ told h. given_up_more limits failed more s o was old new start now f told later h) g
 
 -- before the first turn nothing is
 pub heard_none : (failed : Type 0) (s : Sources) (o : Choices) (name : List ℕ) (old new : Openings) (before after : Option (List ℕ))
@@ -387,11 +403,14 @@ heard_none failed s o name old new before after told cause same e is =
 -- what was opened where reading was given up
 pub opened_some : (s : Sources) (o : Choices) (name : List ℕ) (old now new : Openings) (f : Open) (was : List ℕ → State) (turns : ℕ) →
     was [] ≡ start s o name
-    → new ≡ closed_to old now → AllGiven s (length old.all) now f → OpensAll (run s o turns) was (opened_since old now) → OpenedSome s o
+    → new ≡ closed_to old now → AllGiven s (length old.all) now f → OpensAll (run (limits_of o.settings) s o turns) was
+    (opened_since old now) → OpenedSome s o
     name old new
 opened_some s o name old now new f was turns begun closed given h = record {
   turns = turns;
-  names = ap (λ (p : Openings). opened_since old p) closed ∙ h [] ∙ ap (λ (x : State). (run s o turns x).nesting.openings) begun;
+  names =
+      ap (λ (p : Openings). opened_since old p) closed ∙ h []
+      ∙ ap (λ (x : State). (run (limits_of o.settings) s o turns x).nesting.openings) begun;
   closed = ap (λ (p : Openings). p.open_places) closed;
   each = subst (λ (p : Openings). Each (IsFrontOf s) (length old.all) p.all) (sym closed) given.each;
 }

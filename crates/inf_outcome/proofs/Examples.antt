@@ -25,7 +25,6 @@ use Rattle.inf_story.proofs.Told.{story_tells}
 use Rattle.inf_link.specs.declared.areas.Areas.{Areas}
 use Rattle.inf_objects.specs.Attributes.{attribute_cells, flag_byte, no_attributes}
 use Rattle.inf_objects.specs.Tables.{all_falling}
-use Rattle.inf_settings.specs.Settings.{defaults}
 use Rattle.inf_tables.specs.Tables.{more, no_tables}
 use Rattle.inf_world.specs.Areas.{first_names}
 use Rattle.inf_outcome.specs.Examples.{ConditionalsChoose, ConditionsChoose, EmptySource, FilesAreIncluded, HelloIsAStory, NamesAreUndeclared, NoSource, SixteenAreOpen, TextIsMissing}
@@ -93,16 +92,16 @@ abbrev fields : List ℕ → HeaderFields
 fields serial = record { release = 1; serial = serial; scale = scale.Four }
 
 abbrev hello : List ℕ → List ℕ
-hello serial = story (fields serial) 8 (value.Later (target.Place area.Code 8) ∷ []) hello_code [] (no_tables defaults)
+hello serial = story (fields serial) 8 (value.Later (target.Place area.Code 8) ∷ []) hello_code [] no_tables
 
 plain_size : (map_of (cells_sizes (plain.plain_areas 8 hello_code [])) scale.Four).end ≡ 976
 unfolding packed longest character_zs tables.three_spaces tables.abbreviations plain.property_defaults plain.objects plain.property_tables
     plain.class_numbers plain.globals plain.dictionary
 plain_size = refl
 
-hello_size : (map_of (cells_sizes (tables.areas 8 hello_code [] (no_tables defaults))) scale.Four).end ≡ 976
+hello_size : (map_of (cells_sizes (tables.areas 8 hello_code [] no_tables)) scale.Four).end ≡ 976
 hello_size =
-    ap (λ (cells : Areas (List Cell)). (map_of (cells_sizes cells) scale.Four).end) (tables_are_plain defaults 8 hello_code []) ∙ plain_size
+    ap (λ (cells : Areas (List Cell)). (map_of (cells_sizes cells) scale.Four).end) (tables_are_plain 8 hello_code []) ∙ plain_size
 
 pub hello_is_a_story : HelloIsAStory
 unfolding digits more text_of piece_at escape_piece spelled spellings zscii_of zscii_of_unicode accented packed longest character_zs
@@ -110,7 +109,7 @@ unfolding digits more text_of piece_at escape_piece spelled spellings zscii_of z
     statements.statement_in effects.statement_laid effects.statement_finding work_parts.part_effect language.grammar language.known atoms.keyword_of words.keywords
     system.system_names too_long tables.three_spaces tables.abbreviations first_names no_attributes attribute_cells flag_byte all_falling
 hello_is_a_story serial six =
-    let says = story_tells (fields serial) 8 (value.Later (target.Place area.Code 8) ∷ []) hello_code [] (no_tables defaults) six in
+    let says = story_tells (fields serial) 8 (value.Later (target.Place area.Code 8) ∷ []) hello_code [] no_tables six in
     let size : length (hello serial) ≡ 976 = says.as_mapped ∙ hello_size in
     record {
       story = hello serial;

@@ -1,5 +1,6 @@
 -- One outcome.
 use Rattle.std.proofs.Common.{◌≡◌, ℕ, List, Option, Some, None, sym, ap, ◌∙◌}
+use Rattle.inf_settings.specs.Bounds.{limits_of}
 use Rattle.inf_files.specs.Files.{Sources}
 use Rattle.inf_session.specs.Choices.{Choices}
 use Rattle.inf_outcome.specs.OutcomeLaws.{OutcomesAreUnique}
@@ -13,10 +14,10 @@ same_final : (s : Sources) (o : Choices) (serial name : List ℕ) (e f : Outcome
 same_final s o serial name e f a b =
     let final : a.final ≡ b.final =
     sym a.is_read.leads
-    ∙ same_end s o a.is_read.turns b.is_read.turns (start s o name) (ap has_ended a.is_read.leads ∙ a.is_read.ends)
+    ∙ same_end (limits_of o.settings) s o a.is_read.turns b.is_read.turns (start s o name) (ap has_ended a.is_read.leads ∙ a.is_read.ends)
     (ap has_ended b.is_read.leads ∙ b.is_read.ends)
     ∙ b.is_read.leads in
-    a.is_ending ∙ ap (λ (x : State). ending_of serial x) final ∙ sym b.is_ending
+    a.is_ending ∙ ap (λ (x : State). ending_of (limits_of o.settings) serial x) final ∙ sym b.is_ending
 
 same_outcome : (x : Option (List ℕ)) (s : Sources) (o : Choices) (serial name : List ℕ) (e f : Outcome) → IsOutcomeOf x s o serial name e →
     IsOutcomeOf x s o serial name f → e ≡ f

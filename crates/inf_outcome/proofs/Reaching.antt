@@ -3,6 +3,7 @@
 -- no more than sixteen are open.
 use Rattle.std.proofs.Common.{◌≡◌, ◌⊎◌, inl, inr, ℕ, zero, suc, ◌+◌, ◌<◌, ◌≤◌, ◌||◌, List, [], ◌∷◌, length, Bool, true, false, not, nat_le, cond, Option, Some, None, refl, sym, ap, subst, ◌∙◌, arith}
 use Rattle.std.proofs.lemmas.Bool.{leb-false}
+use Rattle.inf_settings.specs.Bounds.{limits_of, Limits}
 use Rattle.inf_scanner.proofs.TokenLaws.{tokens_take_bytes}
 use Rattle.inf_scanner.specs.declared.tokens.Place.{Place}
 use Rattle.inf_files.specs.Files.{Sources}
@@ -30,8 +31,10 @@ use Rattle.inf_outcome.specs.OutcomeLaws.{OutcomesExist}
 -- Where it does not end reading, it takes something of the innermost file, leaves it, or enters another one behind taking something.
 data Moves (was now : Nesting) : Type 0 where
   Stays : now.waiting ≡ was.waiting → length now.cursor.rest < length was.cursor.rest → Moves was now
-  Leaves : (w : Waiting) (waiting : List Waiting) → was.waiting ≡ w ∷ waiting → now.cursor ≡ w.cursor → now.waiting ≡ waiting → Moves was now
-  Enters : (w : Waiting) → now.waiting ≡ w ∷ was.waiting → length w.cursor.rest < length was.cursor.rest → length was.waiting < 15 → Moves was now
+  Leaves : (w : Waiting) (waiting : List Waiting) → was.waiting ≡ w ∷ waiting → now.cursor ≡ w.cursor → now.waiting ≡ waiting →
+      Moves was now
+  Enters : (w : Waiting) → now.waiting ≡ w ∷ was.waiting → length w.cursor.rest < length was.cursor.rest → length was.waiting < 15 →
+      Moves was now
 
 abbrev Goes : Nesting → State → Type 0
 Goes was t = (has_ended t ≡ true) ⊎ Moves was t.nesting
@@ -116,24 +119,27 @@ rested_goes was s g =
     ]) (λ _. g))
 
 -- a token takes something, or is the end of its file, and ends it
-stepped_takes : (o : Choices) (s : State) →
-    (is_mode_ended (stepped o s).reading.mode ≡ true) ⊎ (length (stepped o s).nesting.cursor.rest < length s.nesting.cursor.rest)
-stepped_takes o s =
+stepped_takes : (limits : Limits) (o : Choices) (s : State) →
+    (is_mode_ended (stepped limits o s).reading.mode ≡ true) ⊎
+    (length (stepped limits o s).nesting.cursor.rest < length s.nesting.cursor.rest)
+stepped_takes limits o s =
     let c = s.nesting.cursor in
     let t = token_of s in
     let b = judged (site_of s.reading) s.work.output t s.conditions in
     elim (tokens_take_bytes c.set c.limit c.lines c.rest).one as
-    (λ _. (is_mode_ended (stepped o s).reading.mode ≡ true) ⊎ (length (stepped o s).nesting.cursor.rest < length s.nesting.cursor.rest)) [
-      | inl end ↦ inl (end_ends (context_of o s) t.kind t.bytes t.place t.is_class s.work.output s.conditions
-          (said_told b.now.said (context_of o s) (stand_of s)) (site_of s.reading)
+    (λ _. (is_mode_ended (stepped limits o s).reading.mode ≡ true) ⊎
+    (length (stepped limits o s).nesting.cursor.rest < length s.nesting.cursor.rest)) [
+      | inl end ↦ inl (end_ends limits (context_of o s) t.kind t.bytes t.place t.is_class s.work.output s.conditions
+          (said_told limits b.now.said (context_of o s) (stand_of s)) (site_of s.reading)
           b.now b.judged refl end)
       | inr less ↦ inr less
     ]
 
-turn_goes : (sources : Sources) (o : Choices) (s : State) → Goes s.nesting (turn sources o s)
-turn_goes sources o s =
-    elim (rested_goes s.nesting (carried_out sources o (stepped o s))
-    (carried_out_goes s.nesting sources o (stepped o s) refl (stepped_takes o s))) as (λ _. Goes s.nesting (turn sources o s)) [
+turn_goes : (limits : Limits) (sources : Sources) (o : Choices) (s : State) → Goes s.nesting (turn limits sources o s)
+turn_goes limits sources o s =
+    elim (rested_goes s.nesting (carried_out sources o (stepped limits o s))
+    (carried_out_goes s.nesting sources o (stepped limits o s) refl (stepped_takes limits o s)))
+    as (λ _. Goes s.nesting (turn limits sources o s)) [
       | inl e ↦ inl e
       | inr m ↦ inr m
     ]
@@ -146,91 +152,99 @@ Popped [] t = ⊥
 Popped (w ∷ waiting) t = (t.nesting.cursor ≡ w.cursor) × (t.nesting.waiting ≡ waiting)
 
 -- some turns end reading, or leave the innermost file
-abbrev Reaches : Sources → Choices → State → List Waiting → Type 0
-Reaches sources o s waiting = (turns : ℕ) × ((has_ended (run sources o turns s) ≡ true) ⊎ Popped waiting (run sources o turns s))
+abbrev Reaches : Limits → Sources → Choices → State → List Waiting → Type 0
+Reaches limits sources o s waiting =
+    (turns : ℕ) × ((has_ended (run limits sources o turns s) ≡ true) ⊎ Popped waiting (run limits sources o turns s))
 
 -- where so many files more may be open, and less than n bytes are left of the innermost
-abbrev AllReach : Sources → Choices → ℕ → ℕ → Type 0
-AllReach sources o room n =
-    (s : State) → length s.nesting.cursor.rest < n → 15 ≤ length s.nesting.waiting + room → Reaches sources o s s.nesting.waiting
+abbrev AllReach : Limits → Sources → Choices → ℕ → ℕ → Type 0
+AllReach limits sources o room n =
+    (s : State) → length s.nesting.cursor.rest < n → 15 ≤ length s.nesting.waiting + room → Reaches limits sources o s s.nesting.waiting
 
-reaches_by : (sources : Sources) (o : Choices) (s t : State) (a : ℕ) (waiting : List Waiting) → run sources o a s ≡ t →
-    Reaches sources o t waiting → Reaches sources o s waiting
-reaches_by sources o s t a waiting leads r =
-    let same : run sources o r.0 t ≡ run sources o (a + r.0) s = ap (run sources o r.0) (sym leads) ∙ sym (run_sum sources o a r.0 s) in (
+reaches_by : (limits : Limits) (sources : Sources) (o : Choices) (s t : State) (a : ℕ) (waiting : List Waiting) →
+    run limits sources o a s ≡ t →
+    Reaches limits sources o t waiting → Reaches limits sources o s waiting
+reaches_by limits sources o s t a waiting leads r =
+    let same : run limits sources o r.0 t ≡ run limits sources o (a + r.0) s =
+    ap (run limits sources o r.0) (sym leads) ∙ sym (run_sum limits sources o a r.0 s) in (
       a + r.0,
-      elim r.1 as (λ _. (has_ended (run sources o (a + r.0) s) ≡ true) ⊎ Popped waiting (run sources o (a + r.0) s)) [
+      elim r.1 as (λ _. (has_ended (run limits sources o (a + r.0) s) ≡ true) ⊎ Popped waiting (run limits sources o (a + r.0) s)) [
         | inl e ↦ inl (ap has_ended (sym same) ∙ e)
         | inr p ↦ inr (subst (λ (x : State). Popped waiting x) same p)
       ],
     )
 
 -- behind a file inside it the outer one goes on
-inside_by : (sources : Sources) (o : Choices) (room n : ℕ) (s t : State) (w : Waiting) → AllReach sources o room n →
+inside_by : (limits : Limits) (sources : Sources) (o : Choices) (room n : ℕ) (s t : State) (w : Waiting) →
+    AllReach limits sources o room n →
     t.nesting.waiting ≡ w ∷ s.nesting.waiting
-    → length w.cursor.rest < n → 15 ≤ length s.nesting.waiting + room → Reaches sources o t (w ∷ s.nesting.waiting) → Reaches sources o t
+    → length w.cursor.rest < n → 15 ≤ length s.nesting.waiting + room → Reaches limits sources o t (w ∷ s.nesting.waiting) → Reaches limits
+    sources o t
     s.nesting.waiting
-inside_by sources o room n s t w later opens less deep r = by r.1
+inside_by limits sources o room n s t w later opens less deep r = by r.1
   where
-    by : (has_ended (run sources o r.0 t) ≡ true) ⊎ Popped (w ∷ s.nesting.waiting) (run sources o r.0 t) →
-        Reaches sources o t s.nesting.waiting
+    by : (has_ended (run limits sources o r.0 t) ≡ true) ⊎ Popped (w ∷ s.nesting.waiting) (run limits sources o r.0 t) →
+        Reaches limits sources o t s.nesting.waiting
     by (inl e) = (r.0, inl e)
     by (inr p) =
-        let out : State = run sources o r.0 t in
-        let on : Reaches sources o out out.nesting.waiting =
+        let out : State = run limits sources o r.0 t in
+        let on : Reaches limits sources o out out.nesting.waiting =
         later out (omega (arith, ap (λ (x : Cursor). length x.rest) p.0, less)) (omega (arith, ap length p.1, deep)) in
-        reaches_by sources o t out r.0 s.nesting.waiting refl (subst (λ (waiting : List Waiting). Reaches sources o out waiting) p.1 on)
+        reaches_by limits sources o t out r.0 s.nesting.waiting refl
+        (subst (λ (waiting : List Waiting). Reaches limits sources o out waiting) p.1 on)
 
 -- one turn, and what comes then
-step_by : (sources : Sources) (o : Choices) (room n : ℕ) (s : State) →
-    ((inner : ℕ) → room ≡ suc inner → (m : ℕ) → AllReach sources o inner m) → AllReach sources o room n
-    → length s.nesting.cursor.rest < suc n → 15 ≤ length s.nesting.waiting + room → has_ended s ≡ false → Reaches sources o s
+step_by : (limits : Limits) (sources : Sources) (o : Choices) (room n : ℕ) (s : State) →
+    ((inner : ℕ) → room ≡ suc inner → (m : ℕ) → AllReach limits sources o inner m) → AllReach limits sources o room n
+    → length s.nesting.cursor.rest < suc n → 15 ≤ length s.nesting.waiting + room → has_ended s ≡ false → Reaches limits sources o s
     s.nesting.waiting
-step_by sources o room n s inside later less deep going = by (turn_goes sources o s)
+step_by limits sources o room n s inside later less deep going = by (turn_goes limits sources o s)
   where
     next : State
-    next = turn sources o s
+    next = turn limits sources o s
 
-    one : run sources o (suc zero) s ≡ next
-    one = run_going sources o zero s going
+    one : run limits sources o (suc zero) s ≡ next
+    one = run_going limits sources o zero s going
 
     entered : (room : ℕ) (w : Waiting) → 15 ≤ length s.nesting.waiting + room →
-        ((inner : ℕ) → room ≡ suc inner → (m : ℕ) → AllReach sources o inner m) → length s.nesting.waiting < 15
-        → next.nesting.waiting ≡ w ∷ s.nesting.waiting → Reaches sources o next (w ∷ s.nesting.waiting)
+        ((inner : ℕ) → room ≡ suc inner → (m : ℕ) → AllReach limits sources o inner m) → length s.nesting.waiting < 15
+        → next.nesting.waiting ≡ w ∷ s.nesting.waiting → Reaches limits sources o next (w ∷ s.nesting.waiting)
     entered zero w deep inside few opens = absurd (omega (arith, deep, few))
     entered (suc inner) w deep inside few opens =
-        subst (λ (waiting : List Waiting). Reaches sources o next waiting) opens
+        subst (λ (waiting : List Waiting). Reaches limits sources o next waiting) opens
         (inside inner refl (suc (length next.nesting.cursor.rest)) next (omega arith) (omega (arith, ap length opens, deep)))
 
-    by : Goes s.nesting next → Reaches sources o s s.nesting.waiting
+    by : Goes s.nesting next → Reaches limits sources o s s.nesting.waiting
     by (inl e) = (suc zero, inl (ap has_ended one ∙ e))
     by (inr (Stays same takes)) =
-        let on : Reaches sources o next next.nesting.waiting =
+        let on : Reaches limits sources o next next.nesting.waiting =
         later next (omega (arith, takes, less)) (omega (arith, ap length same, deep)) in
-        reaches_by sources o s next (suc zero) s.nesting.waiting one
-        (subst (λ (waiting : List Waiting). Reaches sources o next waiting) same on)
+        reaches_by limits sources o s next (suc zero) s.nesting.waiting one
+        (subst (λ (waiting : List Waiting). Reaches limits sources o next waiting) same on)
     by (inr (Leaves w waiting was cursor rest)) = (
       suc zero,
-      inr (subst (λ (ws : List Waiting). Popped ws (run sources o (suc zero) s)) (sym was)
+      inr (subst (λ (ws : List Waiting). Popped ws (run limits sources o (suc zero) s)) (sym was)
           (subst (λ (x : State). Popped (w ∷ waiting) x) (sym one) (cursor, rest))),
     )
     by (inr (Enters w opens takes few)) =
-        reaches_by sources o s next (suc zero) s.nesting.waiting one
-        (inside_by sources o room n s next w later opens (omega (arith, takes, less)) deep (entered room w deep inside few opens))
+        reaches_by limits sources o s next (suc zero) s.nesting.waiting one
+        (inside_by limits sources o room n s next w later opens (omega (arith, takes, less)) deep (entered room w deep inside few opens))
 
-by_rest : (sources : Sources) (o : Choices) (room : ℕ) → ((inner : ℕ) → room ≡ suc inner → (m : ℕ) → AllReach sources o inner m) → (n : ℕ) →
-    AllReach sources o room n
-by_rest sources o room inside zero s less deep = absurd (omega (arith, less))
-by_rest sources o room inside (suc n) s less deep = by (has_ended s) refl (by_rest sources o room inside n)
+by_rest : (limits : Limits) (sources : Sources) (o : Choices) (room : ℕ) →
+    ((inner : ℕ) → room ≡ suc inner → (m : ℕ) → AllReach limits sources o inner m) → (n : ℕ) →
+    AllReach limits sources o room n
+by_rest limits sources o room inside zero s less deep = absurd (omega (arith, less))
+by_rest limits sources o room inside (suc n) s less deep = by (has_ended s) refl (by_rest limits sources o room inside n)
   where
-    by : (b : Bool) → has_ended s ≡ b → AllReach sources o room n → Reaches sources o s s.nesting.waiting
+    by : (b : Bool) → has_ended s ≡ b → AllReach limits sources o room n → Reaches limits sources o s s.nesting.waiting
     by true e later = (zero, inl e)
-    by false going later = step_by sources o room n s inside later less deep going
+    by false going later = step_by limits sources o room n s inside later less deep going
 
-reach : (sources : Sources) (o : Choices) (room n : ℕ) → AllReach sources o room n
-reach sources o zero n = by_rest sources o zero (λ inner never m. absurd (omega (arith, never))) n
-reach sources o (suc room) n =
-    by_rest sources o (suc room) (λ inner is m. subst (λ (k : ℕ). AllReach sources o k m) (omega (arith, is)) (reach sources o room m)) n
+reach : (limits : Limits) (sources : Sources) (o : Choices) (room n : ℕ) → AllReach limits sources o room n
+reach limits sources o zero n = by_rest limits sources o zero (λ inner never m. absurd (omega (arith, never))) n
+reach limits sources o (suc room) n =
+    by_rest limits sources o (suc room) (λ inner is m. subst (λ (k : ℕ). AllReach limits sources o k m) (omega (arith, is))
+    (reach limits sources o room m)) n
 
 -- An outcome
 
@@ -238,15 +252,19 @@ outcome_by : (x : Option (List ℕ)) (sources : Sources) (o : Choices) (serial n
     (e : Outcome) × IsOutcomeOf x sources o serial name e
 outcome_by None sources o serial name = (missing name, refl)
 outcome_by (Some source) sources o serial name =
-    by (reach sources o 15 (suc (length first.nesting.cursor.rest)) first (omega arith) (omega arith))
+    by (reach (limits_of o.settings) sources o 15 (suc (length first.nesting.cursor.rest)) first (omega arith) (omega arith))
   where
     first : State
     first = start sources o name
 
-    by : Reaches sources o first [] → (e : Outcome) × IsOutcomeOf (Some source) sources o serial name e
+    by : Reaches (limits_of o.settings) sources o first [] → (e : Outcome) × IsOutcomeOf (Some source) sources o serial name e
     by (turns, inl e) = (
-      ending_of serial (run sources o turns first),
-      record { final = run sources o turns first; is_read = record { turns = turns; leads = refl; ends = e }; is_ending = refl },
+      ending_of (limits_of o.settings) serial (run (limits_of o.settings) sources o turns first),
+      record {
+        final = run (limits_of o.settings) sources o turns first;
+        is_read = record { turns = turns; leads = refl; ends = e };
+        is_ending = refl;
+      },
     )
     by (turns, inr never) = absurd never
 

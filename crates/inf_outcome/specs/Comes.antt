@@ -1,5 +1,6 @@
 -- What a compilation writes, answers and opens.
 use Rattle.std.specs.Prelude.{◌≡◌, ℕ, ◌+◌, ◌-◌, ◌<◌, ◌≤◌, ◌⊎◌, List, [], ◌∷◌, get_or, slice_get, unwrap_or, length, map, drop, false, Option, Some, None, min}
+use Rattle.inf_settings.specs.Bounds.{limits_of, Limits}
 use Rattle.inf_files.specs.Files.{Opening, Openings, Rose, Sources, last_count, opened}
 use Rattle.inf_files.specs.declared.files.Files.{Ghosts as Files}
 use Rattle.inf_sinks.specs.Sinks.{Takes}
@@ -39,7 +40,7 @@ AreNear sources all (p ∷ places) (c ∷ cursors) =
 -- a front of its source was given, and of the files that were open at the end at most 4,096 bytes behind the tokens that were read.
 pub record WereOpened (sources : Sources) (o : Choices) (name : List ℕ) (old new : Openings) : Type 0 where
   pub final : State
-  pub is_read : IsRead sources o (start sources o name) final
+  pub is_read : IsRead (limits_of o.settings) sources o (start sources o name) final
   pub names : map (λ (p : Opening). p.name) (drop (length old.all) new.all) ≡ final.nesting.openings
   pub closed : new.open_places ≡ old.open_places
   pub each : Each (IsGiven sources) (length old.all) new.all
@@ -56,7 +57,7 @@ OpenedBy (Some source) sources o name old new = WereOpened sources o name old ne
 -- order, each once; all were closed again, and of each a front of its source was given.
 pub record OpenedSome (sources : Sources) (o : Choices) (name : List ℕ) (old new : Openings) : Type 0 where
   pub turns : ℕ
-  pub names : opened_since old new ≡ (run sources o turns (start sources o name)).nesting.openings
+  pub names : opened_since old new ≡ (run (limits_of o.settings) sources o turns (start sources o name)).nesting.openings
   pub closed : new.open_places ≡ old.open_places
   pub each : Each (IsFrontOf sources) (length old.all) new.all
 
@@ -79,19 +80,20 @@ pub record Begins (sources : Sources) (o : Choices) (serial name : List ℕ) (be
   pub begins : (e : Outcome) → IsOutcome sources o serial name e → IsFront front e.messages
 
 -- Reading went on from here to its end, and story, status and messages are those of its ending; these files are still open.
-pub record Concludes (sources : Sources) (o : Choices) (serial : List ℕ) (s : State) (start now : Openings) (f : Open)
+pub record Concludes (limits : Limits) (sources : Sources) (o : Choices) (serial : List ℕ) (s : State) (start now : Openings) (f : Open)
     (before after : Option (List ℕ)) (c : Compiled) : Type 0 where
   pub final : State
-  pub is_read : IsRead sources o s final
-  pub delivers : Delivers (ending_of serial final) c before after
+  pub is_read : IsRead limits sources o s final
+  pub delivers : Delivers (ending_of limits serial final) c before after
   pub nested : IsNested start now f
   pub nesting_is : nesting sources start now f ≡ final.nesting
 
 -- It was given up, and wrote a front of what the ending has.
-pub record Stops (sources : Sources) (o : Choices) (serial : List ℕ) (s : State) (before after : Option (List ℕ)) : Type 0 where
-  pub front : List ℕ
-  pub takes : Takes before after front
-  pub begins : (final : State) → IsRead sources o s final → IsFront front (ending_of serial final).messages
+pub record Stops (limits : Limits) (sources : Sources) (o : Choices) (serial : List ℕ) (s : State) (before after : Option (List ℕ)) : Type 0
+  where
+    pub front : List ℕ
+    pub takes : Takes before after front
+    pub begins : (final : State) → IsRead limits sources o s final → IsFront front (ending_of limits serial final).messages
 
 -- the most bytes that a source may have
 abbrev pub most_source_bytes : ℕ
@@ -116,13 +118,14 @@ pub record StopsReading (failed : Type 0) (sources : Sources) (s : State) (old n
 
 -- What was written is all that comes with so many turns from the start, which end nothing. Behind them the next token could not be read; or
 -- that token asks for a file, which could not be opened, or is one more than can be numbered, and was closed again.
-pub record HeardTurns (failed : Type 0) (sources : Sources) (o : Choices) (s : State) (old new : Openings) (before after : Option (List ℕ))
+pub record HeardTurns (limits : Limits) (failed : Type 0) (sources : Sources) (o : Choices) (s : State) (old new : Openings)
+    (before after : Option (List ℕ))
     (told : List ℕ) : Type 0 where
   pub turns : ℕ
-  pub takes : Takes before after (run sources o turns s).told
-  pub goes_on : has_ended (run sources o turns s) ≡ false
-  pub stops : StopsReading failed sources (run sources o turns s) old new told
-      ⊎ StopsAtInclusion failed sources o (stepped o (run sources o turns s)) (opened_since old new) told
+  pub takes : Takes before after (run limits sources o turns s).told
+  pub goes_on : has_ended (run limits sources o turns s) ≡ false
+  pub stops : StopsReading failed sources (run limits sources o turns s) old new told
+      ⊎ StopsAtInclusion failed sources o (stepped limits o (run limits sources o turns s)) (opened_since old new) told
 
 -- The main source could not be opened, and nothing was written.
 pub record HeardNothing (failed : Type 0) (name : List ℕ) (old new : Openings) (before after : Option (List ℕ)) (told : List ℕ) : Type 0
@@ -135,7 +138,8 @@ pub record HeardNothing (failed : Type 0) (name : List ℕ) (old new : Openings)
 -- what was written where a file of the name that is told was not read, and why not
 abbrev pub Heard : Type 0 → Sources → Choices → List ℕ → Openings → Openings → Option (List ℕ) → Option (List ℕ) → List ℕ → Type 0
 Heard failed sources o name old new before after told =
-    HeardNothing failed name old new before after told ⊎ HeardTurns failed sources o (start sources o name) old new before after told
+    HeardNothing failed name old new before after told ⊎ HeardTurns (limits_of o.settings) failed sources o (start sources o name) old new
+    before after told
 
 -- A file could not be opened or read, with any reader, between two moments: the device failed; or it gave more bytes than a source may
 -- have; or

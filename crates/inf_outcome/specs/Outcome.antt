@@ -1,19 +1,20 @@
 -- What comes of a compilation: the lines of its messages, its story or none, and its status.
 use Rattle.std.specs.Prelude.{◌≡◌, ℕ, List, ◌++◌, Option, Some, None}
+use Rattle.inf_settings.specs.Bounds.{limits_of, Limits}
 use Rattle.inf_files.specs.Files.{Sources}
 use Rattle.inf_session.specs.Choices.{Choices}
 use Rattle.inf_session.specs.Ending.{Outcome, finished, missing}
 use Rattle.inf_session.specs.Session.{IsRead, State, start}
 
 -- The ending of a compilation whose reading ended so: the messages that were written before come first.
-abbrev pub ending_of : List ℕ → State → Outcome
-ending_of serial s = let e = finished serial s.nesting.names s.work in record e { messages = s.told ++ e.messages }
+abbrev pub ending_of : Limits → List ℕ → State → Outcome
+ending_of limits serial s = let e = finished limits serial s.nesting.names s.work in record e { messages = s.told ++ e.messages }
 
 -- What comes of a main source that is there: reading ends, and this is the ending.
 pub record IsCompiled (sources : Sources) (o : Choices) (serial name : List ℕ) (e : Outcome) : Type 0 where
   pub final : State
-  pub is_read : IsRead sources o (start sources o name) final
-  pub is_ending : e ≡ ending_of serial final
+  pub is_read : IsRead (limits_of o.settings) sources o (start sources o name) final
+  pub is_ending : e ≡ ending_of (limits_of o.settings) serial final
 
 abbrev pub IsOutcomeOf : Option (List ℕ) → Sources → Choices → List ℕ → List ℕ → Outcome → Type 0
 IsOutcomeOf None sources o serial name e = e ≡ missing name

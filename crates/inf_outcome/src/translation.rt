@@ -9,6 +9,7 @@ ghost use Rattle.inf_session.specs.Standing.{IsSet, state};
 ghost use Rattle.inf_session.specs.Leading.{GivenUp, OpensAll};
 ghost use Rattle.inf_session.specs.Session.{run};
 ghost use Rattle.inf_session.specs.Faults.{Caused, IfRead};
+ghost use Rattle.inf_settings.specs.Bounds.{limits_of};
 ghost use Rattle.inf_outcome.specs.Comes.{Begins, Comes, Concludes, Heard, IsUnread, OpenedPart, Stops};
 
 use inf_files::files::Files;
@@ -18,11 +19,12 @@ use inf_session::ending::no_file;
 use inf_session::faults::{Fault, unread};
 use inf_session::session::Session;
 use inf_session::setup::Setup;
-use inf_settings::bounds::{Bounds, Unbounded};
+use inf_settings::bounds::Bounds;
 use inf_settings::setting::Setting;
 use inf_sinks::sinks::Sink;
 use inf_sources::open_files::OpenFiles;
 use std::alloc::Global;
+use std::marker::Brand;
 
 /// Compiles the main source of this name with what it includes, and writes all messages, each as soon as it is found. The serial
 /// number has six digits.
@@ -62,16 +64,55 @@ pub fn translate<F: Files, M: Sink>(
     ensures fault { IfErr result (λ fault. Caused fault (λ name. IsUnread F.Files files.old files.new)
         (Rose (M.failures messages.old) (M.failures messages.new))) }
 {
+    translate_under::<F, M, Brand>(alloc, setup, files, MainSource { name }, serial, messages)
+}
+
+/// The main source, by its name.
+// A function whose type for limits its caller picks cannot take a text by itself.
+#[derive(Clone, Copy)]
+struct MainSource<'n> {
+    name: &'n str,
+}
+
+/// The same, where there may be as much of each as the settings say.
+fn translate_under<F: Files, M: Sink, B: Bounds>(
+    alloc: Global,
+    setup: Setup<'_>,
+    files: &mut F,
+    main: MainSource<'_>,
+    serial: &[u8; 6],
+    messages: &mut M,
+) -> Result<Compiled, Fault>
+    requires named { 0 < length main.name.now }
+    requires limits { B.most ≡ limits_of setup.settings.now }
+    ensures comes { IsTrue (F.is_honest files.old) →
+        IfOk result (λ compiled. Comes (F.sources files.old) (chosen setup.entry) serial.now main.entry.name.now
+        (F.openings files.old) (F.openings files.new) (M.taken messages.old) (M.taken messages.new) compiled) }
+    ensures begins { IsTrue (F.is_honest files.old) → OnErr result (Begins (F.sources files.old) (chosen setup.entry) serial.now main.entry.name.now
+        (M.taken messages.old) (M.taken messages.new)) }
+    ensures opened { IsTrue (F.is_honest files.old) → OnErr result (OpenedPart (F.sources files.old) (chosen setup.entry) main.entry.name.now
+        (F.openings files.old) (F.openings files.new)) }
+    ensures heard { IsTrue (F.is_honest files.old) →
+        IfErr result (λ fault. IfRead fault (λ told. Heard (Rose (F.faults files.old) (F.faults files.new))
+        (F.sources files.old) (chosen setup.entry) main.entry.name.now (F.openings files.old) (F.openings files.new) (M.taken messages.old)
+        (M.taken messages.new) told)) }
+    ensures kept { Kept F.Files files.old files.new }
+    ensures depth { F.depth files.new ≡ F.depth files.old }
+    ensures errors { IfOk result (λ compiled. compiled.status ≡ Status.Errors → compiled.story ≡ None) }
+    ensures clean { IfOk result (λ compiled. compiled.status ≡ Status.Success → EndsClean (M.taken messages.old) (M.taken messages.new)) }
+    ensures fault { IfErr result (λ fault. Caused fault (λ name. IsUnread F.Files files.old files.new)
+        (Rose (M.failures messages.old) (M.failures messages.new))) }
+{
     let limit = setup.settings.of(Setting::QuotedText);
-    let open_files = match OpenFiles::enter_main(alloc, setup.set, limit, files, name) {
+    let open_files = match OpenFiles::enter_main(alloc, setup.set, limit, files, main.name) {
         Ok(open_files) => open_files,
-        Err(EnterFault::Absent) => return written(no_file(alloc, name.as_bytes())?, messages),
+        Err(EnterFault::Absent) => return written(no_file(alloc, main.name.as_bytes())?, messages),
         Err(EnterFault::Memory) => return Err(Fault::Memory),
         Err(EnterFault::BadName | EnterFault::TooDeep | EnterFault::Device) => {
-            return Err(unread(alloc, name));
+            return Err(unread(alloc, main.name));
         }
     };
-    let session = match Session::<Unbounded>::new(alloc, setup, open_files) {
+    let session = match Session::<B>::new(alloc, setup, open_files) {
         Ok(session) => session,
         Err(open_files) => {
             open_files.close(files);
@@ -94,19 +135,19 @@ fn read_out<F: Files, M: Sink, B: Bounds>(
     requires goes { session.open_files.lexer.has_failed ≡ false }
     requires set { IsSet session }
     ensures concludes { Honestly F.Files files.old session.entry.open_files (λ start. IfOk result.1 (λ compiled.
-        Concludes (F.sources files.old) (chosen session.entry.setup) serial.now
+        Concludes B.most (F.sources files.old) (chosen session.entry.setup) serial.now
         (state (F.sources files.old) start (F.openings files.old) session.entry [])
         start (F.openings files.new) result.0 (M.taken messages.old) (M.taken messages.new) compiled)) }
     ensures stops { Honestly F.Files files.old session.entry.open_files (λ start.
-        OnErr result.1 (Stops (F.sources files.old) (chosen session.entry.setup) serial.now
+        OnErr result.1 (Stops B.most (F.sources files.old) (chosen session.entry.setup) serial.now
         (state (F.sources files.old) start (F.openings files.old) session.entry []) (M.taken messages.old) (M.taken messages.new))) }
     ensures heard { Honestly F.Files files.old session.entry.open_files (λ start.
-        IfErr result.1 (λ fault. IfRead fault (λ name. GivenUp (Rose (F.faults files.old) (F.faults files.new)) (F.sources files.old)
+        IfErr result.1 (λ fault. IfRead fault (λ name. GivenUp B.most (Rose (F.faults files.old) (F.faults files.new)) (F.sources files.old)
         (chosen session.entry.setup)
         (state (F.sources files.old) start (F.openings files.old) session.entry) (M.taken messages.old) (M.taken messages.new)
         start (F.openings files.new) result.0 name))) }
     ensures opened { Honestly F.Files files.old session.entry.open_files (λ start.
-        OnErr result.1 ((turns : ℕ) × OpensAll (run (F.sources files.old) (chosen session.entry.setup) turns)
+        OnErr result.1 ((turns : ℕ) × OpensAll (run B.most (F.sources files.old) (chosen session.entry.setup) turns)
         (state (F.sources files.old) start (F.openings files.old) session.entry) (opened_since start (F.openings files.new)))) }
     ensures fits { IfOk result.1 (λ compiled. StaysFit F.Files files.old files.new session.entry.open_files) }
     ensures went { Went F.Files files.old files.new session.entry.open_files result.0 }

@@ -1,5 +1,6 @@
 -- Actions, as a source names them. Designer's Manual, fourth edition, section 6.
 use Rattle.std.specs.Prelude.{ℕ, ◌+◌, ◌%◌, List, ◌++◌, codes, length, Option, Some, None}
+use Rattle.inf_settings.specs.Bounds.{Limits, unbounded}
 use Rattle.inf_scanner.specs.declared.tokens.Place.{Place}
 use Rattle.inf_names.specs.declared.meanings.Meaning.{Meaning}
 use Rattle.inf_names.specs.declared.meanings.Meaning.TheVariants as meaning
@@ -56,43 +57,43 @@ seen_by None key place o = record o { seen = with_declared key place (meaning.Fa
 seen_by (Some fault) key place o = o
 
 abbrev pub appeared : List ℕ → Place → Code
-appeared key place o = seen_by (declare_fault key o.seen) key place o
+appeared key place o = seen_by (declare_fault unbounded key o.seen) key place o
 
 -- its number is that of its routine among the routines of actions; where there would be one too many the limit is passed
 abbrev pub with_actions : AllActions → Code
 with_actions actions o = record o { tables = record o.tables { actions = actions } }
 
-abbrev pub numbered_by : Option ActionFault → ℕ → Out → Out × ℕ
-numbered_by None routine o = (with_actions (with_action routine o.tables.actions) o, number_of routine o.tables.actions.routines)
-numbered_by (Some fault) routine o = (passed_table setting.Actions o, 0)
+abbrev pub numbered_by : Limits → Option ActionFault → ℕ → Out → Out × ℕ
+numbered_by limits None routine o = (with_actions (with_action routine o.tables.actions) o, number_of routine o.tables.actions.routines)
+numbered_by limits (Some fault) routine o = (passed_table limits setting.Actions o, 0)
 
-abbrev pub numbered : ℕ → Out → Out × ℕ
-numbered routine o = numbered_by (action_fault routine o.tables.actions) routine o
+abbrev pub numbered : Limits → ℕ → Out → Out × ℕ
+numbered limits routine o = numbered_by limits (action_fault limits routine o.tables.actions) routine o
 
 -- its routine is used there, whose number is that among the names
 abbrev pub routine_of : Option (Found Place × Option ℕ) → Option ℕ
 routine_of None = None
 routine_of (Some f) = f.1
 
-abbrev pub numbered_as : Option ℕ → Out → Out × ℕ
-numbered_as None o = (o, 0)
-numbered_as (Some routine) o = numbered routine o
+abbrev pub numbered_as : Limits → Option ℕ → Out → Out × ℕ
+numbered_as limits None o = (o, 0)
+numbered_as limits (Some routine) o = numbered limits routine o
 
-abbrev pub routine_referred : List ℕ → Place → Out → Out × Option ℕ
-routine_referred routine place o = (referred routine place o, routine_of (referred_as routine o))
+abbrev pub routine_referred : Limits → List ℕ → Place → Out → Out × Option ℕ
+routine_referred limits routine place o = (referred limits routine place o, routine_of (referred_as limits routine o))
 
-abbrev pub numbered_with : Out × Option ℕ → Out × ℕ
-numbered_with r = numbered_as r.1 r.0
+abbrev pub numbered_with : Limits → Out × Option ℕ → Out × ℕ
+numbered_with limits r = numbered_as limits r.1 r.0
 
-abbrev pub routine_used : List ℕ → Place → Out → Out × ℕ
-routine_used routine place o = numbered_with (routine_referred routine place o)
+abbrev pub routine_used : Limits → List ℕ → Place → Out → Out × ℕ
+routine_used limits routine place o = numbered_with limits (routine_referred limits routine place o)
 
-abbrev pub action_by : Option ℕ → List ℕ → Place → Out → Out × ℕ
-action_by (Some fake) name place o = (o, fake)
-action_by None name place o = routine_used (routine_name name) place (appeared (key_of name) place o)
+abbrev pub action_by : Limits → Option ℕ → List ℕ → Place → Out → Out × ℕ
+action_by limits (Some fake) name place o = (o, fake)
+action_by limits None name place o = routine_used limits (routine_name name) place (appeared (key_of name) place o)
 
-abbrev pub action_of : List ℕ → Place → Out → Out × ℕ
-action_of name place o = action_by (fake_number (key_of name) o) name place o
+abbrev pub action_of : Limits → List ℕ → Place → Out → Out × ℕ
+action_of limits name place o = action_by limits (fake_number (key_of name) o) name place o
 
 -- Fake actions
 
@@ -115,9 +116,10 @@ next_fake o = (4096 + o.tables.actions.fakes) % 65536
 abbrev pub one_fake : Code
 one_fake o = with_actions (with_fake o.tables.actions) o
 
-abbrev pub faked_by : Option Place → List ℕ → Place → Out → Out × Option (DeclareFault Place)
-faked_by (Some first) key place o = (o, Some (declaring.Present (Some first)))
-faked_by None key place o = (declared key place (meaning.FakeAction (next_fake o)) (one_fake o), declare_fault key o.names)
+abbrev pub faked_by : Limits → Option Place → List ℕ → Place → Out → Out × Option (DeclareFault Place)
+faked_by limits (Some first) key place o = (o, Some (declaring.Present (Some first)))
+faked_by limits None key place o =
+    (declared limits key place (meaning.FakeAction (next_fake o)) (one_fake o), declare_fault limits key o.names)
 
-abbrev pub faked : List ℕ → Place → Out → Out × Option (DeclareFault Place)
-faked name place o = faked_by (first_seen (key_of name) o) (key_of name) place o
+abbrev pub faked : Limits → List ℕ → Place → Out → Out × Option (DeclareFault Place)
+faked limits name place o = faked_by limits (first_seen (key_of name) o) (key_of name) place o

@@ -1,5 +1,6 @@
 -- Code, as what it adds to an output, and the words by which pieces of code are put together.
 use Rattle.std.specs.Prelude.{◌≡◌, ℕ, ◌+◌, ◌-◌, ◌≤◌, min, Bool, true, false, nat_lt, if◌then◌else◌, List, [], ◌∷◌, ◌++◌, length, map, Option, Some, None}
+use Rattle.inf_settings.specs.Bounds.{Limits}
 use Rattle.inf_scanner.specs.declared.tokens.Place.{Place}
 use Rattle.inf_area.specs.declared.targets.AreaName.TheVariants as area
 use Rattle.inf_area.specs.declared.targets.Target.{Target}
@@ -70,15 +71,15 @@ Code = Out → Out
 -- Limits
 
 -- what is left beside some code
-abbrev pub whole : Routines → Past
-whole code = record {
+abbrev pub whole : Limits → Routines → Past
+whole limits code = record {
   symbols = false;
-  labels = labels_left code;
+  labels = labels_left limits code;
   tables = None;
-  code = code_left code;
+  code = code_left limits code;
   strings = false;
   refs =
-      references_left code;
+      references_left limits code;
 }
 
 -- so much more of a limit; nothing is left of one that is passed
@@ -90,13 +91,13 @@ abbrev pub taken : Counts → Past → Past
 taken counts past =
     record past { labels = less past.labels counts.labels; code = less past.code counts.bytes; refs = less past.refs counts.fixups }
 
-abbrev pub past_by : Option Past → Routines → Past
-past_by None code = whole code
-past_by (Some past) code = past
+abbrev pub past_by : Limits → Option Past → Routines → Past
+past_by limits None code = whole limits code
+past_by limits (Some past) code = past
 
 -- what is left now
-abbrev pub past_of : Out → Past
-past_of o = past_by o.past o.code
+abbrev pub past_of : Limits → Out → Past
+past_of limits o = past_by limits o.past o.code
 
 -- what is left behind an item: an instruction, whose text has bytes of its own, or a label's place
 abbrev pub without_bytes : ℕ → Past → Past
@@ -107,8 +108,8 @@ without (Instruction parts) past = without_bytes (length parts.text) (taken (cou
 without (Mark label) past = taken (counts_of (Of (Marks label) ∷ [])) past
 
 -- an item that is not laid any more counts all the same
-abbrev pub passed : Item → Code
-passed item o = record o { past = Some (without item (past_of o)) }
+abbrev pub passed : Limits → Item → Code
+passed limits item o = record o { past = Some (without item (past_of limits o)) }
 
 -- the first limit that was passed, in the order of the settings
 abbrev pub full_of : Option ℕ → Setting → Option Setting → Option Setting
@@ -129,8 +130,8 @@ full_past past =
 abbrev pub counted : ℕ → Past → Past
 counted references past = record past { refs = less past.refs references }
 
-abbrev pub full : Out → Option Setting
-full o = full_past (counted (references o.tables) (past_of o))
+abbrev pub full : Limits → Out → Option Setting
+full limits o = full_past (counted (references o.tables) (past_of limits o))
 
 -- the first of two limits of tables, in the order of the settings
 abbrev pub first_table : Option Setting → Setting → Setting
@@ -155,25 +156,25 @@ grown (Mark label) routines = record routines { opened = with_mark label routine
 -- An item is laid: into the code that is kept apart, if there is such code, and else into the open routine. From the first item on that
 -- would pass
 -- a limit nothing is laid any more.
-abbrev pub fitted : Option CodeLimit → Item → Code
-fitted None item o = record o { code = grown item o.code }
-fitted (Some limit) item o = passed item o
+abbrev pub fitted : Limits → Option CodeLimit → Item → Code
+fitted limits None item o = record o { code = grown item o.code }
+fitted limits (Some limit) item o = passed limits item o
 
-abbrev pub in_routine : Option Past → Item → Code
-in_routine None item o = fitted (full_item item o.code) item o
-in_routine (Some past) item o = passed item o
+abbrev pub in_routine : Limits → Option Past → Item → Code
+in_routine limits None item o = fitted limits (full_item item o.code) item o
+in_routine limits (Some past) item o = passed limits item o
 
-abbrev pub laid_by : Option (List Item) → Item → Code
-laid_by None item o = in_routine o.past item o
-laid_by (Some items) item o = record o { kept = Some (items ++ item ∷ []) }
+abbrev pub laid_by : Limits → Option (List Item) → Item → Code
+laid_by limits None item o = in_routine limits o.past item o
+laid_by limits (Some items) item o = record o { kept = Some (items ++ item ∷ []) }
 
-unfoldable pub laid : Item → Code
-laid item o = laid_by o.kept item o
+unfoldable pub laid : Limits → Item → Code
+laid limits item o = laid_by limits o.kept item o
 
 -- items one behind the other
-abbrev pub laid_all : List Item → Code
-laid_all [] o = o
-laid_all (item ∷ items) o = laid_all items (laid item o)
+abbrev pub laid_all : Limits → List Item → Code
+laid_all limits [] o = o
+laid_all limits (item ∷ items) o = laid_all limits items (laid limits item o)
 
 -- What is laid from here on is kept apart, and no longer.
 abbrev pub apart : Code
@@ -194,41 +195,41 @@ passed_limit code_setting.Labels past = record past { labels = None }
 passed_limit code_setting.Code past = record past { code = None }
 passed_limit code_setting.Refs past = record past { refs = None }
 
-abbrev pub opened_by : Option CodeLimit → ℕ → Bool → Code
-opened_by None locals is_lost o = record o { code = with_opened locals is_lost o.code; next = 0 }
-opened_by (Some limit) locals is_lost o =
+abbrev pub opened_by : Limits → Option CodeLimit → ℕ → Bool → Code
+opened_by limits None locals is_lost o = record o { code = with_opened locals is_lost o.code; next = 0 }
+opened_by limits (Some limit) locals is_lost o =
     let code = with_none_open o.code in
-    record o { code = code; next = 0; past = Some (passed_limit limit (past_by o.past code)) }
+    record o { code = code; next = 0; past = Some (passed_limit limit (past_by limits o.past code)) }
 
-abbrev pub opened : ℕ → Bool → Code
-opened locals is_lost o = opened_by (full_opened is_lost o.code) locals is_lost o
+abbrev pub opened : Limits → ℕ → Bool → Code
+opened limits locals is_lost o = opened_by limits (full_opened limits is_lost o.code) locals is_lost o
 
 -- Code begins with the first routine of the story, unless it has begun. Where that would pass a limit it does not begin, and the limit is
 -- passed.
-abbrev pub begun_by : Option CodeLimit → Code
-begun_by None o = record o { code = code_begun o.code }
-begun_by (Some limit) o = record o { code = code_begun o.code; past = Some (passed_limit limit (past_of o)) }
+abbrev pub begun_by : Limits → Option CodeLimit → Code
+begun_by limits None o = record o { code = code_begun limits o.code }
+begun_by limits (Some limit) o = record o { code = code_begun limits o.code; past = Some (passed_limit limit (past_of limits o)) }
 
-abbrev pub begun : Code
-begun o = begun_by (full_begun o.code) o
+abbrev pub begun : Limits → Code
+begun limits o = begun_by limits (full_begun limits o.code) o
 
 -- The open routine is closed, if there is one. Where something is wrong with it, it is given up.
-abbrev pub closed_by : Option CloseFault → RoutineKind → Code
-closed_by None kind o = record o { code = with_closed kind o.code }
-closed_by (Some (close_fault.Full limit)) kind o =
-    record o { code = with_none_open o.code; past = Some (passed_limit limit (past_by o.past (with_none_open o.code))) }
-closed_by (Some fault) kind o = record o { code = with_none_open o.code }
+abbrev pub closed_by : Limits → Option CloseFault → RoutineKind → Code
+closed_by limits None kind o = record o { code = with_closed kind o.code }
+closed_by limits (Some (close_fault.Full limit)) kind o =
+    record o { code = with_none_open o.code; past = Some (passed_limit limit (past_by limits o.past (with_none_open o.code))) }
+closed_by limits (Some fault) kind o = record o { code = with_none_open o.code }
 
-abbrev pub code_closed : RoutineKind → Code
-code_closed kind o = closed_by (fault_closed kind o.code) kind o
+abbrev pub code_closed : Limits → RoutineKind → Code
+code_closed limits kind o = closed_by limits (fault_closed limits kind o.code) kind o
 
 -- where it had too many labels, their limit is passed
-abbrev pub with_labels_left : Option ℕ → Code
-with_labels_left None o = record o { past = Some (passed_limit code_setting.Labels (past_of o)) }
-with_labels_left (Some rest) o = o
+abbrev pub with_labels_left : Limits → Option ℕ → Code
+with_labels_left limits None o = record o { past = Some (passed_limit code_setting.Labels (past_of limits o)) }
+with_labels_left limits (Some rest) o = o
 
-abbrev pub closed : RoutineKind → Code
-closed kind o = with_labels_left (past_of o).labels (code_closed kind o)
+abbrev pub closed : Limits → RoutineKind → Code
+closed limits kind o = with_labels_left limits (past_of limits o).labels (code_closed limits kind o)
 
 -- Strings
 
@@ -237,18 +238,18 @@ abbrev pub string_at : Out → Target
 string_at o = target.Place area.Strings (length o.strings.bytes)
 
 -- A string of these bytes is added. Where it would pass the limit nothing is, and the limit is passed.
-abbrev pub with_text_by : Bool → List ℕ → Code
-with_text_by true text o = record o { strings = with_string text o.strings }
-with_text_by false text o = record o { past = Some (record (past_of o) { strings = true }) }
+abbrev pub with_text_by : Limits → Bool → List ℕ → Code
+with_text_by limits true text o = record o { strings = with_string text o.strings }
+with_text_by limits false text o = record o { past = Some (record (past_of limits o) { strings = true }) }
 
-abbrev pub with_text : List ℕ → Code
-with_text text o = with_text_by (fits text o.strings) text o
+abbrev pub with_text : Limits → List ℕ → Code
+with_text limits text o = with_text_by limits (fits limits text o.strings) text o
 
 -- Tables
 
 -- One would hold more than it may.
-abbrev pub passed_table : Setting → Code
-passed_table limit o = record o { past = Some (table_passed limit (past_of o)) }
+abbrev pub passed_table : Limits → Setting → Code
+passed_table limits limit o = record o { past = Some (table_passed limit (past_of limits o)) }
 
 -- where the next low string begins, and one more: where it would pass the limit it is not added, and the limit is passed
 abbrev pub low_string_at : Out → Target
@@ -257,56 +258,56 @@ low_string_at o = target.Place area.LowStrings (low_size o.tables.low_strings)
 abbrev pub with_low_strings : List ℕ → AllTables → AllTables
 with_low_strings text tables = record tables { low_strings = with_low text tables.low_strings }
 
-abbrev pub with_low_text_by : Bool → List ℕ → Code
-with_low_text_by true text o = record o { tables = with_low_strings text o.tables }
-with_low_text_by false text o = passed_table setting.LowStrings o
+abbrev pub with_low_text_by : Limits → Bool → List ℕ → Code
+with_low_text_by limits true text o = record o { tables = with_low_strings text o.tables }
+with_low_text_by limits false text o = passed_table limits setting.LowStrings o
 
-abbrev pub with_low_text : List ℕ → Code
-with_low_text text o = with_low_text_by (low_fits text o.tables.low_strings) text o
+abbrev pub with_low_text : Limits → List ℕ → Code
+with_low_text limits text o = with_low_text_by limits (low_fits limits text o.tables.low_strings) text o
 
 abbrev pub with_dictionary : Text → WordUse → Bool → AllTables → AllTables
 with_dictionary text how is_plural tables = record tables { dictionary = with_use text how is_plural tables.dictionary }
 
 -- A word is used. Where it would be one too many it is not, and the limit is passed; nor where it is one of another verb's.
-abbrev pub with_word_by : Option WordFault → Text → WordUse → Bool → Code
-with_word_by None text how is_plural o = record o { tables = with_dictionary text how is_plural o.tables }
-with_word_by (Some word_fault.Full) text how is_plural o = passed_table setting.DictionaryEntries o
-with_word_by (Some word_fault.OtherVerb) text how is_plural o = o
-with_word_by (Some word_fault.Memory) text how is_plural o = o
+abbrev pub with_word_by : Limits → Option WordFault → Text → WordUse → Bool → Code
+with_word_by limits None text how is_plural o = record o { tables = with_dictionary text how is_plural o.tables }
+with_word_by limits (Some word_fault.Full) text how is_plural o = passed_table limits setting.DictionaryEntries o
+with_word_by limits (Some word_fault.OtherVerb) text how is_plural o = o
+with_word_by limits (Some word_fault.Memory) text how is_plural o = o
 
-abbrev pub with_word : Text → WordUse → Bool → Code
-with_word text how is_plural o =
-    with_word_by (add_fault (word_of text o.tables.dictionary.list) how o.tables.dictionary) text how is_plural o
+abbrev pub with_word : Limits → Text → WordUse → Bool → Code
+with_word limits text how is_plural o =
+    with_word_by limits (add_fault limits (word_of text o.tables.dictionary.list) how o.tables.dictionary) text how is_plural o
 
 -- Names
 
-abbrev pub symbols_passed : Code
-symbols_passed o = record o { past = Some (record (past_of o) { symbols = true }) }
+abbrev pub symbols_passed : Limits → Code
+symbols_passed limits o = record o { past = Some (record (past_of limits o) { symbols = true }) }
 
 -- a name is declared, unless something is wrong with that
-abbrev pub declared_by : Option (DeclareFault Place) → List ℕ → Place → Meaning → Code
-declared_by None name place m o = record o { names = with_declared name place m o.names }
-declared_by (Some declaring.Full) name place m o = symbols_passed o
-declared_by (Some fault) name place m o = o
+abbrev pub declared_by : Limits → Option (DeclareFault Place) → List ℕ → Place → Meaning → Code
+declared_by limits None name place m o = record o { names = with_declared name place m o.names }
+declared_by limits (Some declaring.Full) name place m o = symbols_passed limits o
+declared_by limits (Some fault) name place m o = o
 
-abbrev pub declared : List ℕ → Place → Meaning → Code
-declared name place m o = declared_by (declare_fault name o.names) name place m o
+abbrev pub declared : Limits → List ℕ → Place → Meaning → Code
+declared limits name place m o = declared_by limits (declare_fault limits name o.names) name place m o
 
 -- a name is used at a place; where it is one too many, that limit is passed
-abbrev pub referred_by : Option ReferFault → List ℕ → Place → Code
-referred_by None name place o = record o { names = with_used name place o.names }
-referred_by (Some fault) name place o = symbols_passed o
+abbrev pub referred_by : Limits → Option ReferFault → List ℕ → Place → Code
+referred_by limits None name place o = record o { names = with_used name place o.names }
+referred_by limits (Some fault) name place o = symbols_passed limits o
 
-abbrev pub referred : List ℕ → Place → Code
-referred name place o = referred_by (refer_fault name o.names) name place o
+abbrev pub referred : Limits → List ℕ → Place → Code
+referred limits name place o = referred_by limits (refer_fault limits name o.names) name place o
 
 -- what looking for it found, and its number among the names
 abbrev pub referred_as_by : Option ReferFault → List ℕ → Table Place → Option (Found Place × Option ℕ)
 referred_as_by None name names = Some (found_in name names, number_of name names)
 referred_as_by (Some fault) name names = None
 
-abbrev pub referred_as : List ℕ → Out → Option (Found Place × Option ℕ)
-referred_as name o = referred_as_by (refer_fault name o.names) name o.names
+abbrev pub referred_as : Limits → List ℕ → Out → Option (Found Place × Option ℕ)
+referred_as limits name o = referred_as_by (refer_fault limits name o.names) name o.names
 
 -- Words
 
@@ -330,13 +331,13 @@ abbrev pub with_label : (Label → Code) → Code
 with_label body o = body (next_label o) (record o { next = behind o.next })
 
 -- an instruction of simple operands, and one whose first operand names a variable
-unfoldable pub instruction : Opcode → List Simple → Option ℕ → Option Branch → Code
-instruction opcode operands store branch o =
-    laid (Instruction (record { opcode = opcode; operands = map written operands; store = store; branch = branch; text = [] })) o
+unfoldable pub instruction : Limits → Opcode → List Simple → Option ℕ → Option Branch → Code
+instruction limits opcode operands store branch o =
+    laid limits (Instruction (record { opcode = opcode; operands = map written operands; store = store; branch = branch; text = [] })) o
 
-unfoldable pub naming : Opcode → ℕ → List Simple → Option ℕ → Option Branch → Code
-naming opcode variable operands store branch o =
-    laid (Instruction (record {
+unfoldable pub naming : Limits → Opcode → ℕ → List Simple → Option ℕ → Option Branch → Code
+naming limits opcode variable operands store branch o =
+    laid limits (Instruction (record {
       opcode = opcode;
       operands = Small variable ∷ map written operands;
       store = store;
@@ -345,12 +346,12 @@ naming opcode variable operands store branch o =
     })) o
 
 -- a label's place, a jump to it, and a branch that is taken where the truth of a test is this
-unfoldable pub marked : Label → Code
-marked label o = laid (Mark label) o
+unfoldable pub marked : Limits → Label → Code
+marked limits label o = laid limits (Mark label) o
 
-unfoldable pub jumped : Label → Code
-jumped label o =
-    laid (Instruction (record { opcode = opcode.Jump; operands = Offset label ∷ []; store = None; branch = None; text = [] })) o
+unfoldable pub jumped : Limits → Label → Code
+jumped limits label o =
+    laid limits (Instruction (record { opcode = opcode.Jump; operands = Offset label ∷ []; store = None; branch = None; text = [] })) o
 
 abbrev pub to : Bool → Label → Option Branch
 to sense label = Some (record { sense = sense; target = To label })
@@ -414,17 +415,17 @@ abbrev pub routine_by : Option ReferFault → List ℕ → Table Place → Simpl
 routine_by None name names = found_simple (found_in name names) (number_of name names)
 routine_by (Some fault) name names = Later (target.Name 0)
 
-unfoldable pub routine : Veneer → Out → Simple
-routine veneer o = routine_by (refer_fault (name_of veneer) o.names) (name_of veneer) o.names
+unfoldable pub routine : Limits → Veneer → Out → Simple
+routine limits veneer o = routine_by (refer_fault limits (name_of veneer) o.names) (name_of veneer) o.names
 
 -- Its name is used there, at the first token of the unit.
-abbrev pub used_by : Option ReferFault → List ℕ → Code
-used_by None name o = record o { names = with_used name o.first o.names }
-used_by (Some fault) name o = record o { past = Some (record (past_of o) { symbols = true }) }
+abbrev pub used_by : Limits → Option ReferFault → List ℕ → Code
+used_by limits None name o = record o { names = with_used name o.first o.names }
+used_by limits (Some fault) name o = record o { past = Some (record (past_of limits o) { symbols = true }) }
 
-unfoldable pub used : Veneer → Code
-used veneer o = used_by (refer_fault (name_of veneer) o.names) (name_of veneer) o
+unfoldable pub used : Limits → Veneer → Code
+used limits veneer o = used_by limits (refer_fault limits (name_of veneer) o.names) (name_of veneer) o
 
 -- code that calls a routine of the veneer
-abbrev pub with_routine : Veneer → (Simple → Code) → Code
-with_routine veneer body o = body (routine veneer o) (used veneer o)
+abbrev pub with_routine : Limits → Veneer → (Simple → Code) → Code
+with_routine limits veneer body o = body (routine limits veneer o) (used limits veneer o)

@@ -1,21 +1,22 @@
 -- The strings of a story.
 use Rattle.std.specs.Prelude.{ℕ, List, [], ◌++◌, length, Bool, nat_le}
+use Rattle.inf_settings.specs.Bounds.{Limits}
+use Rattle.inf_settings.specs.declared.setting.Setting.TheVariants as setting
 use Rattle.inf_cells.specs.declared.scale.Scale.{Scale}
 use Rattle.inf_code.specs.Code.{zeros_behind}
 
--- the bytes of packed texts, how many there may be, and what packed addresses are multiplied by
+-- the bytes of packed texts, and what packed addresses are multiplied by
 pub record StringArea : Type 0 where
   pub bytes : List ℕ
-  pub limit : ℕ
   pub scale : Scale
 
-abbrev pub no_strings : ℕ → Scale → StringArea
-no_strings limit scale = record { bytes = []; limit = limit; scale = scale }
+abbrev pub no_strings : Scale → StringArea
+no_strings scale = record { bytes = []; scale = scale }
 
 -- one more, filled up to a packed address (Z-Machine Standard 1.1, section 1.2.3)
 abbrev pub with_string : List ℕ → StringArea → StringArea
 with_string text strings = record strings { bytes = strings.bytes ++ (text ++ zeros_behind strings.scale (length text)) }
 
 -- whether there is room for it
-abbrev pub fits : List ℕ → StringArea → Bool
-fits text strings = nat_le (length (with_string text strings).bytes) strings.limit
+abbrev pub fits : Limits → List ℕ → StringArea → Bool
+fits limits text strings = nat_le (length (with_string text strings).bytes) (limits setting.Strings)

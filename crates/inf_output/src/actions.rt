@@ -89,7 +89,7 @@ impl<B: Bounds> Output<B> {
     /// An action of at most 32 bytes appears at a place. Answers its number, modulo 65536. Its routine is used where it is no fake action.
     pub fn action(&mut self, name: &[u8], place: Place) -> Result<u16, AllocError>
         requires { length name.now ≤ 32 }
-        ensures { IfOk result (λ number. (self.new, number) ≡ action_of name.now place self.old) }
+        ensures { IfOk result (λ number. (self.new, number) ≡ action_of B.most name.now place self.old) }
     {
         let key = key_of(name);
         if let Some(number) = self.fake_number(key.as_slice()) {
@@ -123,7 +123,7 @@ impl<B: Bounds> Output<B> {
     /// A routine is used at a place. Answers its number among the names, if it has one.
     pub fn refer_routine(&mut self, name: &[u8], place: Place) -> Result<Option<usize>, AllocError>
         requires { length name.now ≤ 35 }
-        ensures { IfOk result (λ number. (self.new, number) ≡ routine_referred name.now place self.old) }
+        ensures { IfOk result (λ number. (self.new, number) ≡ routine_referred B.most name.now place self.old) }
     {
         Ok(routine_of(self.refer(name, place)?))
     }
@@ -131,7 +131,7 @@ impl<B: Bounds> Output<B> {
     /// The routine of an action is used at a place. Answers the number of the action.
     fn use_routine(&mut self, routine: &[u8], place: Place) -> Result<u16, AllocError>
         requires { length routine.now ≤ 35 }
-        ensures { IfOk result (λ number. (self.new, number) ≡ routine_used routine.now place self.old) }
+        ensures { IfOk result (λ number. (self.new, number) ≡ routine_used B.most routine.now place self.old) }
     {
         match self.refer_routine(routine, place)? {
             Some(number) => self.action_with(number),
@@ -141,7 +141,7 @@ impl<B: Bounds> Output<B> {
 
     /// The number of the action with a routine.
     fn action_with(&mut self, routine: usize) -> Result<u16, AllocError>
-        ensures { IfOk result (λ number. (self.new, number) ≡ numbered routine self.old) }
+        ensures { IfOk result (λ number. (self.new, number) ≡ numbered B.most routine self.old) }
     {
         match self.tables.actions.add(routine) {
             Ok(number) => Ok(number),
@@ -160,7 +160,7 @@ impl<B: Bounds> Output<B> {
         place: Place,
     ) -> Result<Option<DeclareFault<Place>>, AllocError>
         requires { length name.now ≤ 32 }
-        ensures { IfOk result (λ refused. (self.new, refused) ≡ faked name.now place self.old) }
+        ensures { IfOk result (λ refused. (self.new, refused) ≡ faked B.most name.now place self.old) }
     {
         let key = key_of(name);
         if let Some(first) = self.first_seen(key.as_slice()) {

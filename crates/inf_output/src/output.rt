@@ -122,7 +122,7 @@ fn first_table(passed: Option<Setting>, limit: Setting) -> Setting
 impl Past {
     /// What is left beside some code.
     fn whole<B: Bounds>(code: &Code<B>) -> Past
-        ensures { result ≡ whole code.now }
+        ensures { result ≡ whole B.most code.now }
     {
         Past {
             symbols: false,
@@ -296,7 +296,7 @@ impl<B: Bounds> Output<B> {
     /// with those of
     /// code.
     pub fn full(&self) -> Option<Setting>
-        ensures { result ≡ full self.now }
+        ensures { result ≡ full B.most self.now }
     {
         self.rest().counted(self.tables.references()).full()
     }
@@ -306,7 +306,7 @@ impl<B: Bounds> Output<B> {
     /// is open, and the limit is passed. One that is open is given up.
     pub fn open(&mut self, alloc: Global, locals: u8, is_lost: bool) -> Result<(), AllocError>
         requires { locals ≤ 15 }
-        ensures { OnOk result (self.new ≡ opened locals is_lost self.old) }
+        ensures { OnOk result (self.new ≡ opened B.most locals is_lost self.old) }
     {
         self.next = 0;
         match self.code.open(alloc, locals, is_lost) {
@@ -321,7 +321,7 @@ impl<B: Bounds> Output<B> {
 
     /// What is left of each limit.
     fn rest(&self) -> Past
-        ensures { result ≡ past_of self.now }
+        ensures { result ≡ past_of B.most self.now }
     {
         match self.past {
             Some(past) => past,
@@ -332,7 +332,7 @@ impl<B: Bounds> Output<B> {
     /// An instruction is not laid any more, but counted.
     fn pass(&mut self, instruction: &Instruction<'_>)
         requires { IsProper (parts_of instruction.now) }
-        ensures { self.new ≡ passed (item.Instruction (parts_of instruction.now)) self.old }
+        ensures { self.new ≡ passed B.most (item.Instruction (parts_of instruction.now)) self.old }
     {
         let past = self.rest().taken(proper_counts(instruction));
         self.past = Some(Past {
@@ -343,7 +343,7 @@ impl<B: Bounds> Output<B> {
 
     /// A label's place is not laid any more, but counted.
     fn pass_mark(&mut self, label: Label)
-        ensures { self.new ≡ passed (item.Mark label) self.old }
+        ensures { self.new ≡ passed B.most (item.Mark label) self.old }
     {
         self.past = Some(
             self.rest().taken(Counts {
@@ -369,7 +369,7 @@ impl<B: Bounds> Output<B> {
     #[tactic(auto, unfolding(crate::specs::Output::laid))]
     pub fn emit(&mut self, instruction: &Instruction<'_>) -> Result<(), AllocError>
         requires { IsProper (parts_of instruction.now) }
-        ensures { OnOk result (self.new ≡ laid (item.Instruction (parts_of instruction.now)) self.old) }
+        ensures { OnOk result (self.new ≡ laid B.most (item.Instruction (parts_of instruction.now)) self.old) }
     {
         match &mut self.kept {
             Some(kept) => kept.instruction(instruction),
@@ -381,7 +381,7 @@ impl<B: Bounds> Output<B> {
     #[tactic(auto, using(crate::proofs::Limits::is_passed))]
     fn emit_in_routine(&mut self, instruction: &Instruction<'_>) -> Result<(), AllocError>
         requires { IsProper (parts_of instruction.now) }
-        ensures { OnOk result (self.new ≡ in_routine self.old.past (item.Instruction (parts_of instruction.now)) self.old) }
+        ensures { OnOk result (self.new ≡ in_routine B.most self.old.past (item.Instruction (parts_of instruction.now)) self.old) }
     {
         if self.past.is_some() {
             self.pass(instruction);
@@ -400,7 +400,7 @@ impl<B: Bounds> Output<B> {
     /// The place of a label.
     #[tactic(auto, unfolding(crate::specs::Output::laid, crate::specs::Output::marked))]
     pub fn mark(&mut self, label: Label) -> Result<(), AllocError>
-        ensures { OnOk result (self.new ≡ marked label self.old) }
+        ensures { OnOk result (self.new ≡ marked B.most label self.old) }
     {
         match &mut self.kept {
             Some(kept) => kept.mark(label),
@@ -411,7 +411,7 @@ impl<B: Bounds> Output<B> {
     /// The place of a label in the open routine.
     #[tactic(auto, using(crate::proofs::Limits::is_passed))]
     fn mark_in_routine(&mut self, label: Label) -> Result<(), AllocError>
-        ensures { OnOk result (self.new ≡ in_routine self.old.past (item.Mark label) self.old) }
+        ensures { OnOk result (self.new ≡ in_routine B.most self.old.past (item.Mark label) self.old) }
     {
         if self.past.is_some() {
             self.pass_mark(label);
@@ -430,7 +430,7 @@ impl<B: Bounds> Output<B> {
     /// A jump to a label.
     #[tactic(auto, unfolding(crate::specs::Output::jumped))]
     pub fn jump(&mut self, label: Label) -> Result<(), AllocError>
-        ensures { OnOk result (self.new ≡ jumped label self.old) }
+        ensures { OnOk result (self.new ≡ jumped B.most label self.old) }
     {
         self.emit(&Instruction::new(Opcode::Jump, &[Operand::Offset(label)], None))
     }
@@ -445,7 +445,7 @@ impl<B: Bounds> Output<B> {
         branch: Option<Branch>,
     ) -> Result<(), AllocError>
         requires { Takes opcode (length operands.now) (is_some store) (is_some branch) }
-        ensures { OnOk result (self.new ≡ instruction opcode operands.now store branch self.old) }
+        ensures { OnOk result (self.new ≡ instruction B.most opcode operands.now store branch self.old) }
     {
         let mut written = ArrayVec::new();
         add_written(&mut written, operands);
@@ -469,7 +469,7 @@ impl<B: Bounds> Output<B> {
         branch: Option<Branch>,
     ) -> Result<(), AllocError>
         requires { TakesVariable opcode (length operands.now) (is_some store) (is_some branch) }
-        ensures { OnOk result (self.new ≡ naming opcode variable operands.now store branch self.old) }
+        ensures { OnOk result (self.new ≡ naming B.most opcode variable operands.now store branch self.old) }
     {
         let mut all = ArrayVec::new();
         all.push(Operand::Small(variable));
@@ -486,7 +486,7 @@ impl<B: Bounds> Output<B> {
     /// Code begins with the first routine of the story, unless it has begun. Where that would pass a limit it does not begin, and the limit
     /// is passed.
     pub fn begin(&mut self)
-        ensures { self.new ≡ begun self.old }
+        ensures { self.new ≡ begun B.most self.old }
     {
         if let Some(limit) = self.code.begin() {
             self.past = Some(self.rest().passed(limit));
@@ -497,8 +497,8 @@ impl<B: Bounds> Output<B> {
     /// limit, it is
     /// passed. So is the limit of labels where it had too many.
     pub fn close(&mut self, kind: RoutineKind) -> Result<Option<CloseFault>, AllocError>
-        ensures value { OnOk result (self.new ≡ closed kind self.old) }
-        ensures fault { IfOk result (λ fault. fault ≡ fault_closed kind self.old.code) }
+        ensures value { OnOk result (self.new ≡ closed B.most kind self.old) }
+        ensures fault { IfOk result (λ fault. fault ≡ fault_closed B.most kind self.old.code) }
     {
         let labels = self.rest().labels;
         let fault = self.close_code(kind)?;
@@ -512,8 +512,8 @@ impl<B: Bounds> Output<B> {
     /// where that is a
     /// limit, it is passed.
     fn close_code(&mut self, kind: RoutineKind) -> Result<Option<CloseFault>, AllocError>
-        ensures value { OnOk result (self.new ≡ code_closed kind self.old) }
-        ensures fault { IfOk result (λ fault. fault ≡ fault_closed kind self.old.code) }
+        ensures value { OnOk result (self.new ≡ code_closed B.most kind self.old) }
+        ensures fault { IfOk result (λ fault. fault ≡ fault_closed B.most kind self.old.code) }
     {
         match self.code.close(kind) {
             Ok(()) => Ok(None),
@@ -536,8 +536,8 @@ impl<B: Bounds> Output<B> {
         meaning: Meaning,
     ) -> Result<Option<DeclareFault<Place>>, AllocError>
         requires { length name.now ≤ 35 }
-        ensures value { OnOk result (self.new ≡ declared name.now place meaning self.old) }
-        ensures fault { IfOk result (λ fault. fault ≡ declare_fault name.now self.old.names) }
+        ensures value { OnOk result (self.new ≡ declared B.most name.now place meaning self.old) }
+        ensures fault { IfOk result (λ fault. fault ≡ declare_fault B.most name.now self.old.names) }
     {
         match self.names.declare(name, place, meaning) {
             Ok(_) => Ok(None),
@@ -558,8 +558,8 @@ impl<B: Bounds> Output<B> {
         place: Place,
     ) -> Result<Option<(Found<Place>, Option<usize>)>, AllocError>
         requires { length name.now ≤ 35 }
-        ensures value { OnOk result (self.new ≡ referred name.now place self.old) }
-        ensures found { IfOk result (λ found. found ≡ referred_as name.now self.old) }
+        ensures value { OnOk result (self.new ≡ referred B.most name.now place self.old) }
+        ensures found { IfOk result (λ found. found ≡ referred_as B.most name.now self.old) }
     {
         match self.names.find_and_refer(name, place) {
             Ok(found) => Ok(Some(found)),
@@ -573,7 +573,7 @@ impl<B: Bounds> Output<B> {
 
     /// There would be more names than there may be.
     fn pass_symbols(&mut self)
-        ensures { self.new ≡ symbols_passed self.old }
+        ensures { self.new ≡ symbols_passed B.most self.old }
     {
         self.past = Some(Past {
             symbols: true,
@@ -585,7 +585,7 @@ impl<B: Bounds> Output<B> {
     /// the limit is passed.
     pub fn string(&mut self, text: &[u8]) -> Result<Target, AllocError>
         ensures target { IfOk result (λ target. target ≡ string_at self.old) }
-        ensures value { OnOk result (self.new ≡ with_text text.now self.old) }
+        ensures value { OnOk result (self.new ≡ with_text B.most text.now self.old) }
     {
         let place = self.strings.len();
         if !self.strings.add(text)? {
@@ -602,7 +602,7 @@ impl<B: Bounds> Output<B> {
     /// passed.
     pub fn low_string(&mut self, text: &[u8]) -> Result<Target, AllocError>
         ensures target { IfOk result (λ target. target ≡ low_string_at self.old) }
-        ensures value { OnOk result (self.new ≡ with_low_text text.now self.old) }
+        ensures value { OnOk result (self.new ≡ with_low_text B.most text.now self.old) }
     {
         let place = self.tables.low_strings.len();
         if !self.tables.low_strings.add(text)? {
@@ -613,7 +613,7 @@ impl<B: Bounds> Output<B> {
 
     /// A table would hold more than this limit allows.
     pub fn pass_table(&mut self, limit: Setting)
-        ensures { self.new ≡ passed_table limit self.old }
+        ensures { self.new ≡ passed_table B.most limit self.old }
     {
         self.past = Some(self.rest().table_passed(limit));
     }
@@ -627,7 +627,7 @@ impl<B: Bounds> Output<B> {
         word_use: WordUse,
         is_plural: bool,
     ) -> Result<(), AllocError>
-        ensures { OnOk result (self.new ≡ with_word text word_use is_plural self.old) }
+        ensures { OnOk result (self.new ≡ with_word B.most text word_use is_plural self.old) }
     {
         match self.tables.dictionary.add(text, word_use, is_plural) {
             Ok(()) | Err(WordFault::OtherVerb) => Ok(()),
@@ -642,8 +642,8 @@ impl<B: Bounds> Output<B> {
     /// The operand by which a routine of the veneer is called, whose name is looked up, and used at the first token of the unit.
     #[tactic(auto, unfolding(crate::specs::Output::routine, crate::specs::Output::used))]
     pub fn routine(&mut self, veneer: Veneer) -> Result<Simple, AllocError>
-        ensures operand { IfOk result (λ operand. operand ≡ routine veneer self.old) }
-        ensures used { OnOk result (self.new ≡ used veneer self.old) }
+        ensures operand { IfOk result (λ operand. operand ≡ routine B.most veneer self.old) }
+        ensures used { OnOk result (self.new ≡ used B.most veneer self.old) }
     {
         match self
             .names
@@ -678,7 +678,7 @@ impl<B: Bounds> Output<B> {
 
     /// Items that were kept apart come now.
     pub fn append(&mut self, items: &Items) -> Result<(), AllocError>
-        ensures { OnOk result (self.new ≡ laid_all items.now self.old) }
+        ensures { OnOk result (self.new ≡ laid_all B.most items.now self.old) }
     {
         for item in items.as_slice() {
             self.add(item)?;
@@ -689,7 +689,7 @@ impl<B: Bounds> Output<B> {
     /// An item that was kept.
     #[tactic(auto, unfolding(crate::specs::Output::marked))]
     fn add(&mut self, item: &Item) -> Result<(), AllocError>
-        ensures { OnOk result (self.new ≡ laid item.now self.old) }
+        ensures { OnOk result (self.new ≡ laid B.most item.now self.old) }
     {
         match item {
             Item::Instruction(kept) => self.emit(&kept.instruction()),

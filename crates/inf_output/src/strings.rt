@@ -1,5 +1,5 @@
 //! The strings of a story.
-ghost use Rattle.std.specs.Prelude.{◌≡◌, ◌≤◌, IfOk, if◌then◌else◌, length, true};
+ghost use Rattle.std.specs.Prelude.{◌≡◌, ◌≤◌, IfOk, if◌then◌else◌, length};
 ghost use Rattle.inf_output.specs.Strings.{fits, with_string};
 ghost use Rattle.inf_settings.specs.declared.setting.Setting.TheVariants as setting;
 
@@ -18,7 +18,7 @@ pub struct Strings<B: Bounds> {
     limit: usize,
     scale: Scale,
     of: PhantomData<B>,
-    ghost is_allowed: { B.allows setting.Strings limit ≡ true },
+    ghost is_most: { limit ≡ B.most setting.Strings },
 }
 
 impl<B: Bounds> Model for Strings<B> {
@@ -27,7 +27,7 @@ impl<B: Bounds> Model for Strings<B> {
 
     ghost Value = { StringArea };
 
-    ghost view = { λ strings. record { bytes = strings.area; limit = strings.limit; scale = strings.scale } };
+    ghost view = { λ strings. record { bytes = strings.area; scale = strings.scale } };
 
     ghost invariant = { λ strings. length strings.area ≤ strings.limit };
 }
@@ -38,8 +38,8 @@ impl<B: Bounds> Strings<B> {
     /// None, of at most so many bytes, in a story whose packed addresses are multiplied by this. They take no memory until the first one
     /// comes.
     pub fn new(alloc: Global, limit: usize, scale: Scale) -> Strings<B>
-        requires { B.allows setting.Strings limit ≡ true }
-        ensures { result ≡ no_strings limit scale }
+        requires { limit ≡ B.most setting.Strings }
+        ensures { result ≡ no_strings scale }
     {
         Strings {
             area: PagedArea::new(alloc),
@@ -52,16 +52,15 @@ impl<B: Bounds> Strings<B> {
     /// How many bytes they have: the place of the next one.
     pub fn len(&self) -> usize
         ensures value { result ≡ length self.now.bytes }
-        ensures few { result ≤ self.now.limit }
-        ensures allowed { B.allows setting.Strings self.now.limit ≡ true }
+        ensures few { result ≤ B.most setting.Strings }
     {
         self.area.len()
     }
 
     /// Adds a string of these bytes, and answers that it was added; or that it would pass the limit.
     pub fn add(&mut self, text: &[u8]) -> Result<bool, AllocError>
-        ensures { IfOk result (λ added. (added ≡ fits text.now self.old)
-            × (self.new ≡ if fits text.now self.old then with_string text.now self.old else self.old)) }
+        ensures { IfOk result (λ added. (added ≡ fits B.most text.now self.old)
+            × (self.new ≡ if fits B.most text.now self.old then with_string text.now self.old else self.old)) }
     {
         let zeros: &[u8] = &[0, 0, 0, 0, 0, 0, 0];
         let behind = &zeros[..self.scale.gap(text.len())];

@@ -1,5 +1,6 @@
 -- The end of a source ends the reading, however it is handed on.
 use Rattle.std.proofs.Common.{◌≡◌, ℕ, List, Bool, true, false, Option, Some, None, refl, ap, ◌∙◌}
+use Rattle.inf_settings.specs.Bounds.{Limits}
 use Rattle.inf_scanner.specs.declared.tokens.Place.{Place}
 use Rattle.inf_scanner.specs.declared.tokens.TokenKind.TheVariants as kind
 use Rattle.inf_compilation.specs.Context.{Context}
@@ -17,33 +18,42 @@ use Rattle.inf_reader.proofs.Turns.{end_at}
 abbrev end_of : List ℕ → Place → Bool → SourceToken
 end_of bytes place named = record { kind = kind.End; bytes = bytes; place = place; is_class = named }
 
-unfit_end : (m : Recovery) (context : Context) (bytes : List ℕ) (place : Place) (named : Bool) (s : ReaderState) → s.reading.mode ≡ m →
-    (unfit_in m context (end_of bytes place named) s).reading.mode ≡ mode.Ended
-unfit_end mode.Reads context bytes place named s e = refl
-unfit_end mode.SkipsRoutine context bytes place named s e = end_at s.reading.mode context kind.End bytes place named s.reading s.work refl refl
-unfit_end mode.SkipsDirective context bytes place named s e = end_at s.reading.mode context kind.End bytes place named s.reading s.work refl refl
-unfit_end mode.Ended context bytes place named s e = end_at s.reading.mode context kind.End bytes place named s.reading s.work refl refl
+unfit_end : (limits : Limits) (m : Recovery) (context : Context) (bytes : List ℕ) (place : Place) (named : Bool) (s : ReaderState) →
+    s.reading.mode ≡ m →
+    (unfit_in limits m context (end_of bytes place named) s).reading.mode ≡ mode.Ended
+unfit_end limits mode.Reads context bytes place named s e = refl
+unfit_end limits mode.SkipsRoutine context bytes place named s e =
+    end_at limits s.reading.mode context kind.End bytes place named s.reading s.work refl refl
+unfit_end limits mode.SkipsDirective context bytes place named s e =
+    end_at limits s.reading.mode context kind.End bytes place named s.reading s.work refl refl
+unfit_end limits mode.Ended context bytes place named s e =
+    end_at limits s.reading.mode context kind.End bytes place named s.reading s.work refl refl
 
-end_handed : (h : Forwarded) (context : Context) (bytes : List ℕ) (place : Place) (named : Bool) (s : ReaderState) → is_on h ≡ true →
-    (handed_as h context (end_of bytes place named) s).reading.mode ≡ mode.Ended
-end_handed handed.Condition context bytes place named s on = let never : false ≡ true = on in cc
-end_handed handed.Kept context bytes place named s on = end_at s.reading.mode context kind.End bytes place named s.reading s.work refl refl
-end_handed handed.Unfit context bytes place named s on = unfit_end s.reading.mode context bytes place named s refl
+end_handed : (limits : Limits) (h : Forwarded) (context : Context) (bytes : List ℕ) (place : Place) (named : Bool) (s : ReaderState) →
+    is_on h ≡ true →
+    (handed_as limits h context (end_of bytes place named) s).reading.mode ≡ mode.Ended
+end_handed limits handed.Condition context bytes place named s on = let never : false ≡ true = on in cc
+end_handed limits handed.Kept context bytes place named s on =
+    end_at limits s.reading.mode context kind.End bytes place named s.reading s.work refl refl
+end_handed limits handed.Unfit context bytes place named s on = unfit_end limits s.reading.mode context bytes place named s refl
 
 lone_mode : (unmatched : Option Place) (context : Context) (s : ReaderState) → (lone_told unmatched context s).reading.mode ≡ s.reading.mode
 lone_mode None context s = refl
 lone_mode (Some place) context s = refl
 
-ended_mode : (ended : Option Place) (context : Context) (s : ReaderState) → (unit_ended ended context s).reading.mode ≡ s.reading.mode
-ended_mode None context s = refl
-ended_mode (Some place) context s = refl
+ended_mode : (limits : Limits) (ended : Option Place) (context : Context) (s : ReaderState) →
+    (unit_ended limits ended context s).reading.mode ≡ s.reading.mode
+ended_mode limits None context s = refl
+ended_mode limits (Some place) context s = refl
 
-pub end_taken : (context : Context) (bytes : List ℕ) (place : Place) (named : Bool) (j : Filtered) (h : Forwarded) (s : ReaderState) → j.token ≡ Some h →
+pub end_taken : (limits : Limits) (context : Context) (bytes : List ℕ) (place : Place) (named : Bool) (j : Filtered) (h : Forwarded)
+    (s : ReaderState) → j.token ≡ Some h →
     is_on h ≡ true
-    → (judged_taken context (end_of bytes place named) j s).reading.mode ≡ mode.Ended
-end_taken context bytes place named j h s e on =
-    let told = lone_told j.unmatched context (token_taken j.token context (end_of bytes place named) (sign_taken j.sign context s)) in
-    ended_mode j.ended context told
-    ∙ lone_mode j.unmatched context (token_taken j.token context (end_of bytes place named) (sign_taken j.sign context s))
-    ∙ ap (λ o. (token_taken o context (end_of bytes place named) (sign_taken j.sign context s)).reading.mode) e
-    ∙ end_handed h context bytes place named (sign_taken j.sign context s) on
+    → (judged_taken limits context (end_of bytes place named) j s).reading.mode ≡ mode.Ended
+end_taken limits context bytes place named j h s e on =
+    let told =
+    lone_told j.unmatched context (token_taken limits j.token context (end_of bytes place named) (sign_taken limits j.sign context s)) in
+    ended_mode limits j.ended context told
+    ∙ lone_mode j.unmatched context (token_taken limits j.token context (end_of bytes place named) (sign_taken limits j.sign context s))
+    ∙ ap (λ o. (token_taken limits o context (end_of bytes place named) (sign_taken limits j.sign context s)).reading.mode) e
+    ∙ end_handed limits h context bytes place named (sign_taken limits j.sign context s) on

@@ -1,5 +1,6 @@
 -- A token of a piece is judged, and so is the first one behind a piece.
 use Rattle.std.proofs.Common.{◌≡◌, List, [], ◌∷◌, false, cond, refl, ap, ◌∙◌}
+use Rattle.inf_settings.specs.Bounds.{Limits}
 use Rattle.inf_machine.specs.declared.symbols.Symbol.{Symbol}
 use Rattle.inf_syntax.specs.declared.actions.Action.{Action}
 use Rattle.inf_compilation.specs.Context.{Context}
@@ -8,14 +9,17 @@ use Rattle.inf_compilation.specs.Actions.{Compilation, piece_begun as work_begun
 use Rattle.inf_reader.specs.Reading.{Reading, judged, piece_begun, read_at}
 use Rattle.inf_reader.specs.declared.recovery.Recovery.TheVariants as mode
 
-pub read_inside : (context : Context) (t : SourceToken) (stack : List (Symbol Action)) (r : Reading) (w : Compilation) → (stack ≡ [] → ⊥) →
-    read_at context t stack r w ≡ judged context t r w
-read_inside context t [] r w some = absurd (some refl)
-read_inside context t (symbol ∷ symbols) r w some = refl
+pub read_inside : (limits : Limits) (context : Context) (t : SourceToken) (stack : List (Symbol Action)) (r : Reading) (w : Compilation) →
+    (stack ≡ [] → ⊥) →
+    read_at limits context t stack r w ≡ judged limits context t r w
+read_inside limits context t [] r w some = absurd (some refl)
+read_inside limits context t (symbol ∷ symbols) r w some = refl
 
-pub read_first : (context : Context) (t : SourceToken) (stack : List (Symbol Action)) (r : Reading) (w : Compilation) → stack ≡ [] →
+pub read_first : (limits : Limits) (context : Context) (t : SourceToken) (stack : List (Symbol Action)) (r : Reading) (w : Compilation) →
+    stack ≡ [] →
     is_end t.kind ≡ false
-    → read_at context t stack r w ≡ judged context t (piece_begun r) (work_begun w)
-read_first context t stack r w empty going =
-    ap (λ s. read_at context t s r w) empty
-    ∙ ap (λ b. cond b (record { reading = record r { mode = mode.Ended }; work = w }) (judged context t (piece_begun r) (work_begun w))) going
+    → read_at limits context t stack r w ≡ judged limits context t (piece_begun r) (work_begun w)
+read_first limits context t stack r w empty going =
+    ap (λ s. read_at limits context t s r w) empty
+    ∙ ap (λ b. cond b (record { reading = record r { mode = mode.Ended }; work = w })
+    (judged limits context t (piece_begun r) (work_begun w))) going

@@ -1,5 +1,6 @@
 -- The end of a file ends its reading, however it is read.
 use Rattle.std.proofs.Common.{◌≡◌, ℕ, List, [], ◌∷◌, Bool, cond, true, refl, ap}
+use Rattle.inf_settings.specs.Bounds.{Limits}
 use Rattle.inf_scanner.specs.declared.tokens.Place.{Place}
 use Rattle.inf_scanner.specs.declared.tokens.TokenKind.{TokenKind}
 use Rattle.inf_scanner.specs.declared.tokens.TokenKind.TheVariants as kind
@@ -16,29 +17,32 @@ use Rattle.inf_conditionals.proofs.Misfits.{end_fits_nothing}
 -- The end of the source ends the reading
 
 -- it fits nowhere, so in a piece it is the bad token
-end_in_piece : (context : Context) (bytes : List ℕ) (place : Place) (named : Bool) (r : Reading) (w : Compilation)
-    → (judged context (record { kind = kind.End; bytes = bytes; place = place; is_class = named }) r w).reading.mode ≡ mode.Ended
-end_in_piece context bytes place named r w =
+end_in_piece : (limits : Limits) (context : Context) (bytes : List ℕ) (place : Place) (named : Bool) (r : Reading) (w : Compilation)
+    → (judged limits context (record { kind = kind.End; bytes = bytes; place = place; is_class = named }) r w).reading.mode ≡ mode.Ended
+end_in_piece limits context bytes place named r w =
     let t : SourceToken = record { kind = kind.End; bytes = bytes; place = place; is_class = named } in
-    ap (λ b. (cond b (took context t r w) (bad context t r w)).reading.mode) (end_fits_nothing r.stack)
+    ap (λ b. (cond b (took limits context t r w) (bad context t r w)).reading.mode) (end_fits_nothing r.stack)
 
-end_read : (context : Context) (bytes : List ℕ) (place : Place) (named : Bool) (stack : List (Symbol Action)) (r : Reading) (w : Compilation)
-    → (read_at context (record { kind = kind.End; bytes = bytes; place = place; is_class = named }) stack r w).reading.mode ≡ mode.Ended
-end_read context bytes place named [] r w = refl
-end_read context bytes place named (symbol ∷ stack) r w =
-    end_in_piece context bytes place named r w
+end_read : (limits : Limits) (context : Context) (bytes : List ℕ) (place : Place) (named : Bool) (stack : List (Symbol Action))
+    (r : Reading) (w : Compilation)
+    → (read_at limits context (record { kind = kind.End; bytes = bytes; place = place; is_class = named }) stack r w).reading.mode ≡
+    mode.Ended
+end_read limits context bytes place named [] r w = refl
+end_read limits context bytes place named (symbol ∷ stack) r w =
+    end_in_piece limits context bytes place named r w
 
-pub end_at : (m : Recovery) (context : Context) (k : TokenKind) (bytes : List ℕ) (place : Place) (named : Bool) (r : Reading) (w : Compilation) →
+pub end_at : (limits : Limits) (m : Recovery) (context : Context) (k : TokenKind) (bytes : List ℕ) (place : Place) (named : Bool)
+    (r : Reading) (w : Compilation) →
     is_end k ≡ true → r.mode ≡ m
-    → (step_in m context (record { kind = k; bytes = bytes; place = place; is_class = named }) r w).reading.mode ≡ mode.Ended
-end_at mode.Reads context kind.End bytes place named r w h e = end_read context bytes place named r.stack r w
-end_at mode.SkipsRoutine context kind.End bytes place named r w h e = refl
-end_at mode.SkipsDirective context kind.End bytes place named r w h e = refl
-end_at mode.Ended context kind.End bytes place named r w h e = e
-end_at m context (kind.Mark mark) bytes place named r w h e = cc
-end_at m context kind.Name bytes place named r w h e = cc
-end_at m context (kind.Number n) bytes place named r w h e = cc
-end_at m context kind.Text bytes place named r w h e = cc
-end_at m context (kind.Char c) bytes place named r w h e = cc
-end_at m context (kind.Word word) bytes place named r w h e = cc
-end_at m context (kind.Bad b) bytes place named r w h e = cc
+    → (step_in limits m context (record { kind = k; bytes = bytes; place = place; is_class = named }) r w).reading.mode ≡ mode.Ended
+end_at limits mode.Reads context kind.End bytes place named r w h e = end_read limits context bytes place named r.stack r w
+end_at limits mode.SkipsRoutine context kind.End bytes place named r w h e = refl
+end_at limits mode.SkipsDirective context kind.End bytes place named r w h e = refl
+end_at limits mode.Ended context kind.End bytes place named r w h e = e
+end_at limits m context (kind.Mark mark) bytes place named r w h e = cc
+end_at limits m context kind.Name bytes place named r w h e = cc
+end_at limits m context (kind.Number n) bytes place named r w h e = cc
+end_at limits m context kind.Text bytes place named r w h e = cc
+end_at limits m context (kind.Char c) bytes place named r w h e = cc
+end_at limits m context (kind.Word word) bytes place named r w h e = cc
+end_at limits m context (kind.Bad b) bytes place named r w h e = cc

@@ -1,5 +1,6 @@
 -- What the machine of the grammar gets of a token, by what becomes of it among conditionals.
 use Rattle.std.specs.Prelude.{List, [], ◌∷◌, codes, Bool, true, false, ◌&&◌, Option, Some, None}
+use Rattle.inf_settings.specs.Bounds.{Limits}
 use Rattle.inf_scanner.specs.declared.tokens.Mark.TheVariants as mark
 use Rattle.inf_scanner.specs.declared.tokens.Place.{Place}
 use Rattle.inf_scanner.specs.declared.tokens.TokenKind.TheVariants as kind
@@ -47,40 +48,42 @@ abbrev pub hash : Place → SourceToken
 hash place = record { kind = kind.Mark mark.Hash; bytes = codes "#"; place = place; is_class = false }
 
 -- a token that does not fit a conditional is the bad one of the piece at hand, and where one was told it is passed over
-abbrev pub unfit_in : Recovery → Context → SourceToken → ReaderState → ReaderState
-unfit_in mode.Reads context t s = bad context t s.reading s.work
-unfit_in _ context t s = step context t s.reading s.work
+abbrev pub unfit_in : Limits → Recovery → Context → SourceToken → ReaderState → ReaderState
+unfit_in limits mode.Reads context t s = bad context t s.reading s.work
+unfit_in limits _ context t s = step limits context t s.reading s.work
 
 -- one that a condition takes is not handed on
-abbrev pub handed_as : Forwarded → Context → SourceToken → ReaderState → ReaderState
-handed_as handed.Kept context t s = step context t s.reading s.work
-handed_as handed.Unfit context t s = unfit_in s.reading.mode context t s
-handed_as handed.Condition context t s = s
+abbrev pub handed_as : Limits → Forwarded → Context → SourceToken → ReaderState → ReaderState
+handed_as limits handed.Kept context t s = step limits context t s.reading s.work
+handed_as limits handed.Unfit context t s = unfit_in limits s.reading.mode context t s
+handed_as limits handed.Condition context t s = s
 
-abbrev pub sign_taken : Option Sign → Context → ReaderState → ReaderState
-sign_taken None context s = s
-sign_taken (Some sign) context s = handed_as sign.handed context (hash sign.place) s
+abbrev pub sign_taken : Limits → Option Sign → Context → ReaderState → ReaderState
+sign_taken limits None context s = s
+sign_taken limits (Some sign) context s = handed_as limits sign.handed context (hash sign.place) s
 
-abbrev pub token_taken : Option Forwarded → Context → SourceToken → ReaderState → ReaderState
-token_taken None context t s = s
-token_taken (Some h) context t s = handed_as h context t s
+abbrev pub token_taken : Limits → Option Forwarded → Context → SourceToken → ReaderState → ReaderState
+token_taken limits None context t s = s
+token_taken limits (Some h) context t s = handed_as limits h context t s
 
 -- What there is to tell of a condition comes before anything else that its token does; the actions of one with which nothing is wrong
 -- appear.
-abbrev pub said_told : Option Said → Context → ReaderState → ReaderState
-said_told said context s =
-    record s { work = record s.work { report = with_said context.names said s.work.report; output = with_right said s.work.output } }
+abbrev pub said_told : Limits → Option Said → Context → ReaderState → ReaderState
+said_told limits said context s =
+    record s { work = record s.work { report = with_said context.names said s.work.report; output = with_right limits said s.work.output } }
 
 abbrev pub lone_told : Option Place → Context → ReaderState → ReaderState
 lone_told None context s = s
 lone_told (Some place) context s = record s { work = record s.work { report = with_lone context.names place s.work.report } }
 
 -- A conditional directive is a unit. Before it the statements are closed that are over, whatever the next token is.
-abbrev pub unit_ended : Option Place → Context → ReaderState → ReaderState
-unit_ended None context s = s
-unit_ended (Some place) context s = record s { work = begun_at context.names place (closed_ahead (closings s.reading.stack) s.work) }
+abbrev pub unit_ended : Limits → Option Place → Context → ReaderState → ReaderState
+unit_ended limits None context s = s
+unit_ended limits (Some place) context s =
+    record s { work = begun_at limits context.names place (closed_ahead limits (closings s.reading.stack) s.work) }
 
 -- first the `#` before the token, then the token, and then a conditional directive that has ended: one that has no conditional to
 -- end or to turn is told
-abbrev pub judged_taken : Context → SourceToken → Filtered → ReaderState → ReaderState
-judged_taken context t j s = unit_ended j.ended context (lone_told j.unmatched context (token_taken j.token context t (sign_taken j.sign context s)))
+abbrev pub judged_taken : Limits → Context → SourceToken → Filtered → ReaderState → ReaderState
+judged_taken limits context t j s = unit_ended limits j.ended context
+    (lone_told j.unmatched context (token_taken limits j.token context t (sign_taken limits j.sign context s)))

@@ -3,6 +3,7 @@
 -- and tokens are passed over to where the piece ends. The unit that it cuts gives nothing.
 -- Designer's Manual, fourth edition, sections 1.3, 1.4 and 1.7.
 use Rattle.std.specs.Prelude.{ℕ, List, [], ◌∷◌, Bool, true, false, ◌||◌, if◌then◌else◌}
+use Rattle.inf_settings.specs.Bounds.{Limits}
 use Rattle.inf_characters.specs.declared.characters.CharSet.{CharSet}
 use Rattle.inf_scanner.specs.declared.tokens.Mark.TheVariants as mark
 use Rattle.inf_scanner.specs.declared.tokens.TokenKind.{TokenKind}
@@ -87,14 +88,14 @@ bad context t r w =
     }
 
 -- A token that fits is taken: first the actions on the way to it act.
-abbrev pub took : Context → SourceToken → Reading → Compilation → ReaderState
-took context t r w =
+abbrev pub took : Limits → Context → SourceToken → Reading → Compilation → ReaderState
+took limits context t r w =
     let n = taken grammar known (atom_of t) r.stack in
-    record { reading = record { mode = r.mode; stack = n.left }; work = work_took context t (all_acted context t.place n.actions w) }
+    record { reading = record { mode = r.mode; stack = n.left }; work = work_took context t (all_acted limits context t.place n.actions w) }
 
 -- a token of a piece is taken where it fits; else it is the bad one
-abbrev pub judged : Context → SourceToken → Reading → Compilation → ReaderState
-judged context t r w = if fits grammar known (atom_of t) r.stack then took context t r w else bad context t r w
+abbrev pub judged : Limits → Context → SourceToken → Reading → Compilation → ReaderState
+judged limits context t r w = if fits grammar known (atom_of t) r.stack then took limits context t r w else bad context t r w
 
 -- the rule of the pieces
 abbrev pub piece_rule : ℕ
@@ -105,17 +106,17 @@ abbrev pub piece_begun : Reading → Reading
 piece_begun r = record { mode = r.mode; stack = Rule piece_rule ∷ [] }
 
 -- the next token where this is still to come: of a new piece, or of the one at hand
-abbrev pub read_at : Context → SourceToken → List (Symbol Action) → Reading → Compilation → ReaderState
-read_at context t [] r w =
+abbrev pub read_at : Limits → Context → SourceToken → List (Symbol Action) → Reading → Compilation → ReaderState
+read_at limits context t [] r w =
     if is_end t.kind then record { reading = record r { mode = mode.Ended }; work = w }
-    else judged context t (piece_begun r) (work_begun w)
-read_at context t (_ ∷ _) r w = judged context t r w
+    else judged limits context t (piece_begun r) (work_begun w)
+read_at limits context t (_ ∷ _) r w = judged limits context t r w
 
-abbrev pub step_in : Recovery → Context → SourceToken → Reading → Compilation → ReaderState
-step_in mode.Reads context t r w = read_at context t r.stack r w
-step_in mode.Ended context t r w = record { reading = r; work = w }
-step_in skip context t r w = record { reading = record r { mode = passed skip t.kind }; work = w }
+abbrev pub step_in : Limits → Recovery → Context → SourceToken → Reading → Compilation → ReaderState
+step_in limits mode.Reads context t r w = read_at limits context t r.stack r w
+step_in limits mode.Ended context t r w = record { reading = r; work = w }
+step_in limits skip context t r w = record { reading = record r { mode = passed skip t.kind }; work = w }
 
 -- what a token does
-abbrev pub step : Context → SourceToken → Reading → Compilation → ReaderState
-step context t r w = step_in r.mode context t r w
+abbrev pub step : Limits → Context → SourceToken → Reading → Compilation → ReaderState
+step limits context t r w = step_in limits r.mode context t r w

@@ -1,7 +1,7 @@
 //! What is read of a source, and what was compiled of it: token by token.
 ghost use Rattle.inf_compilation.specs.Context.{handed};
 ghost use Rattle.std.specs.Prelude.{◌≡◌, [], IfOk, OnOk};
-ghost use Rattle.inf_settings.specs.Bounds.{Allows};
+ghost use Rattle.inf_settings.specs.Bounds.{AreSet};
 ghost use Rattle.inf_report.specs.Meant.{located};
 ghost use Rattle.inf_unit.specs.Spelled.{spelled};
 ghost use Rattle.inf_reader.specs.Handing.{hash};
@@ -51,7 +51,7 @@ impl<B: Bounds> Progress<B> {
         settings: &Settings,
         hashing: NameHashing,
     ) -> Result<Progress<B>, AllocError>
-        requires { Allows B.allows settings.now }
+        requires { AreSet B.most settings.now }
         ensures { IfOk result (λ progress. standing progress ≡ begun_stand settings.now) }
     {
         Ok(Progress {
@@ -72,7 +72,7 @@ impl<B: Bounds> Progress<B> {
     /// Takes the next token of a source, one of these files.
     pub fn take(&mut self, context: &Context<'_>, token: &SourceToken<'_>) -> Result<(), AllocError>
         ensures { let before = standing self.old in
-            OnOk result (standing self.new ≡ step (handed context.now) (spelled token.now) before.reading before.work) }
+            OnOk result (standing self.new ≡ step B.most (handed context.now) (spelled token.now) before.reading before.work) }
     {
         match self.reader.mode {
             Recovery::Reads => self.read_token(context, token),
@@ -105,7 +105,7 @@ impl<B: Bounds> Progress<B> {
         token: &SourceToken<'_>,
         judged: Filtered,
     ) -> Result<(), AllocError>
-        ensures { OnOk result (standing self.new ≡ judged_taken (handed context.now) (spelled token.now) judged (standing self.old)) }
+        ensures { OnOk result (standing self.new ≡ judged_taken B.most (handed context.now) (spelled token.now) judged (standing self.old)) }
     {
         if let Some(sign) = judged.sign {
             self.hand(context, &hash(sign.place), sign.handed)?;
@@ -130,7 +130,7 @@ impl<B: Bounds> Progress<B> {
         token: &SourceToken<'_>,
         forwarded: Forwarded,
     ) -> Result<(), AllocError>
-        ensures { OnOk result (standing self.new ≡ handed_as forwarded (handed context.now) (spelled token.now) (standing self.old)) }
+        ensures { OnOk result (standing self.new ≡ handed_as B.most forwarded (handed context.now) (spelled token.now) (standing self.old)) }
     {
         match (forwarded, self.reader.mode) {
             (Forwarded::Unfit, Recovery::Reads) => self.bad(context, token),
@@ -148,7 +148,7 @@ impl<B: Bounds> Progress<B> {
     ) -> Result<(), AllocError>
         ensures { let before = reading self.old.reader in
             OnOk result (standing self.new
-            ≡ read_at (handed context.now) (spelled token.now) before.stack before (work self.old.work)) }
+            ≡ read_at B.most (handed context.now) (spelled token.now) before.stack before (work self.old.work)) }
     {
         if !self.reader.machine.is_done() {
             return self.judge(context, token);
@@ -179,7 +179,8 @@ impl<B: Bounds> Progress<B> {
     ) -> Result<(), AllocError>
         requires { (reading self.old.reader).stack ≡ [] }
         ensures { OnOk result (standing self.new
-            ≡ judged (handed context.now) (spelled token.now) (piece_begun (reading self.old.reader)) (work_begun (work self.old.work))) }
+            ≡ judged B.most (handed context.now) (spelled token.now) (piece_begun (reading self.old.reader))
+            (work_begun (work self.old.work))) }
     {
         self.begin_piece()?;
         self.judge(context, token)
@@ -189,7 +190,7 @@ impl<B: Bounds> Progress<B> {
     fn judge(&mut self, context: &Context<'_>, token: &SourceToken<'_>) -> Result<(), AllocError>
         ensures { let before = reading self.old.reader in
             OnOk result (standing self.new
-            ≡ judged (handed context.now) (spelled token.now) before (work self.old.work)) }
+            ≡ judged B.most (handed context.now) (spelled token.now) before (work self.old.work)) }
     {
         if !self.reader.read(token.atom(), &mut self.actions)? {
             return self.bad(context, token);

@@ -2,6 +2,7 @@
 use Rattle.std.specs.Prelude.{not, ◌&&◌, ◌==◌, Result, IfOk}
 use Rattle.std.proofs.Common.{◌≡◌, ◌⊎◌, inl, inr, ℕ, ◌%◌, [], Bool, true, false, cond, List, ◌++◌, Option, Some, None, refl, sym, ap, subst, ◌∙◌}
 use Rattle.std.proofs.lemmas.Bool.{eqb-true}
+use Rattle.inf_settings.specs.Bounds.{Limits}
 use Rattle.inf_area.specs.declared.targets.Value.{Value}
 use Rattle.inf_cells.specs.Scales.{most_bytes}
 use Rattle.inf_cells.specs.declared.scale.Scale.{Scale}
@@ -31,12 +32,15 @@ most_is_small scale.Four = refl
 most_is_small scale.Eight = refl
 
 -- What a compilation ends with whose last names are told is what it ends with.
-pub told_is_finished : {E : Type 0} (serial : List ℕ) (files : FileNames) (w told : Compilation) (result : Result CodeOutcome E)
-    → told ≡ record (begun_at files first_place w)
-    { report = with_all_undeclared files (begun_at files first_place w).output.names.names (begun_at files first_place w).report }
+pub told_is_finished : {E : Type 0} (limits : Limits) (serial : List ℕ) (files : FileNames) (w told : Compilation)
+    (result : Result CodeOutcome E)
+    → told ≡ record (begun_at limits files first_place w) {
+      report = with_all_undeclared files (begun_at limits files first_place w).output.names.names
+          (begun_at limits files first_place w).report;
+    }
     → IfOk result (λ t. seen t ≡ begun serial files told.output told.report (main_of told.output.names))
-    → IfOk result (λ t. seen t ≡ finished serial files w)
-told_is_finished serial files w told result same given =
+    → IfOk result (λ t. seen t ≡ finished limits serial files w)
+told_is_finished limits serial files w told result same given =
     subst (λ v. IfOk result (λ t. seen t ≡ begun serial files v.output v.report (main_of v.output.names))) same given
 
 -- A story that would be too long for its version, as it is told.
@@ -85,10 +89,11 @@ begun_none serial files o r None = λ _. refl
 begun_none serial files o r (Some main) =
     of_both HasNone (is_clean r) (laid serial files main o r) (refused r) (λ _. laid_none serial files main o r) (λ _ _. refl)
 
-pub errors_none : (serial : List ℕ) (files : FileNames) (w : Compilation) → (finished serial files w).status ≡ status.Errors →
-    (finished serial files w).story ≡ None
-errors_none serial files w =
-    let b = begun_at files first_place w in
+pub errors_none : (limits : Limits) (serial : List ℕ) (files : FileNames) (w : Compilation) →
+    (finished limits serial files w).status ≡ status.Errors →
+    (finished limits serial files w).story ≡ None
+errors_none limits serial files w =
+    let b = begun_at limits files first_place w in
     begun_none serial files b.output (with_all_undeclared files b.output.names.names b.report) (main_of b.output.names)
 
 -- lines that end with the line that tells no error
@@ -124,7 +129,8 @@ linked_clean serial files main names code strings tables r clean (Some link_faul
 linked_clean serial files main names code strings tables r clean (Some link_fault.StoryTooLong) = λ e. cc
 linked_clean serial files main names code strings tables r clean (Some link_fault.Memory) = λ e. cc
 
-named_clean : (serial : List ℕ) (files : FileNames) (main : ℕ) (code : Routines) (strings : StringArea) (tables : AllTables) (r : Reported) →
+named_clean : (serial : List ℕ) (files : FileNames) (main : ℕ) (code : Routines) (strings : StringArea) (tables : AllTables) (r : Reported)
+    →
     is_clean r ≡ true → (names : Option (List Value)) → EndsSo (named serial files main code strings tables r names)
 named_clean serial files main code strings tables r clean None = λ e. cc
 named_clean serial files main code strings tables r clean (Some names) = linked_clean serial files main names code strings tables r clean
@@ -139,8 +145,9 @@ begun_clean serial files o r None = λ e. cc
 begun_clean serial files o r (Some main) =
     of_both EndsSo (is_clean r) (laid serial files main o r) (refused r) (λ clean. laid_clean serial files main o r clean) (λ _ e. cc)
 
-pub success_clean : (serial : List ℕ) (files : FileNames) (w : Compilation) → (finished serial files w).status ≡ status.Success →
-    IsClean (finished serial files w).messages
-success_clean serial files w =
-    let b = begun_at files first_place w in
+pub success_clean : (limits : Limits) (serial : List ℕ) (files : FileNames) (w : Compilation) →
+    (finished limits serial files w).status ≡ status.Success →
+    IsClean (finished limits serial files w).messages
+success_clean limits serial files w =
+    let b = begun_at limits files first_place w in
     begun_clean serial files b.output (with_all_undeclared files b.output.names.names b.report) (main_of b.output.names)

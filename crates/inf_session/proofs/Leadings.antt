@@ -1,5 +1,6 @@
 -- Where turns lead: what has ended stays, turns follow one another, and what was written is only added to.
 use Rattle.std.proofs.Common.{◌≡◌, ◌⊎◌, inl, inr, ℕ, suc, zero, ◌+◌, ◌<◌, ◌||◌, List, [], ◌∷◌, ◌++◌, Bool, true, false, Option, Some, None, cond, refl, sym, ap, subst, ◌∙◌, append_assoc, append-nil, arith}
+use Rattle.inf_settings.specs.Bounds.{Limits}
 use Rattle.inf_files.specs.Files.{Openings, Sources}
 use Rattle.inf_sinks.specs.Sinks.{Takes}
 use Rattle.inf_unit.proofs.Cases.{of_both}
@@ -72,88 +73,100 @@ rested_told s =
 followed_told : (sources : Sources) (o : Choices) (s : State) → SameTold s (followed sources o s)
 followed_told sources o s = rested_told (carried_out sources o s) ∙ carried_out_told sources o s
 
-pub turn_adds : (sources : Sources) (o : Choices) (s : State) →
-    (turn sources o s).told ≡ s.told ++ (followed sources o (stepped o s)).work.report.lines
-turn_adds sources o s = ap (λ told. told ++ (followed sources o (stepped o s)).work.report.lines) (followed_told sources o (stepped o s))
+pub turn_adds : (limits : Limits) (sources : Sources) (o : Choices) (s : State) →
+    (turn limits sources o s).told ≡ s.told ++ (followed sources o (stepped limits o s)).work.report.lines
+turn_adds limits sources o s =
+    ap (λ told. told ++ (followed sources o (stepped limits o s)).work.report.lines) (followed_told sources o (stepped limits o s))
 
-pub turn_begins : (sources : Sources) (o : Choices) (s : State) → IsFront s.told (turn sources o s).told
-turn_begins sources o s = record { rest = (followed sources o (stepped o s)).work.report.lines; is_cut = turn_adds sources o s }
+pub turn_begins : (limits : Limits) (sources : Sources) (o : Choices) (s : State) → IsFront s.told (turn limits sources o s).told
+turn_begins limits sources o s =
+    record { rest = (followed sources o (stepped limits o s)).work.report.lines; is_cut = turn_adds limits sources o s }
 
 -- Runs
 
-pub run_going : (sources : Sources) (o : Choices) (n : ℕ) (s : State) → has_ended s ≡ false →
-    run sources o (suc n) s ≡ run sources o n (turn sources o s)
-run_going sources o n s going = ap (λ b. cond b s (run sources o n (turn sources o s))) going
+pub run_going : (limits : Limits) (sources : Sources) (o : Choices) (n : ℕ) (s : State) → has_ended s ≡ false →
+    run limits sources o (suc n) s ≡ run limits sources o n (turn limits sources o s)
+run_going limits sources o n s going = ap (λ b. cond b s (run limits sources o n (turn limits sources o s))) going
 
-pub run_ended : (sources : Sources) (o : Choices) (n : ℕ) (s : State) → has_ended s ≡ true → run sources o n s ≡ s
-run_ended sources o zero s e = refl
-run_ended sources o (suc n) s e = ap (λ b. cond b s (run sources o n (turn sources o s))) e
+pub run_ended : (limits : Limits) (sources : Sources) (o : Choices) (n : ℕ) (s : State) → has_ended s ≡ true → run limits sources o n s ≡ s
+run_ended limits sources o zero s e = refl
+run_ended limits sources o (suc n) s e = ap (λ b. cond b s (run limits sources o n (turn limits sources o s))) e
 
 -- one turn more
-more_by : (sources : Sources) (o : Choices) (n : ℕ) (s : State) (b : Bool) → has_ended s ≡ b
-    → ((m : ℕ) → n ≡ suc m → has_ended (run sources o m (turn sources o s)) ≡ false → run sources o (suc m) (turn sources o s) ≡ turn
-    sources o (run sources o m (turn sources o s)))
-    → has_ended (run sources o n s) ≡ false → run sources o (suc n) s ≡ turn sources o (run sources o n s)
-more_by sources o n s true e later going = let never : true ≡ false = sym (ap has_ended (run_ended sources o n s e) ∙ e) ∙ going in cc
-more_by sources o zero s false e later going = run_going sources o zero s e
-more_by sources o (suc m) s false e later going =
-    let on = run_going sources o m s e in
-    run_going sources o (suc m) s e ∙ later m refl (ap has_ended (sym on) ∙ going) ∙ ap (turn sources o) (sym on)
+more_by : (limits : Limits) (sources : Sources) (o : Choices) (n : ℕ) (s : State) (b : Bool) → has_ended s ≡ b
+    → ((m : ℕ) → n ≡ suc m → has_ended (run limits sources o m (turn limits sources o s)) ≡ false → run limits sources o (suc m)
+    (turn limits sources o s) ≡ turn limits
+    sources o (run limits sources o m (turn limits sources o s)))
+    → has_ended (run limits sources o n s) ≡ false → run limits sources o (suc n) s ≡ turn limits sources o (run limits sources o n s)
+more_by limits sources o n s true e later going =
+    let never : true ≡ false = sym (ap has_ended (run_ended limits sources o n s e) ∙ e) ∙ going in cc
+more_by limits sources o zero s false e later going = run_going limits sources o zero s e
+more_by limits sources o (suc m) s false e later going =
+    let on = run_going limits sources o m s e in
+    run_going limits sources o (suc m) s e ∙ later m refl (ap has_ended (sym on) ∙ going) ∙ ap (turn limits sources o) (sym on)
 
-pub run_more : (sources : Sources) (o : Choices) (n : ℕ) (s : State) → has_ended (run sources o n s) ≡ false →
-    run sources o (suc n) s ≡ turn sources o (run sources o n s)
-run_more sources o zero s going = more_by sources o zero s (has_ended s) refl (λ m never h. cc) going
-run_more sources o (suc n) s going =
-    more_by sources o (suc n) s (has_ended s) refl (λ m is h.
+pub run_more : (limits : Limits) (sources : Sources) (o : Choices) (n : ℕ) (s : State) → has_ended (run limits sources o n s) ≡ false →
+    run limits sources o (suc n) s ≡ turn limits sources o (run limits sources o n s)
+run_more limits sources o zero s going = more_by limits sources o zero s (has_ended s) refl (λ m never h. cc) going
+run_more limits sources o (suc n) s going =
+    more_by limits sources o (suc n) s (has_ended s) refl (λ m is h.
     let same : n ≡ m = omega (arith, is) in
-    subst (λ k. run sources o (suc k) (turn sources o s) ≡ turn sources o (run sources o k (turn sources o s))) same
-    (run_more sources o n (turn sources o s) (ap (λ k. has_ended (run sources o k (turn sources o s))) same ∙ h))) going
+    subst (λ k. run limits sources o (suc k) (turn limits sources o s) ≡ turn limits sources o
+    (run limits sources o k (turn limits sources o s))) same
+    (run_more limits sources o n (turn limits sources o s)
+    (ap (λ k. has_ended (run limits sources o k (turn limits sources o s))) same ∙ h))) going
 
-pub run_begins : (sources : Sources) (o : Choices) (n : ℕ) (s : State) → IsFront s.told (run sources o n s).told
-run_begins sources o zero s = front_same s.told
-run_begins sources o (suc n) s =
-    of_both (λ t. IsFront s.told t.told) (has_ended s) s (run sources o n (turn sources o s)) (λ _. front_same s.told)
-    (λ _. front_then s.told (turn sources o s).told (run sources o n (turn sources o s)).told (turn_begins sources o s)
-    (run_begins sources o n (turn sources o s)))
+pub run_begins : (limits : Limits) (sources : Sources) (o : Choices) (n : ℕ) (s : State) → IsFront s.told (run limits sources o n s).told
+run_begins limits sources o zero s = front_same s.told
+run_begins limits sources o (suc n) s =
+    of_both (λ t. IsFront s.told t.told) (has_ended s) s (run limits sources o n (turn limits sources o s)) (λ _. front_same s.told)
+    (λ _. front_then s.told (turn limits sources o s).told (run limits sources o n (turn limits sources o s)).told
+    (turn_begins limits sources o s)
+    (run_begins limits sources o n (turn limits sources o s)))
 
 -- what was written after some turns begins what is at the end
-begins_by : (sources : Sources) (o : Choices) (m n : ℕ) (s : State) (b : Bool) → has_ended s ≡ b
-    → (has_ended (run sources o n (turn sources o s)) ≡ true → IsFront (run sources o m (turn sources o s)).told
-    (run sources o n (turn sources o s)).told)
-    → has_ended (run sources o (suc n) s) ≡ true → IsFront (run sources o (suc m) s).told (run sources o (suc n) s).told
-begins_by sources o m n s true is later e =
-    subst (λ t. IsFront t.told (run sources o (suc n) s).told) (sym (run_ended sources o (suc m) s is)) (run_begins sources o (suc n) s)
-begins_by sources o m n s false is later e =
-    let on = run_going sources o n s is in
-    subst (λ t. IsFront t.told (run sources o (suc n) s).told) (sym (run_going sources o m s is))
-    (subst (λ t. IsFront (run sources o m (turn sources o s)).told t.told) (sym on) (later (ap has_ended (sym on) ∙ e)))
+begins_by : (limits : Limits) (sources : Sources) (o : Choices) (m n : ℕ) (s : State) (b : Bool) → has_ended s ≡ b
+    → (has_ended (run limits sources o n (turn limits sources o s)) ≡ true → IsFront (run limits sources o m (turn limits sources o s)).told
+    (run limits sources o n (turn limits sources o s)).told)
+    → has_ended (run limits sources o (suc n) s) ≡ true → IsFront (run limits sources o (suc m) s).told
+    (run limits sources o (suc n) s).told
+begins_by limits sources o m n s true is later e =
+    subst (λ t. IsFront t.told (run limits sources o (suc n) s).told) (sym (run_ended limits sources o (suc m) s is))
+    (run_begins limits sources o (suc n) s)
+begins_by limits sources o m n s false is later e =
+    let on = run_going limits sources o n s is in
+    subst (λ t. IsFront t.told (run limits sources o (suc n) s).told) (sym (run_going limits sources o m s is))
+    (subst (λ t. IsFront (run limits sources o m (turn limits sources o s)).told t.told) (sym on) (later (ap has_ended (sym on) ∙ e)))
 
-pub end_begins : (sources : Sources) (o : Choices) (m n : ℕ) (s : State) → has_ended (run sources o n s) ≡ true →
-    IsFront (run sources o m s).told (run sources o n s).told
-end_begins sources o zero n s e = run_begins sources o n s
-end_begins sources o (suc m) zero s e = subst (λ t. IsFront t.told s.told) (sym (run_ended sources o (suc m) s e)) (front_same s.told)
-end_begins sources o (suc m) (suc n) s e =
-    begins_by sources o m n s (has_ended s) refl (λ later. end_begins sources o m n (turn sources o s) later) e
+pub end_begins : (limits : Limits) (sources : Sources) (o : Choices) (m n : ℕ) (s : State) → has_ended (run limits sources o n s) ≡ true →
+    IsFront (run limits sources o m s).told (run limits sources o n s).told
+end_begins limits sources o zero n s e = run_begins limits sources o n s
+end_begins limits sources o (suc m) zero s e =
+    subst (λ t. IsFront t.told s.told) (sym (run_ended limits sources o (suc m) s e)) (front_same s.told)
+end_begins limits sources o (suc m) (suc n) s e =
+    begins_by limits sources o m n s (has_ended s) refl (λ later. end_begins limits sources o m n (turn limits sources o s) later) e
 
 -- two ends are the same
-same_by : (sources : Sources) (o : Choices) (m n : ℕ) (s : State) (b : Bool) → has_ended s ≡ b
-    → (has_ended (run sources o m (turn sources o s)) ≡ true → has_ended (run sources o n (turn sources o s)) ≡ true → run sources o m
-    (turn sources o s) ≡ run sources o n (turn sources o s))
-    → has_ended (run sources o (suc m) s) ≡ true → has_ended (run sources o (suc n) s) ≡ true → run sources o (suc m) s ≡ run sources o
+same_by : (limits : Limits) (sources : Sources) (o : Choices) (m n : ℕ) (s : State) (b : Bool) → has_ended s ≡ b
+    → (has_ended (run limits sources o m (turn limits sources o s)) ≡ true → has_ended (run limits sources o n (turn limits sources o s)) ≡
+    true → run limits sources o m
+    (turn limits sources o s) ≡ run limits sources o n (turn limits sources o s))
+    → has_ended (run limits sources o (suc m) s) ≡ true → has_ended (run limits sources o (suc n) s) ≡ true → run limits sources o (suc m) s
+    ≡ run limits sources o
     (suc n) s
-same_by sources o m n s true is later e f = run_ended sources o (suc m) s is ∙ sym (run_ended sources o (suc n) s is)
-same_by sources o m n s false is later e f =
-    let left = run_going sources o m s is in
-    let right = run_going sources o n s is in
+same_by limits sources o m n s true is later e f = run_ended limits sources o (suc m) s is ∙ sym (run_ended limits sources o (suc n) s is)
+same_by limits sources o m n s false is later e f =
+    let left = run_going limits sources o m s is in
+    let right = run_going limits sources o n s is in
     left ∙ later (ap has_ended (sym left) ∙ e) (ap has_ended (sym right) ∙ f) ∙ sym right
 
-pub same_end : (sources : Sources) (o : Choices) (m n : ℕ) (s : State) → has_ended (run sources o m s) ≡ true →
-    has_ended (run sources o n s) ≡ true
-    → run sources o m s ≡ run sources o n s
-same_end sources o zero n s e f = sym (run_ended sources o n s e)
-same_end sources o (suc m) zero s e f = run_ended sources o (suc m) s f
-same_end sources o (suc m) (suc n) s e f =
-    same_by sources o m n s (has_ended s) refl (λ x y. same_end sources o m n (turn sources o s) x y) e f
+pub same_end : (limits : Limits) (sources : Sources) (o : Choices) (m n : ℕ) (s : State) → has_ended (run limits sources o m s) ≡ true →
+    has_ended (run limits sources o n s) ≡ true
+    → run limits sources o m s ≡ run limits sources o n s
+same_end limits sources o zero n s e f = sym (run_ended limits sources o n s e)
+same_end limits sources o (suc m) zero s e f = run_ended limits sources o (suc m) s f
+same_end limits sources o (suc m) (suc n) s e f =
+    same_by limits sources o m n s (has_ended s) refl (λ x y. same_end limits sources o m n (turn limits sources o s) x y) e f
 
 -- What a sink took
 
@@ -169,47 +182,52 @@ takes_none None = refl
 takes_none (Some before) = ap (λ l. Some l) (sym (append-nil before))
 
 -- no turns write nothing
-pub writes_none : (sources : Sources) (o : Choices) (s : List ℕ → State) (old : Option (List ℕ)) → Writes (run sources o zero) s s old old
-writes_none sources o s old = record { lines = []; takes = takes_none old; same = λ told. ap s (append-nil told) }
+pub writes_none : (limits : Limits) (sources : Sources) (o : Choices) (s : List ℕ → State) (old : Option (List ℕ)) →
+    Writes (run limits sources o zero) s s old old
+writes_none limits sources o s old = record { lines = []; takes = takes_none old; same = λ told. ap s (append-nil told) }
 
 -- one turn more, behind others
-pub writes_then : (sources : Sources) (o : Choices) (n : ℕ) (was mid now : List ℕ → State) (old between new : Option (List ℕ)) →
+pub writes_then : (limits : Limits) (sources : Sources) (o : Choices) (n : ℕ) (was mid now : List ℕ → State)
+    (old between new : Option (List ℕ)) →
     ((told : List ℕ) → has_ended (mid told) ≡ false)
-    → Writes (run sources o n) was mid old between → Writes (turn sources o) mid now between new → Writes (run sources o (suc n)) was now
+    → Writes (run limits sources o n) was mid old between → Writes (turn limits sources o) mid now between new → Writes
+    (run limits sources o (suc n)) was now
     old new
-writes_then sources o n was mid now old between new going a b = record {
+writes_then limits sources o n was mid now old between new going a b = record {
   lines = a.lines ++ b.lines;
   takes = takes_then old between new a.lines b.lines a.takes b.takes;
   same = λ told.
-      ap now (sym (append_assoc told a.lines b.lines)) ∙ b.same (told ++ a.lines) ∙ ap (turn sources o) (a.same told)
-      ∙ sym (run_more sources o n (was told) (ap has_ended (sym (a.same told)) ∙ going (told ++ a.lines)));
+      ap now (sym (append_assoc told a.lines b.lines)) ∙ b.same (told ++ a.lines) ∙ ap (turn limits sources o) (a.same told)
+      ∙ sym (run_more limits sources o n (was told) (ap has_ended (sym (a.same told)) ∙ going (told ++ a.lines)));
 }
 
 -- a turn that was given up, behind others
-pub cuts_then : (sources : Sources) (o : Choices) (n : ℕ) (was mid : List ℕ → State) (old between new : Option (List ℕ)) →
+pub cuts_then : (limits : Limits) (sources : Sources) (o : Choices) (n : ℕ) (was mid : List ℕ → State) (old between new : Option (List ℕ)) →
     ((told : List ℕ) → has_ended (mid told) ≡ false)
-    → Writes (run sources o n) was mid old between → CutsShort (turn sources o) mid between new → CutsShort (run sources o (suc n)) was old
+    → Writes (run limits sources o n) was mid old between → CutsShort (turn limits sources o) mid between new → CutsShort
+    (run limits sources o (suc n)) was old
     new
-cuts_then sources o n was mid old between new going a b = record {
+cuts_then limits sources o n was mid old between new going a b = record {
   front = a.lines ++ b.front;
   takes = takes_then old between new a.lines b.front a.takes b.takes;
   begins = λ told.
       let more =
-      ap (turn sources o) (a.same told)
-      ∙ sym (run_more sources o n (was told) (ap has_ended (sym (a.same told)) ∙ going (told ++ a.lines))) in
-      subst (λ l. IsFront l (run sources o (suc n) (was told)).told) (append_assoc told a.lines b.front)
+      ap (turn limits sources o) (a.same told)
+      ∙ sym (run_more limits sources o n (was told) (ap has_ended (sym (a.same told)) ∙ going (told ++ a.lines))) in
+      subst (λ l. IsFront l (run limits sources o (suc n) (was told)).told) (append_assoc told a.lines b.front)
       (subst (λ t. IsFront ((told ++ a.lines) ++ b.front) t.told) more (b.begins (told ++ a.lines)));
 }
 
 -- nothing of a turn was written
-pub cut_at_once : (sources : Sources) (o : Choices) (was : List ℕ → State) (old new : Option (List ℕ)) →
+pub cut_at_once : (limits : Limits) (sources : Sources) (o : Choices) (was : List ℕ → State) (old new : Option (List ℕ)) →
     ((told : List ℕ) → (was told).told ≡ told) → new ≡ old
-    → CutsShort (turn sources o) was old new
-cut_at_once sources o was old new told_is e = record {
+    → CutsShort (turn limits sources o) was old new
+cut_at_once limits sources o was old new told_is e = record {
   front = [];
   takes = subst (λ n. Takes old n []) (sym e) (takes_none old);
   begins = λ told.
-      subst (λ l. IsFront l (turn sources o (was told)).told) (told_is told ∙ sym (append-nil told)) (turn_begins sources o (was told));
+      subst (λ l. IsFront l (turn limits sources o (was told)).told) (told_is told ∙ sym (append-nil told))
+      (turn_begins limits sources o (was told));
 }
 
 -- One step of reading behind another
@@ -236,18 +254,22 @@ cuts_on f g step was mid old between new more a b = record {
 }
 
 -- some turns behind others
-sum_by : (sources : Sources) (o : Choices) (a b : ℕ) (s : State) (ended : Bool) → has_ended s ≡ ended
-    → (run sources o (a + b) (turn sources o s) ≡ run sources o b (run sources o a (turn sources o s)))
-    → run sources o (suc (a + b)) s ≡ run sources o b (run sources o (suc a) s)
-sum_by sources o a b s true e later =
-    run_ended sources o (suc (a + b)) s e ∙ sym (run_ended sources o b s e) ∙ ap (run sources o b) (sym (run_ended sources o (suc a) s e))
-sum_by sources o a b s false e later = run_going sources o (a + b) s e ∙ later ∙ ap (run sources o b) (sym (run_going sources o a s e))
+sum_by : (limits : Limits) (sources : Sources) (o : Choices) (a b : ℕ) (s : State) (ended : Bool) → has_ended s ≡ ended
+    → (run limits sources o (a + b) (turn limits sources o s) ≡ run limits sources o b (run limits sources o a (turn limits sources o s)))
+    → run limits sources o (suc (a + b)) s ≡ run limits sources o b (run limits sources o (suc a) s)
+sum_by limits sources o a b s true e later =
+    run_ended limits sources o (suc (a + b)) s e ∙ sym (run_ended limits sources o b s e)
+    ∙ ap (run limits sources o b) (sym (run_ended limits sources o (suc a) s e))
+sum_by limits sources o a b s false e later =
+    run_going limits sources o (a + b) s e ∙ later ∙ ap (run limits sources o b) (sym (run_going limits sources o a s e))
 
-pub run_sum : (sources : Sources) (o : Choices) (a b : ℕ) (s : State) → run sources o (a + b) s ≡ run sources o b (run sources o a s)
-run_sum sources o zero b s = let none : zero + b ≡ b = omega arith in ap (λ n. run sources o n s) none
-run_sum sources o (suc a) b s =
+pub run_sum : (limits : Limits) (sources : Sources) (o : Choices) (a b : ℕ) (s : State) →
+    run limits sources o (a + b) s ≡ run limits sources o b (run limits sources o a s)
+run_sum limits sources o zero b s = let none : zero + b ≡ b = omega arith in ap (λ n. run limits sources o n s) none
+run_sum limits sources o (suc a) b s =
     let next : suc a + b ≡ suc (a + b) = omega arith in
-    ap (λ n. run sources o n s) next ∙ sum_by sources o a b s (has_ended s) refl (run_sum sources o a b (turn sources o s))
+    ap (λ n. run limits sources o n s) next
+    ∙ sum_by limits sources o a b s (has_ended s) refl (run_sum limits sources o a b (turn limits sources o s))
 
 -- Parts
 
@@ -264,71 +286,84 @@ pub still_going : (s : State) → is_parted s ≡ false → has_ended s ≡ fals
 still_going s e = or_not (has_ended s) _ e
 
 -- a part of one turn
-pub part_one : (sources : Sources) (o : Choices) (s : State) → has_ended s ≡ false → part sources o (suc zero) s ≡ turn sources o s
-part_one sources o s going =
-    ap (λ b. cond b s (cond (is_parted (turn sources o s)) (turn sources o s) (turn sources o s))) going
-    ∙ same_both (is_parted (turn sources o s)) (turn sources o s)
+pub part_one : (limits : Limits) (sources : Sources) (o : Choices) (s : State) → has_ended s ≡ false →
+    part limits sources o (suc zero) s ≡ turn limits sources o s
+part_one limits sources o s going =
+    ap (λ b. cond b s (cond (is_parted (turn limits sources o s)) (turn limits sources o s) (turn limits sources o s))) going
+    ∙ same_both (is_parted (turn limits sources o s)) (turn limits sources o s)
 
-part_stops : (sources : Sources) (o : Choices) (n : ℕ) (s : State) → has_ended s ≡ false → is_parted (turn sources o s) ≡ true →
-    part sources o (suc n) s ≡ turn sources o s
-part_stops sources o n s going e =
-    ap (λ b. cond b s (cond (is_parted (turn sources o s)) (turn sources o s) (part sources o n (turn sources o s)))) going
-    ∙ ap (λ b. cond b (turn sources o s) (part sources o n (turn sources o s))) e
+part_stops : (limits : Limits) (sources : Sources) (o : Choices) (n : ℕ) (s : State) → has_ended s ≡ false →
+    is_parted (turn limits sources o s) ≡ true →
+    part limits sources o (suc n) s ≡ turn limits sources o s
+part_stops limits sources o n s going e =
+    ap (λ b. cond b s (cond (is_parted (turn limits sources o s)) (turn limits sources o s)
+    (part limits sources o n (turn limits sources o s)))) going
+    ∙ ap (λ b. cond b (turn limits sources o s) (part limits sources o n (turn limits sources o s))) e
 
-part_goes : (sources : Sources) (o : Choices) (n : ℕ) (s : State) → has_ended s ≡ false → is_parted (turn sources o s) ≡ false
-    → part sources o (suc n) s ≡ part sources o n (turn sources o s)
-part_goes sources o n s going e =
-    ap (λ b. cond b s (cond (is_parted (turn sources o s)) (turn sources o s) (part sources o n (turn sources o s)))) going
-    ∙ ap (λ b. cond b (turn sources o s) (part sources o n (turn sources o s))) e
+part_goes : (limits : Limits) (sources : Sources) (o : Choices) (n : ℕ) (s : State) → has_ended s ≡ false →
+    is_parted (turn limits sources o s) ≡ false
+    → part limits sources o (suc n) s ≡ part limits sources o n (turn limits sources o s)
+part_goes limits sources o n s going e =
+    ap (λ b. cond b s (cond (is_parted (turn limits sources o s)) (turn limits sources o s)
+    (part limits sources o n (turn limits sources o s)))) going
+    ∙ ap (λ b. cond b (turn limits sources o s) (part limits sources o n (turn limits sources o s))) e
 
 -- one turn more
-longer_by : (sources : Sources) (o : Choices) (n : ℕ) (s : State) (b : Bool) → has_ended s ≡ false → is_parted (turn sources o s) ≡ b
-    → (has_ended (turn sources o s) ≡ false → is_parted (part sources o (suc n) (turn sources o s)) ≡ false
-    → part sources o (suc (suc n)) (turn sources o s) ≡ turn sources o (part sources o (suc n) (turn sources o s)))
-    → is_parted (part sources o (suc (suc n)) s) ≡ false → part sources o (suc (suc (suc n))) s ≡ turn sources o
-    (part sources o (suc (suc n)) s)
-longer_by sources o n s true going e later open_still =
-    let never : true ≡ false = sym (ap is_parted (part_stops sources o (suc n) s going e) ∙ e) ∙ open_still in cc
-longer_by sources o n s false going e later open_still =
-    let on = part_goes sources o (suc n) s going e in
-    part_goes sources o (suc (suc n)) s going e ∙ later (still_going (turn sources o s) e) (ap is_parted (sym on) ∙ open_still)
-    ∙ ap (turn sources o) (sym on)
+longer_by : (limits : Limits) (sources : Sources) (o : Choices) (n : ℕ) (s : State) (b : Bool) → has_ended s ≡ false →
+    is_parted (turn limits sources o s) ≡ b
+    → (has_ended (turn limits sources o s) ≡ false → is_parted (part limits sources o (suc n) (turn limits sources o s)) ≡ false
+    → part limits sources o (suc (suc n)) (turn limits sources o s) ≡ turn limits sources o
+    (part limits sources o (suc n) (turn limits sources o s)))
+    → is_parted (part limits sources o (suc (suc n)) s) ≡ false → part limits sources o (suc (suc (suc n))) s ≡ turn limits sources o
+    (part limits sources o (suc (suc n)) s)
+longer_by limits sources o n s true going e later open_still =
+    let never : true ≡ false = sym (ap is_parted (part_stops limits sources o (suc n) s going e) ∙ e) ∙ open_still in cc
+longer_by limits sources o n s false going e later open_still =
+    let on = part_goes limits sources o (suc n) s going e in
+    part_goes limits sources o (suc (suc n)) s going e
+    ∙ later (still_going (turn limits sources o s) e) (ap is_parted (sym on) ∙ open_still)
+    ∙ ap (turn limits sources o) (sym on)
 
-pub part_more : (sources : Sources) (o : Choices) (n : ℕ) (s : State) → has_ended s ≡ false → is_parted (part sources o (suc n) s) ≡ false
-    → part sources o (suc (suc n)) s ≡ turn sources o (part sources o (suc n) s)
-part_more sources o zero s going open_still =
-    let one = part_one sources o s going in
-    let still : is_parted (turn sources o s) ≡ false = ap is_parted (sym one) ∙ open_still in
-    part_goes sources o (suc zero) s going still ∙ part_one sources o (turn sources o s) (still_going (turn sources o s) still)
-    ∙ ap (turn sources o) (sym one)
-part_more sources o (suc n) s going open_still =
-    longer_by sources o n s (is_parted (turn sources o s)) going refl (λ x y. part_more sources o n (turn sources o s) x y) open_still
+pub part_more : (limits : Limits) (sources : Sources) (o : Choices) (n : ℕ) (s : State) → has_ended s ≡ false →
+    is_parted (part limits sources o (suc n) s) ≡ false
+    → part limits sources o (suc (suc n)) s ≡ turn limits sources o (part limits sources o (suc n) s)
+part_more limits sources o zero s going open_still =
+    let one = part_one limits sources o s going in
+    let still : is_parted (turn limits sources o s) ≡ false = ap is_parted (sym one) ∙ open_still in
+    part_goes limits sources o (suc zero) s going still
+    ∙ part_one limits sources o (turn limits sources o s) (still_going (turn limits sources o s) still)
+    ∙ ap (turn limits sources o) (sym one)
+part_more limits sources o (suc n) s going open_still =
+    longer_by limits sources o n s (is_parted (turn limits sources o s)) going refl
+    (λ x y. part_more limits sources o n (turn limits sources o s) x y) open_still
 
 -- no turns write nothing
-pub part_none : (sources : Sources) (o : Choices) (s : List ℕ → State) (old : Option (List ℕ)) → Writes (part sources o zero) s s old old
-part_none sources o s old = record { lines = []; takes = takes_none old; same = λ told. ap s (append-nil told) }
+pub part_none : (limits : Limits) (sources : Sources) (o : Choices) (s : List ℕ → State) (old : Option (List ℕ)) →
+    Writes (part limits sources o zero) s s old old
+part_none limits sources o s old = record { lines = []; takes = takes_none old; same = λ told. ap s (append-nil told) }
 
 -- a part begins with a turn, and goes on with another
-pub part_first : (sources : Sources) (o : Choices) (was now : List ℕ → State) (old new : Option (List ℕ)) →
+pub part_first : (limits : Limits) (sources : Sources) (o : Choices) (was now : List ℕ → State) (old new : Option (List ℕ)) →
     ((told : List ℕ) → has_ended (was told) ≡ false)
-    → Writes (turn sources o) was now old new → Writes (part sources o (suc zero)) was now old new
-part_first sources o was now old new going w = record {
+    → Writes (turn limits sources o) was now old new → Writes (part limits sources o (suc zero)) was now old new
+part_first limits sources o was now old new going w = record {
   lines = w.lines;
   takes = w.takes;
-  same = λ told. w.same told ∙ sym (part_one sources o (was told) (going told));
+  same = λ told. w.same told ∙ sym (part_one limits sources o (was told) (going told));
 }
 
-pub part_then : (sources : Sources) (o : Choices) (n : ℕ) (was mid now : List ℕ → State) (old between new : Option (List ℕ)) →
+pub part_then : (limits : Limits) (sources : Sources) (o : Choices) (n : ℕ) (was mid now : List ℕ → State)
+    (old between new : Option (List ℕ)) →
     ((told : List ℕ) → has_ended (was told) ≡ false)
     → ((told : List ℕ) → is_parted (mid told) ≡ false)
-    → Writes (part sources o (suc n)) was mid old between → Writes (turn sources o) mid now between new → Writes
-    (part sources o (suc (suc n))) was now old new
-part_then sources o n was mid now old between new going open_still a b = record {
+    → Writes (part limits sources o (suc n)) was mid old between → Writes (turn limits sources o) mid now between new → Writes
+    (part limits sources o (suc (suc n))) was now old new
+part_then limits sources o n was mid now old between new going open_still a b = record {
   lines = a.lines ++ b.lines;
   takes = takes_then old between new a.lines b.lines a.takes b.takes;
   same = λ told.
-      ap now (sym (append_assoc told a.lines b.lines)) ∙ b.same (told ++ a.lines) ∙ ap (turn sources o) (a.same told)
-      ∙ sym (part_more sources o n (was told) (going told) (ap is_parted (sym (a.same told)) ∙ open_still (told ++ a.lines)));
+      ap now (sym (append_assoc told a.lines b.lines)) ∙ b.same (told ++ a.lines) ∙ ap (turn limits sources o) (a.same told)
+      ∙ sym (part_more limits sources o n (was told) (going told) (ap is_parted (sym (a.same told)) ∙ open_still (told ++ a.lines)));
 }
 
 -- Where reading was given up for a file
@@ -344,48 +379,53 @@ wrote_all f was mid old between new told_is a e = record {
 }
 
 -- behind others
-pub wrote_on : (sources : Sources) (o : Choices) (a b : ℕ) (was mid : List ℕ → State) (old between new : Option (List ℕ))
-    → Writes (run sources o a) was mid old between → WroteAll (run sources o b) mid between new → WroteAll (run sources o (a + b)) was old
+pub wrote_on : (limits : Limits) (sources : Sources) (o : Choices) (a b : ℕ) (was mid : List ℕ → State) (old between new : Option (List ℕ))
+    → Writes (run limits sources o a) was mid old between → WroteAll (run limits sources o b) mid between new → WroteAll
+    (run limits sources o (a + b)) was old
     new
-wrote_on sources o a b was mid old between new w all = record {
+wrote_on limits sources o a b was mid old between new w all = record {
   lines = w.lines ++ all.lines;
   takes = takes_then old between new w.lines all.lines w.takes all.takes;
   same = λ told.
-      ap (λ (s : State). s.told) (run_sum sources o a b (was told)) ∙ ap (λ (s : State). (run sources o b s).told) (sym (w.same told))
+      ap (λ (s : State). s.told) (run_sum limits sources o a b (was told))
+      ∙ ap (λ (s : State). (run limits sources o b s).told) (sym (w.same told))
       ∙ all.same (told ++ w.lines) ∙ append_assoc told w.lines all.lines;
 }
 
 -- What has been opened where reading was given up
 
 -- in a turn, behind others
-pub opened_then : (sources : Sources) (o : Choices) (n : ℕ) (was mid : List ℕ → State) (old between : Option (List ℕ))
+pub opened_then : (limits : Limits) (sources : Sources) (o : Choices) (n : ℕ) (was mid : List ℕ → State) (old between : Option (List ℕ))
     (openings : List (List ℕ))
-    → ((told : List ℕ) → has_ended (mid told) ≡ false) → Writes (run sources o n) was mid old between → OpensWithin (turn sources o) mid
+    → ((told : List ℕ) → has_ended (mid told) ≡ false) → Writes (run limits sources o n) was mid old between → OpensWithin
+    (turn limits sources o) mid
     openings
-    → (turns : ℕ) × OpensAll (run sources o turns) was openings
-opened_then sources o n was mid old between openings going w (inl h) =
+    → (turns : ℕ) × OpensAll (run limits sources o turns) was openings
+opened_then limits sources o n was mid old between openings going w (inl h) =
     (n, λ told. h (told ++ w.lines) ∙ ap (λ (s : State). s.nesting.openings) (w.same told))
-opened_then sources o n was mid old between openings going w (inr h) = (
+opened_then limits sources o n was mid old between openings going w (inr h) = (
   suc n,
   λ told.
-      h (told ++ w.lines) ∙ ap (λ (s : State). (turn sources o s).nesting.openings) (w.same told)
-      ∙ ap (λ (s : State). s.nesting.openings) (sym (run_more sources o n (was told)
+      h (told ++ w.lines) ∙ ap (λ (s : State). (turn limits sources o s).nesting.openings) (w.same told)
+      ∙ ap (λ (s : State). s.nesting.openings) (sym (run_more limits sources o n (was told)
       (ap has_ended (sym (w.same told)) ∙ going (told ++ w.lines)))),
 )
 
 -- in some turns, behind others
-pub opened_on : (sources : Sources) (o : Choices) (a b : ℕ) (was mid : List ℕ → State) (old between : Option (List ℕ))
+pub opened_on : (limits : Limits) (sources : Sources) (o : Choices) (a b : ℕ) (was mid : List ℕ → State) (old between : Option (List ℕ))
     (openings : List (List ℕ))
-    → Writes (run sources o a) was mid old between → OpensAll (run sources o b) mid openings → OpensAll (run sources o (a + b)) was openings
-opened_on sources o a b was mid old between openings w h = λ told.
-    h (told ++ w.lines) ∙ ap (λ (s : State). (run sources o b s).nesting.openings) (w.same told)
-    ∙ ap (λ (s : State). s.nesting.openings) (sym (run_sum sources o a b (was told)))
+    → Writes (run limits sources o a) was mid old between → OpensAll (run limits sources o b) mid openings → OpensAll
+    (run limits sources o (a + b)) was openings
+opened_on limits sources o a b was mid old between openings w h = λ told.
+    h (told ++ w.lines) ∙ ap (λ (s : State). (run limits sources o b s).nesting.openings) (w.same told)
+    ∙ ap (λ (s : State). s.nesting.openings) (sym (run_sum limits sources o a b (was told)))
 
 -- behind turns that came to their end
-pub opened_behind : (sources : Sources) (o : Choices) (n : ℕ) (was now : List ℕ → State) (old new : Option (List ℕ))
+pub opened_behind : (limits : Limits) (sources : Sources) (o : Choices) (n : ℕ) (was now : List ℕ → State) (old new : Option (List ℕ))
     (openings : List (List ℕ))
-    → Writes (run sources o n) was now old new → OpensAll (λ s. s) now openings → OpensAll (run sources o n) was openings
-opened_behind sources o n was now old new openings w h = λ told. h (told ++ w.lines) ∙ ap (λ (s : State). s.nesting.openings) (w.same told)
+    → Writes (run limits sources o n) was now old new → OpensAll (λ s. s) now openings → OpensAll (run limits sources o n) was openings
+opened_behind limits sources o n was now old new openings w h =
+    λ told. h (told ++ w.lines) ∙ ap (λ (s : State). s.nesting.openings) (w.same told)
 
 -- Given up for a file
 
@@ -408,10 +448,11 @@ stops_at_more failed more sources o s openings name later h = record {
   not_tried = not_tried_more failed more sources o.directories name s.nesting openings later h.not_tried;
 }
 
-pub stops_more : (failed more : Type 0) (sources : Sources) (o : Choices) (s : State) (start now : Openings) (files : Open) (name : List ℕ)
+pub stops_more : (limits : Limits) (failed more : Type 0) (sources : Sources) (o : Choices) (s : State) (start now : Openings)
+    (files : Open) (name : List ℕ)
     → (failed → more)
-    → StopsFor failed sources o s start now files name → StopsFor more sources o s start now files name
-stops_more failed more sources o s start now files name later (inl h) = inl (record {
+    → StopsFor limits failed sources o s start now files name → StopsFor limits more sources o s start now files name
+stops_more limits failed more sources o s start now files name later (inl h) = inl (record {
   cause = elim h.cause as (λ _. more ⊎ (16777216 < files.lexer.window.given)) [ inl rose ↦ inl (later rose) | inr far ↦ inr far ];
   not_ended = h.not_ended;
   goes_on = h.goes_on;
@@ -420,37 +461,40 @@ stops_more failed more sources o s start now files name later (inl h) = inl (rec
   numbers = h.numbers;
   name_is = h.name_is;
 })
-stops_more failed more sources o s start now files name later (inr h) =
-    inr (stops_at_more failed more sources o (stepped o s) (opened_since start now) name later h)
+stops_more limits failed more sources o s start now files name later (inr h) =
+    inr (stops_at_more failed more sources o (stepped limits o s) (opened_since start now) name later h)
 
 -- behind some turns
-pub given_up : (failed : Type 0) (sources : Sources) (o : Choices) (n : ℕ) (was mid : List ℕ → State) (old between new : Option (List ℕ))
+pub given_up : (limits : Limits) (failed : Type 0) (sources : Sources) (o : Choices) (n : ℕ) (was mid : List ℕ → State)
+    (old between new : Option (List ℕ))
     (start now : Openings) (files : Open)
-    (name : List ℕ) → Writes (run sources o n) was mid old between → ((told : List ℕ) → (mid told).told ≡ told) → new ≡ between →
+    (name : List ℕ) → Writes (run limits sources o n) was mid old between → ((told : List ℕ) → (mid told).told ≡ told) → new ≡ between →
     ((told : List ℕ) → has_ended (mid told) ≡ false)
-    → ((told : List ℕ) → StopsFor failed sources o (mid told) start now files name) → GivenUp failed sources o was old new start now files
+    → ((told : List ℕ) → StopsFor limits failed sources o (mid told) start now files name) → GivenUp limits failed sources o was old new
+    start now files
     name
-given_up failed sources o n was mid old between new start now files name w told_is e going stops = record {
+given_up limits failed sources o n was mid old between new start now files name w told_is e going stops = record {
   turns = n;
-  wrote = wrote_all (run sources o n) was mid old between new told_is w e;
+  wrote = wrote_all (run limits sources o n) was mid old between new told_is w e;
   goes_on = λ told. ap has_ended (sym (w.same told)) ∙ going (told ++ w.lines);
-  stops = λ told. subst (λ (s : State). StopsFor failed sources o s start now files name) (w.same told) (stops (told ++ w.lines));
+  stops = λ told. subst (λ (s : State). StopsFor limits failed sources o s start now files name) (w.same told) (stops (told ++ w.lines));
 }
 
 -- behind others
-pub given_up_on : (failed more : Type 0) (sources : Sources) (o : Choices) (a : ℕ) (was mid : List ℕ → State)
+pub given_up_on : (limits : Limits) (failed more : Type 0) (sources : Sources) (o : Choices) (a : ℕ) (was mid : List ℕ → State)
     (old between new : Option (List ℕ)) (start now : Openings) (files : Open)
-    (name : List ℕ) → (failed → more) → Writes (run sources o a) was mid old between → GivenUp failed sources o mid between new start now
+    (name : List ℕ) → (failed → more) → Writes (run limits sources o a) was mid old between → GivenUp limits failed sources o mid between
+    new start now
     files name
-    → GivenUp more sources o was old new start now files name
-given_up_on failed more sources o a was mid old between new start now files name later w g = record {
+    → GivenUp limits more sources o was old new start now files name
+given_up_on limits failed more sources o a was mid old between new start now files name later w g = record {
   turns = a + g.turns;
-  wrote = wrote_on sources o a g.turns was mid old between new w g.wrote;
+  wrote = wrote_on limits sources o a g.turns was mid old between new w g.wrote;
   goes_on = λ told. ap has_ended (sym (behind told)) ∙ g.goes_on (told ++ w.lines);
   stops = λ told.
-      stops_more failed more sources o (run sources o (a + g.turns) (was told)) start now files name later
-      (subst (λ (s : State). StopsFor failed sources o s start now files name) (behind told) (g.stops (told ++ w.lines)));
+      stops_more limits failed more sources o (run limits sources o (a + g.turns) (was told)) start now files name later
+      (subst (λ (s : State). StopsFor limits failed sources o s start now files name) (behind told) (g.stops (told ++ w.lines)));
 }
   where
-    behind : (told : List ℕ) → run sources o g.turns (mid (told ++ w.lines)) ≡ run sources o (a + g.turns) (was told)
-    behind told = ap (run sources o g.turns) (w.same told) ∙ sym (run_sum sources o a g.turns (was told))
+    behind : (told : List ℕ) → run limits sources o g.turns (mid (told ++ w.lines)) ≡ run limits sources o (a + g.turns) (was told)
+    behind told = ap (run limits sources o g.turns) (w.same told) ∙ sym (run_sum limits sources o a g.turns (was told))

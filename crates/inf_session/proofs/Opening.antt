@@ -1,5 +1,6 @@
 -- What has been opened where a turn was given up.
 use Rattle.std.proofs.Common.{◌≡◌, inl, inr, ℕ, List, Bool, false, cond, refl, sym, ap, ◌∙◌}
+use Rattle.inf_settings.specs.Bounds.{Limits}
 use Rattle.inf_files.specs.Files.{Openings, Sources}
 use Rattle.inf_characters.specs.declared.characters.CharSet.{CharSet}
 use Rattle.inf_scanner.specs.declared.tokens.Place.{Place}
@@ -31,19 +32,22 @@ included_opens : (sources : Sources) (o : Choices) (unit : Place) (text : List �
     (conditionals : List Conditional) (is_system : Bool) (i : Inclusion) (s : State)
     → (nested_by set limit sources conditionals is_system i s.nesting).openings ≡ (included_by sources o unit text i s).nesting.openings
 included_opens sources o unit text set limit conditionals is_system (Opens name) s = refl
-included_opens sources o unit text set limit conditionals is_system (OpensNone why) s = ap (λ (n : Nesting). n.openings) (sym (none_opened unit text why s))
+included_opens sources o unit text set limit conditionals is_system (OpensNone why) s =
+    ap (λ (n : Nesting). n.openings) (sym (none_opened unit text why s))
 
 -- it was tried
 pub tried : {B : Type 0} (sources : Sources) (o : Choices) (unit : Place) (text : List ℕ) (set : CharSet) (limit : ℕ)
     (conditionals : List Conditional) (is_system : Bool) (start old new : Openings)
     (before : Session B) (after : Open)
     → nesting sources start new after
-    ≡ nested_by set limit sources conditionals is_system (inclusion sources o.directories text (nesting sources start old before.open_files))
+    ≡ nested_by set limit sources conditionals is_system
+    (inclusion sources o.directories text (nesting sources start old before.open_files))
     (nesting sources start old before.open_files)
     → OpensWithin (included sources o unit text) (state sources start old before) (opened_since start new)
 tried sources o unit text set limit conditionals is_system start old new before after e =
     inr (λ told. ap (λ (n : Nesting). n.openings) e
-    ∙ included_opens sources o unit text set limit conditionals is_system (inclusion sources o.directories text (nesting sources start old before.open_files))
+    ∙ included_opens sources o unit text set limit conditionals is_system
+    (inclusion sources o.directories text (nesting sources start old before.open_files))
     (state sources start old before told))
 
 -- it could not be tried, or its file is one too many
@@ -100,9 +104,9 @@ followed_within sources o was openings (inr h) =
 -- A turn
 
 -- behind its token
-pub turned_within : (sources : Sources) (o : Choices) (was mid : List ℕ → State) (openings : List (List ℕ)) →
-    ((told : List ℕ) → mid told ≡ stepped o (was told))
-    → OpensWithin (followed sources o) mid openings → OpensWithin (turn sources o) was openings
-turned_within sources o was mid openings first (inl h) = inl (λ told. h told ∙ ap (λ (s : State). s.nesting.openings) (first told))
-turned_within sources o was mid openings first (inr h) =
+pub turned_within : (limits : Limits) (sources : Sources) (o : Choices) (was mid : List ℕ → State) (openings : List (List ℕ)) →
+    ((told : List ℕ) → mid told ≡ stepped limits o (was told))
+    → OpensWithin (followed sources o) mid openings → OpensWithin (turn limits sources o) was openings
+turned_within limits sources o was mid openings first (inl h) = inl (λ told. h told ∙ ap (λ (s : State). s.nesting.openings) (first told))
+turned_within limits sources o was mid openings first (inr h) =
     inr (λ told. h told ∙ ap (λ (s : State). (followed sources o s).nesting.openings) (first told))

@@ -1,5 +1,6 @@
 -- What the session stands for behind a file that was left or entered, a refused inclusion, and a turn.
 use Rattle.std.proofs.Common.{◌≡◌, ℕ, List, [], ◌∷◌, ◌++◌, length, drop, reverse, get_or, Bool, Option, refl, sym, ap, subst, ◌∙◌, append_assoc, Result, Ok, Err, IfErr}
+use Rattle.inf_settings.specs.Bounds.{Limits}
 use Rattle.inf_files.specs.Files.{Openings, Sources, opened}
 use Rattle.inf_sources.specs.Cursors.{Cursor}
 use Rattle.inf_sources.specs.Inclusions.{Nesting, Waiting, closed, resumed}
@@ -149,11 +150,12 @@ abbrev pub emptied : State → State
 emptied s = record s { work = record s.work { report = flushed s.work.report } }
 
 -- a turn was made and its lines were written
-pub turn_writes : (sources : Sources) (o : Choices) (was mid now final : List ℕ → State) (old new : Option (List ℕ)) (lines : List ℕ)
-    → ((told : List ℕ) → mid told ≡ stepped o (was told)) → ((told : List ℕ) → now told ≡ followed sources o (mid told))
+pub turn_writes : (limits : Limits) (sources : Sources) (o : Choices) (was mid now final : List ℕ → State) (old new : Option (List ℕ))
+    (lines : List ℕ)
+    → ((told : List ℕ) → mid told ≡ stepped limits o (was told)) → ((told : List ℕ) → now told ≡ followed sources o (mid told))
     → ((told : List ℕ) → told_out (now told) ≡ emptied (now (told ++ lines))) → ((told : List ℕ) → final told ≡ emptied (now told))
-    → Takes old new lines → Writes (turn sources o) was final old new
-turn_writes sources o was mid now final old new lines first next out last takes = record {
+    → Takes old new lines → Writes (turn limits sources o) was final old new
+turn_writes limits sources o was mid now final old new lines first next out last takes = record {
   lines = lines;
   takes = takes;
   same = λ told.
@@ -161,15 +163,16 @@ turn_writes sources o was mid now final old new lines first next out last takes 
 }
 
 -- it was made, and a front of its lines was written
-pub turn_cut : (sources : Sources) (o : Choices) (was mid now : List ℕ → State) (old new : Option (List ℕ)) (lines front rest : List ℕ)
-    → ((told : List ℕ) → mid told ≡ stepped o (was told)) → ((told : List ℕ) → now told ≡ followed sources o (mid told))
+pub turn_cut : (limits : Limits) (sources : Sources) (o : Choices) (was mid now : List ℕ → State) (old new : Option (List ℕ))
+    (lines front rest : List ℕ)
+    → ((told : List ℕ) → mid told ≡ stepped limits o (was told)) → ((told : List ℕ) → now told ≡ followed sources o (mid told))
     → ((told : List ℕ) → (told_out (now told)).told ≡ told ++ lines) → lines ≡ front ++ rest
-    → Takes old new front → CutsShort (turn sources o) was old new
-turn_cut sources o was mid now old new lines front rest first next out cut takes = record {
+    → Takes old new front → CutsShort (turn limits sources o) was old new
+turn_cut limits sources o was mid now old new lines front rest first next out cut takes = record {
   front = front;
   takes = takes;
   begins = λ told.
-      let whole : turn sources o (was told) ≡ told_out (now told) =
+      let whole : turn limits sources o (was told) ≡ told_out (now told) =
       ap (λ (s : State). told_out (followed sources o s)) (sym (first told)) ∙ ap told_out (sym (next told)) in
       record {
         rest = rest;

@@ -1,5 +1,6 @@
 -- What a token does, by what each call of its turn says.
 use Rattle.std.proofs.Common.{◌≡◌, ℕ, List, ap, ◌∙◌}
+use Rattle.inf_settings.specs.Bounds.{Limits}
 use Rattle.inf_scanner.specs.declared.tokens.Place.{Place}
 use Rattle.inf_scanner.specs.declared.tokens.TokenKind.{TokenKind}
 use Rattle.inf_sources.specs.Cursors.{behind, read}
@@ -35,30 +36,32 @@ abbrev pub reporting : ReaderState → Reported → Out → ReaderState
 reporting s r o = record s { work = record s.work { report = r; output = o } }
 
 -- behind what there is to tell of a condition
-abbrev pub told_stand : Choices → State → Behind → ReaderState
-told_stand o s b = said_told b.now.said (context_of o s) (stand_of s)
+abbrev pub told_stand : Limits → Choices → State → Behind → ReaderState
+told_stand limits o s b = said_told limits b.now.said (context_of o s) (stand_of s)
 
 -- what it is by what becomes of the token among conditionals
-abbrev by_behind : Choices → State → SourceToken → Behind → State
-by_behind o s t b =
-    with_all s (moved s) (silent b.now) (judged_taken (context_of o s) t b.judged (told_stand o s b))
+abbrev by_behind : Limits → Choices → State → SourceToken → Behind → State
+by_behind limits o s t b =
+    with_all s (moved s) (silent b.now) (judged_taken limits (context_of o s) t b.judged (told_stand limits o s b))
     (quoted_behind (site_of s.reading) b.judged t s.quoted)
 
-abbrev by_token : Choices → State → SourceToken → State
-by_token o s t = by_behind o s t (judged (site_of s.reading) s.work.output t s.conditions)
+abbrev by_token : Limits → Choices → State → SourceToken → State
+by_token limits o s t = by_behind limits o s t (judged (site_of s.reading) s.work.output t s.conditions)
 
-pub step_is : (o : Choices) (s : State) (n : Nesting) (b : Behind) (c : Conditions) (x : ReaderState) (quoted : ℕ) (t : SourceToken)
+pub step_is : (limits : Limits) (o : Choices) (s : State) (n : Nesting) (b : Behind) (c : Conditions) (x : ReaderState) (quoted : ℕ)
+    (t : SourceToken)
     → n ≡ moved s → t ≡ token_of s → b ≡ judged (site_of s.reading) s.work.output t s.conditions
-    → c ≡ silent b.now → x ≡ judged_taken (context_of o s) t b.judged (told_stand o s b) → quoted ≡ quoted_behind (site_of s.reading) b.judged
+    → c ≡ silent b.now → x ≡ judged_taken limits (context_of o s) t b.judged (told_stand limits o s b) → quoted ≡ quoted_behind
+    (site_of s.reading) b.judged
     t s.quoted
-    → with_all s n c x quoted ≡ stepped o s
-step_is o s n b c x quoted t goes is behind_it quiet taken longest =
+    → with_all s n c x quoted ≡ stepped limits o s
+step_is limits o s n b c x quoted t goes is behind_it quiet taken longest =
     ap (λ n. with_all s n c x quoted) goes
     ∙ ap (λ c. with_all s (moved s) c x quoted) quiet
     ∙ ap (λ x. with_all s (moved s) (silent b.now) x quoted) taken
-    ∙ ap (λ q. with_all s (moved s) (silent b.now) (judged_taken (context_of o s) t b.judged (told_stand o s b)) q) longest
-    ∙ ap (by_behind o s t) behind_it
-    ∙ ap (by_token o s) is
+    ∙ ap (λ q. with_all s (moved s) (silent b.now) (judged_taken limits (context_of o s) t b.judged (told_stand limits o s b)) q) longest
+    ∙ ap (by_behind limits o s t) behind_it
+    ∙ ap (by_token limits o s) is
 
 pub token_is : (s : State) (site : Site) (k : TokenKind) (bytes : List ℕ) (place : Place) → site ≡ site_of s.reading →
     k ≡ (read s.nesting.cursor).kind

@@ -1,5 +1,6 @@
 -- How a compilation ends: the lines of its messages, its story or none, and its status.
 use Rattle.std.specs.Prelude.{ℕ, List, Bool, not, ◌&&◌, ◌==◌, if◌then◌else◌, Option, Some, None, option_map}
+use Rattle.inf_settings.specs.Bounds.{Limits}
 use Rattle.inf_area.specs.declared.targets.Value.{Value}
 use Rattle.inf_cells.specs.Scales.{most_bytes}
 use Rattle.inf_code.specs.Code.{Routines}
@@ -81,8 +82,8 @@ finished_with serial files w =
     begun serial files w.output (with_all_undeclared files w.output.names.names w.report) (main_of w.output.names)
 
 -- At the end, at the latest, code begins.
-abbrev pub finished : List ℕ → FileNames → Compilation → Outcome
-finished serial files w = finished_with serial files (begun_at files first_place w)
+abbrev pub finished : Limits → List ℕ → FileNames → Compilation → Outcome
+finished limits serial files w = finished_with serial files (begun_at limits files first_place w)
 
 -- the ending of a source that is not there
 abbrev pub missing : List ℕ → Outcome

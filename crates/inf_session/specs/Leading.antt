@@ -1,5 +1,6 @@
 -- What some turns of reading lead to, and what they write.
 use Rattle.std.specs.Prelude.{◌≡◌, ℕ, ◌-◌, ◌<◌, ◌⊎◌, List, ◌++◌, map, Option, false}
+use Rattle.inf_settings.specs.Bounds.{Limits}
 use Rattle.inf_scanner.specs.declared.tokens.Place.{Place}
 use Rattle.inf_files.specs.Files.{Openings, Sources}
 use Rattle.inf_lexer.specs.Unread.{unread}
@@ -72,14 +73,15 @@ pub record StopsAtInclusion (failed : Type 0) (sources : Sources) (o : Choices) 
   pub not_tried : NotTried failed sources o.directories name s.nesting openings
 
 -- The next token was not read, or the file was not entered that it asks for.
-abbrev pub StopsFor : Type 0 → Sources → Choices → State → Openings → Openings → Open → List ℕ → Type 0
-StopsFor failed sources o s start now files name =
-    StopsInToken failed sources s start now files name ⊎ StopsAtInclusion failed sources o (stepped o s) (opened_since start now) name
+abbrev pub StopsFor : Limits → Type 0 → Sources → Choices → State → Openings → Openings → Open → List ℕ → Type 0
+StopsFor limits failed sources o s start now files name =
+    StopsInToken failed sources s start now files name ⊎ StopsAtInclusion failed sources o (stepped limits o s) (opened_since start now)
+    name
 
 -- Reading was given up for the file of a name: what was written is all that so many turns write, and behind them reading stops so.
-pub record GivenUp (failed : Type 0) (sources : Sources) (o : Choices) (was : List ℕ → State) (old new : Option (List ℕ))
+pub record GivenUp (limits : Limits) (failed : Type 0) (sources : Sources) (o : Choices) (was : List ℕ → State) (old new : Option (List ℕ))
     (start now : Openings) (files : Open) (name : List ℕ) : Type 0 where
   pub turns : ℕ
-  pub wrote : WroteAll (run sources o turns) was old new
-  pub goes_on : (told : List ℕ) → has_ended (run sources o turns (was told)) ≡ false
-  pub stops : (told : List ℕ) → StopsFor failed sources o (run sources o turns (was told)) start now files name
+  pub wrote : WroteAll (run limits sources o turns) was old new
+  pub goes_on : (told : List ℕ) → has_ended (run limits sources o turns (was told)) ≡ false
+  pub stops : (told : List ℕ) → StopsFor limits failed sources o (run limits sources o turns (was told)) start now files name

@@ -3,6 +3,7 @@
 -- end of an included file was read, reading goes on in the file that includes it.
 -- Designer's Manual, fourth edition, sections 38 and 39.
 use Rattle.std.specs.Prelude.{◌≡◌, ℕ, List, [], ◌∷◌, ◌++◌, length, nat_lt, is_none, Option, Some, None, Bool, true, false, ◌&&◌, ◌||◌, if◌then◌else◌, zero, suc}
+use Rattle.inf_settings.specs.Bounds.{Limits}
 use Rattle.inf_scanner.specs.declared.tokens.BadToken.TheVariants as bad
 use Rattle.inf_scanner.specs.declared.tokens.Place.{Place}
 use Rattle.inf_scanner.specs.declared.tokens.TokenKind.{TokenKind}
@@ -125,11 +126,11 @@ quoted_behind site j t quoted =
     if site.is_quiet || is_none j.token then quoted else if nat_lt quoted (quoted_bytes t) then quoted_bytes t else quoted
 
 -- the conditionals say what becomes of it, and what there is to tell of a condition, and the reader takes what is handed on
-abbrev pub stepped : Choices → State → State
-stepped o s =
+abbrev pub stepped : Limits → Choices → State → State
+stepped limits o s =
     let t = token_of s in
     let b = judged (site_of s.reading) s.work.output t s.conditions in
-    let n = judged_taken (context_of o s) t b.judged (said_told b.now.said (context_of o s) (stand_of s)) in
+    let n = judged_taken limits (context_of o s) t b.judged (said_told limits b.now.said (context_of o s) (stand_of s)) in
     record {
       nesting = record s.nesting { cursor = behind s.nesting.cursor (read s.nesting.cursor) };
       conditions = silent b.now;
@@ -143,7 +144,10 @@ stepped o s =
 -- At the end of a file the conditionals are told that are open in it.
 abbrev pub file_closed : State → State
 file_closed s =
-    record s { conditions = file_ended s.conditions; work = record s.work { report = file_told s.nesting.names s.conditions s.work.report } }
+    record s {
+      conditions = file_ended s.conditions;
+      work = record s.work { report = file_told s.nesting.names s.conditions s.work.report };
+    }
 
 -- An included file is closed then, and reading goes on in the one that includes it, as that was.
 abbrev pub left_by : List Waiting → State → State
@@ -223,27 +227,27 @@ abbrev pub told_out : State → State
 told_out s = record s { work = record s.work { report = flushed s.work.report }; told = s.told ++ s.work.report.lines }
 
 -- one turn takes a token, does what it asks, and writes what there is to tell
-abbrev pub turn : Sources → Choices → State → State
-turn sources o s = told_out (followed sources o (stepped o s))
+abbrev pub turn : Limits → Sources → Choices → State → State
+turn limits sources o s = told_out (followed sources o (stepped limits o s))
 
 -- A part ends between two directives; of a conditional one, behind the side that it leaves out.
 abbrev pub is_parted : State → Bool
 is_parted s = has_ended s || ((site_of s.reading).is_between && may_part s.conditions)
 
 -- at most n turns, up to the end of a part
-abbrev pub part : Sources → Choices → ℕ → State → State
-part sources o zero s = s
-part sources o (suc n) s =
+abbrev pub part : Limits → Sources → Choices → ℕ → State → State
+part limits sources o zero s = s
+part limits sources o (suc n) s =
     if has_ended s then s else
-    if is_parted (turn sources o s) then turn sources o s else part sources o n (turn sources o s)
+    if is_parted (turn limits sources o s) then turn limits sources o s else part limits sources o n (turn limits sources o s)
 
 -- at most n turns
-abbrev pub run : Sources → Choices → ℕ → State → State
-run sources o zero s = s
-run sources o (suc n) s = if has_ended s then s else run sources o n (turn sources o s)
+abbrev pub run : Limits → Sources → Choices → ℕ → State → State
+run limits sources o zero s = s
+run limits sources o (suc n) s = if has_ended s then s else run limits sources o n (turn limits sources o s)
 
 -- Reading ends here: some turns lead here, and this is an end.
-pub record IsRead (sources : Sources) (o : Choices) (s final : State) : Type 0 where
+pub record IsRead (limits : Limits) (sources : Sources) (o : Choices) (s final : State) : Type 0 where
   pub turns : ℕ
-  pub leads : run sources o turns s ≡ final
+  pub leads : run limits sources o turns s ≡ final
   pub ends : has_ended final ≡ true

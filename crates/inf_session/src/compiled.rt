@@ -38,9 +38,9 @@ pub(crate) fn conclude<M: Sink, B: Bounds>(
     work: Compilation<B>,
     messages: &mut M,
 ) -> Result<Compiled, Fault>
-    ensures ok { IfOk result (λ compiled. Delivers (finished serial.now names.now.names (work_of work)) compiled
+    ensures ok { IfOk result (λ compiled. Delivers (finished B.most serial.now names.now.names (work_of work)) compiled
         (M.taken messages.old) (M.taken messages.new)) }
-    ensures err { OnErr result (TakesFront (finished serial.now names.now.names (work_of work)).messages (M.taken messages.old)
+    ensures err { OnErr result (TakesFront (finished B.most serial.now names.now.names (work_of work)).messages (M.taken messages.old)
         (M.taken messages.new)) }
     ensures errors { IfOk result (λ compiled. compiled.status ≡ Status.Errors → compiled.story ≡ None) }
     ensures clean { IfOk result (λ compiled. compiled.status ≡ Status.Success → EndsClean (M.taken messages.old) (M.taken messages.new)) }

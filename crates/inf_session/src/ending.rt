@@ -50,7 +50,7 @@ pub(crate) fn finish<B: Bounds>(
     serial: &[u8; 6],
     mut work: Compilation<B>,
 ) -> Result<Outcome, AllocError>
-    ensures { IfOk result (λ t. seen t ≡ finished serial.now files.now.names (work_of work)) }
+    ensures { IfOk result (λ t. seen t ≡ finished B.most serial.now files.now.names (work_of work)) }
 {
     tell_last(files, &mut work)?;
     finish_told(alloc, files, serial, work)
@@ -58,7 +58,7 @@ pub(crate) fn finish<B: Bounds>(
 
 /// Begins code, unless it has begun, and tells each name that was used and never declared.
 fn tell_last<B: Bounds>(files: &Stack, work: &mut Compilation<B>) -> Result<(), AllocError>
-    ensures { let begun = begun_at files.now.names first_place (work_of work.old) in
+    ensures { let begun = begun_at B.most files.now.names first_place (work_of work.old) in
         OnOk result (work_of work.new ≡ record begun { report = with_all_undeclared files.now.names begun.output.names.names begun.report }) }
 {
     work.begin(files, FIRST_LINE)?;

@@ -10,7 +10,7 @@ ghost use Rattle.inf_session.specs.Choices.{chosen, most_quoted};
 ghost use Rattle.inf_session.specs.Faults.{Caused, IfRead};
 ghost use Rattle.inf_session.specs.Delivered.{Appends, Delivers, EndsClean, TakesFront};
 ghost use Rattle.inf_session.specs.Ending.{finished};
-ghost use Rattle.inf_settings.specs.Bounds.{Allows, AllowsOnly};
+ghost use Rattle.inf_settings.specs.Bounds.{AreSet};
 ghost use Rattle.inf_settings.specs.Settings.{all_settings};
 ghost use Rattle.inf_compilation.specs.Works.{work as work_of};
 ghost use Rattle.inf_session.specs.Leading.{CutsShort, GivenUp, NotTried, OpensAll, OpensWithin, StopsFor, StopsAtInclusion, StopsInToken, Writes};
@@ -76,7 +76,7 @@ impl<'a, B: Bounds> Session<'a, B> {
         setup: Setup<'a>,
         open_files: OpenFiles,
     ) -> Result<Session<'a, B>, OpenFiles>
-        requires { Allows B.allows setup.settings.now }
+        requires { AreSet B.most setup.settings.now }
         ensures files { IfOk result (λ session. session.open_files ≡ open_files) }
         ensures standing { IfOk result (λ session. standing session.progress ≡ begun_with (chosen setup.entry)
             session.open_files.nest.names) }
@@ -117,15 +117,15 @@ impl<'a, B: Bounds> Session<'a, B> {
 
         // With an honest reader.
         ensures read { Honestly F.Files files.old self.old.open_files (λ start.
-            OnOk result ((turns : ℕ) × Writes (run (F.sources files.old) (chosen self.old.setup) turns)
+            OnOk result ((turns : ℕ) × Writes (run B.most (F.sources files.old) (chosen self.old.setup) turns)
             (state (F.sources files.old) start (F.openings files.old) self.old)
             (state (F.sources files.old) start (F.openings files.new) self.new)
             (M.taken messages.old) (M.taken messages.new))) }
         ensures cut { Honestly F.Files files.old self.old.open_files (λ start.
-            OnErr result ((turns : ℕ) × CutsShort (run (F.sources files.old) (chosen self.old.setup) turns)
+            OnErr result ((turns : ℕ) × CutsShort (run B.most (F.sources files.old) (chosen self.old.setup) turns)
             (state (F.sources files.old) start (F.openings files.old) self.old) (M.taken messages.old) (M.taken messages.new))) }
         ensures opened { Honestly F.Files files.old self.old.open_files (λ start.
-            OnErr result ((turns : ℕ) × OpensAll (run (F.sources files.old) (chosen self.old.setup) turns)
+            OnErr result ((turns : ℕ) × OpensAll (run B.most (F.sources files.old) (chosen self.old.setup) turns)
             (state (F.sources files.old) start (F.openings files.old) self.old) (opened_since start (F.openings files.new)))) }
 
         // With any reader.
@@ -136,7 +136,8 @@ impl<'a, B: Bounds> Session<'a, B> {
             self.new.open_files)
             (Rose (M.failures messages.old) (M.failures messages.new))) }
         ensures unread { Honestly F.Files files.old self.old.open_files (λ start.
-            IfErr result (λ fault. IfRead fault (λ name. GivenUp (Rose (F.faults files.old) (F.faults files.new)) (F.sources files.old)
+            IfErr result (λ fault. IfRead fault (λ name. GivenUp B.most (Rose (F.faults files.old) (F.faults files.new))
+            (F.sources files.old)
             (chosen self.old.setup)
             (state (F.sources files.old) start (F.openings files.old) self.old) (M.taken messages.old) (M.taken messages.new)
             start (F.openings files.new) self.new.open_files name))) }
@@ -165,19 +166,19 @@ impl<'a, B: Bounds> Session<'a, B> {
 
         // With an honest reader.
         ensures part { Honestly F.Files files.old self.old.open_files (λ start.
-            OnOk result ((turns : ℕ) × (Writes (part (F.sources files.old) (chosen self.old.setup) turns)
+            OnOk result ((turns : ℕ) × (Writes (part B.most (F.sources files.old) (chosen self.old.setup) turns)
             (state (F.sources files.old) start (F.openings files.old) self.old)
             (state (F.sources files.old) start (F.openings files.new) self.new)
             (M.taken messages.old) (M.taken messages.new)
-            × Writes (run (F.sources files.old) (chosen self.old.setup) turns)
+            × Writes (run B.most (F.sources files.old) (chosen self.old.setup) turns)
             (state (F.sources files.old) start (F.openings files.old) self.old)
             (state (F.sources files.old) start (F.openings files.new) self.new)
             (M.taken messages.old) (M.taken messages.new)))) }
         ensures cut { Honestly F.Files files.old self.old.open_files (λ start.
-            OnErr result ((turns : ℕ) × CutsShort (run (F.sources files.old) (chosen self.old.setup) turns)
+            OnErr result ((turns : ℕ) × CutsShort (run B.most (F.sources files.old) (chosen self.old.setup) turns)
             (state (F.sources files.old) start (F.openings files.old) self.old) (M.taken messages.old) (M.taken messages.new))) }
         ensures opened { Honestly F.Files files.old self.old.open_files (λ start.
-            OnErr result ((turns : ℕ) × OpensAll (run (F.sources files.old) (chosen self.old.setup) turns)
+            OnErr result ((turns : ℕ) × OpensAll (run B.most (F.sources files.old) (chosen self.old.setup) turns)
             (state (F.sources files.old) start (F.openings files.old) self.old) (opened_since start (F.openings files.new)))) }
 
         // With any reader.
@@ -196,7 +197,8 @@ impl<'a, B: Bounds> Session<'a, B> {
             self.new.open_files)
             (Rose (M.failures messages.old) (M.failures messages.new))) }
         ensures unread { Honestly F.Files files.old self.old.open_files (λ start.
-            IfErr result (λ fault. IfRead fault (λ name. GivenUp (Rose (F.faults files.old) (F.faults files.new)) (F.sources files.old)
+            IfErr result (λ fault. IfRead fault (λ name. GivenUp B.most (Rose (F.faults files.old) (F.faults files.new))
+            (F.sources files.old)
             (chosen self.old.setup)
             (state (F.sources files.old) start (F.openings files.old) self.old) (M.taken messages.old) (M.taken messages.new)
             start (F.openings files.new) self.new.open_files name))) }
@@ -224,10 +226,10 @@ impl<'a, B: Bounds> Session<'a, B> {
         messages: &mut M,
     ) -> (OpenFiles, Result<Compiled, Fault>)
         ensures files { result.0 ≡ self.entry.open_files }
-        ensures ok { IfOk result.1 (λ compiled. Delivers (finished serial.now self.entry.open_files.nest.names
+        ensures ok { IfOk result.1 (λ compiled. Delivers (finished B.most serial.now self.entry.open_files.nest.names
             (work_of self.entry.progress.work)) compiled
             (M.taken messages.old) (M.taken messages.new)) }
-        ensures err { OnErr result.1 (TakesFront (finished serial.now self.entry.open_files.nest.names
+        ensures err { OnErr result.1 (TakesFront (finished B.most serial.now self.entry.open_files.nest.names
             (work_of self.entry.progress.work)).messages
             (M.taken messages.old) (M.taken messages.new)) }
         ensures errors { IfOk result.1 (λ compiled. compiled.status ≡ Status.Errors → compiled.story ≡ None) }
@@ -282,7 +284,7 @@ impl<'a, B: Bounds> Session<'a, B> {
     pub fn held(&self) -> [usize; 15]
         ensures counts { result ≡ held self.now }
         ensures within { let settings = (chosen self.now.setup).settings in
-            AllowsOnly B.allows settings → IsBounded self.now → is_fatal self.now ≡ false → AreWithin result all_settings settings }
+            AreSet B.most settings → IsBounded self.now → is_fatal self.now ≡ false → AreWithin result all_settings settings }
     {
         let settings = self.setup.settings;
         let work = &self.progress.work;
@@ -315,15 +317,15 @@ impl<'a, B: Bounds> Session<'a, B> {
         requires goes { self.old.open_files.lexer.has_failed ≡ false }
         requires set { IsSet self.old }
         ensures turned { Honestly F.Files files.old self.old.open_files (λ start.
-            OnOk result (Writes (turn (F.sources files.old) (chosen self.old.setup))
+            OnOk result (Writes (turn B.most (F.sources files.old) (chosen self.old.setup))
             (state (F.sources files.old) start (F.openings files.old) self.old)
             (state (F.sources files.old) start (F.openings files.new) self.new)
             (M.taken messages.old) (M.taken messages.new))) }
         ensures cut { Honestly F.Files files.old self.old.open_files (λ start.
-            OnErr result (CutsShort (turn (F.sources files.old) (chosen self.old.setup))
+            OnErr result (CutsShort (turn B.most (F.sources files.old) (chosen self.old.setup))
             (state (F.sources files.old) start (F.openings files.old) self.old) (M.taken messages.old) (M.taken messages.new))) }
         ensures opened { Honestly F.Files files.old self.old.open_files (λ start.
-            OnErr result (OpensWithin (turn (F.sources files.old) (chosen self.old.setup))
+            OnErr result (OpensWithin (turn B.most (F.sources files.old) (chosen self.old.setup))
             (state (F.sources files.old) start (F.openings files.old) self.old) (opened_since start (F.openings files.new)))) }
         ensures went { Went F.Files files.old files.new self.old.open_files self.new.open_files }
         ensures falls { OnOk result ((ended self.new ≡ true) ⊎ (weight self.new.open_files < weight self.old.open_files)) }
@@ -337,7 +339,7 @@ impl<'a, B: Bounds> Session<'a, B> {
             (Rose (M.failures messages.old) (M.failures messages.new))) }
         ensures unread { IfErr result (λ fault. IfRead fault (λ name. M.taken messages.new ≡ M.taken messages.old)) }
         ensures stops { Honestly F.Files files.old self.old.open_files (λ start.
-            IfErr result (λ fault. IfRead fault (λ name. (told : List ℕ) → StopsFor (Rose (F.faults files.old) (F.faults files.new))
+            IfErr result (λ fault. IfRead fault (λ name. (told : List ℕ) → StopsFor B.most (Rose (F.faults files.old) (F.faults files.new))
             (F.sources files.old) (chosen self.old.setup)
             (state (F.sources files.old) start (F.openings files.old) self.old told) start (F.openings files.new) self.new.open_files
             name))) }
@@ -356,7 +358,7 @@ impl<'a, B: Bounds> Session<'a, B> {
         requires goes { self.old.open_files.lexer.has_failed ≡ false }
         ensures stepped { Honestly F.Files files.old self.old.open_files (λ start.
             OnOk result ((told : List ℕ) → state (F.sources files.old) start (F.openings files.new) self.new told
-            ≡ stepped (chosen self.old.setup) (state (F.sources files.old) start (F.openings files.old) self.old told))) }
+            ≡ stepped B.most (chosen self.old.setup) (state (F.sources files.old) start (F.openings files.old) self.old told))) }
         ensures opened { Honestly F.Files files.old self.old.open_files (λ start.
             opened_since start (F.openings files.new) ≡ opened_since start (F.openings files.old)) }
         ensures went { Went F.Files files.old files.new self.old.open_files self.new.open_files }

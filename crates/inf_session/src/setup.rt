@@ -1,6 +1,6 @@
 //! What the words of a command choose for a compilation.
 ghost use Rattle.std.specs.Prelude.{◌≡◌, IfOk};
-ghost use Rattle.inf_settings.specs.Bounds.{Allows};
+ghost use Rattle.inf_settings.specs.Bounds.{AreSet};
 ghost use Rattle.inf_reader.specs.Standing.{standing};
 ghost use Rattle.inf_session.specs.Choices.{chosen};
 ghost use Rattle.inf_session.specs.Session.{begun_with, tables_full};
@@ -45,7 +45,7 @@ impl Setup<'_> {
         alloc: Global,
         files: &Stack,
     ) -> Result<Progress<B>, AllocError>
-        requires { Allows B.allows self.now.settings.now }
+        requires { AreSet B.most self.now.settings.now }
         ensures { IfOk result (λ progress. standing progress ≡ begun_with (chosen self.now) files.now.names) }
     {
         let mut report = Diagnostics::new(alloc, self.has_warnings);

@@ -1,6 +1,7 @@
 -- What each action leaves of the statements that are open.
 use Rattle.std.proofs.Common.{◌≡◌, ℕ, List, [], ◌∷◌, Bool, true, false, ◌&&◌, Option, Some, None, refl, ◌∙◌, ap}
 use Rattle.std.specs.Prelude.{◌-◌, if◌then◌else◌, nat_lt, unwrap_or}
+use Rattle.inf_settings.specs.Bounds.{Limits}
 use Rattle.inf_names.specs.Spellings.{Name}
 use Rattle.inf_unit.specs.Units.{first_place, last_place, long_at, names_in, noted as unit_noted, taken as unit_taken, text_passed}
 use Rattle.inf_compilation.specs.Actions.{Compilation, close, close_open, header_of, header_with, is_deep, is_to_be_replaced, named, nested, opens, passed, settled_of, sized, stopped, took, trees_at}
@@ -70,42 +71,46 @@ is_quiet_part part.Loop = false
 is_quiet_part part.Case = false
 is_quiet_part _ = true
 
-quiet_carried : (context : Context) (first : Place) (p : Part) (f : Option Finding) (w : Compilation) → is_quiet_part p ≡ true
-    → SameOpen w (part_carried context first p f w)
+quiet_carried : (limits : Limits) (context : Context) (first : Place) (p : Part) (f : Option Finding) (w : Compilation) →
+    is_quiet_part p ≡ true
+    → SameOpen w (part_carried limits context first p f w)
 unfolding part_effect
-quiet_carried context first p (Some f) w q = (refl, refl)
-quiet_carried context first (part.Statement s) None w q = (refl, refl)
-quiet_carried context first part.Condition None w q = (refl, refl)
-quiet_carried context first part.Start None w q = (refl, refl)
-quiet_carried context first part.Switched None w q = (refl, refl)
-quiet_carried context first part.Step None w q = cc
-quiet_carried context first part.Loop None w q = cc
-quiet_carried context first part.Case None w q = cc
+quiet_carried limits context first p (Some f) w q = (refl, refl)
+quiet_carried limits context first (part.Statement s) None w q = (refl, refl)
+quiet_carried limits context first part.Condition None w q = (refl, refl)
+quiet_carried limits context first part.Start None w q = (refl, refl)
+quiet_carried limits context first part.Switched None w q = (refl, refl)
+quiet_carried limits context first part.Step None w q = cc
+quiet_carried limits context first part.Loop None w q = cc
+quiet_carried limits context first part.Case None w q = cc
 
-quiet_finished : (context : Context) (first : Place) (p : Part) (w : Compilation) → is_quiet_part p ≡ true
-    → SameOpen w (part_finished context first p w)
-quiet_finished context first (part.Statement s) w q = quiet_carried context first (part.Statement s) (found_in context (part.Statement s) w)
+quiet_finished : (limits : Limits) (context : Context) (first : Place) (p : Part) (w : Compilation) → is_quiet_part p ≡ true
+    → SameOpen w (part_finished limits context first p w)
+quiet_finished limits context first (part.Statement s) w q =
+    quiet_carried limits context first (part.Statement s) (found_in limits context (part.Statement s) w)
     (named w) refl
-quiet_finished context first part.Condition w q =
-    quiet_carried context first part.Condition (found_in context part.Condition w) (named w) refl
-quiet_finished context first part.Start w q = quiet_carried context first part.Start (found_in context part.Start w) (named w) refl
-quiet_finished context first part.Switched w q = quiet_carried context first part.Switched (found_in context part.Switched w) (named w) refl
-quiet_finished context first part.Step w q = cc
-quiet_finished context first part.Loop w q = cc
-quiet_finished context first part.Case w q = cc
+quiet_finished limits context first part.Condition w q =
+    quiet_carried limits context first part.Condition (found_in limits context part.Condition w) (named w) refl
+quiet_finished limits context first part.Start w q =
+    quiet_carried limits context first part.Start (found_in limits context part.Start w) (named w) refl
+quiet_finished limits context first part.Switched w q =
+    quiet_carried limits context first part.Switched (found_in limits context part.Switched w) (named w) refl
+quiet_finished limits context first part.Step w q = cc
+quiet_finished limits context first part.Loop w q = cc
+quiet_finished limits context first part.Case w q = cc
 
-quiet_prepared : (p : Part) (w : Compilation) → is_quiet_part p ≡ true → SameOpen w (case_prepared p w)
-quiet_prepared part.Case w q = cc
-quiet_prepared _ w q = (refl, refl)
+quiet_prepared : (limits : Limits) (p : Part) (w : Compilation) → is_quiet_part p ≡ true → SameOpen w (case_prepared limits p w)
+quiet_prepared limits part.Case w q = cc
+quiet_prepared limits _ w q = (refl, refl)
 
-quiet_part : (context : Context) (place : Place) (p : Part) (w : Compilation) → is_quiet_part p ≡ true →
-    SameOpen w (part_ended context place p w)
-quiet_part context place p w q =
-    let ready = case_prepared p (part_prepared w) in
-    of_both (SameOpen w) w.is_replaced (passed (has_last p) w) (part_finished context (place_of p place ready) p ready)
+quiet_part : (limits : Limits) (context : Context) (place : Place) (p : Part) (w : Compilation) → is_quiet_part p ≡ true →
+    SameOpen w (part_ended limits context place p w)
+quiet_part limits context place p w q =
+    let ready = case_prepared limits p (part_prepared w) in
+    of_both (SameOpen w) w.is_replaced (passed (has_last p) w) (part_finished limits context (place_of p place ready) p ready)
     (λ _. (refl, refl))
-    (λ _. same_then w ready (part_finished context (place_of p place ready) p ready) (quiet_prepared p (part_prepared w) q)
-    (quiet_finished context (place_of p place ready) p ready q))
+    (λ _. same_then w ready (part_finished limits context (place_of p place ready) p ready) (quiet_prepared limits p (part_prepared w) q)
+    (quiet_finished limits context (place_of p place ready) p ready q))
 
 -- Actions
 
@@ -114,46 +119,49 @@ quiet_note_of context n w =
     let v = record w { unit = unit_noted n w.unit } in
     of_both (SameOpen w) (makes_sure n) (sized context v) v (λ _. sized_same context v) (λ _. (refl, refl))
 
-quiet_note : (context : Context) (n : Note) (w : Compilation) → SameOpen w (noted context n w)
-quiet_note context n w =
-    of_both (SameOpen w) (is_text n && is_crowded w) (record w { unit = text_passed w.unit }) (noted_of context n w)
+quiet_note : (limits : Limits) (context : Context) (n : Note) (w : Compilation) → SameOpen w (noted limits context n w)
+quiet_note limits context n w =
+    of_both (SameOpen w) (is_text n && is_crowded limits w) (record w { unit = text_passed w.unit }) (noted_of context n w)
     (λ _. (refl, refl)) (λ _. quiet_note_of context n w)
 
-quiet_end : (context : Context) (place : Place) (e : Ending) (w : Compilation) → is_quiet_end e ≡ true →
-    SameOpen w (ended_as context place e w)
-quiet_end context place ending.Statement w q = quiet_part context place (part.Statement (statement_at w)) w refl
-quiet_end context place ending.Condition w q = quiet_part context place part.Condition w refl
-quiet_end context place ending.Start w q = quiet_part context place part.Start w refl
-quiet_end context place ending.Switched w q = quiet_part context place part.Switched w refl
-quiet_end context place _ w q = cc
+quiet_end : (limits : Limits) (context : Context) (place : Place) (e : Ending) (w : Compilation) → is_quiet_end e ≡ true →
+    SameOpen w (ended_as limits context place e w)
+quiet_end limits context place ending.Statement w q = quiet_part limits context place (part.Statement (statement_at w)) w refl
+quiet_end limits context place ending.Condition w q = quiet_part limits context place part.Condition w refl
+quiet_end limits context place ending.Start w q = quiet_part limits context place part.Start w refl
+quiet_end limits context place ending.Switched w q = quiet_part limits context place part.Switched w refl
+quiet_end limits context place _ w q = cc
 
-quiet_role : (context : Context) (place : Place) (r : Role) (w : Compilation) → is_quiet_role r ≡ true →
-    SameOpen w (played context place r w)
-quiet_role context place (role.Gather s) w q = (refl, refl)
-quiet_role context place (role.Note n) w q = quiet_note context n w
-quiet_role context place (role.End e) w q = quiet_end context place e w q
-quiet_role context place (role.Open o) w q = cc
-quiet_role context place role.Join w q = cc
-quiet_role context place role.Close w q = cc
-quiet_role context place role.Deeper w q = nested_same context place (is_deep w 1) w
-quiet_role context place role.MaybeDeeper w q = (refl, refl)
-quiet_role context place role.Nothing w q = (refl, refl)
+quiet_role : (limits : Limits) (context : Context) (place : Place) (r : Role) (w : Compilation) → is_quiet_role r ≡ true →
+    SameOpen w (played limits context place r w)
+quiet_role limits context place (role.Gather s) w q = (refl, refl)
+quiet_role limits context place (role.Note n) w q = quiet_note limits context n w
+quiet_role limits context place (role.End e) w q = quiet_end limits context place e w q
+quiet_role limits context place (role.Open o) w q = cc
+quiet_role limits context place role.Join w q = cc
+quiet_role limits context place role.Close w q = cc
+quiet_role limits context place role.Deeper w q = nested_same context place (is_deep w 1) w
+quiet_role limits context place role.MaybeDeeper w q = (refl, refl)
+quiet_role limits context place role.Nothing w q = (refl, refl)
 
-quiet_act : (context : Context) (place : Place) (a : Action) (w : Compilation) → is_quiet a ≡ true → SameOpen w (act context place a w)
-quiet_act context place a w q = quiet_role context place (role_of a) w q
+quiet_act : (limits : Limits) (context : Context) (place : Place) (a : Action) (w : Compilation) → is_quiet a ≡ true →
+    SameOpen w (act limits context place a w)
+quiet_act limits context place a w q = quiet_role limits context place (role_of a) w q
 
 -- Happenings
 
-quiet_happens : (context : Context) (h : Happening) (w : Compilation) → happens_quietly h ≡ true → SameOpen w (happens context h w)
-quiet_happens context (Acts at a) w q = quiet_act context at.place a w q
-quiet_happens context (Takes t m) w q = took_same context t w
+quiet_happens : (limits : Limits) (context : Context) (h : Happening) (w : Compilation) → happens_quietly h ≡ true →
+    SameOpen w (happens limits context h w)
+quiet_happens limits context (Acts at a) w q = quiet_act limits context at.place a w q
+quiet_happens limits context (Takes t m) w q = took_same context t w
 
-pub quiet_run : (context : Context) (hs : List Happening) (w : Compilation) → happen_quietly hs ≡ true → SameOpen w (run context hs w)
-quiet_run context [] w q = (refl, refl)
-quiet_run context (h ∷ hs) w q =
+pub quiet_run : (limits : Limits) (context : Context) (hs : List Happening) (w : Compilation) → happen_quietly hs ≡ true →
+    SameOpen w (run limits context hs w)
+quiet_run limits context [] w q = (refl, refl)
+quiet_run limits context (h ∷ hs) w q =
     let both = and_parts (happens_quietly h) (happen_quietly hs) q in
-    let v = happens context h w in
-    same_then w v (run context hs v) (quiet_happens context h w both.0) (quiet_run context hs v both.1)
+    let v = happens limits context h w in
+    same_then w v (run limits context hs v) (quiet_happens limits context h w both.0) (quiet_run limits context hs v both.1)
 
 -- Units that change the innermost
 
@@ -165,116 +173,135 @@ abbrev pub StepIn : Construct → List Construct → List Construct → Type 0
 StepIn c around after = (s : Option (List Item)) × (after ≡ record c { step = s } ∷ around)
 
 -- the step of a `for`
-step_carried : (context : Context) (first : Place) (f : Option Finding) (w : Compilation) (c : Construct) (around : List Construct)
+step_carried : (limits : Limits) (context : Context) (first : Place) (f : Option Finding) (w : Compilation) (c : Construct)
+    (around : List Construct)
     → w.constructs ≡ c ∷ around
-    → StepIn c around (part_carried context first part.Step f w).constructs × ((part_carried context first part.Step f w).closed ≡ w.closed)
+    → StepIn c around (part_carried limits context first part.Step f w).constructs ×
+    ((part_carried limits context first part.Step f w).closed ≡ w.closed)
 unfolding part_effect
-step_carried context first (Some f) w c around e = ((c.step, e), refl)
-step_carried context first None w c around e = ((_, ap (with_step _) e), refl)
+step_carried limits context first (Some f) w c around e = ((c.step, e), refl)
+step_carried limits context first None w c around e = ((_, ap (with_step _) e), refl)
 
-pub step_ends : (context : Context) (place : Place) (w : Compilation) (c : Construct) (around : List Construct) → w.constructs ≡ c ∷ around
-    → StepIn c around (act context place action.EndForStep w).constructs × ((act context place action.EndForStep w).closed ≡ w.closed)
-step_ends context place w c around e =
+pub step_ends : (limits : Limits) (context : Context) (place : Place) (w : Compilation) (c : Construct) (around : List Construct) →
+    w.constructs ≡ c ∷ around
+    → StepIn c around (act limits context place action.EndForStep w).constructs ×
+    ((act limits context place action.EndForStep w).closed ≡ w.closed)
+step_ends limits context place w c around e =
     let ready = part_prepared w in
     of_both (λ (v : Compilation). StepIn c around v.constructs × (v.closed ≡ w.closed)) w.is_replaced (passed (has_last part.Step) w)
-    (part_finished context (place_of part.Step place ready) part.Step ready)
-    (λ _. ((c.step, e), refl)) (λ _. step_carried context (place_of part.Step place ready) (found_in context part.Step ready) (named ready)
+    (part_finished limits context (place_of part.Step place ready) part.Step ready)
+    (λ _. ((c.step, e), refl)) (λ _. step_carried limits context (place_of part.Step place ready) (found_in limits context part.Step ready)
+    (named ready)
     c around e)
 
 -- what a loop over objects goes over
-looped_kind_by : (parent : Option Tree) (e : Tree) (v : ℕ) (c : Construct) (o : Out)
-    → (k : Kind) × ((looped_by parent e v c o).0 ≡ record c { kind = k })
-looped_kind_by None e v c o = (_, refl)
-looped_kind_by (Some parent) e v c o = (_, refl)
+looped_kind_by : (limits : Limits) (parent : Option Tree) (e : Tree) (v : ℕ) (c : Construct) (o : Out)
+    → (k : Kind) × ((looped_by limits parent e v c o).0 ≡ record c { kind = k })
+looped_kind_by limits None e v c o = (_, refl)
+looped_kind_by limits (Some parent) e v c o = (_, refl)
 
-looped_kind : (r : Rooted) (c : Construct) (o : Out) → (k : Kind) × ((looped r c o).0 ≡ record c { kind = k })
+looped_kind : (limits : Limits) (r : Rooted) (c : Construct) (o : Out) → (k : Kind) × ((looped limits r c o).0 ≡ record c { kind = k })
 unfolding looped
-looped_kind r c o = looped_kind_by (children_of r.tree) r.tree (unwrap_or r.origin.lead.variable 0) c o
+looped_kind limits r c o = looped_kind_by limits (children_of r.tree) r.tree (unwrap_or r.origin.lead.variable 0) c o
 
-looped_over_kind : (trees : List Rooted) (constructs : List Construct) (o : Out) (c : Construct) (around : List Construct)
-    → constructs ≡ c ∷ around → KindIn c around (looped_over trees constructs o).0
-looped_over_kind [] constructs o c around e = (c.kind, e)
-looped_over_kind (r ∷ trees) constructs o c around e =
-    let k = looped_kind r c o in
-    (k.0, ap (λ l. (changed (looped r) l o).0) e ∙ ap (λ d. d ∷ around) k.1)
+looped_over_kind : (limits : Limits) (trees : List Rooted) (constructs : List Construct) (o : Out) (c : Construct) (around : List Construct)
+    → constructs ≡ c ∷ around → KindIn c around (looped_over limits trees constructs o).0
+looped_over_kind limits [] constructs o c around e = (c.kind, e)
+looped_over_kind limits (r ∷ trees) constructs o c around e =
+    let k = looped_kind limits r c o in
+    (k.0, ap (λ l. (changed (looped limits r) l o).0) e ∙ ap (λ d. d ∷ around) k.1)
 
-loop_carried : (context : Context) (first : Place) (f : Option Finding) (w : Compilation) (c : Construct) (around : List Construct)
+loop_carried : (limits : Limits) (context : Context) (first : Place) (f : Option Finding) (w : Compilation) (c : Construct)
+    (around : List Construct)
     → w.constructs ≡ c ∷ around
-    → KindIn c around (part_carried context first part.Loop f w).constructs × ((part_carried context first part.Loop f w).closed ≡ w.closed)
+    → KindIn c around (part_carried limits context first part.Loop f w).constructs ×
+    ((part_carried limits context first part.Loop f w).closed ≡ w.closed)
 unfolding part_effect
-loop_carried context first (Some f) w c around e = ((c.kind, e), refl)
-loop_carried context first None w c around e =
-    let s = settled_of context w in (
-      looped_over_kind (trees_at (order_of part.Loop w) (wanted_of part.Loop) s.operands w) w.constructs (record s.out { first = first })
+loop_carried limits context first (Some f) w c around e = ((c.kind, e), refl)
+loop_carried limits context first None w c around e =
+    let s = settled_of limits context w in (
+      looped_over_kind limits (trees_at (order_of part.Loop w) (wanted_of part.Loop) s.operands w) w.constructs
+          (record s.out { first = first })
           c around e,
       refl,
     )
 
-pub loop_ends : (context : Context) (place : Place) (w : Compilation) (c : Construct) (around : List Construct) → w.constructs ≡ c ∷ around
-    → KindIn c around (act context place action.EndObjectloop w).constructs × ((act context place action.EndObjectloop w).closed ≡ w.closed)
-loop_ends context place w c around e =
+pub loop_ends : (limits : Limits) (context : Context) (place : Place) (w : Compilation) (c : Construct) (around : List Construct) →
+    w.constructs ≡ c ∷ around
+    → KindIn c around (act limits context place action.EndObjectloop w).constructs ×
+    ((act limits context place action.EndObjectloop w).closed ≡ w.closed)
+loop_ends limits context place w c around e =
     let ready = part_prepared w in
     of_both (λ (v : Compilation). KindIn c around v.constructs × (v.closed ≡ w.closed)) w.is_replaced (passed (has_last part.Loop) w)
-    (part_finished context (place_of part.Loop place ready) part.Loop ready)
-    (λ _. ((c.kind, e), refl)) (λ _. loop_carried context (place_of part.Loop place ready) (found_in context part.Loop ready) (named ready)
+    (part_finished limits context (place_of part.Loop place ready) part.Loop ready)
+    (λ _. ((c.kind, e), refl)) (λ _. loop_carried limits context (place_of part.Loop place ready) (found_in limits context part.Loop ready)
+    (named ready)
     c around e)
 
 -- a case
-entered_kind_by : (k : Kind) (b : Bool) (c : Construct) (o : Out) → (after : Kind) × ((entered_by k b c o).0 ≡ record c { kind = after })
-entered_kind_by (kind.Switch old had_default) true c o = (_, refl)
-entered_kind_by (kind.Switch old had_default) false c o = (_, refl)
-entered_kind_by (kind.Cases old had_default) true c o = (_, refl)
-entered_kind_by (kind.Cases old had_default) false c o = (_, refl)
-entered_kind_by _ b c o = (c.kind, refl)
+entered_kind_by : (limits : Limits) (k : Kind) (b : Bool) (c : Construct) (o : Out) →
+    (after : Kind) × ((entered_by limits k b c o).0 ≡ record c { kind = after })
+entered_kind_by limits (kind.Switch old had_default) true c o = (_, refl)
+entered_kind_by limits (kind.Switch old had_default) false c o = (_, refl)
+entered_kind_by limits (kind.Cases old had_default) true c o = (_, refl)
+entered_kind_by limits (kind.Cases old had_default) false c o = (_, refl)
+entered_kind_by limits _ b c o = (c.kind, refl)
 
-entered_kind : (b : Bool) (c : Construct) (o : Out) → (after : Kind) × ((entered b c o).0 ≡ record c { kind = after })
+entered_kind : (limits : Limits) (b : Bool) (c : Construct) (o : Out) →
+    (after : Kind) × ((entered limits b c o).0 ≡ record c { kind = after })
 unfolding entered
-entered_kind b c o = entered_kind_by c.kind b c o
+entered_kind limits b c o = entered_kind_by limits c.kind b c o
 
 actions_named_same : (b : Bool) (w : Compilation) → SameOpen w (actions_named b w)
 actions_named_same true w = (refl, refl)
 actions_named_same false w = (refl, refl)
 
-case_ready : (w : Compilation) (c : Construct) (around : List Construct) → w.constructs ≡ c ∷ around
-    → ((case_prepared part.Case w).constructs ≡ c ∷ around) × ((case_prepared part.Case w).closed ≡ w.closed)
-case_ready w c around e =
-    let begun = constructs_laid (cases_begun w.constructs) w in
+case_ready : (limits : Limits) (w : Compilation) (c : Construct) (around : List Construct) → w.constructs ≡ c ∷ around
+    → ((case_prepared limits part.Case w).constructs ≡ c ∷ around) × ((case_prepared limits part.Case w).closed ≡ w.closed)
+case_ready limits w c around e =
+    let begun = constructs_laid (cases_begun limits w.constructs) w in
     let same = actions_named_same (are_own begun.constructs) begun in
-    (same.0 ∙ ap (λ l. (cases_begun l w.output).0) e, same.1)
+    (same.0 ∙ ap (λ l. (cases_begun limits l w.output).0) e, same.1)
 
-case_carried : (context : Context) (first : Place) (f : Option Finding) (w : Compilation) →
-    SameOpen w (part_carried context first part.Case f w)
+case_carried : (limits : Limits) (context : Context) (first : Place) (f : Option Finding) (w : Compilation) →
+    SameOpen w (part_carried limits context first part.Case f w)
 unfolding part_effect
-case_carried context first (Some f) w = (refl, refl)
-case_carried context first None w = (refl, refl)
+case_carried limits context first (Some f) w = (refl, refl)
+case_carried limits context first None w = (refl, refl)
 
-case_finished : (context : Context) (first : Place) (w : Compilation) (c : Construct) (around : List Construct) → w.constructs ≡ c ∷ around
-    → KindIn c around (part_finished context first part.Case w).constructs × ((part_finished context first part.Case w).closed ≡ w.closed)
-case_finished context first w c around e =
-    let begun = part_begun part.Case w in
-    let same = case_carried context first (found_in context part.Case w) (named begun) in
-    let k = entered_kind (is_default w.unit.items) c w.output in
-    ((k.0, same.0 ∙ (ap (λ l. (changed (entered (is_default w.unit.items)) l w.output).0) e ∙ ap (λ d. d ∷ around) k.1)), same.1)
+case_finished : (limits : Limits) (context : Context) (first : Place) (w : Compilation) (c : Construct) (around : List Construct) →
+    w.constructs ≡ c ∷ around
+    → KindIn c around (part_finished limits context first part.Case w).constructs ×
+    ((part_finished limits context first part.Case w).closed ≡ w.closed)
+case_finished limits context first w c around e =
+    let begun = part_begun limits part.Case w in
+    let same = case_carried limits context first (found_in limits context part.Case w) (named begun) in
+    let k = entered_kind limits (is_default w.unit.items) c w.output in
+    ((k.0, same.0 ∙ (ap (λ l. (changed (entered limits (is_default w.unit.items)) l w.output).0) e ∙ ap (λ d. d ∷ around) k.1)), same.1)
 
-pub case_ends : (context : Context) (place : Place) (w : Compilation) (c : Construct) (around : List Construct) → w.constructs ≡ c ∷ around
-    → KindIn c around (act context place action.EndCase w).constructs
-case_ends context place w c around e =
+pub case_ends : (limits : Limits) (context : Context) (place : Place) (w : Compilation) (c : Construct) (around : List Construct) →
+    w.constructs ≡ c ∷ around
+    → KindIn c around (act limits context place action.EndCase w).constructs
+case_ends limits context place w c around e =
     let before = part_prepared w in
-    let ready = case_prepared part.Case before in
+    let ready = case_prepared limits part.Case before in
     of_both (λ (v : Compilation). KindIn c around v.constructs) w.is_replaced (passed (has_last part.Case) w)
-    (part_finished context (place_of part.Case place ready) part.Case ready)
-    (λ _. (c.kind, e)) (λ _. (case_finished context (place_of part.Case place ready) ready c around (case_ready before c around e).0).0)
+    (part_finished limits context (place_of part.Case place ready) part.Case ready)
+    (λ _. (c.kind, e)) (λ _. (case_finished limits context (place_of part.Case place ready) ready c around
+    (case_ready limits before c around e).0).0)
 
 -- the number of those that are closed ahead stays, whatever is open
-pub case_none_ahead : (context : Context) (place : Place) (w : Compilation) → (act context place action.EndCase w).closed ≡ w.closed
-case_none_ahead context place w =
+pub case_none_ahead : (limits : Limits) (context : Context) (place : Place) (w : Compilation) →
+    (act limits context place action.EndCase w).closed ≡ w.closed
+case_none_ahead limits context place w =
     let before = part_prepared w in
-    let ready = case_prepared part.Case before in
-    let begun = constructs_laid (cases_begun before.constructs) before in
+    let ready = case_prepared limits part.Case before in
+    let begun = constructs_laid (cases_begun limits before.constructs) before in
     of_both (λ (v : Compilation). v.closed ≡ w.closed) w.is_replaced (passed (has_last part.Case) w)
-    (part_finished context (place_of part.Case place ready) part.Case ready)
+    (part_finished limits context (place_of part.Case place ready) part.Case ready)
     (λ _. refl)
-    (λ _. (case_carried context (place_of part.Case place ready) (found_in context part.Case ready) (named (part_begun part.Case ready))).1
+    (λ _. (case_carried limits context (place_of part.Case place ready) (found_in limits context part.Case ready)
+    (named (part_begun limits part.Case ready))).1
     ∙ (actions_named_same (are_own begun.constructs) begun).1)
 
 -- The routine's own cases
@@ -285,45 +312,47 @@ own_alone [] = true
 own_alone (c ∷ []) = are_cases c.kind
 own_alone (c ∷ d ∷ constructs) = false
 
-begun_own : (k : Kind) (o : Out) → are_cases (opened k o).0.kind ≡ are_cases k
+begun_own : (limits : Limits) (k : Kind) (o : Out) → are_cases (opened limits k o).0.kind ≡ are_cases k
 unfolding opened
-begun_own k o = refl
+begun_own limits k o = refl
 
-begun_alone : (constructs : List Construct) (o : Out) → own_alone constructs ≡ true → own_alone (cases_begun constructs o).0 ≡ true
-begun_alone [] o h = begun_own (kind.Cases case.Nothing false) o
-begun_alone (c ∷ constructs) o h = h
+begun_alone : (limits : Limits) (constructs : List Construct) (o : Out) → own_alone constructs ≡ true →
+    own_alone (cases_begun limits constructs o).0 ≡ true
+begun_alone limits [] o h = begun_own limits (kind.Cases case.Nothing false) o
+begun_alone limits (c ∷ constructs) o h = h
 
-entered_own_by : (k : Kind) (b : Bool) (c : Construct) (o : Out) → are_cases k ≡ true → are_cases c.kind ≡ true
-    → are_cases (entered_by k b c o).0.kind ≡ true
-entered_own_by (kind.Cases old had_default) true c o h e = refl
-entered_own_by (kind.Cases old had_default) false c o h e = refl
-entered_own_by (kind.Switch old had_default) b c o h e = cc
-entered_own_by _ b c o h e = e
+entered_own_by : (limits : Limits) (k : Kind) (b : Bool) (c : Construct) (o : Out) → are_cases k ≡ true → are_cases c.kind ≡ true
+    → are_cases (entered_by limits k b c o).0.kind ≡ true
+entered_own_by limits (kind.Cases old had_default) true c o h e = refl
+entered_own_by limits (kind.Cases old had_default) false c o h e = refl
+entered_own_by limits (kind.Switch old had_default) b c o h e = cc
+entered_own_by limits _ b c o h e = e
 
-entered_own : (b : Bool) (c : Construct) (o : Out) → are_cases c.kind ≡ true → are_cases (entered b c o).0.kind ≡ true
+entered_own : (limits : Limits) (b : Bool) (c : Construct) (o : Out) → are_cases c.kind ≡ true →
+    are_cases (entered limits b c o).0.kind ≡ true
 unfolding entered
-entered_own b c o h = entered_own_by c.kind b c o h h
+entered_own limits b c o h = entered_own_by limits c.kind b c o h h
 
-entered_alone : (b : Bool) (constructs : List Construct) (o : Out) → own_alone constructs ≡ true
-    → own_alone (changed (entered b) constructs o).0 ≡ true
-entered_alone b [] o h = refl
-entered_alone b (c ∷ []) o h = entered_own b c o h
-entered_alone b (c ∷ d ∷ constructs) o h = cc
+entered_alone : (limits : Limits) (b : Bool) (constructs : List Construct) (o : Out) → own_alone constructs ≡ true
+    → own_alone (changed (entered limits b) constructs o).0 ≡ true
+entered_alone limits b [] o h = refl
+entered_alone limits b (c ∷ []) o h = entered_own limits b c o h
+entered_alone limits b (c ∷ d ∷ constructs) o h = cc
 
-pub case_alone : (context : Context) (place : Place) (w : Compilation) → own_alone w.constructs ≡ true
-    → own_alone (act context place action.EndCase w).constructs ≡ true
-case_alone context place w h =
+pub case_alone : (limits : Limits) (context : Context) (place : Place) (w : Compilation) → own_alone w.constructs ≡ true
+    → own_alone (act limits context place action.EndCase w).constructs ≡ true
+case_alone limits context place w h =
     let before = part_prepared w in
-    let ready = case_prepared part.Case before in
+    let ready = case_prepared limits part.Case before in
     let at = place_of part.Case place ready in
-    let begun = constructs_laid (cases_begun before.constructs) before in
-    let entering = part_begun part.Case ready in
+    let begun = constructs_laid (cases_begun limits before.constructs) before in
+    let entering = part_begun limits part.Case ready in
     of_both (λ (v : Compilation). own_alone v.constructs ≡ true) w.is_replaced (passed (has_last part.Case) w)
-    (part_finished context at part.Case ready)
+    (part_finished limits context at part.Case ready)
     (λ _. h)
-    (λ _. ap own_alone (case_carried context at (found_in context part.Case ready) (named entering)).0
-    ∙ entered_alone (is_default ready.unit.items) ready.constructs ready.output
-    (ap own_alone (actions_named_same (are_own begun.constructs) begun).0 ∙ begun_alone before.constructs before.output h))
+    (λ _. ap own_alone (case_carried limits context at (found_in limits context part.Case ready) (named entering)).0
+    ∙ entered_alone limits (is_default ready.unit.items) ready.constructs ready.output
+    (ap own_alone (actions_named_same (are_own begun.constructs) begun).0 ∙ begun_alone limits before.constructs before.output h))
 
 -- Whatever is done in a routine closes none ahead where none was closed
 
@@ -347,83 +376,89 @@ is_inside_role _ = true
 abbrev pub is_inside : Action → Bool
 is_inside a = is_inside_role (role_of a)
 
-opened_none : (context : Context) (place : Place) (k : Kind) (w : Compilation) → (construct_opened context place k w).closed ≡ w.closed
-opened_none context place k w = (nested_same context (last_place w.unit.tokens place) (is_deep w 1) w).1
+opened_none : (limits : Limits) (context : Context) (place : Place) (k : Kind) (w : Compilation) →
+    (construct_opened limits context place k w).closed ≡ w.closed
+opened_none limits context place k w = (nested_same context (last_place w.unit.tokens place) (is_deep w 1) w).1
 
-closed_none : (w : Compilation) → w.closed ≡ 0 → (construct_closed w).closed ≡ 0
-closed_none w e =
-    ap (λ (v : Compilation). v.closed) (ap (λ n. if nat_lt 0 n then record w { closed = n - 1 } else construct_ended w) e) ∙ e
+closed_none : (limits : Limits) (w : Compilation) → w.closed ≡ 0 → (construct_closed limits w).closed ≡ 0
+closed_none limits w e =
+    ap (λ (v : Compilation). v.closed) (ap (λ n. if nat_lt 0 n then record w { closed = n - 1 } else construct_ended limits w) e) ∙ e
 
-step_carried_none : (context : Context) (first : Place) (f : Option Finding) (v : Compilation)
-    → (part_carried context first part.Step f v).closed ≡ v.closed
+step_carried_none : (limits : Limits) (context : Context) (first : Place) (f : Option Finding) (v : Compilation)
+    → (part_carried limits context first part.Step f v).closed ≡ v.closed
 unfolding part_effect
-step_carried_none context first (Some f) v = refl
-step_carried_none context first None v = refl
+step_carried_none limits context first (Some f) v = refl
+step_carried_none limits context first None v = refl
 
-step_none : (context : Context) (place : Place) (w : Compilation) → (act context place action.EndForStep w).closed ≡ w.closed
-step_none context place w =
+step_none : (limits : Limits) (context : Context) (place : Place) (w : Compilation) →
+    (act limits context place action.EndForStep w).closed ≡ w.closed
+step_none limits context place w =
     let ready = part_prepared w in
     let first = place_of part.Step place ready in
     of_both (λ (v : Compilation). v.closed ≡ w.closed) w.is_replaced (passed (has_last part.Step) w)
-    (part_finished context first part.Step ready)
-    (λ _. refl) (λ _. step_carried_none context first (found_in context part.Step ready) (named ready))
+    (part_finished limits context first part.Step ready)
+    (λ _. refl) (λ _. step_carried_none limits context first (found_in limits context part.Step ready) (named ready))
 
-loop_carried_none : (context : Context) (first : Place) (f : Option Finding) (v : Compilation)
-    → (part_carried context first part.Loop f v).closed ≡ v.closed
+loop_carried_none : (limits : Limits) (context : Context) (first : Place) (f : Option Finding) (v : Compilation)
+    → (part_carried limits context first part.Loop f v).closed ≡ v.closed
 unfolding part_effect
-loop_carried_none context first (Some f) v = refl
-loop_carried_none context first None v = refl
+loop_carried_none limits context first (Some f) v = refl
+loop_carried_none limits context first None v = refl
 
-loop_none : (context : Context) (place : Place) (w : Compilation) → (act context place action.EndObjectloop w).closed ≡ w.closed
-loop_none context place w =
+loop_none : (limits : Limits) (context : Context) (place : Place) (w : Compilation) →
+    (act limits context place action.EndObjectloop w).closed ≡ w.closed
+loop_none limits context place w =
     let ready = part_prepared w in
     let first = place_of part.Loop place ready in
     of_both (λ (v : Compilation). v.closed ≡ w.closed) w.is_replaced (passed (has_last part.Loop) w)
-    (part_finished context first part.Loop ready)
-    (λ _. refl) (λ _. loop_carried_none context first (found_in context part.Loop ready) (named ready))
+    (part_finished limits context first part.Loop ready)
+    (λ _. refl) (λ _. loop_carried_none limits context first (found_in limits context part.Loop ready) (named ready))
 
 -- a header closes none ahead, and leaves none open where none was
-pub header_same : (context : Context) (first : Place) (names : List Name) (w : Compilation)
-    → ((header_of context first names w).closed ≡ w.closed) × (w.constructs ≡ [] → (header_of context first names w).constructs ≡ [])
-header_same context first [] w = (refl, λ e. e)
-header_same context first (name ∷ names) w =
+pub header_same : (limits : Limits) (context : Context) (first : Place) (names : List Name) (w : Compilation)
+    → ((header_of limits context first names w).closed ≡ w.closed) ×
+    (w.constructs ≡ [] → (header_of limits context first names w).constructs ≡ [])
+header_same limits context first [] w = (refl, λ e. e)
+header_same limits context first (name ∷ names) w =
     of_both (λ (v : Compilation). (v.closed ≡ w.closed) × (w.constructs ≡ [] → v.constructs ≡ [])) (is_to_be_replaced name w)
     (passed true (record w { is_replaced = true; is_embedded = false; constructs = [] }))
-    (header_with context first name w.unit.headed (record w { is_replaced = false; is_embedded = false }))
+    (header_with limits context first name w.unit.headed (record w { is_replaced = false; is_embedded = false }))
     (λ _. (refl, λ e. refl)) (λ _. (refl, λ e. refl))
 
-routine_none : (context : Context) (place : Place) (w : Compilation) → (close context place w).closed ≡ w.closed
-routine_none context place w =
-    of_both (λ (v : Compilation). v.closed ≡ w.closed) w.is_replaced (passed true w) (close_open context place w) (λ _. refl) (λ _. refl)
+routine_none : (limits : Limits) (context : Context) (place : Place) (w : Compilation) → (close limits context place w).closed ≡ w.closed
+routine_none limits context place w =
+    of_both (λ (v : Compilation). v.closed ≡ w.closed) w.is_replaced (passed true w) (close_open limits context place w) (λ _. refl)
+    (λ _. refl)
 
-inside_end : (context : Context) (place : Place) (e : Ending) (w : Compilation) → is_inside_end e ≡ true → w.closed ≡ 0
-    → (ended_as context place e w).closed ≡ 0
-inside_end context place ending.Locals w i e = (header_same context (first_place w.unit.tokens place) (names_in w.unit.tokens) w).0 ∙ e
-inside_end context place ending.Routine w i e = routine_none context place w ∙ e
-inside_end context place ending.Statement w i e = (quiet_end context place ending.Statement w refl).1 ∙ e
-inside_end context place ending.Condition w i e = (quiet_end context place ending.Condition w refl).1 ∙ e
-inside_end context place ending.Start w i e = (quiet_end context place ending.Start w refl).1 ∙ e
-inside_end context place ending.Step w i e = step_none context place w ∙ e
-inside_end context place ending.Loop w i e = loop_none context place w ∙ e
-inside_end context place ending.Switched w i e = (quiet_end context place ending.Switched w refl).1 ∙ e
-inside_end context place ending.Case w i e = case_none_ahead context place w ∙ e
-inside_end context place _ w i e = cc
+inside_end : (limits : Limits) (context : Context) (place : Place) (e : Ending) (w : Compilation) → is_inside_end e ≡ true → w.closed ≡ 0
+    → (ended_as limits context place e w).closed ≡ 0
+inside_end limits context place ending.Locals w i e =
+    (header_same limits context (first_place w.unit.tokens place) (names_in w.unit.tokens) w).0 ∙ e
+inside_end limits context place ending.Routine w i e = routine_none limits context place w ∙ e
+inside_end limits context place ending.Statement w i e = (quiet_end limits context place ending.Statement w refl).1 ∙ e
+inside_end limits context place ending.Condition w i e = (quiet_end limits context place ending.Condition w refl).1 ∙ e
+inside_end limits context place ending.Start w i e = (quiet_end limits context place ending.Start w refl).1 ∙ e
+inside_end limits context place ending.Step w i e = step_none limits context place w ∙ e
+inside_end limits context place ending.Loop w i e = loop_none limits context place w ∙ e
+inside_end limits context place ending.Switched w i e = (quiet_end limits context place ending.Switched w refl).1 ∙ e
+inside_end limits context place ending.Case w i e = case_none_ahead limits context place w ∙ e
+inside_end limits context place _ w i e = cc
 
-inside_role : (context : Context) (place : Place) (r : Role) (w : Compilation) → is_inside_role r ≡ true → w.closed ≡ 0
-    → (played context place r w).closed ≡ 0
-inside_role context place (role.Gather s) w i e = e
-inside_role context place (role.Note n) w i e = (quiet_note context n w).1 ∙ e
-inside_role context place (role.End ends) w i e = inside_end context place ends w i e
-inside_role context place (role.Open o) w i e = opened_none context place (kind_of o) w ∙ e
-inside_role context place role.Join w i e = e
-inside_role context place role.Close w i e = closed_none w e
-inside_role context place role.Deeper w i e = (quiet_role context place role.Deeper w refl).1 ∙ e
-inside_role context place role.MaybeDeeper w i e = e
-inside_role context place role.Nothing w i e = e
+inside_role : (limits : Limits) (context : Context) (place : Place) (r : Role) (w : Compilation) → is_inside_role r ≡ true → w.closed ≡ 0
+    → (played limits context place r w).closed ≡ 0
+inside_role limits context place (role.Gather s) w i e = e
+inside_role limits context place (role.Note n) w i e = (quiet_note limits context n w).1 ∙ e
+inside_role limits context place (role.End ends) w i e = inside_end limits context place ends w i e
+inside_role limits context place (role.Open o) w i e = opened_none limits context place (kind_of o) w ∙ e
+inside_role limits context place role.Join w i e = e
+inside_role limits context place role.Close w i e = closed_none limits w e
+inside_role limits context place role.Deeper w i e = (quiet_role limits context place role.Deeper w refl).1 ∙ e
+inside_role limits context place role.MaybeDeeper w i e = e
+inside_role limits context place role.Nothing w i e = e
 
-pub inside_act : (context : Context) (place : Place) (a : Action) (w : Compilation) → is_inside a ≡ true → w.closed ≡ 0
-    → (act context place a w).closed ≡ 0
-inside_act context place a w i e = inside_role context place (role_of a) w i e
+pub inside_act : (limits : Limits) (context : Context) (place : Place) (a : Action) (w : Compilation) → is_inside a ≡ true → w.closed ≡ 0
+    → (act limits context place a w).closed ≡ 0
+inside_act limits context place a w i e = inside_role limits context place (role_of a) w i e
 
 pub took_none : (context : Context) (t : SourceToken) (w : Compilation) → (took context t w).closed ≡ w.closed
 took_none context t w = (took_same context t w).1

@@ -1,6 +1,7 @@
 -- Tokens as the machine takes them, and routines as a whole.
 use Rattle.std.proofs.Common.{◌≡◌, ℕ, zero, suc, ◌+◌, Option, Some, None, List, [], ◌∷◌, ◌++◌, true, refl, sym, ◌∙◌, ap, subst, arith, map, Bool, ◌&&◌}
 use Rattle.std.proofs.lemmas.Bool.{and_from, and_parts}
+use Rattle.inf_settings.specs.Bounds.{Limits}
 use Rattle.inf_scanner.specs.declared.tokens.Mark.TheVariants as mark
 use Rattle.inf_scanner.specs.declared.tokens.Place.{Place}
 use Rattle.inf_machine.specs.declared.symbols.Symbol.{Symbol}
@@ -34,10 +35,10 @@ use Rattle.inf_statement_laws.proofs.Texts.{OfRule, Parts, deep, split}
 
 -- Tokens
 
-actions_happen : (context : Context) (t : SourceToken) (m : Between) (actions : List Action) (w : Compilation)
-    → next_comes (passed m (took context t (acted context t.place actions w))) ≡ run context (token_happenings t m actions) w
-actions_happen context t m [] w = refl
-actions_happen context t m (a ∷ actions) w = actions_happen context t m actions (act context t.place a w)
+actions_happen : (limits : Limits) (context : Context) (t : SourceToken) (m : Between) (actions : List Action) (w : Compilation)
+    → next_comes (passed m (took context t (acted limits context t.place actions w))) ≡ run limits context (token_happenings t m actions) w
+actions_happen limits context t m [] w = refl
+actions_happen limits context t m (a ∷ actions) w = actions_happen limits context t m actions (act limits context t.place a w)
 
 happen_as_events : (t : SourceToken) (m : Between) (actions : List Action) (atom : ℕ)
     → AreOf (events_of actions atom) (token_happenings t m actions)
@@ -104,9 +105,9 @@ all_text (s ∷ seen) symbols f e =
           (behind_ends_are on.events s.directive (closings n.left) (all_happenings seen n.left) on.are);
     }
 
-pub tokens_happen : TokensHappen
-tokens_happen = record {
-  runs = λ context t m actions w. actions_happen context t m actions (next_comes w);
+pub tokens_happen : (limits : Limits) → TokensHappen limits
+tokens_happen limits = record {
+  runs = λ context t m actions w. actions_happen limits context t m actions (next_comes w);
   are = happen_as_events;
   all_are = λ seen symbol f e.
       let t = all_text seen (symbol ∷ []) f e in
@@ -121,10 +122,10 @@ abbrev ends : ℕ → List Action
 ends zero = []
 ends (suc count) = action.Close ∷ ends count
 
-acted_then : (context : Context) (place : Place) (xs ys : List Action) (w : Compilation)
-    → acted context place (xs ++ ys) w ≡ acted context place ys (acted context place xs w)
-acted_then context place [] ys w = refl
-acted_then context place (x ∷ xs) ys w = acted_then context place xs ys (act context place x w)
+acted_then : (limits : Limits) (context : Context) (place : Place) (xs ys : List Action) (w : Compilation)
+    → acted limits context place (xs ++ ys) w ≡ acted limits context place ys (acted limits context place xs w)
+acted_then limits context place [] ys w = refl
+acted_then limits context place (x ∷ xs) ys w = acted_then limits context place xs ys (act limits context place x w)
 
 -- the statements that end next, whatever the next token is, end first
 closings_first : (atom : ℕ) (symbols : List (Symbol Action))
@@ -138,29 +139,30 @@ closings_first atom (Act action.Close ∷ symbols) =
     (on.0, ap (λ l. action.Close ∷ l) on.1 ∙ ap (λ n. ends n ++ on.0) more)
 closings_first atom (Act a ∷ symbols) = ((taken grammar known atom (Act a ∷ symbols)).actions, refl)
 
-ends_none : (context : Context) (place : Place) (count : ℕ) (w : Compilation) → w.closed ≡ 0 →
-    (acted context place (ends count) w).closed ≡ 0
-ends_none context place zero w e = e
-ends_none context place (suc count) w e = ends_none context place count (act context place action.Close w)
-    (inside_act context place action.Close w refl e)
+ends_none : (limits : Limits) (context : Context) (place : Place) (count : ℕ) (w : Compilation) → w.closed ≡ 0 →
+    (acted limits context place (ends count) w).closed ≡ 0
+ends_none limits context place zero w e = e
+ends_none limits context place (suc count) w e = ends_none limits context place count (act limits context place action.Close w)
+    (inside_act limits context place action.Close w refl e)
 
 -- those that were closed ahead end, and what was done meanwhile is done behind them
-ahead_ends : (context : Context) (place : Place) (m : Between) (count : ℕ) (w : Compilation) → w.closed ≡ 0
-    → acted context place (ends count) (passed m (ahead count w)) ≡ passed m (acted context place (ends count) w)
-ahead_ends context place m zero w e = ap (λ n. passed m (record w { closed = n })) (sym e)
-ahead_ends context place m (suc count) w e =
-    ap (acted context place (ends count)) (next_passed m count w ∙ ap (passed m) (next_ahead count w))
-    ∙ (ahead_ends context place m count (construct_ended w) e
-    ∙ ap (λ v. passed m (acted context place (ends count) v)) (sym (closing_open w e)))
+ahead_ends : (limits : Limits) (context : Context) (place : Place) (m : Between) (count : ℕ) (w : Compilation) → w.closed ≡ 0
+    → acted limits context place (ends count) (passed m (ahead limits count w)) ≡ passed m (acted limits context place (ends count) w)
+ahead_ends limits context place m zero w e = ap (λ n. passed m (record w { closed = n })) (sym e)
+ahead_ends limits context place m (suc count) w e =
+    ap (acted limits context place (ends count)) (next_passed limits m count w ∙ ap (passed m) (next_ahead limits count w))
+    ∙ (ahead_ends limits context place m count (construct_ended limits w) e
+    ∙ ap (λ v. passed m (acted limits context place (ends count) v)) (sym (closing_open limits w e)))
 
 -- and so do their happenings
-behind_ends_run : (context : Context) (t : SourceToken) (b m : Between) (count : ℕ) (rest : List Action) (others : List Happening)
+behind_ends_run : (limits : Limits) (context : Context) (t : SourceToken) (b m : Between) (count : ℕ) (rest : List Action)
+    (others : List Happening)
     (w : Compilation)
-    → run context (behind_some (suc count) m (token_happenings t b (ends (suc count) ++ rest) ++ others)) w
-    ≡ run context (token_happenings t b rest ++ others) (passed m (acted context t.place (ends (suc count)) w))
-behind_ends_run context t b m zero rest others w = refl
-behind_ends_run context t b m (suc count) rest others w =
-    behind_ends_run context t b m count rest others (act context t.place action.Close w)
+    → run limits context (behind_some (suc count) m (token_happenings t b (ends (suc count) ++ rest) ++ others)) w
+    ≡ run limits context (token_happenings t b rest ++ others) (passed m (acted limits context t.place (ends (suc count)) w))
+behind_ends_run limits context t b m zero rest others w = refl
+behind_ends_run limits context t b m (suc count) rest others w =
+    behind_ends_run limits context t b m count rest others (act limits context t.place action.Close w)
 
 -- Inside of a routine
 
@@ -181,12 +183,13 @@ reading_inside [] symbols = true
 reading_inside (s ∷ seen) symbols = all_inside (taken grammar known s.atom symbols).actions && reading_inside seen
     (taken grammar known s.atom symbols).left
 
-acted_none : (context : Context) (place : Place) (actions : List Action) (w : Compilation) → all_inside actions ≡ true → w.closed ≡ 0
-    → (acted context place actions w).closed ≡ 0
-acted_none context place [] w i e = e
-acted_none context place (a ∷ actions) w i e =
+acted_none : (limits : Limits) (context : Context) (place : Place) (actions : List Action) (w : Compilation) → all_inside actions ≡ true →
+    w.closed ≡ 0
+    → (acted limits context place actions w).closed ≡ 0
+acted_none limits context place [] w i e = e
+acted_none limits context place (a ∷ actions) w i e =
     let both = and_parts (is_inside a) (all_inside actions) i in
-    acted_none context place actions (act context place a w) both.1 (inside_act context place a w both.0 e)
+    acted_none limits context place actions (act limits context place a w) both.1 (inside_act limits context place a w both.0 e)
 
 inside_joined : (xs ys : List Happening) → happen_inside xs ≡ true → happen_inside ys ≡ true → happen_inside (xs ++ ys) ≡ true
 inside_joined [] ys x y = y
@@ -292,15 +295,16 @@ Waits None symbols = Unit {0}
 Waits (Some m) symbols = (count : ℕ) × (closings symbols ≡ suc count)
 
 -- where a token's actions begin, by what they are from there on
-record Starts (context : Context) (d : Option Between) (s : Seen) (own : Between) (symbols : List (Symbol Action))
+record Starts (limits : Limits) (context : Context) (d : Option Between) (s : Seen) (own : Between) (symbols : List (Symbol Action))
     (others : List Happening) (w : Compilation) : Type 0 where
   rest : List Action
   from : Compilation
-  acts : acted context s.token.place (taken grammar known s.atom symbols).actions (next_comes (directed d (closings symbols) w)) ≡ acted
+  acts : acted limits context s.token.place (taken grammar known s.atom symbols).actions
+      (next_comes (directed limits d (closings symbols) w)) ≡ acted limits
       context s.token.place rest from
-  runs : run context (behind_ends d (closings symbols) (token_happenings s.token own (taken grammar known s.atom symbols).actions ++
+  runs : run limits context (behind_ends d (closings symbols) (token_happenings s.token own (taken grammar known s.atom symbols).actions ++
       others)) (next_comes w)
-      ≡ run context (token_happenings s.token own rest ++ others) from
+      ≡ run limits context (token_happenings s.token own rest ++ others) from
   none : from.closed ≡ 0
   inside : all_inside rest ≡ true
 
@@ -308,12 +312,13 @@ inside_rest : (count : ℕ) (rest : List Action) → all_inside (ends count ++ r
 inside_rest zero rest i = i
 inside_rest (suc count) rest i = inside_rest count rest i
 
-starts : (context : Context) (d : Option Between) (s : Seen) (own : Between) (symbols : List (Symbol Action)) (others : List Happening)
+starts : (limits : Limits) (context : Context) (d : Option Between) (s : Seen) (own : Between) (symbols : List (Symbol Action))
+    (others : List Happening)
     (w : Compilation) → w.closed ≡ 0 → Waits d symbols
-    → all_inside (taken grammar known s.atom symbols).actions ≡ true → Starts context d s own symbols others w
-starts context None s own symbols others w e waits i =
+    → all_inside (taken grammar known s.atom symbols).actions ≡ true → Starts limits context d s own symbols others w
+starts limits context None s own symbols others w e waits i =
     record { rest = (taken grammar known s.atom symbols).actions; from = next_comes w; acts = refl; runs = refl; none = e; inside = i }
-starts context (Some m) s own symbols others w e waits i =
+starts limits context (Some m) s own symbols others w e waits i =
     let c = closings_first s.atom symbols in
     let place = s.token.place in
     let k = suc waits.0 in
@@ -321,19 +326,21 @@ starts context (Some m) s own symbols others w e waits i =
     let v = next_comes w in
     record {
       rest = c.0;
-      from = passed m (acted context place (ends k) v);
+      from = passed m (acted limits context place (ends k) v);
       acts =
-          ap (λ n. acted context place (taken grammar known s.atom symbols).actions (next_comes (passed m (closed_ahead n w)))) waits.1
-          ∙ (ap (λ l. acted context place l (passed m (closed_ahead k v))) actions
-          ∙ (acted_then context place (ends k) c.0 (passed m (closed_ahead k v))
-          ∙ (ap (λ x. acted context place c.0 (acted context place (ends k) (passed m x))) (ahead_is k v e)
-          ∙ ap (acted context place c.0) (ahead_ends context place m k v e))));
+          ap (λ n. acted limits context place (taken grammar known s.atom symbols).actions
+          (next_comes (passed m (closed_ahead limits n w)))) waits.1
+          ∙ (ap (λ l. acted limits context place l (passed m (closed_ahead limits k v))) actions
+          ∙ (acted_then limits context place (ends k) c.0 (passed m (closed_ahead limits k v))
+          ∙ (ap (λ x. acted limits context place c.0 (acted limits context place (ends k) (passed m x))) (ahead_is limits k v e)
+          ∙ ap (acted limits context place c.0) (ahead_ends limits context place m k v e))));
       runs =
-          ap (λ n. run context (behind_some n m (token_happenings s.token own (taken grammar known s.atom symbols).actions ++ others)) v)
+          ap (λ n. run limits context (behind_some n m (token_happenings s.token own (taken grammar known s.atom symbols).actions ++
+          others)) v)
           waits.1
-          ∙ (ap (λ l. run context (behind_some k m (token_happenings s.token own l ++ others)) v) actions
-          ∙ behind_ends_run context s.token own m waits.0 c.0 others v);
-      none = ends_none context place k v e;
+          ∙ (ap (λ l. run limits context (behind_some k m (token_happenings s.token own l ++ others)) v) actions
+          ∙ behind_ends_run limits context s.token own m waits.0 c.0 others v);
+      none = ends_none limits context place k v e;
       inside = inside_rest k c.0 (sym (ap all_inside actions) ∙ i);
     }
 
@@ -342,55 +349,58 @@ behind_none m [] = refl
 behind_none m (h ∷ hs) = refl
 
 -- what all further tokens do
-abbrev Further : Context → List Seen → List (Symbol Action) → Type 0
-Further context seen symbols =
+abbrev Further : Limits → Context → List Seen → List (Symbol Action) → Type 0
+Further limits context seen symbols =
     (d : Option Between) (w : Compilation) → w.closed ≡ 0 → Waits d symbols
-    → next_comes (all_taken context seen symbols (directed d (closings symbols) w)) ≡ run context
+    → next_comes (all_taken limits context seen symbols (directed limits d (closings symbols) w)) ≡ run limits context
     (behind_ends d (closings symbols) (all_happenings seen symbols)) (next_comes w)
 
 -- behind a token
-onward : (context : Context) (seen : List Seen) (symbols : List (Symbol Action)) → Further context seen symbols
+onward : (limits : Limits) (context : Context) (seen : List Seen) (symbols : List (Symbol Action)) → Further limits context seen symbols
     → (d : Option Between) (b : Between) (w : Compilation) → w.closed ≡ 0
     → (count : ℕ) → closings symbols ≡ count
-    → next_comes (all_taken context seen symbols (directed d (closings symbols) (passed b w)))
-    ≡ run context (behind_ends d (closings symbols) (all_happenings seen symbols))
+    → next_comes (all_taken limits context seen symbols (directed limits d (closings symbols) (passed b w)))
+    ≡ run limits context (behind_ends d (closings symbols) (all_happenings seen symbols))
     (next_comes (passed (behind_token d (closings symbols) b) w))
-onward context seen symbols further None b w e count is = further None (passed b w) e tt
-onward context seen symbols further (Some m) b w e (suc count) is =
+onward limits context seen symbols further None b w e count is = further None (passed b w) e tt
+onward limits context seen symbols further (Some m) b w e (suc count) is =
     further (Some m) (passed b w) e (count, is)
-    ∙ ap (λ n. run context (behind_some (closings symbols) m (all_happenings seen symbols))
+    ∙ ap (λ n. run limits context (behind_some (closings symbols) m (all_happenings seen symbols))
     (next_comes (passed (behind_token (Some m) n b) w))) (sym is)
-onward context seen symbols further (Some m) b w e zero is =
+onward limits context seen symbols further (Some m) b w e zero is =
     let v = passed b w in
-    let none : closed_ahead 0 v ≡ v = ahead_is 0 v e ∙ ap (λ n. record v { closed = n }) (sym e) in
-    ap (λ n. next_comes (all_taken context seen symbols (passed m (closed_ahead n v)))) is
-    ∙ (ap (λ x. next_comes (all_taken context seen symbols (passed m x))) none
+    let none : closed_ahead limits 0 v ≡ v = ahead_is limits 0 v e ∙ ap (λ n. record v { closed = n }) (sym e) in
+    ap (λ n. next_comes (all_taken limits context seen symbols (passed m (closed_ahead limits n v)))) is
+    ∙ (ap (λ x. next_comes (all_taken limits context seen symbols (passed m x))) none
     ∙ (further None (passed m v) e tt
-    ∙ (ap (λ l. run context l (next_comes (passed m v))) (sym (behind_none m (all_happenings seen symbols)))
-    ∙ ap (λ n. run context (behind_some n m (all_happenings seen symbols)) (next_comes (passed (behind_token (Some m) n b) w))) (sym is))))
+    ∙ (ap (λ l. run limits context l (next_comes (passed m v))) (sym (behind_none m (all_happenings seen symbols)))
+    ∙ ap (λ n. run limits context (behind_some n m (all_happenings seen symbols)) (next_comes (passed (behind_token (Some m) n b) w)))
+    (sym is))))
 
 no_ends : (symbols : List (Symbol Action)) (count : ℕ) → symbols ≡ [] → closings symbols ≡ suc count → ⊥
 no_ends symbols count e c = let none : 0 ≡ suc count = sym (ap closings e) ∙ c in absurd (omega (arith, none))
 
-all_read : (context : Context) (seen : List Seen) (symbols : List (Symbol Action)) → left_behind seen symbols ≡ []
-    → reading_inside seen symbols ≡ true → Further context seen symbols
-all_read context [] symbols l i None w e waits = refl
-all_read context [] symbols l i (Some m) w e waits = absurd (no_ends symbols waits.0 l waits.1)
-all_read context (s ∷ seen) symbols l i d w e waits =
+all_read : (limits : Limits) (context : Context) (seen : List Seen) (symbols : List (Symbol Action)) → left_behind seen symbols ≡ []
+    → reading_inside seen symbols ≡ true → Further limits context seen symbols
+all_read limits context [] symbols l i None w e waits = refl
+all_read limits context [] symbols l i (Some m) w e waits = absurd (no_ends symbols waits.0 l waits.1)
+all_read limits context (s ∷ seen) symbols l i d w e waits =
     let n = taken grammar known s.atom symbols in
     let both = and_parts (all_inside n.actions) (reading_inside seen n.left) i in
     let own = behind_token s.directive (closings n.left) s.behind in
     let others : List Happening = behind_ends s.directive (closings n.left) (all_happenings seen n.left) in
-    let st = starts context d s own symbols others w e waits both.0 in
-    let acted_on = acted context s.token.place st.rest st.from in
+    let st = starts limits context d s own symbols others w e waits both.0 in
+    let acted_on = acted limits context s.token.place st.rest st.from in
     let none : (took context s.token acted_on).closed ≡ 0 =
-    took_none context s.token acted_on ∙ acted_none context s.token.place st.rest st.from st.inside st.none in
-    ap (λ v. next_comes (all_taken context seen n.left (directed s.directive (closings n.left) (passed s.behind (took context s.token v)))))
+    took_none context s.token acted_on ∙ acted_none limits context s.token.place st.rest st.from st.inside st.none in
+    ap (λ v. next_comes (all_taken limits context seen n.left
+    (directed limits s.directive (closings n.left) (passed s.behind (took context s.token v)))))
     st.acts
-    ∙ (onward context seen n.left (all_read context seen n.left l both.1) s.directive s.behind (took context s.token acted_on) none
+    ∙ (onward limits context seen n.left (all_read limits context seen n.left l both.1) s.directive s.behind (took context s.token acted_on)
+    none
     (closings n.left) refl
-    ∙ (ap (run context others) (actions_happen context s.token own st.rest st.from)
-    ∙ (sym (run_then context (token_happenings s.token own st.rest) others st.from) ∙ sym st.runs)))
+    ∙ (ap (run limits context others) (actions_happen limits context s.token own st.rest st.from)
+    ∙ (sym (run_then limits context (token_happenings s.token own st.rest) others st.from) ∙ sym st.runs)))
 
 -- Routines
 
@@ -440,44 +450,46 @@ are_routines bracket seen is f e =
     )
 
 -- up to what stands in it
-abbrev headed : Context → Routine → Compilation → Compilation
-headed context r w = run context r.semicolon.all (happens context (Acts r.heads action.EndLocals) (run context r.header.all w))
+abbrev headed : Limits → Context → Routine → Compilation → Compilation
+headed limits context r w =
+    run limits context r.semicolon.all (happens limits context (Acts r.heads action.EndLocals) (run limits context r.header.all w))
 
-headed_same : (context : Context) (r : Routine) (w : Compilation) → w.closed ≡ 0
-    → ((headed context r w).closed ≡ 0) × (w.constructs ≡ [] → (headed context r w).constructs ≡ [])
-headed_same context r w e =
-    let v = run context r.header.all w in
-    let h = quiet_run context r.header.all w r.header.are in
-    let n = header_same context (first_place v.unit.tokens r.heads.place) (names_in v.unit.tokens) v in
-    let s = quiet_run context r.semicolon.all (happens context (Acts r.heads action.EndLocals) v) r.semicolon.are in
+headed_same : (limits : Limits) (context : Context) (r : Routine) (w : Compilation) → w.closed ≡ 0
+    → ((headed limits context r w).closed ≡ 0) × (w.constructs ≡ [] → (headed limits context r w).constructs ≡ [])
+headed_same limits context r w e =
+    let v = run limits context r.header.all w in
+    let h = quiet_run limits context r.header.all w r.header.are in
+    let n = header_same limits context (first_place v.unit.tokens r.heads.place) (names_in v.unit.tokens) v in
+    let s = quiet_run limits context r.semicolon.all (happens limits context (Acts r.heads action.EndLocals) v) r.semicolon.are in
     (s.1 ∙ (n.0 ∙ (h.1 ∙ e)), λ o. s.0 ∙ n.1 (h.0 ∙ o))
 
-routine_lays : (context : Context) (r : Routine) (w : Compilation) → w.closed ≡ 0 →
-    run context (routine_happenings r) w ≡ routine_laid context r w
-routine_lays context r w e =
+routine_lays : (limits : Limits) (context : Context) (r : Routine) (w : Compilation) → w.closed ≡ 0 →
+    run limits context (routine_happenings r) w ≡ routine_laid limits context r w
+routine_lays limits context r w e =
     let rest : List Happening = Acts r.ends action.EndRoutine ∷ r.last.all in
-    let v = happens context (Acts r.heads action.EndLocals) (run context r.header.all w) in
-    run_then context r.header.all (Acts r.heads action.EndLocals ∷ (r.semicolon.all ++ (happenings r.body ++ rest))) w
-    ∙ (run_then context r.semicolon.all (happenings r.body ++ rest) v
-    ∙ (run_then context (happenings r.body) rest (headed context r w)
-    ∙ ap (run context rest) (laid_as context r.body (headed context r w) (headed_same context r w e).0).runs))
+    let v = happens limits context (Acts r.heads action.EndLocals) (run limits context r.header.all w) in
+    run_then limits context r.header.all (Acts r.heads action.EndLocals ∷ (r.semicolon.all ++ (happenings r.body ++ rest))) w
+    ∙ (run_then limits context r.semicolon.all (happenings r.body ++ rest) v
+    ∙ (run_then limits context (happenings r.body) rest (headed limits context r w)
+    ∙ ap (run limits context rest) (laid_as limits context r.body (headed limits context r w) (headed_same limits context r w e).0).runs))
 
-read_as : (bracket : Seen) (seen : List Seen) (r : Routine) → left_behind (bracket ∷ seen) (directive ∷ []) ≡ []
-    → routine_happenings r ≡ all_happenings (bracket ∷ seen) (directive ∷ []) → AreRoutine r (bracket ∷ seen)
-read_as bracket seen r l same =
+read_as : (limits : Limits) (bracket : Seen) (seen : List Seen) (r : Routine) → left_behind (bracket ∷ seen) (directive ∷ []) ≡ []
+    → routine_happenings r ≡ all_happenings (bracket ∷ seen) (directive ∷ []) → AreRoutine limits r (bracket ∷ seen)
+read_as limits bracket seen r l same =
     let inside = reading_is_inside (bracket ∷ seen) (directive ∷ []) (sym (ap happen_inside same) ∙ routine_is_inside r) in
     record {
       same = same;
       lay = λ context w e.
-          all_read context (bracket ∷ seen) (directive ∷ []) l inside None w e tt
-          ∙ (ap (λ hs. run context hs (next_comes w)) (sym same) ∙ routine_lays context r (next_comes w) e);
+          all_read limits context (bracket ∷ seen) (directive ∷ []) l inside None w e tt
+          ∙ (ap (λ hs. run limits context hs (next_comes w)) (sym same) ∙ routine_lays limits context r (next_comes w) e);
     }
 
-pub routines_are_read_whole : RoutinesAreReadWhole
-routines_are_read_whole = record {
-  are = λ bracket seen is f l. let r = are_routines bracket seen is f l in (r.0, read_as bracket seen r.0 l r.1);
+pub routines_are_read_whole : (limits : Limits) → RoutinesAreReadWhole limits
+routines_are_read_whole limits = record {
+  are = λ bracket seen is f l. let r = are_routines bracket seen is f l in (r.0, read_as limits bracket seen r.0 l r.1);
   begin = piece_begins;
   end = λ context r w e o.
-      let h = headed_same context r w e in
-      depth_of (body_laid context r w).constructs (alone_behind context r.body (headed context r w) h.0 (ap own_alone (h.1 o)));
+      let h = headed_same limits context r w e in
+      depth_of (body_laid limits context r w).constructs
+      (alone_behind limits context r.body (headed limits context r w) h.0 (ap own_alone (h.1 o)));
 }

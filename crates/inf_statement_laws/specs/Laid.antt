@@ -2,6 +2,7 @@
 -- closed with the labels that were handed out where its word was read. What was open around it is open behind it. No label is looked for
 -- among those that are open. Designer's Manual, fourth edition, sections 1.7 to 1.9.
 use Rattle.std.specs.Prelude.{Bool, false, List, [], ◌∷◌, None}
+use Rattle.inf_settings.specs.Bounds.{Limits}
 use Rattle.inf_scanner.specs.declared.tokens.Place.{Place}
 use Rattle.inf_syntax.specs.declared.actions.Action.TheVariants as action
 use Rattle.inf_output.specs.Output.{Out}
@@ -31,13 +32,13 @@ passed m w = record w {
 abbrev pub next_comes : Compilation → Compilation
 next_comes w = record w { opening = None }
 
-abbrev pub happens : Context → Happening → Compilation → Compilation
-happens context (Acts at a) w = passed at.behind (act context at.place a w)
-happens context (Takes t m) w = next_comes (passed m (took context t w))
+abbrev pub happens : Limits → Context → Happening → Compilation → Compilation
+happens limits context (Acts at a) w = passed at.behind (act limits context at.place a w)
+happens limits context (Takes t m) w = next_comes (passed m (took context t w))
 
-abbrev pub run : Context → List Happening → Compilation → Compilation
-run context [] w = w
-run context (h ∷ happenings) w = run context happenings (happens context h w)
+abbrev pub run : Limits → Context → List Happening → Compilation → Compilation
+run limits context [] w = w
+run limits context (h ∷ happenings) w = run limits context happenings (happens limits context h w)
 
 -- Statements that hold others
 
@@ -53,8 +54,8 @@ abbrev pub opened_at : Context → Moment → Construct × Out → Compilation �
 opened_at context at c w = holding at c w.constructs (told_deep context at.place w)
 
 -- One ends: its end is laid on what its parts leave.
-abbrev pub ended_as : Moment → Construct → List Construct → Compilation → Compilation
-ended_as at c around w = passed at.behind (record w { constructs = around; output = closed c w.output })
+abbrev pub ended_as : Limits → Moment → Construct → List Construct → Compilation → Compilation
+ended_as limits at c around w = passed at.behind (record w { constructs = around; output = closed limits c w.output })
 
 -- The unit of a loop over objects leaves it as one of another kind, and so does a case its `switch`. The unit of a step leaves it with
 -- that. Its labels are those that it had.
@@ -66,39 +67,41 @@ abbrev pub with_step_in : List Construct → Construct → Construct
 with_step_in [] c = c
 with_step_in (d ∷ constructs) c = record c { step = d.step }
 
-abbrev pub laid : {b : Bool} → Context → Nested b → Compilation → Compilation
-laid context (Plain plain) w = run context plain.all w
-laid context (Then first second) w = laid context second (laid context first w)
-laid context (Case values ends) w = happens context (Acts ends action.EndCase) (run context values.all w)
-laid context (If opens test body closes) w =
-    let c = opened kind.If w.output in
-    ended_as closes c.0 w.constructs (laid context body (run context test.all (opened_at context opens c w)))
-laid context (IfElse opens test body joins word other closes) w =
-    let c = opened kind.If w.output in
-    let first = laid context body (run context test.all (opened_at context opens c w)) in
-    let joined = between c.0 first.output in
-    ended_as closes joined.0 w.constructs (laid context other (run context word.all (holding joins joined w.constructs first)))
-laid context (While opens test body closes) w =
-    let c = opened kind.While w.output in
-    ended_as closes c.0 w.constructs (laid context body (run context test.all (opened_at context opens c w)))
-laid context (Do opens body word joins test closes) w =
-    let c = opened kind.Do w.output in
-    let first = run context word.all (laid context body (opened_at context opens c w)) in
-    let joined = between c.0 first.output in
-    ended_as closes joined.0 w.constructs (run context test.all (holding joins joined w.constructs first))
-laid context (For opens start joins test step bracket body closes) w =
-    let c = opened kind.For w.output in
-    let started = run context start.all (opened_at context opens c w) in
-    let top = between c.0 started.output in
-    let stepped = run context (step_happenings step) (run context test.all (holding joins top w.constructs started)) in
+abbrev pub laid : {b : Bool} → Limits → Context → Nested b → Compilation → Compilation
+laid limits context (Plain plain) w = run limits context plain.all w
+laid limits context (Then first second) w = laid limits context second (laid limits context first w)
+laid limits context (Case values ends) w = happens limits context (Acts ends action.EndCase) (run limits context values.all w)
+laid limits context (If opens test body closes) w =
+    let c = opened limits kind.If w.output in
+    ended_as limits closes c.0 w.constructs (laid limits context body (run limits context test.all (opened_at context opens c w)))
+laid limits context (IfElse opens test body joins word other closes) w =
+    let c = opened limits kind.If w.output in
+    let first = laid limits context body (run limits context test.all (opened_at context opens c w)) in
+    let joined = between limits c.0 first.output in
+    ended_as limits closes joined.0 w.constructs (laid limits context other (run limits context word.all (holding joins joined w.constructs first)))
+laid limits context (While opens test body closes) w =
+    let c = opened limits kind.While w.output in
+    ended_as limits closes c.0 w.constructs (laid limits context body (run limits context test.all (opened_at context opens c w)))
+laid limits context (Do opens body word joins test closes) w =
+    let c = opened limits kind.Do w.output in
+    let first = run limits context word.all (laid limits context body (opened_at context opens c w)) in
+    let joined = between limits c.0 first.output in
+    ended_as limits closes joined.0 w.constructs (run limits context test.all (holding joins joined w.constructs first))
+laid limits context (For opens start joins test step bracket body closes) w =
+    let c = opened limits kind.For w.output in
+    let started = run limits context start.all (opened_at context opens c w) in
+    let top = between limits c.0 started.output in
+    let stepped = run limits context (step_happenings step) (run limits context test.all (holding joins top w.constructs started)) in
     let own = with_step_in stepped.constructs top.0 in
-    ended_as closes own w.constructs (laid context body (run context bracket.all (record stepped { constructs = own ∷ w.constructs })))
-laid context (Objectloop opens loop ends joins bracket body closes) w =
-    let c = opened (kind.Objects over.Nothing 0) w.output in
-    let looped = happens context (Acts ends action.EndObjectloop) (run context loop.all (opened_at context opens c w)) in
-    let joined = between (with_kind_in looped.constructs c.0) looped.output in
-    ended_as closes joined.0 w.constructs (laid context body (run context bracket.all (holding joins joined w.constructs looped)))
-laid context (Switch opens value cases brace closes) w =
-    let c = opened (kind.Switch case.Nothing false) w.output in
-    let inside = run context brace.all (laid context cases (run context value.all (opened_at context opens c w))) in
-    ended_as closes (with_kind_in inside.constructs c.0) w.constructs inside
+    ended_as limits closes own w.constructs (laid limits context body (run limits context bracket.all
+    (record stepped { constructs = own ∷ w.constructs })))
+laid limits context (Objectloop opens loop ends joins bracket body closes) w =
+    let c = opened limits (kind.Objects over.Nothing 0) w.output in
+    let looped = happens limits context (Acts ends action.EndObjectloop) (run limits context loop.all (opened_at context opens c w)) in
+    let joined = between limits (with_kind_in looped.constructs c.0) looped.output in
+    ended_as limits closes joined.0 w.constructs (laid limits context body (run limits context bracket.all
+    (holding joins joined w.constructs looped)))
+laid limits context (Switch opens value cases brace closes) w =
+    let c = opened limits (kind.Switch case.Nothing false) w.output in
+    let inside = run limits context brace.all (laid limits context cases (run limits context value.all (opened_at context opens c w))) in
+    ended_as limits closes (with_kind_in inside.constructs c.0) w.constructs inside

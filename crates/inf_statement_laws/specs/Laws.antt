@@ -1,5 +1,6 @@
 -- What joins the happenings of a whole statement: it leaves what is open around it as it was, and lays what its nesting says.
 use Rattle.std.specs.Prelude.{◌≡◌, ℕ, Bool, true, false, List, [], ◌∷◌, length, Some}
+use Rattle.inf_settings.specs.Bounds.{Limits}
 use Rattle.inf_scanner.specs.declared.tokens.Place.{Place}
 use Rattle.inf_machine.specs.Grammar.{IsOneOf}
 use Rattle.inf_machine.specs.Machine.{events_of, taken}
@@ -26,67 +27,70 @@ use Rattle.inf_statement_laws.specs.Readings.{Routine, Seen, all_fit, all_happen
 -- What a token that fits does, and what is done behind it, is what its happenings do, one by one, from where it has come up to where the
 -- next one comes. They are those of its events. And tokens that the machine takes, one after the other, are a text where nothing is left
 -- behind them.
-pub record TokensHappen : Type 0 where
+pub record TokensHappen (limits : Limits) : Type 0 where
   pub runs : (context : Context) (t : SourceToken) (m : Between) (actions : List Action) (w : Compilation)
-      → next_comes (passed m (took context t (all_acted context t.place actions w)))
-      ≡ run context (token_happenings t m actions) (next_comes w)
+      → next_comes (passed m (took context t (all_acted limits context t.place actions w)))
+      ≡ run limits context (token_happenings t m actions) (next_comes w)
   pub are : (t : SourceToken) (m : Between) (actions : List Action) (atom : ℕ)
       → AreOf (events_of actions atom) (token_happenings t m actions)
   pub all_are : (seen : List Seen) (symbol : Symbol Action) → all_fit seen (symbol ∷ []) ≡ true → left_behind seen (symbol ∷ []) ≡ []
       → IsRead symbol (all_happenings seen (symbol ∷ []))
-  pub directives : (files : FileNames) (place : Place) (w : Compilation) → begun_at files place w ≡ passed (directive_between files place) w
+  pub directives : (files : FileNames) (place : Place) (w : Compilation) →
+      begun_at limits files place w ≡ passed (directive_between limits files place) w
 
 -- The statements that are open are those that were open before, and none is closed ahead.
 pub record StaysOpen (w v : Compilation) : Type 0 where
   pub same : v.constructs ≡ w.constructs
   pub none_ahead : v.closed ≡ 0
 
-abbrev pub LeavesOpen : Context → List Happening → Type 0
-LeavesOpen context hs = (w : Compilation) → w.closed ≡ 0 → StaysOpen w (run context hs w)
+abbrev pub LeavesOpen : Limits → Context → List Happening → Type 0
+LeavesOpen limits context hs = (w : Compilation) → w.closed ≡ 0 → StaysOpen w (run limits context hs w)
 
 -- Whatever stands in a statement, and whatever is wrong with it, what is open around it stays as it is.
-pub record StatementsLeaveWhatIsOpen : Type 0 where
-  pub of_statements : (context : Context) (hs : List Happening) → IsRead statement hs → LeavesOpen context hs
+pub record StatementsLeaveWhatIsOpen (limits : Limits) : Type 0 where
+  pub of_statements : (context : Context) (hs : List Happening) → IsRead statement hs → LeavesOpen limits context hs
   pub of_rests : (context : Context) (rest : Symbol Action) (hs : List Happening) → IsOneOf rest rests → IsRead rest hs
-      → LeavesOpen context hs
+      → LeavesOpen limits context hs
 
 -- The happenings are those of a nested statement, and do what it lays as a whole.
-pub record IsWhole {b : Bool} (context : Context) (s : Nested b) (hs : List Happening) : Type 0 where
+pub record IsWhole (limits : Limits) {b : Bool} (context : Context) (s : Nested b) (hs : List Happening) : Type 0 where
   pub same : happenings s ≡ hs
-  pub lays : (w : Compilation) → w.closed ≡ 0 → run context hs w ≡ laid context s w
+  pub lays : (w : Compilation) → w.closed ≡ 0 → run limits context hs w ≡ laid limits context s w
 
 -- So it is with each statement. One that holds others is one of its own word.
-pub record StatementsAreLaidWhole : Type 0 where
-  pub of_statements : (context : Context) (hs : List Happening) → IsRead statement hs → (s : Nested false) × IsWhole context s hs
+pub record StatementsAreLaidWhole (limits : Limits) : Type 0 where
+  pub of_statements : (context : Context) (hs : List Happening) → IsRead statement hs → (s : Nested false) × IsWhole limits context s hs
   pub of_rests : (context : Context) (rest : Symbol Action) (hs : List Happening) → IsOneOf rest rests → IsRead rest hs
-      → (s : Nested false) × (rest_of s ≡ Some rest) × IsWhole context s hs
+      → (s : Nested false) × (rest_of s ≡ Some rest) × IsWhole limits context s hs
 
 -- So it is with what stands in a routine, its own cases among it. Where no statement is open before it, none is open behind it.
-abbrev pub EndsOpen : Context → List Happening → Type 0
-EndsOpen context hs =
-    (w : Compilation) → w.closed ≡ 0 → depth w.constructs ≡ 0 → (depth (run context hs w).constructs ≡ 0) × ((run context hs w).closed ≡ 0)
+abbrev pub EndsOpen : Limits → Context → List Happening → Type 0
+EndsOpen limits context hs =
+    (w : Compilation) → w.closed ≡ 0 → depth w.constructs ≡ 0 → (depth (run limits context hs w).constructs ≡ 0) ×
+    ((run limits context hs w).closed ≡ 0)
 
-pub record RoutinesAreLaidWhole : Type 0 where
+pub record RoutinesAreLaidWhole (limits : Limits) : Type 0 where
   pub whole : (context : Context) (body : Symbol Action) (hs : List Happening) → IsOneOf body bodies → IsRead body hs
-      → (s : Nested true) × IsWhole context s hs
-  pub ends : (context : Context) (body : Symbol Action) (hs : List Happening) → IsOneOf body bodies → IsRead body hs → EndsOpen context hs
+      → (s : Nested true) × IsWhole limits context s hs
+  pub ends : (context : Context) (body : Symbol Action) (hs : List Happening) → IsOneOf body bodies → IsRead body hs →
+      EndsOpen limits context hs
 
 -- Tokens are those of a routine, and do what it lays as a whole, also with conditional directives among them, which close statements ahead.
-pub record AreRoutine (r : Routine) (seen : List Seen) : Type 0 where
+pub record AreRoutine (limits : Limits) (r : Routine) (seen : List Seen) : Type 0 where
   pub same : routine_happenings r ≡ all_happenings seen (directive ∷ [])
   pub lay : (context : Context) (w : Compilation) → w.closed ≡ 0
-      → next_comes (all_taken context seen (directive ∷ []) w) ≡ routine_laid context r (next_comes w)
+      → next_comes (all_taken limits context seen (directive ∷ []) w) ≡ routine_laid limits context r (next_comes w)
 
 -- So a routine is read, from its bracket on, by tokens that fit up to where nothing is left: its header, what stands in it, and its end,
 -- before which no statement is open where none was before the header.
-pub record RoutinesAreReadWhole : Type 0 where
+pub record RoutinesAreReadWhole (limits : Limits) : Type 0 where
   pub are : (bracket : Seen) (seen : List Seen) → bracket.atom ≡ mark_atom mark.OpenBracket
       → all_fit (bracket ∷ seen) (directive ∷ []) ≡ true → left_behind (bracket ∷ seen) (directive ∷ []) ≡ []
-      → (r : Routine) × AreRoutine r (bracket ∷ seen)
+      → (r : Routine) × AreRoutine limits r (bracket ∷ seen)
   pub begin : taken grammar known (mark_atom mark.OpenBracket) (piece ∷ [])
       ≡ taken grammar known (mark_atom mark.OpenBracket) (directive ∷ [])
   pub end : (context : Context) (r : Routine) (w : Compilation) → w.closed ≡ 0 → w.constructs ≡ []
-      → depth (body_laid context r w).constructs ≡ 0
+      → depth (body_laid limits context r w).constructs ≡ 0
 
 -- So many statements end one behind the other.
 abbrev pub endings : List Place → List Happening
@@ -95,17 +99,17 @@ endings (place ∷ places) = Acts (plainly_at place) action.Close ∷ endings pl
 
 -- A conditional directive closes those ahead that end next, whatever the next token is. What it does is done as if behind their ends, and a
 -- second one closes no more.
-pub record ClosingAheadIsClosing : Type 0 where
+pub record ClosingAheadIsClosing (limits : Limits) : Type 0 where
   pub behind : (context : Context) (places : List Place) (m : Between) (w : Compilation) → w.closed ≡ 0
-      → run context (endings places) (passed m (closed_ahead (length places) w)) ≡ passed m (run context (endings places) w)
+      → run limits context (endings places) (passed m (closed_ahead limits (length places) w)) ≡ passed m (run limits context (endings places) w)
   pub again : (count : ℕ) (m : Between) (w : Compilation) → w.closed ≡ 0
-      → closed_ahead count (passed m (closed_ahead count w)) ≡ passed m (closed_ahead count w)
+      → closed_ahead limits count (passed m (closed_ahead limits count w)) ≡ passed m (closed_ahead limits count w)
 
 -- The unit of a loop over objects, of a step or of a case leaves the innermost with its labels, and all others as they are.
-pub record UnitsKeepLabels : Type 0 where
+pub record UnitsKeepLabels (limits : Limits) : Type 0 where
   pub of_loops : (context : Context) (place : Place) (c : Construct) (around : List Construct) (w : Compilation) → w.constructs ≡ c ∷ around
-      → let v = act context place action.EndObjectloop w in v.constructs ≡ with_kind_in v.constructs c ∷ around
+      → let v = act limits context place action.EndObjectloop w in v.constructs ≡ with_kind_in v.constructs c ∷ around
   pub of_steps : (context : Context) (place : Place) (c : Construct) (around : List Construct) (w : Compilation) → w.constructs ≡ c ∷ around
-      → let v = act context place action.EndForStep w in v.constructs ≡ with_step_in v.constructs c ∷ around
+      → let v = act limits context place action.EndForStep w in v.constructs ≡ with_step_in v.constructs c ∷ around
   pub of_cases : (context : Context) (place : Place) (c : Construct) (around : List Construct) (w : Compilation) → w.constructs ≡ c ∷ around
-      → let v = act context place action.EndCase w in v.constructs ≡ with_kind_in v.constructs c ∷ around
+      → let v = act limits context place action.EndCase w in v.constructs ≡ with_kind_in v.constructs c ∷ around

@@ -1,6 +1,7 @@
 -- Tokens as they are read, one after the other, by the machine of the grammar; and a routine as a whole, from its opening bracket to its
 -- semicolon. Designer's Manual, fourth edition, section 1.3.
 use Rattle.std.specs.Prelude.{ℕ, zero, suc, Bool, true, ◌&&◌, List, [], ◌∷◌, ◌++◌, Option, Some, None, max}
+use Rattle.inf_settings.specs.Bounds.{Limits}
 use Rattle.inf_scanner.specs.declared.tokens.Place.{Place}
 use Rattle.inf_machine.specs.Machine.{fits, taken}
 use Rattle.inf_machine.specs.declared.symbols.Symbol.{Symbol}
@@ -37,11 +38,11 @@ abbrev pub plainly_at : Place → Moment
 plainly_at place = record { place = place; behind = nothing_between }
 
 -- what a conditional directive does that ends at a place
-abbrev pub directive_between : FileNames → Place → Between
-directive_between files place = record nothing_between {
-  report = λ o r. with_full files place (full (begun o)) r;
-  output = begun;
-  most_labels = λ o n. max n (labels (begun o).code);
+abbrev pub directive_between : Limits → FileNames → Place → Between
+directive_between limits files place = record nothing_between {
+  report = λ o r. with_full files place (full limits (begun limits o)) r;
+  output = begun limits;
+  most_labels = λ o n. max n (labels (begun limits o).code);
 }
 
 -- Tokens
@@ -64,17 +65,18 @@ left_behind [] symbols = symbols
 left_behind (s ∷ seen) symbols = left_behind seen (taken grammar known s.atom symbols).left
 
 -- A conditional directive closes those statements ahead that end next, whatever the next token is.
-abbrev pub directed : Option Between → ℕ → Compilation → Compilation
-directed None count w = w
-directed (Some m) count w = passed m (closed_ahead count w)
+abbrev pub directed : Limits → Option Between → ℕ → Compilation → Compilation
+directed limits None count w = w
+directed limits (Some m) count w = passed m (closed_ahead limits count w)
 
 -- Each is taken behind the actions on the way to it.
-abbrev pub all_taken : Context → List Seen → List (Symbol Action) → Compilation → Compilation
-all_taken context [] symbols w = w
-all_taken context (s ∷ seen) symbols w =
+abbrev pub all_taken : Limits → Context → List Seen → List (Symbol Action) → Compilation → Compilation
+all_taken limits context [] symbols w = w
+all_taken limits context (s ∷ seen) symbols w =
     let n = taken grammar known s.atom symbols in
-    all_taken context seen n.left
-    (directed s.directive (closings n.left) (passed s.behind (took context s.token (all_acted context s.token.place n.actions w))))
+    all_taken limits context seen n.left
+    (directed limits s.directive (closings n.left)
+    (passed s.behind (took context s.token (all_acted limits context s.token.place n.actions w))))
 
 -- Their happenings
 
@@ -127,9 +129,10 @@ routine_happenings r =
     ∷ (r.semicolon.all ++ (happenings r.body ++ Acts r.ends action.EndRoutine ∷ r.last.all))
 
 -- up to its end, and behind it
-abbrev pub body_laid : Context → Routine → Compilation → Compilation
-body_laid context r w =
-    laid context r.body (run context r.semicolon.all (happens context (Acts r.heads action.EndLocals) (run context r.header.all w)))
+abbrev pub body_laid : Limits → Context → Routine → Compilation → Compilation
+body_laid limits context r w =
+    laid limits context r.body (run limits context r.semicolon.all (happens limits context (Acts r.heads action.EndLocals)
+    (run limits context r.header.all w)))
 
-abbrev pub routine_laid : Context → Routine → Compilation → Compilation
-routine_laid context r w = run context r.last.all (happens context (Acts r.ends action.EndRoutine) (body_laid context r w))
+abbrev pub routine_laid : Limits → Context → Routine → Compilation → Compilation
+routine_laid limits context r w = run limits context r.last.all (happens limits context (Acts r.ends action.EndRoutine) (body_laid limits context r w))

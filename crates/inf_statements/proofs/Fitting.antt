@@ -2,6 +2,7 @@
 use Rattle.std.proofs.Common.{◌≡◌, ◌≤◌, ◌-◌, ◌==◌, ℕ, suc, Bool, true, false, not, cond, List, [], ◌∷◌, ◌&&◌, length, Option, refl, sym, ap, subst, ◌∙◌, arith}
 use Rattle.std.specs.Prelude.{is_some, nat_le}
 use Rattle.std.proofs.lemmas.Bool.{and_parts, eqb-true, leb-true}
+use Rattle.inf_settings.specs.Bounds.{Limits}
 use Rattle.inf_opcode.specs.declared.instructions.Branch.{Branch}
 use Rattle.inf_opcode.specs.declared.opcodes.Opcode.{Opcode}
 use Rattle.inf_opcode.specs.declared.opcodes.OpcodeRow.{OpcodeRow}
@@ -62,9 +63,9 @@ has_first : (b v : Bool) → b ≡ true → cond b v true ≡ true → v ≡ tru
 has_first true v is holds = holds
 has_first false v is holds = cc
 
-some_tree : (trees : List Tree) → is_some (first_variable trees) ≡ true → 1 ≤ length trees
-some_tree [] is = cc
-some_tree (e ∷ trees) is = omega arith
+some_tree : (limits : Limits) (trees : List Tree) → is_some (first_variable limits trees) ≡ true → 1 ≤ length trees
+some_tree limits [] is = cc
+some_tree limits (e ∷ trees) is = omega arith
 
 -- an opcode that prints a text and takes nothing else
 not_true : (b : Bool) → not b ≡ true → b ≡ false
@@ -116,15 +117,16 @@ takes_operands op nodes roots v e count store branch counts stores branches jump
       text = text;
     }
 
-pub takes_named : (op : Opcode) (nodes : List Tree) (roots : List Root) (e : Ends) (store : Option ℕ) (branch : Option Branch)
+pub takes_named : (limits : Limits) (op : Opcode) (nodes : List Tree) (roots : List Root) (e : Ends) (store : Option ℕ)
+    (branch : Option Branch)
     → is_some store ≡ is_some e.store → is_some branch ≡ is_some e.branch
     → (row_of op).jumps ≡ false → (row_of op).has_text ≡ false → (row_of op).names_variable ≡ true
-    → fits_row (row_of op) (length (trees_from nodes roots)) (is_some (first_variable (trees_from nodes roots))) e ≡ true
+    → fits_row (row_of op) (length (trees_from nodes roots)) (is_some (first_variable limits (trees_from nodes roots))) e ≡ true
     → TakesVariable op (length roots - 1) (is_some store) (is_some branch)
-takes_named op nodes roots e store branch stores branches jumps text names fits =
+takes_named limits op nodes roots e store branch stores branches jumps text names fits =
     let trees = trees_from nodes roots in
-    let row = row_parts (row_of op) (length trees) (is_some (first_variable trees)) e fits in
-    let one = some_tree trees (has_first (row_of op).names_variable (is_some (first_variable trees)) names row.variable) in
+    let row = row_parts (row_of op) (length trees) (is_some (first_variable limits trees)) e fits in
+    let one = some_tree limits trees (has_first (row_of op).names_variable (is_some (first_variable limits trees)) names row.variable) in
     let len = length-trees nodes roots in
     record {
       enough = omega (arith, row.enough, one, len);
@@ -147,11 +149,11 @@ by_row : (jumps : Bool) (jump row : Bool) → cond jumps jump row ≡ true → j
 by_row true jump row is fails = cc
 by_row false jump row is fails = is
 
-pub fits_as_row : (op : Opcode) (trees : List Tree) (e : Ends) → fits op trees e ≡ true → (row_of op).jumps ≡ false
-    → fits_row (row_of op) (length trees) (is_some (first_variable trees)) e ≡ true
+pub fits_as_row : (limits : Limits) (op : Opcode) (trees : List Tree) (e : Ends) → fits limits op trees e ≡ true → (row_of op).jumps ≡ false
+    → fits_row (row_of op) (length trees) (is_some (first_variable limits trees)) e ≡ true
 unfolding fits
-fits_as_row op trees e is fails =
-    by_row (row_of op).jumps (fits_jump e) (fits_row (row_of op) (length trees) (is_some (first_variable trees)) e) is fails
+fits_as_row limits op trees e is fails =
+    by_row (row_of op).jumps (fits_jump e) (fits_row (row_of op) (length trees) (is_some (first_variable limits trees)) e) is fails
 
 pub takes_count : (op : Opcode) (n count : ℕ) (store branch : Bool) → count ≡ n → Takes op n store branch → Takes op count store branch
 takes_count op n count store branch counts takes = subst (λ m. Takes op m store branch) (sym counts) takes

@@ -1,6 +1,7 @@
 -- Assembly lines. Z-Machine Standard 1.1, sections 4 and 14.
 use Rattle.std.specs.Prelude.{ℕ, ◌==◌, List, [], ◌∷◌, length, nat_le, codes, Bool, true, false, not, ◌&&◌, if◌then◌else◌, Option, Some, None, is_some, unwrap_or}
 use Rattle.std.specs.Str.{str_eq_ignore_ascii_case}
+use Rattle.inf_settings.specs.Bounds.{Limits}
 use Rattle.inf_characters.specs.declared.characters.CharSet.{CharSet}
 use Rattle.inf_scanner.specs.declared.tokens.Place.{Place}
 use Rattle.inf_opcode.specs.Opcodes.{row_of}
@@ -75,9 +76,9 @@ abbrev pub variable_of : Option Simple → Option ℕ
 variable_of (Some (simple.Variable v)) = Some v
 variable_of _ = None
 
-abbrev pub first_variable : List Tree → Option ℕ
-first_variable [] = None
-first_variable (e ∷ trees) = variable_of (meaning e).operand
+abbrev pub first_variable : Limits → List Tree → Option ℕ
+first_variable limits [] = None
+first_variable limits (e ∷ trees) = variable_of (meaning limits e).operand
 
 abbrev pub has_ends : OpcodeRow → Ends → Bool
 has_ends row e = same row.stores (is_some e.store) && same row.branches (is_some e.branch) && same row.has_text (is_some e.text)
@@ -93,14 +94,15 @@ fits_row row operands has_variable e =
 abbrev pub fits_jump : Ends → Bool
 fits_jump e = is_some e.jump && not (is_some e.store) && not (is_some e.branch)
 
-unfoldable pub fits : Opcode → List Tree → Ends → Bool
-fits op trees e = if (row_of op).jumps then fits_jump e else fits_row (row_of op) (length trees) (is_some (first_variable trees)) e
+unfoldable pub fits : Limits → Opcode → List Tree → Ends → Bool
+fits limits op trees e =
+    if (row_of op).jumps then fits_jump e else fits_row (row_of op) (length trees) (is_some (first_variable limits trees)) e
 
 -- What is wrong with a line: its opcode, what it has, or where it stores
 
-abbrev pub fits_some : Option Opcode → List Tree → Ends → Bool
-fits_some None trees e = false
-fits_some (Some op) trees e = fits op trees e
+abbrev pub fits_some : Limits → Option Opcode → List Tree → Ends → Bool
+fits_some limits None trees e = false
+fits_some limits (Some op) trees e = fits limits op trees e
 
 abbrev pub wrong_opcode : ℕ → Finding
 wrong_opcode at = record { order = at; number = 15 }
@@ -125,17 +127,17 @@ abbrev pub store_finding : List Local → Table Place → List SourceToken → O
 store_finding locals names tokens None = None
 store_finding locals names tokens (Some at) = store_finding_by (store_variable locals names (bytes_at tokens at)) at
 
-abbrev pub line_finding : List Local → Table Place → List SourceToken → ℕ → Ends → List Tree → Option Finding
-line_finding locals names tokens begun e trees =
+abbrev pub line_finding : Limits → List Local → Table Place → List SourceToken → ℕ → Ends → List Tree → Option Finding
+line_finding limits locals names tokens begun e trees =
     let stores = store_finding locals names tokens e.store in
-    if fits_some (opcode_of (bytes_at tokens (next_place begun))) trees e then stores else least_of_both stores
+    if fits_some limits (opcode_of (bytes_at tokens (next_place begun))) trees e then stores else least_of_both stores
     (Some (wrong_opcode (order (next_place begun))))
 
 -- Its code
 
-abbrev pub operands_in : List Tree → List Simple
-operands_in [] = []
-operands_in (e ∷ trees) = operand_in e ∷ operands_in trees
+abbrev pub operands_in : Limits → List Tree → List Simple
+operands_in limits [] = []
+operands_in limits (e ∷ trees) = operand_in limits e ∷ operands_in limits trees
 
 abbrev pub branch_to : Bool → Destination → Option Branch
 branch_to sense destination = Some (record { sense = sense; target = destination })
@@ -150,22 +152,23 @@ unfoldable pub branched : List SourceToken → Option (ℕ × Bool) → List Nam
 branched tokens None labels o = ((None, labels), o)
 branched tokens (Some b) labels o = branched_to (bytes_at tokens b.0) b.1 labels o
 
-abbrev pub jumped_on : List SourceToken → Option ℕ → List NamedLabel → Laying (List NamedLabel)
-jumped_on tokens None labels o = (labels, o)
-jumped_on tokens (Some at) labels o = let l = labelled (bytes_at tokens at) labels o in (l.0.1, jumped l.0.0 l.1)
+abbrev pub jumped_on : Limits → List SourceToken → Option ℕ → List NamedLabel → Laying (List NamedLabel)
+jumped_on limits tokens None labels o = (labels, o)
+jumped_on limits tokens (Some at) labels o = let l = labelled (bytes_at tokens at) labels o in (l.0.1, jumped limits l.0.0 l.1)
 
-abbrev pub named_first : Opcode → List Tree → Option ℕ → Option Branch → Code
-named_first op [] store branch o = o
-named_first op (e ∷ trees) store branch o = naming op (unwrap_or (variable_of (meaning e).operand) 0) (operands_in trees) store branch o
+abbrev pub named_first : Limits → Opcode → List Tree → Option ℕ → Option Branch → Code
+named_first limits op [] store branch o = o
+named_first limits op (e ∷ trees) store branch o =
+    naming limits op (unwrap_or (variable_of (meaning limits e).operand) 0) (operands_in limits trees) store branch o
 
-unfoldable pub instructed : Bool → Opcode → List Tree → Option ℕ → Option Branch → Code
-instructed true op trees store branch = named_first op trees store branch
-instructed false op trees store branch = instruction op (operands_in trees) store branch
+unfoldable pub instructed : Limits → Bool → Opcode → List Tree → Option ℕ → Option Branch → Code
+instructed limits true op trees store branch = named_first limits op trees store branch
+instructed limits false op trees store branch = instruction limits op (operands_in limits trees) store branch
 
-abbrev pub line_instructed : List Local → List SourceToken → Opcode → Ends → List Tree → List NamedLabel → Laying (List NamedLabel)
-line_instructed locals tokens op e trees labels o =
+abbrev pub line_instructed : Limits → List Local → List SourceToken → Opcode → Ends → List Tree → List NamedLabel → Laying (List NamedLabel)
+line_instructed limits locals tokens op e trees labels o =
     let b = branched tokens e.branch labels o in
-    (b.0.1, instructed (row_of op).names_variable op trees (store_of locals b.1.names tokens e.store) b.0.0 b.1)
+    (b.0.1, instructed limits (row_of op).names_variable op trees (store_of locals b.1.names tokens e.store) b.0.0 b.1)
 
 -- the opcode itself, where it prints a text and takes nothing else
 abbrev pub prints : OpcodeRow → Bool
@@ -174,28 +177,29 @@ prints row = row.has_text && not row.jumps && not row.stores && not row.branches
 abbrev pub printing_of : Opcode → Option Opcode
 printing_of op = if prints (row_of op) then Some op else None
 
-abbrev pub text_printed : CharSet → List SourceToken → Option Opcode → ℕ → Code
-text_printed set tokens None at = nothing
-text_printed set tokens (Some op) at = printed op (text_at set tokens at)
+abbrev pub text_printed : Limits → CharSet → List SourceToken → Option Opcode → ℕ → Code
+text_printed limits set tokens None at = nothing
+text_printed limits set tokens (Some op) at = printed limits op (text_at set tokens at)
 
-abbrev pub some_printed : CharSet → List SourceToken → Opcode → Option ℕ → Code
-some_printed set tokens op None = nothing
-some_printed set tokens op (Some at) = text_printed set tokens (printing_of op) at
+abbrev pub some_printed : Limits → CharSet → List SourceToken → Opcode → Option ℕ → Code
+some_printed limits set tokens op None = nothing
+some_printed limits set tokens op (Some at) = text_printed limits set tokens (printing_of op) at
 
-abbrev pub line_laid_by : Bool → Bool → CharSet → List Local → List SourceToken → Opcode → Ends → List Tree → List NamedLabel →
+abbrev pub line_laid_by : Limits → Bool → Bool → CharSet → List Local → List SourceToken → Opcode → Ends → List Tree → List NamedLabel →
     Laying (List NamedLabel)
-line_laid_by true has_text set locals tokens op e trees labels = jumped_on tokens e.jump labels
-line_laid_by false true set locals tokens op e trees labels = giving labels (some_printed set tokens op e.text)
-line_laid_by false false set locals tokens op e trees labels = line_instructed locals tokens op e trees labels
+line_laid_by limits true has_text set locals tokens op e trees labels = jumped_on limits tokens e.jump labels
+line_laid_by limits false true set locals tokens op e trees labels = giving labels (some_printed limits set tokens op e.text)
+line_laid_by limits false false set locals tokens op e trees labels = line_instructed limits locals tokens op e trees labels
 
-abbrev pub line_laid_as : Bool → CharSet → List Local → List SourceToken → Opcode → Ends → List Tree → List NamedLabel →
+abbrev pub line_laid_as : Limits → Bool → CharSet → List Local → List SourceToken → Opcode → Ends → List Tree → List NamedLabel →
     Laying (List NamedLabel)
-line_laid_as true set locals tokens op e trees labels =
-    line_laid_by (row_of op).jumps (row_of op).has_text set locals tokens op e trees labels
-line_laid_as false set locals tokens op e trees labels = giving labels nothing
+line_laid_as limits true set locals tokens op e trees labels =
+    line_laid_by limits (row_of op).jumps (row_of op).has_text set locals tokens op e trees labels
+line_laid_as limits false set locals tokens op e trees labels = giving labels nothing
 
 -- of a line without an error
-unfoldable pub line_laid : CharSet → List Local → List SourceToken → Option Opcode → Ends → List Tree → List NamedLabel →
+unfoldable pub line_laid : Limits → CharSet → List Local → List SourceToken → Option Opcode → Ends → List Tree → List NamedLabel →
     Laying (List NamedLabel)
-line_laid set locals tokens None e trees labels o = (labels, o)
-line_laid set locals tokens (Some op) e trees labels o = line_laid_as (fits op trees e) set locals tokens op e trees labels o
+line_laid limits set locals tokens None e trees labels o = (labels, o)
+line_laid limits set locals tokens (Some op) e trees labels o =
+    line_laid_as limits (fits limits op trees e) set locals tokens op e trees labels o

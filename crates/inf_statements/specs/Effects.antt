@@ -1,5 +1,6 @@
 -- What the statements of a routine do, and what is wrong with them beside their expressions.
 use Rattle.std.specs.Prelude.{ℕ, List, ◌∷◌, Bool, true, false, if◌then◌else◌, Option, Some, None}
+use Rattle.inf_settings.specs.Bounds.{Limits}
 use Rattle.inf_characters.specs.declared.characters.CharSet.{CharSet}
 use Rattle.inf_characters.specs.declared.texts.TextItem.{TextItem}
 use Rattle.inf_scanner.specs.declared.tokens.Place.{Place}
@@ -69,8 +70,8 @@ statement_finding s labels statement.Style = unless_some (style_of (name_behind 
 statement_finding s labels _ = None
 
 -- with an assembly line, by the trees that its operands are where names are only looked up
-abbrev pub site_finding : Site → Table Place → List Tree → Option Finding
-site_finding s names trees = line_finding s.locals names s.tokens s.begun (ends_of s.items) trees
+abbrev pub site_finding : Limits → Site → Table Place → List Tree → Option Finding
+site_finding limits s names trees = line_finding limits s.locals names s.tokens s.begun (ends_of s.items) trees
 
 -- what it wants of its expressions
 abbrev pub wanted_by : Statement → Wanted
@@ -87,39 +88,39 @@ text_in set tokens _ = None
 abbrev pub last_text : Site → Option (List TextItem)
 last_text s = text_in s.set s.tokens s.items
 
-abbrev pub statement_code : Site → List Tree → Statement → Code
-statement_code s trees statement.Empty = nothing
-statement_code s trees statement.Expression = alone trees
-statement_code s trees statement.Print = items_printed s.set s.tokens false false s.items trees
-statement_code s trees statement.PrintReturn = items_printed s.set s.tokens true false s.items trees
-statement_code s trees statement.Return = returned trees
-statement_code s trees statement.NewLine = plain opcode.NewLine
-statement_code s trees statement.Quit = plain opcode.Quit
-statement_code s trees statement.ReturnTrue = plain opcode.Rtrue
-statement_code s trees statement.ReturnFalse = plain opcode.Rfalse
-statement_code s trees statement.Break = jumped_to (left_to false s.constructs)
-statement_code s trees statement.Continue = jumped_to (left_to true s.constructs)
-statement_code s trees statement.Give = attributes_changed s.items trees
-statement_code s trees statement.String = string_changed (last_text s) trees
-statement_code s trees statement.Move = moved trees
-statement_code s trees statement.Action = action_laid trees
-statement_code s trees statement.ActionReturn = action_laid trees ▸ plain opcode.Rtrue
-statement_code s trees statement.Remove = one_worked opcode.RemoveObj trees
-statement_code s trees statement.Spaces = spaced trees
-statement_code s trees statement.Style = styled (name_behind s)
-statement_code s trees statement.Place = nothing
-statement_code s trees statement.Jump = nothing
-statement_code s trees statement.Assembly = nothing
+abbrev pub statement_code : Limits → Site → List Tree → Statement → Code
+statement_code limits s trees statement.Empty = nothing
+statement_code limits s trees statement.Expression = alone limits trees
+statement_code limits s trees statement.Print = items_printed limits s.set s.tokens false false s.items trees
+statement_code limits s trees statement.PrintReturn = items_printed limits s.set s.tokens true false s.items trees
+statement_code limits s trees statement.Return = returned limits trees
+statement_code limits s trees statement.NewLine = plain limits opcode.NewLine
+statement_code limits s trees statement.Quit = plain limits opcode.Quit
+statement_code limits s trees statement.ReturnTrue = plain limits opcode.Rtrue
+statement_code limits s trees statement.ReturnFalse = plain limits opcode.Rfalse
+statement_code limits s trees statement.Break = jumped_to limits (left_to false s.constructs)
+statement_code limits s trees statement.Continue = jumped_to limits (left_to true s.constructs)
+statement_code limits s trees statement.Give = attributes_changed limits s.items trees
+statement_code limits s trees statement.String = string_changed limits (last_text s) trees
+statement_code limits s trees statement.Move = moved limits trees
+statement_code limits s trees statement.Action = action_laid limits trees
+statement_code limits s trees statement.ActionReturn = action_laid limits trees ▸ plain limits opcode.Rtrue
+statement_code limits s trees statement.Remove = one_worked limits opcode.RemoveObj trees
+statement_code limits s trees statement.Spaces = spaced limits trees
+statement_code limits s trees statement.Style = styled limits (name_behind s)
+statement_code limits s trees statement.Place = nothing
+statement_code limits s trees statement.Jump = nothing
+statement_code limits s trees statement.Assembly = nothing
 
-abbrev pub jump_laid : List ℕ → List NamedLabel → Laying (List NamedLabel)
-jump_laid name labels o = let l = labelled name labels o in (l.0.1, jumped l.0.0 l.1)
+abbrev pub jump_laid : Limits → List ℕ → List NamedLabel → Laying (List NamedLabel)
+jump_laid limits name labels o = let l = labelled name labels o in (l.0.1, jumped limits l.0.0 l.1)
 
-abbrev pub place_laid : List ℕ → List NamedLabel → Laying (List NamedLabel)
-place_laid name labels o = let l = placed name labels o in (l.0.1, marked l.0.0 l.1)
+abbrev pub place_laid : Limits → List ℕ → List NamedLabel → Laying (List NamedLabel)
+place_laid limits name labels o = let l = placed name labels o in (l.0.1, marked limits l.0.0 l.1)
 
-unfoldable pub statement_laid : Site → Statement → List Tree → List NamedLabel → Laying (List NamedLabel)
-statement_laid s statement.Jump trees labels = jump_laid (name_behind s) labels
-statement_laid s statement.Place trees labels = place_laid (name_behind s) labels
-statement_laid s statement.Assembly trees labels =
-    line_laid s.set s.locals s.tokens (opcode_of (name_behind s)) (ends_of s.items) trees labels
-statement_laid s other trees labels = giving labels (statement_code s trees other)
+unfoldable pub statement_laid : Limits → Site → Statement → List Tree → List NamedLabel → Laying (List NamedLabel)
+statement_laid limits s statement.Jump trees labels = jump_laid limits (name_behind s) labels
+statement_laid limits s statement.Place trees labels = place_laid limits (name_behind s) labels
+statement_laid limits s statement.Assembly trees labels =
+    line_laid limits s.set s.locals s.tokens (opcode_of (name_behind s)) (ends_of s.items) trees labels
+statement_laid limits s other trees labels = giving labels (statement_code limits s trees other)

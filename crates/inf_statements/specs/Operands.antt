@@ -1,6 +1,7 @@
 -- What the leaves of a unit stand for.
 use Rattle.std.specs.Prelude.{ℕ, ◌+◌, ◌%◌, length, List, [], ◌∷◌, ◌++◌, codes, Bool, false, if◌then◌else◌, Option, Some, None, unwrap_or}
 use Rattle.std.specs.Str.{str_eq_ignore_ascii_case}
+use Rattle.inf_settings.specs.Bounds.{Limits}
 use Rattle.inf_area.specs.declared.targets.AreaName.TheVariants as area
 use Rattle.inf_area.specs.declared.targets.Target.TheVariants as target
 use Rattle.inf_characters.specs.declared.characters.CharSet.{CharSet}
@@ -138,7 +139,7 @@ looked_from locals o tokens (l ∷ leaves) ahead operands =
     let s = looked_leaf locals o tokens l ahead in looked_from locals o tokens leaves s.0 (operands ++ s.1 ∷ [])
 
 abbrev pub all_looked : List Local → Out → List SourceToken → List Leaf → List Operand
-all_looked locals o tokens leaves = looked_from locals o tokens leaves (no_names 4294967295 false) []
+all_looked locals o tokens leaves = looked_from locals o tokens leaves (no_names false) []
 
 -- Settling
 
@@ -152,63 +153,63 @@ abbrev pub settled_as : Option (Found Place × Option ℕ) → Operand
 settled_as None = operand.Known 0
 settled_as (Some f) = found_operand f.0 f.1
 
-abbrev pub settled_by : Option ℕ → List ℕ → Place → Out → Out × Operand
-settled_by (Some local) name place o = (o, operand.Variable local)
-settled_by None name place o = (referred name place o, settled_as (referred_as name o))
+abbrev pub settled_by : Limits → Option ℕ → List ℕ → Place → Out → Out × Operand
+settled_by limits (Some local) name place o = (o, operand.Variable local)
+settled_by limits None name place o = (referred limits name place o, settled_as (referred_as limits name o))
 
-abbrev pub settled_name : List Local → Option Name → Out → Out × Operand
-settled_name locals None o = (o, operand.Known 0)
-settled_name locals (Some n) o = settled_by (number_of n.bytes locals) n.bytes n.place o
+abbrev pub settled_name : Limits → List Local → Option Name → Out → Out × Operand
+settled_name limits locals None o = (o, operand.Known 0)
+settled_name limits locals (Some n) o = settled_by limits (number_of n.bytes locals) n.bytes n.place o
 
-abbrev pub settled_alone : List Local → List SourceToken → ℕ → Out → Out × Operand
-settled_alone locals tokens at o =
-    if is_stack (bytes_at tokens at) (number_of (bytes_at tokens at) locals) then (o, operand.Variable 0) else settled_name locals
+abbrev pub settled_alone : Limits → List Local → List SourceToken → ℕ → Out → Out × Operand
+settled_alone limits locals tokens at o =
+    if is_stack (bytes_at tokens at) (number_of (bytes_at tokens at) locals) then (o, operand.Variable 0) else settled_name limits locals
     (name_at tokens at) o
 
 -- a text, whose characters are these, is a string of the story, which is added
-abbrev pub settled_text : Option (List TextItem) → Out → Out × Operand
-settled_text None o = (o, operand.Unknown)
-settled_text (Some items) o = (with_text (packed items []) o, operand.Later (string_at o))
+abbrev pub settled_text : Limits → Option (List TextItem) → Out → Out × Operand
+settled_text limits None o = (o, operand.Unknown)
+settled_text limits (Some items) o = (with_text limits (packed items []) o, operand.Later (string_at o))
 
 -- a word of the dictionary, which is used
-abbrev pub settled_word : DictionaryWord → Out → Out × Operand
-settled_word word o = (with_word word.text word_use.Other word.is_plural o, word_operand word)
+abbrev pub settled_word : Limits → DictionaryWord → Out → Out × Operand
+settled_word limits word o = (with_word limits word.text word_use.Other word.is_plural o, word_operand word)
 
 -- an action, which appears
-abbrev pub settled_action : Option Name → Out → Out × Operand
-settled_action None o = (o, operand.Known 0)
-settled_action (Some n) o = as_known (action_of n.bytes n.place o)
+abbrev pub settled_action : Limits → Option Name → Out → Out × Operand
+settled_action limits None o = (o, operand.Known 0)
+settled_action limits (Some n) o = as_known (action_of limits n.bytes n.place o)
 
 -- a leaf, whose name is used where it is no local
-abbrev pub settled_leaf : CharSet → List Local → List SourceToken → Leaf → Out → Out × Operand
-settled_leaf set locals tokens (leaf.Name at) o = settled_name locals (name_at tokens at) o
-settled_leaf set locals tokens (leaf.Alone at) o = settled_alone locals tokens at o
-settled_leaf set locals tokens (leaf.Number number) o = (o, operand.Known number)
-settled_leaf set locals tokens (leaf.Char zscii) o = (o, operand.Known zscii)
-settled_leaf set locals tokens (leaf.Word word) o = settled_word word o
-settled_leaf set locals tokens (leaf.Text at) o = settled_text (text_at set tokens at) o
-settled_leaf set locals tokens (leaf.Action at) o = settled_action (name_at tokens at) o
-settled_leaf set locals tokens (leaf.System at) o = (o, operand.Unknown)
+abbrev pub settled_leaf : Limits → CharSet → List Local → List SourceToken → Leaf → Out → Out × Operand
+settled_leaf limits set locals tokens (leaf.Name at) o = settled_name limits locals (name_at tokens at) o
+settled_leaf limits set locals tokens (leaf.Alone at) o = settled_alone limits locals tokens at o
+settled_leaf limits set locals tokens (leaf.Number number) o = (o, operand.Known number)
+settled_leaf limits set locals tokens (leaf.Char zscii) o = (o, operand.Known zscii)
+settled_leaf limits set locals tokens (leaf.Word word) o = settled_word limits word o
+settled_leaf limits set locals tokens (leaf.Text at) o = settled_text limits (text_at set tokens at) o
+settled_leaf limits set locals tokens (leaf.Action at) o = settled_action limits (name_at tokens at) o
+settled_leaf limits set locals tokens (leaf.System at) o = (o, operand.Unknown)
 
 -- what leaves add to a story that are texts, words or actions
-abbrev pub one_added : CharSet → List SourceToken → Leaf → Code
-one_added set tokens (leaf.Text at) o = (settled_text (text_at set tokens at) o).0
-one_added set tokens (leaf.Word word) o = (settled_word word o).0
-one_added set tokens (leaf.Action at) o = (settled_action (name_at tokens at) o).0
-one_added set tokens _ o = o
+abbrev pub one_added : Limits → CharSet → List SourceToken → Leaf → Code
+one_added limits set tokens (leaf.Text at) o = (settled_text limits (text_at set tokens at) o).0
+one_added limits set tokens (leaf.Word word) o = (settled_word limits word o).0
+one_added limits set tokens (leaf.Action at) o = (settled_action limits (name_at tokens at) o).0
+one_added limits set tokens _ o = o
 
-abbrev pub leaf_added : CharSet → List SourceToken → List Leaf → Code
-leaf_added set tokens [] o = o
-leaf_added set tokens (l ∷ leaves) o = leaf_added set tokens leaves (one_added set tokens l o)
+abbrev pub leaf_added : Limits → CharSet → List SourceToken → List Leaf → Code
+leaf_added limits set tokens [] o = o
+leaf_added limits set tokens (l ∷ leaves) o = leaf_added limits set tokens leaves (one_added limits set tokens l o)
 
 abbrev pub with_settled : Out × Operand → List Operand → Settled
 with_settled s operands = record { out = s.0; operands = operands ++ s.1 ∷ [] }
 
 -- the leaves from left to right
-abbrev pub settled : CharSet → List Local → List SourceToken → List Leaf → Settled → Settled
-settled set locals tokens [] s = s
-settled set locals tokens (l ∷ leaves) s =
-    settled set locals tokens leaves (with_settled (settled_leaf set locals tokens l s.out) s.operands)
+abbrev pub settled : Limits → CharSet → List Local → List SourceToken → List Leaf → Settled → Settled
+settled limits set locals tokens [] s = s
+settled limits set locals tokens (l ∷ leaves) s =
+    settled limits set locals tokens leaves (with_settled (settled_leaf limits set locals tokens l s.out) s.operands)
 
 -- a unit names its locals
 abbrev pub leaf_named : List SourceToken → Leaf → List Local → List Local

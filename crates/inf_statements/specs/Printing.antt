@@ -1,5 +1,6 @@
 -- What is printed.
 use Rattle.std.specs.Prelude.{ℕ, List, [], ◌∷◌, Bool, true, false, slice_get, Option, Some, None}
+use Rattle.inf_settings.specs.Bounds.{Limits}
 use Rattle.inf_characters.specs.declared.characters.CharSet.{CharSet}
 use Rattle.inf_characters.specs.declared.texts.TextItem.{TextItem}
 use Rattle.inf_opcode.specs.declared.opcodes.Opcode.{Opcode}
@@ -31,30 +32,30 @@ text_by set (Some t) = read_of set t
 abbrev pub text_at : CharSet → List SourceToken → ℕ → Option (List TextItem)
 text_at set tokens at = text_by set (slice_get tokens at)
 
-abbrev pub ended : Bool → Code
-ended true = plain opcode.NewLine ▸ plain opcode.Rtrue
-ended false = nothing
+abbrev pub ended : Limits → Bool → Code
+ended limits true = plain limits opcode.NewLine ▸ plain limits opcode.Rtrue
+ended limits false = nothing
 
 -- A value by a rule: by an instruction, by a routine of the veneer, or by the routine that is the expression before it.
-abbrev pub called_with : List Tree → Code
-called_with (f ∷ e ∷ trees) = call (part (meaning f)) (part (meaning e) ∷ []) None
-called_with _ = nothing
+abbrev pub called_with : Limits → List Tree → Code
+called_with limits (f ∷ e ∷ trees) = call limits (part (meaning limits f)) (part (meaning limits e) ∷ []) None
+called_with limits _ = nothing
 
-abbrev pub veneer_called : Veneer → List Tree → Code
-veneer_called v [] = nothing
-veneer_called v (e ∷ trees) = call_routine v (part (meaning e) ∷ []) None
+abbrev pub veneer_called : Limits → Veneer → List Tree → Code
+veneer_called limits v [] = nothing
+veneer_called limits v (e ∷ trees) = call_routine limits v (part (meaning limits e) ∷ []) None
 
-unfoldable pub rule_code : PrintRule → List Tree → Code
-rule_code rule.Character trees = one_worked opcode.PrintChar trees
-rule_code rule.String trees = one_worked opcode.PrintPaddr trees
-rule_code rule.Address trees = one_worked opcode.PrintAddr trees
-rule_code rule.Object trees = one_worked opcode.PrintObj trees
-rule_code rule.ShortName trees = veneer_called veneer.ShortName trees
-rule_code rule.DefiniteArticle trees = veneer_called veneer.DefiniteArticle trees
-rule_code rule.CapitalArticle trees = veneer_called veneer.CapitalArticle trees
-rule_code rule.IndefiniteArticle trees = veneer_called veneer.IndefiniteArticle trees
-rule_code rule.EnglishNumber trees = veneer_called veneer.EnglishNumber trees
-rule_code rule.Routine trees = called_with trees
+unfoldable pub rule_code : Limits → PrintRule → List Tree → Code
+rule_code limits rule.Character trees = one_worked limits opcode.PrintChar trees
+rule_code limits rule.String trees = one_worked limits opcode.PrintPaddr trees
+rule_code limits rule.Address trees = one_worked limits opcode.PrintAddr trees
+rule_code limits rule.Object trees = one_worked limits opcode.PrintObj trees
+rule_code limits rule.ShortName trees = veneer_called limits veneer.ShortName trees
+rule_code limits rule.DefiniteArticle trees = veneer_called limits veneer.DefiniteArticle trees
+rule_code limits rule.CapitalArticle trees = veneer_called limits veneer.CapitalArticle trees
+rule_code limits rule.IndefiniteArticle trees = veneer_called limits veneer.IndefiniteArticle trees
+rule_code limits rule.EnglishNumber trees = veneer_called limits veneer.EnglishNumber trees
+rule_code limits rule.Routine trees = called_with limits trees
 
 -- the trees behind those that a rule takes
 abbrev pub rest_behind : PrintRule → List Tree → List Tree
@@ -63,11 +64,11 @@ rest_behind _ trees = rest trees
 
 -- One item, with how many of those behind it there are: its code, the trees behind it, and whether something other than a text was printed
 -- last.
-abbrev pub item_code : CharSet → List SourceToken → Bool → List Item → Item → List Tree → Code
-item_code set tokens returns others (item.Text at) trees = printed (text_opcode returns others) (text_at set tokens at)
-item_code set tokens returns others item.Value trees = one_worked opcode.PrintNum trees
-item_code set tokens returns others (item.Ruled r) trees = rule_code r trees
-item_code set tokens returns others _ trees = nothing
+abbrev pub item_code : Limits → CharSet → List SourceToken → Bool → List Item → Item → List Tree → Code
+item_code limits set tokens returns others (item.Text at) trees = printed limits (text_opcode returns others) (text_at set tokens at)
+item_code limits set tokens returns others item.Value trees = one_worked limits opcode.PrintNum trees
+item_code limits set tokens returns others (item.Ruled r) trees = rule_code limits r trees
+item_code limits set tokens returns others _ trees = nothing
 
 abbrev pub trees_behind : Item → List Tree → List Tree
 trees_behind item.Value trees = rest trees
@@ -78,7 +79,8 @@ abbrev pub ends_behind : Item → Bool → Bool
 ends_behind (item.Text at) returns = false
 ends_behind _ returns = returns
 
-abbrev pub items_printed : CharSet → List SourceToken → Bool → Bool → List Item → List Tree → Code
-items_printed set tokens returns ends [] trees = ended ends
-items_printed set tokens returns ends (i ∷ items) trees =
-    item_code set tokens returns items i trees ▸ items_printed set tokens returns (ends_behind i returns) items (trees_behind i trees)
+abbrev pub items_printed : Limits → CharSet → List SourceToken → Bool → Bool → List Item → List Tree → Code
+items_printed limits set tokens returns ends [] trees = ended limits ends
+items_printed limits set tokens returns ends (i ∷ items) trees =
+    item_code limits set tokens returns items i trees ▸ items_printed limits set tokens returns (ends_behind i returns) items
+    (trees_behind i trees)

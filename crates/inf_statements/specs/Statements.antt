@@ -1,6 +1,7 @@
 -- What statements are, and their code.
 use Rattle.std.specs.Prelude.{◌≡◌, ℕ, ◌==◌, List, [], ◌∷◌, codes, map, Bool, true, false, slice_get, if◌then◌else◌, Option, Some, None}
 use Rattle.std.specs.Str.{str_eq_ignore_ascii_case}
+use Rattle.inf_settings.specs.Bounds.{Limits}
 use Rattle.inf_area.specs.declared.targets.AreaName.TheVariants as area
 use Rattle.inf_area.specs.declared.targets.Target.{Target}
 use Rattle.inf_area.specs.declared.targets.Target.TheVariants as target
@@ -82,54 +83,55 @@ unfoldable pub statement_in : List SourceToken → ℕ → List Item → Stateme
 statement_in tokens begun items = statement_by (slice_get tokens begun) items
 
 -- an instruction of an opcode alone
-abbrev pub plain : Opcode → Code
-plain op = instruction op [] None None
+abbrev pub plain : Limits → Opcode → Code
+plain limits op = instruction limits op [] None None
 
 -- the instruction that prints a text: Z-Machine Standard 1.1, sections 4.8 and 14
-abbrev pub printed : Opcode → Option (List TextItem) → Code
-printed op None = nothing
-printed op (Some text) = laid (Instruction (record (bare op) { text = packed text [] }))
+abbrev pub printed : Limits → Opcode → Option (List TextItem) → Code
+printed limits op None = nothing
+printed limits op (Some text) = laid limits (Instruction (record (bare op) { text = packed text [] }))
 
 -- A number that is known as 1 or 0 has an instruction of its own to return it. What needs code is returned from the stack.
-abbrev pub returned_number : ℕ → Code
-returned_number number = if number == 1 then plain opcode.Rtrue else if number == 0 then plain opcode.Rfalse else instruction opcode.Ret
+abbrev pub returned_number : Limits → ℕ → Code
+returned_number limits number =
+    if number == 1 then plain limits opcode.Rtrue else if number == 0 then plain limits opcode.Rfalse else instruction limits opcode.Ret
     (Known number ∷ []) None None
 
-abbrev pub returned_by : Option Simple → Meaning → Code
-returned_by (Some (Known number)) m = returned_number number
-returned_by (Some s) m = instruction opcode.Ret (s ∷ []) None None
-returned_by None m = m.value SP ▸ plain opcode.RetPopped
+abbrev pub returned_by : Limits → Option Simple → Meaning → Code
+returned_by limits (Some (Known number)) m = returned_number limits number
+returned_by limits (Some s) m = instruction limits opcode.Ret (s ∷ []) None None
+returned_by limits None m = m.value SP ▸ plain limits opcode.RetPopped
 
 -- without an expression 1 is returned
-abbrev pub returned : List Tree → Code
-returned [] = plain opcode.Rtrue
-returned (e ∷ trees) = returned_by (meaning e).operand (meaning e)
+abbrev pub returned : Limits → List Tree → Code
+returned limits [] = plain limits opcode.Rtrue
+returned limits (e ∷ trees) = returned_by limits (meaning limits e).operand (meaning limits e)
 
 abbrev pub rest : List Tree → List Tree
 rest [] = []
 rest (e ∷ trees) = trees
 
 -- an expression without result
-abbrev pub alone : List Tree → Code
-alone [] = nothing
-alone (e ∷ trees) = (meaning e).alone
+abbrev pub alone : Limits → List Tree → Code
+alone limits [] = nothing
+alone limits (e ∷ trees) = (meaning limits e).alone
 
 -- an instruction of some trees, each of which is an operand
-abbrev pub parts_in : List Tree → List Part
-parts_in [] = []
-parts_in (e ∷ trees) = part (meaning e) ∷ parts_in trees
+abbrev pub parts_in : Limits → List Tree → List Part
+parts_in limits [] = []
+parts_in limits (e ∷ trees) = part (meaning limits e) ∷ parts_in limits trees
 
-abbrev pub one_worked : Opcode → List Tree → Code
-one_worked op [] = nothing
-one_worked op (e ∷ trees) = worked op (part (meaning e) ∷ []) None None
+abbrev pub one_worked : Limits → Opcode → List Tree → Code
+one_worked limits op [] = nothing
+one_worked limits op (e ∷ trees) = worked limits op (part (meaning limits e) ∷ []) None None
 
-abbrev pub moved : List Tree → Code
-moved (a ∷ b ∷ trees) = worked opcode.InsertObj (part (meaning a) ∷ part (meaning b) ∷ []) None None
-moved _ = nothing
+abbrev pub moved : Limits → List Tree → Code
+moved limits (a ∷ b ∷ trees) = worked limits opcode.InsertObj (part (meaning limits a) ∷ part (meaning limits b) ∷ []) None None
+moved limits _ = nothing
 
-abbrev pub spaced : List Tree → Code
-spaced [] = nothing
-spaced (e ∷ trees) = call_routine veneer.Spaces (part (meaning e) ∷ []) None
+abbrev pub spaced : Limits → List Tree → Code
+spaced limits [] = nothing
+spaced limits (e ∷ trees) = call_routine limits veneer.Spaces (part (meaning limits e) ∷ []) None
 
 -- A string variable becomes a low string: its word among the abbreviations is written, which begin with the string variables (Z-Machine
 -- Standard 1.1,
@@ -137,71 +139,72 @@ spaced (e ∷ trees) = call_routine veneer.Spaces (part (meaning e) ∷ []) None
 abbrev pub abbreviations : Target
 abbreviations = target.Place area.Abbreviations 0
 
-abbrev pub string_set : Target → List Tree → Code
-string_set low [] = nothing
-string_set low (e ∷ trees) = worked opcode.Storew (is (Later abbreviations) ∷ part (meaning e) ∷ is (Later low) ∷ []) None None
+abbrev pub string_set : Limits → Target → List Tree → Code
+string_set limits low [] = nothing
+string_set limits low (e ∷ trees) =
+    worked limits opcode.Storew (is (Later abbreviations) ∷ part (meaning limits e) ∷ is (Later low) ∷ []) None None
 
-abbrev pub string_of : List ℕ → List Tree → Code
-string_of text trees o = string_set (low_string_at o) trees (with_low_text text o)
+abbrev pub string_of : Limits → List ℕ → List Tree → Code
+string_of limits text trees o = string_set limits (low_string_at o) trees (with_low_text limits text o)
 
-abbrev pub string_changed : Option (List TextItem) → List Tree → Code
-string_changed None trees = nothing
-string_changed (Some text) trees = string_of (packed text []) trees
+abbrev pub string_changed : Limits → Option (List TextItem) → List Tree → Code
+string_changed limits None trees = nothing
+string_changed limits (Some text) trees = string_of limits (packed text []) trees
 
 -- an action, with a noun or two: a call of the routine that processes actions
-abbrev pub processed : List Part → Code
-processed parts = call_routine veneer.Process parts None
+abbrev pub processed : Limits → List Part → Code
+processed limits parts = call_routine limits veneer.Process parts None
 
-abbrev pub action_on : Part → List Tree → Code
-action_on action [] = processed (action ∷ [])
-action_on action (a ∷ []) = processed (action ∷ part (meaning a) ∷ [])
-action_on action (a ∷ b ∷ trees) = processed (action ∷ part (meaning a) ∷ part (meaning b) ∷ [])
+abbrev pub action_on : Limits → Part → List Tree → Code
+action_on limits action [] = processed limits (action ∷ [])
+action_on limits action (a ∷ []) = processed limits (action ∷ part (meaning limits a) ∷ [])
+action_on limits action (a ∷ b ∷ trees) = processed limits (action ∷ part (meaning limits a) ∷ part (meaning limits b) ∷ [])
 
-abbrev pub action_laid : List Tree → Code
-action_laid [] = nothing
-action_laid (e ∷ trees) = action_on (part (meaning e)) trees
+abbrev pub action_laid : Limits → List Tree → Code
+action_laid limits [] = nothing
+action_laid limits (e ∷ trees) = action_on limits (part (meaning limits e)) trees
 
 -- a branch where the expression is not true
-abbrev pub unless : List Tree → Label → Code
-unless [] label = nothing
-unless (e ∷ trees) label = (meaning e).branch false label
+abbrev pub unless : Limits → List Tree → Label → Code
+unless limits [] label = nothing
+unless limits (e ∷ trees) label = (meaning limits e).branch false label
 
 -- of the condition of what is open, if anything is
-abbrev pub tested : Option Label → List Tree → Code
-tested None trees = nothing
-tested (Some label) trees = unless trees label
+abbrev pub tested : Limits → Option Label → List Tree → Code
+tested limits None trees = nothing
+tested limits (Some label) trees = unless limits trees label
 
 -- what is switched on
-abbrev pub switched : List Tree → Code
-switched [] = nothing
-switched (e ∷ trees) = (meaning e).value SWITCHED
+abbrev pub switched : Limits → List Tree → Code
+switched limits [] = nothing
+switched limits (e ∷ trees) = (meaning limits e).value SWITCHED
 
 -- Attributes that an object is given or that are taken from it, one by one. With several of them an object that needs code is worked out
 -- first.
-abbrev pub attribute_code : Opcode → Part → List Tree → Code
-attribute_code op object [] = nothing
-attribute_code op object (a ∷ attributes) = worked op (object ∷ part (meaning a) ∷ []) None None
+abbrev pub attribute_code : Limits → Opcode → Part → List Tree → Code
+attribute_code limits op object [] = nothing
+attribute_code limits op object (a ∷ attributes) = worked limits op (object ∷ part (meaning limits a) ∷ []) None None
 
 abbrev pub attribute_opcode : Item → Opcode
 attribute_opcode item.Set = opcode.SetAttr
 attribute_opcode _ = opcode.ClearAttr
 
-abbrev pub attributes_given : Part → List Item → List Tree → Code
-attributes_given object [] attributes = nothing
-attributes_given object (i ∷ items) attributes =
-    attribute_code (attribute_opcode i) object attributes ▸ attributes_given object items (rest attributes)
+abbrev pub attributes_given : Limits → Part → List Item → List Tree → Code
+attributes_given limits object [] attributes = nothing
+attributes_given limits object (i ∷ items) attributes =
+    attribute_code limits (attribute_opcode i) object attributes ▸ attributes_given limits object items (rest attributes)
 
 abbrev pub are_several : List Item → Bool
 are_several (i ∷ j ∷ items) = true
 are_several _ = false
 
-abbrev pub given_by : Bool → Option Simple → Meaning → List Item → List Tree → Code
-given_by true None object items attributes = object.value TEMP ▸ attributes_given (is (Variable TEMP)) items attributes
-given_by several operand object items attributes = attributes_given (part object) items attributes
+abbrev pub given_by : Limits → Bool → Option Simple → Meaning → List Item → List Tree → Code
+given_by limits true None object items attributes = object.value TEMP ▸ attributes_given limits (is (Variable TEMP)) items attributes
+given_by limits several operand object items attributes = attributes_given limits (part object) items attributes
 
-abbrev pub attributes_changed : List Item → List Tree → Code
-attributes_changed items [] = nothing
-attributes_changed items (e ∷ trees) = given_by (are_several items) (meaning e).operand (meaning e) items trees
+abbrev pub attributes_changed : Limits → List Item → List Tree → Code
+attributes_changed limits items [] = nothing
+attributes_changed limits items (e ∷ trees) = given_by limits (are_several items) (meaning limits e).operand (meaning limits e) items trees
 
 -- Styles of text (Z-Machine Standard 1.1, section 15, `set_text_style`)
 abbrev pub style_of : List ℕ → Option ℕ
@@ -212,17 +215,17 @@ style_of name =
     if str_eq_ignore_ascii_case name (codes "underline") then Some 4 else
     if str_eq_ignore_ascii_case name (codes "fixed") then Some 8 else None
 
-abbrev pub styled_by : Option ℕ → Code
-styled_by None = nothing
-styled_by (Some style) = instruction opcode.SetTextStyle (Known style ∷ []) None None
+abbrev pub styled_by : Limits → Option ℕ → Code
+styled_by limits None = nothing
+styled_by limits (Some style) = instruction limits opcode.SetTextStyle (Known style ∷ []) None None
 
-abbrev pub styled : List ℕ → Code
-styled name = styled_by (style_of name)
+abbrev pub styled : Limits → List ℕ → Code
+styled limits name = styled_by limits (style_of name)
 
 -- a jump out of, or on with, what is open
-abbrev pub jumped_to : Option Label → Code
-jumped_to None = nothing
-jumped_to (Some label) = jumped label
+abbrev pub jumped_to : Limits → Option Label → Code
+jumped_to limits None = nothing
+jumped_to limits (Some label) = jumped limits label
 
 -- that an opcode takes a text, and nothing else
 pub record PrintsText (op : Opcode) : Type 0 where

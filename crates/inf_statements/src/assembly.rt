@@ -133,11 +133,11 @@ fn variable_of(operand: Option<Simple>) -> Option<u8>
 }
 
 /// The variable that the first of some trees is.
-fn first_variable(nodes: &Nodes, roots: &[Root]) -> Option<u8>
-    ensures { result ≡ first_variable (trees_from nodes.now roots.now) }
+fn first_variable<B: Bounds>(nodes: &Nodes, roots: &[Root]) -> Option<u8>
+    ensures { result ≡ first_variable B.most (trees_from nodes.now roots.now) }
 {
     match roots.first() {
-        Some(root) => variable_of(simple_of(nodes, root.place)),
+        Some(root) => variable_of(simple_of::<B>(nodes, root.place)),
         None => None,
     }
 }
@@ -178,14 +178,14 @@ fn fits_row(row: OpcodeRow, operands: usize, has_variable: bool, ends: Ends) -> 
 
 /// Whether an opcode takes these trees as operands and these ends.
 #[tactic(auto, unfolding(crate::specs::Assembly::fits))]
-fn fits(opcode: Opcode, nodes: &Nodes, roots: &[Root], ends: Ends) -> bool
-    ensures { result ≡ fits opcode (trees_from nodes.now roots.now) ends }
+fn fits<B: Bounds>(opcode: Opcode, nodes: &Nodes, roots: &[Root], ends: Ends) -> bool
+    ensures { result ≡ fits B.most opcode (trees_from nodes.now roots.now) ends }
 {
     let row = opcode.row();
     if row.jumps {
         return ends.are_of_jump();
     }
-    let has_variable = first_variable(nodes, roots).is_some();
+    let has_variable = first_variable::<B>(nodes, roots).is_some();
     fits_row(row, roots.len(), has_variable, ends)
 }
 
@@ -242,12 +242,12 @@ impl Line<'_> {
         roots: &[Root],
     ) -> Option<Finding>
         ensures { let line = self.now in
-            result ≡ line_finding (listed line.locals.now) names.now line.tokens.now begun line.ends (trees_from nodes.now roots.now) }
+            result ≡ line_finding B.most (listed line.locals.now) names.now line.tokens.now begun line.ends (trees_from nodes.now roots.now) }
     {
         let behind = next_place(begun);
         let stores = self.store_finding(names);
         let is_fit = match opcode_of(self.tokens.bytes_at(behind)) {
-            Some(opcode) => fits(opcode, nodes, roots, self.ends),
+            Some(opcode) => fits::<B>(opcode, nodes, roots, self.ends),
             None => false,
         };
         if is_fit {
@@ -262,14 +262,14 @@ impl Line<'_> {
 }
 
 /// The operands that some trees are, which are eight at most.
-fn operands_in(nodes: &Nodes, roots: &[Root]) -> ArrayVec<Simple, MOST_OPERANDS>
+fn operands_in<B: Bounds>(nodes: &Nodes, roots: &[Root]) -> ArrayVec<Simple, MOST_OPERANDS>
     requires { length roots.now ≤ 8 }
-    ensures value { result.items ≡ operands_in (trees_from nodes.now roots.now) }
+    ensures value { result.items ≡ operands_in B.most (trees_from nodes.now roots.now) }
     ensures count { length result.items ≡ length roots.now }
 {
     let mut operands = ArrayVec::new();
     for root in roots {
-        operands.push(simple_of(nodes, root.place).unwrap_or(Simple::Variable(0)));
+        operands.push(simple_of::<B>(nodes, root.place).unwrap_or(Simple::Variable(0)));
     }
     operands
 }
@@ -323,13 +323,13 @@ fn lay_naming<B: Bounds>(
 ) -> Result<(), AllocError>
     requires few { length roots.now ≤ 8 }
     requires takes { TakesVariable opcode (length roots.now - 1) (is_some store) (is_some branch) }
-    ensures { OnOk result (out.new ≡ named_first opcode (trees_from nodes.now roots.now) store branch out.old) }
+    ensures { OnOk result (out.new ≡ named_first B.most opcode (trees_from nodes.now roots.now) store branch out.old) }
 {
     let Some((first, others)) = roots.split_first() else {
         return Ok(());
     };
-    let variable = variable_of(simple_of(nodes, first.place)).unwrap_or(0);
-    let operands = operands_in(nodes, others);
+    let variable = variable_of(simple_of::<B>(nodes, first.place)).unwrap_or(0);
+    let operands = operands_in::<B>(nodes, others);
     out.instruct_naming(opcode, variable, &operands, store, branch)
 }
 
@@ -347,12 +347,12 @@ fn lay_parts<B: Bounds>(
     requires few { length roots.now ≤ 8 }
     requires named { names_variable ≡ true → TakesVariable opcode (length roots.now - 1) (is_some store) (is_some branch) }
     requires plain { names_variable ≡ false → Takes opcode (length roots.now) (is_some store) (is_some branch) }
-    ensures { OnOk result (out.new ≡ instructed names_variable opcode (trees_from nodes.now roots.now) store branch out.old) }
+    ensures { OnOk result (out.new ≡ instructed B.most names_variable opcode (trees_from nodes.now roots.now) store branch out.old) }
 {
     if names_variable {
         return lay_naming(opcode, nodes, roots, store, branch, out);
     }
-    let operands = operands_in(nodes, roots);
+    let operands = operands_in::<B>(nodes, roots);
     out.instruct(opcode, &operands, store, branch)
 }
 
@@ -369,9 +369,10 @@ fn lay_instructed<B: Bounds>(
     requires jumps { (row_of opcode).jumps ≡ false }
     requires text { (row_of opcode).has_text ≡ false }
     requires fits { let trees = trees_from nodes.now roots.now in
-        fits_row (row_of opcode) (length trees) (is_some (first_variable trees)) line.ends ≡ true }
+        fits_row (row_of opcode) (length trees) (is_some (first_variable B.most trees)) line.ends ≡ true }
     ensures { OnOk result ((labels.new, out.new)
-        ≡ line_instructed (listed line.entry.locals.now) line.entry.tokens.now opcode line.entry.ends (trees_from nodes.now roots.now)
+        ≡ line_instructed B.most (listed line.entry.locals.now) line.entry.tokens.now opcode line.entry.ends
+        (trees_from nodes.now roots.now)
         labels.old out.old) }
 {
     let branch = branch_of(line, labels, out)?;
@@ -406,7 +407,7 @@ fn lay_text<B: Bounds>(
     opcode: Opcode,
     out: &mut Output<B>,
 ) -> Result<(), AllocError>
-    ensures { OnOk result (out.new ≡ some_printed line.entry.set line.entry.tokens.now opcode line.entry.ends.text out.old) }
+    ensures { OnOk result (out.new ≡ some_printed B.most line.entry.set line.entry.tokens.now opcode line.entry.ends.text out.old) }
 {
     let Some(at) = line.ends.text else {
         return Ok(());
@@ -423,7 +424,7 @@ fn lay_jump<B: Bounds>(
     labels: &mut Labels,
     out: &mut Output<B>,
 ) -> Result<(), AllocError>
-    ensures { OnOk result ((labels.new, out.new) ≡ jumped_on line.entry.tokens.now line.entry.ends.jump labels.old out.old) }
+    ensures { OnOk result ((labels.new, out.new) ≡ jumped_on B.most line.entry.tokens.now line.entry.ends.jump labels.old out.old) }
 {
     let Some(at) = line.ends.jump else {
         return Ok(());
@@ -442,9 +443,10 @@ fn lay_fit<B: Bounds>(
     labels: &mut Labels,
     out: &mut Output<B>,
 ) -> Result<(), AllocError>
-    requires { fits opcode (trees_from nodes.now roots.now) line.ends ≡ true }
+    requires { fits B.most opcode (trees_from nodes.now roots.now) line.ends ≡ true }
     ensures { OnOk result ((labels.new, out.new)
-        ≡ line_laid_by (row_of opcode).jumps (row_of opcode).has_text line.entry.set (listed line.entry.locals.now) line.entry.tokens.now
+        ≡ line_laid_by B.most (row_of opcode).jumps (row_of opcode).has_text line.entry.set (listed line.entry.locals.now)
+        line.entry.tokens.now
         opcode line.entry.ends (trees_from nodes.now roots.now) labels.old out.old) }
 {
     let row = opcode.row();
@@ -468,13 +470,13 @@ pub(crate) fn lay_line<B: Bounds>(
     out: &mut Output<B>,
 ) -> Result<(), AllocError>
     ensures { OnOk result ((labels.new, out.new)
-        ≡ line_laid line.entry.set (listed line.entry.locals.now) line.entry.tokens.now opcode line.entry.ends
+        ≡ line_laid B.most line.entry.set (listed line.entry.locals.now) line.entry.tokens.now opcode line.entry.ends
         (trees_from nodes.now roots.now) labels.old out.old) }
 {
     let Some(opcode) = opcode else {
         return Ok(());
     };
-    if !fits(opcode, nodes, roots, line.ends) {
+    if !fits::<B>(opcode, nodes, roots, line.ends) {
         return Ok(());
     }
     lay_fit(line, opcode, nodes, roots, labels, out)

@@ -159,7 +159,7 @@ impl Site<'_> {
         nodes: &Nodes,
         roots: &[Root],
     ) -> Option<Finding>
-        ensures { result ≡ site_finding (site self.now) names.now (trees_from nodes.now roots.now) }
+        ensures { result ≡ site_finding B.most (site self.now) names.now (trees_from nodes.now roots.now) }
     {
         self.line().finding(names, self.begun, nodes, roots)
     }
@@ -184,7 +184,7 @@ impl Site<'_> {
         tasks: &mut Tasks,
         out: &mut Output<B>,
     ) -> Result<(), AllocError>
-        ensures { OnOk result (out.new ≡ statement_code (site self.now) (map tree_in (trees_in forest.now)) statement out.old) }
+        ensures { OnOk result (out.new ≡ statement_code B.most (site self.now) (map tree_in (trees_in forest.now)) statement out.old) }
     {
         match statement {
             Statement::Empty | Statement::Place | Statement::Jump | Statement::Assembly => Ok(()),
@@ -223,7 +223,7 @@ impl Site<'_> {
         tasks: &mut Tasks,
         out: &mut Output<B>,
     ) -> Result<(), AllocError>
-        ensures { OnOk result (out.new ≡ string_changed (last_text (site self.now)) (map tree_in (trees_in forest.now)) out.old) }
+        ensures { OnOk result (out.new ≡ string_changed B.most (last_text (site self.now)) (map tree_in (trees_in forest.now)) out.old) }
     {
         let Some(text) = self.last_text()? else {
             return Ok(());
@@ -251,7 +251,7 @@ impl Site<'_> {
         labels: &mut Labels,
         out: &mut Output<B>,
     ) -> Result<(), AllocError>
-        ensures { OnOk result ((labels.new, out.new) ≡ jump_laid (name_behind (site self.now)) labels.old out.old) }
+        ensures { OnOk result ((labels.new, out.new) ≡ jump_laid B.most (name_behind (site self.now)) labels.old out.old) }
     {
         let label = labelled(self.name(), labels, out)?;
         out.jump(label)
@@ -263,7 +263,7 @@ impl Site<'_> {
         labels: &mut Labels,
         out: &mut Output<B>,
     ) -> Result<(), AllocError>
-        ensures { OnOk result ((labels.new, out.new) ≡ place_laid (name_behind (site self.now)) labels.old out.old) }
+        ensures { OnOk result ((labels.new, out.new) ≡ place_laid B.most (name_behind (site self.now)) labels.old out.old) }
     {
         let label = placed(self.name(), labels, out)?;
         out.mark(label)
@@ -280,7 +280,7 @@ impl Site<'_> {
         out: &mut Output<B>,
     ) -> Result<(), AllocError>
         ensures { OnOk result ((labels.new, out.new)
-            ≡ statement_laid (site self.now) statement (map tree_in (trees_in forest.now)) labels.old out.old) }
+            ≡ statement_laid B.most (site self.now) statement (map tree_in (trees_in forest.now)) labels.old out.old) }
     {
         match statement {
             Statement::Jump => self.lay_jump(labels, out),

@@ -199,7 +199,7 @@ fn settled_action<B: Bounds>(
     out: &mut Output<B>,
 ) -> Result<Operand, AllocError>
     requires { IfSome name (λ n. length n.bytes.now ≤ 32) }
-    ensures { IfOk result (λ operand. (out.new, operand) ≡ settled_action (option_map named name.entry) out.old) }
+    ensures { IfOk result (λ operand. (out.new, operand) ≡ settled_action B.most (option_map named name.entry) out.old) }
 {
     match name {
         Some(name) => Ok(Operand::Known(out.action(name.bytes, name.place)?)),
@@ -260,7 +260,7 @@ fn settled_name<B: Bounds>(
     out: &mut Output<B>,
 ) -> Result<Operand, AllocError>
     requires { IfSome name (λ n. length n.bytes.now ≤ 32) }
-    ensures { IfOk result (λ operand. (out.new, operand) ≡ settled_name (listed locals.now) (option_map named name.entry) out.old) }
+    ensures { IfOk result (λ operand. (out.new, operand) ≡ settled_name B.most (listed locals.now) (option_map named name.entry) out.old) }
 {
     let Some(name) = name else {
         return Ok(Operand::Known(0));
@@ -278,7 +278,7 @@ fn settled_alone<B: Bounds>(
     at: usize,
     out: &mut Output<B>,
 ) -> Result<Operand, AllocError>
-    ensures { IfOk result (λ operand. (out.new, operand) ≡ settled_alone (listed locals.now) tokens.now at out.old) }
+    ensures { IfOk result (λ operand. (out.new, operand) ≡ settled_alone B.most (listed locals.now) tokens.now at out.old) }
 {
     let name = tokens.bytes_at(at);
     if is_stack(name, locals.number(name)) {
@@ -295,7 +295,7 @@ fn settled_text<B: Bounds>(
     at: usize,
     out: &mut Output<B>,
 ) -> Result<Operand, AllocError>
-    ensures { IfOk result (λ operand. (out.new, operand) ≡ settled_text (text_at set tokens.now at) out.old) }
+    ensures { IfOk result (λ operand. (out.new, operand) ≡ settled_text B.most (text_at set tokens.now at) out.old) }
 {
     let Some(token) = tokens.get(at) else {
         return Ok(Operand::Unknown);
@@ -310,7 +310,7 @@ fn settled_text<B: Bounds>(
 
 /// What a word of the dictionary is, which is used.
 fn settled_word<B: Bounds>(word: DictionaryWord, out: &mut Output<B>) -> Result<Operand, AllocError>
-    ensures { IfOk result (λ operand. (out.new, operand) ≡ settled_word word out.old) }
+    ensures { IfOk result (λ operand. (out.new, operand) ≡ settled_word B.most word out.old) }
 {
     out.word(word.text, WordUse::Other, word.is_plural)?;
     Ok(word_operand(word))
@@ -324,7 +324,7 @@ pub fn add_leaf<B: Bounds>(
     leaves: &[Leaf],
     out: &mut Output<B>,
 ) -> Result<(), AllocError>
-    ensures { OnOk result (out.new ≡ leaf_added set tokens.now leaves.now out.old) }
+    ensures { OnOk result (out.new ≡ leaf_added B.most set tokens.now leaves.now out.old) }
 {
     for leaf in leaves {
         add_one(alloc, set, tokens, *leaf, out)?;
@@ -340,7 +340,7 @@ fn add_one<B: Bounds>(
     leaf: Leaf,
     out: &mut Output<B>,
 ) -> Result<(), AllocError>
-    ensures { OnOk result (out.new ≡ one_added set tokens.now leaf out.old) }
+    ensures { OnOk result (out.new ≡ one_added B.most set tokens.now leaf out.old) }
 {
     match leaf {
         Leaf::Text(at) => {
@@ -367,7 +367,7 @@ fn settled_leaf<B: Bounds>(
     leaf: Leaf,
     out: &mut Output<B>,
 ) -> Result<Operand, AllocError>
-    ensures { IfOk result (λ operand. (out.new, operand) ≡ settled_leaf set (listed locals.now) tokens.now leaf out.old) }
+    ensures { IfOk result (λ operand. (out.new, operand) ≡ settled_leaf B.most set (listed locals.now) tokens.now leaf out.old) }
 {
     match leaf {
         Leaf::Name(at) => settled_name(locals, tokens.name_at(at), out),
@@ -391,7 +391,8 @@ pub fn settled<B: Bounds>(
     out: &mut Output<B>,
 ) -> Result<Vec<Operand>, AllocError>
     ensures { let before : Settled = record { out = out.old; operands = [] } in
-        IfOk result (λ operands. record { out = out.new; operands = operands.items } ≡ settled set (listed locals.now) tokens.now leaves.now
+        IfOk result (λ operands. record { out = out.new; operands = operands.items } ≡ settled B.most set (listed locals.now) tokens.now
+        leaves.now
         before) }
 {
     let mut operands = Vec::with_capacity(alloc, leaves.len())?;

@@ -28,7 +28,7 @@ pub(crate) fn print_text<B: Bounds>(
     out: &mut Output<B>,
 ) -> Result<(), AllocError>
     requires { PrintsText opcode }
-    ensures { OnOk result (out.new ≡ printed opcode (text_at set tokens.now at) out.old) }
+    ensures { OnOk result (out.new ≡ printed B.most opcode (text_at set tokens.now at) out.old) }
 {
     let Some(token) = tokens.get(at) else {
         return Ok(());
@@ -54,7 +54,7 @@ fn text_opcode(returns: bool, others: &[Item]) -> Opcode
 
 /// What ends a statement that returns and printed something other than a text last.
 fn end_items<B: Bounds>(ends: bool, out: &mut Output<B>) -> Result<(), AllocError>
-    ensures { OnOk result (out.new ≡ ended ends out.old) }
+    ensures { OnOk result (out.new ≡ ended B.most ends out.old) }
 {
     if !ends {
         return Ok(());
@@ -70,7 +70,7 @@ fn call_with<B: Bounds>(
     tasks: &mut Tasks,
     out: &mut Output<B>,
 ) -> Result<(), AllocError>
-    ensures { OnOk result (out.new ≡ called_with (trees_from nodes.now roots.now) out.old) }
+    ensures { OnOk result (out.new ≡ called_with B.most (trees_from nodes.now roots.now) out.old) }
 {
     match roots {
         [routine, value, ..] => {
@@ -96,7 +96,7 @@ fn call_veneer<B: Bounds>(
     tasks: &mut Tasks,
     out: &mut Output<B>,
 ) -> Result<(), AllocError>
-    ensures { OnOk result (out.new ≡ veneer_called veneer (trees_from nodes.now roots.now) out.old) }
+    ensures { OnOk result (out.new ≡ veneer_called B.most veneer (trees_from nodes.now roots.now) out.old) }
 {
     match roots.first() {
         Some(root) => {
@@ -116,7 +116,7 @@ fn print_by<B: Bounds>(
     tasks: &mut Tasks,
     out: &mut Output<B>,
 ) -> Result<(), AllocError>
-    ensures { OnOk result (out.new ≡ rule_code rule (trees_from nodes.now roots.now) out.old) }
+    ensures { OnOk result (out.new ≡ rule_code B.most rule (trees_from nodes.now roots.now) out.old) }
 {
     match rule {
         PrintRule::Character => lay_one(Opcode::PrintChar, nodes, roots, tasks, out),
@@ -179,7 +179,8 @@ fn print_item<B: Bounds>(
     out: &mut Output<B>,
 ) -> Result<(), AllocError>
     ensures { OnOk result (out.new
-        ≡ item_code printing.entry.set printing.entry.tokens.now printing.entry.returns others.now item (trees_from nodes.now roots.now)
+        ≡ item_code B.most printing.entry.set printing.entry.tokens.now printing.entry.returns others.now item
+        (trees_from nodes.now roots.now)
         out.old) }
 {
     match item {
@@ -209,7 +210,7 @@ pub(crate) fn print_items<B: Bounds>(
     out: &mut Output<B>,
 ) -> Result<(), AllocError>
     ensures { OnOk result (out.new
-        ≡ items_printed printing.entry.set printing.entry.tokens.now printing.entry.returns false items.now
+        ≡ items_printed B.most printing.entry.set printing.entry.tokens.now printing.entry.returns false items.now
         (map tree_in (trees_in forest.now)) out.old) }
 {
     let nodes = &forest.nodes;

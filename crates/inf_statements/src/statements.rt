@@ -141,7 +141,7 @@ pub(crate) fn statement_in(tokens: &UnitTokens, begun: usize, items: &[Item]) ->
 /// An instruction of an opcode alone.
 pub(crate) fn plain<B: Bounds>(opcode: Opcode, out: &mut Output<B>) -> Result<(), AllocError>
     requires { Takes opcode 0 false false }
-    ensures { OnOk result (out.new ≡ plain opcode out.old) }
+    ensures { OnOk result (out.new ≡ plain B.most opcode out.old) }
 {
     out.instruct(opcode, &[], None, None)
 }
@@ -165,7 +165,7 @@ pub(crate) fn lay_one<B: Bounds>(
     out: &mut Output<B>,
 ) -> Result<(), AllocError>
     requires { Takes opcode 1 false false }
-    ensures { OnOk result (out.new ≡ one_worked opcode (trees_from nodes.now roots.now) out.old) }
+    ensures { OnOk result (out.new ≡ one_worked B.most opcode (trees_from nodes.now roots.now) out.old) }
 {
     match roots.first() {
         Some(root) => {
@@ -182,7 +182,7 @@ pub fn lay_expression<B: Bounds>(
     tasks: &mut Tasks,
     out: &mut Output<B>,
 ) -> Result<(), AllocError>
-    ensures { OnOk result (out.new ≡ alone (map tree_in (trees_in forest.now)) out.old) }
+    ensures { OnOk result (out.new ≡ alone B.most (map tree_in (trees_in forest.now)) out.old) }
 {
     match forest.roots.first() {
         Some(root) => lay_alone(tasks, &forest.nodes, root.place, out),
@@ -197,7 +197,7 @@ fn lay_unless<B: Bounds>(
     tasks: &mut Tasks,
     out: &mut Output<B>,
 ) -> Result<(), AllocError>
-    ensures { OnOk result (out.new ≡ unless (map tree_in (trees_in forest.now)) label out.old) }
+    ensures { OnOk result (out.new ≡ unless B.most (map tree_in (trees_in forest.now)) label out.old) }
 {
     match forest.roots.first() {
         Some(root) => lay_branch(tasks, &forest.nodes, root.place, false, label, out),
@@ -212,7 +212,7 @@ pub fn lay_test<B: Bounds>(
     tasks: &mut Tasks,
     out: &mut Output<B>,
 ) -> Result<(), AllocError>
-    ensures { OnOk result (out.new ≡ tested label (map tree_in (trees_in forest.now)) out.old) }
+    ensures { OnOk result (out.new ≡ tested B.most label (map tree_in (trees_in forest.now)) out.old) }
 {
     match label {
         Some(label) => lay_unless(forest, label, tasks, out),
@@ -226,7 +226,7 @@ pub fn lay_switched<B: Bounds>(
     tasks: &mut Tasks,
     out: &mut Output<B>,
 ) -> Result<(), AllocError>
-    ensures { OnOk result (out.new ≡ switched (map tree_in (trees_in forest.now)) out.old) }
+    ensures { OnOk result (out.new ≡ switched B.most (map tree_in (trees_in forest.now)) out.old) }
 {
     match forest.roots.first() {
         Some(root) => lay_value(tasks, &forest.nodes, root.place, SWITCHED, out),
@@ -236,7 +236,7 @@ pub fn lay_switched<B: Bounds>(
 
 /// Returns what is simple: a number that is known as 1 or 0 has an instruction of its own.
 fn return_simple<B: Bounds>(operand: Simple, out: &mut Output<B>) -> Result<(), AllocError>
-    ensures { (m : Meaning) → OnOk result (out.new ≡ returned_by (Some operand) m out.old) }
+    ensures { (m : Meaning) → OnOk result (out.new ≡ returned_by B.most (Some operand) m out.old) }
 {
     match operand {
         Simple::Known(1) => plain(Opcode::Rtrue, out),
@@ -251,12 +251,12 @@ pub(crate) fn lay_return<B: Bounds>(
     tasks: &mut Tasks,
     out: &mut Output<B>,
 ) -> Result<(), AllocError>
-    ensures { OnOk result (out.new ≡ returned (map tree_in (trees_in forest.now)) out.old) }
+    ensures { OnOk result (out.new ≡ returned B.most (map tree_in (trees_in forest.now)) out.old) }
 {
     let Some(root) = forest.roots.first() else {
         return plain(Opcode::Rtrue, out);
     };
-    if let Some(operand) = simple_of(&forest.nodes, root.place) {
+    if let Some(operand) = simple_of::<B>(&forest.nodes, root.place) {
         return return_simple(operand, out);
     }
     lay_value(tasks, &forest.nodes, root.place, 0, out)?;
@@ -269,7 +269,7 @@ pub(crate) fn lay_move<B: Bounds>(
     tasks: &mut Tasks,
     out: &mut Output<B>,
 ) -> Result<(), AllocError>
-    ensures { OnOk result (out.new ≡ moved (map tree_in (trees_in forest.now)) out.old) }
+    ensures { OnOk result (out.new ≡ moved B.most (map tree_in (trees_in forest.now)) out.old) }
 {
     match forest.roots.as_slice() {
         [a, b, ..] => {
@@ -294,7 +294,7 @@ pub(crate) fn lay_spaces<B: Bounds>(
     tasks: &mut Tasks,
     out: &mut Output<B>,
 ) -> Result<(), AllocError>
-    ensures { OnOk result (out.new ≡ spaced (map tree_in (trees_in forest.now)) out.old) }
+    ensures { OnOk result (out.new ≡ spaced B.most (map tree_in (trees_in forest.now)) out.old) }
 {
     match forest.roots.first() {
         Some(root) => {
@@ -313,7 +313,7 @@ fn set_string<B: Bounds>(
     tasks: &mut Tasks,
     out: &mut Output<B>,
 ) -> Result<(), AllocError>
-    ensures { OnOk result (out.new ≡ string_set low (trees_from nodes.now roots.now) out.old) }
+    ensures { OnOk result (out.new ≡ string_set B.most low (trees_from nodes.now roots.now) out.old) }
 {
     match roots.first() {
         Some(root) => {
@@ -335,7 +335,7 @@ pub(crate) fn lay_string<B: Bounds>(
     tasks: &mut Tasks,
     out: &mut Output<B>,
 ) -> Result<(), AllocError>
-    ensures { OnOk result (out.new ≡ string_of packed.now (map tree_in (trees_in forest.now)) out.old) }
+    ensures { OnOk result (out.new ≡ string_of B.most packed.now (map tree_in (trees_in forest.now)) out.old) }
 {
     let low = out.low_string(packed)?;
     set_string(low, &forest.nodes, &forest.roots, tasks, out)
@@ -348,7 +348,7 @@ fn lay_process<B: Bounds>(
     tasks: &mut Tasks,
     out: &mut Output<B>,
 ) -> Result<(), AllocError>
-    ensures { OnOk result (out.new ≡ processed (parts_of nodes.now arguments.now) out.old) }
+    ensures { OnOk result (out.new ≡ processed B.most (parts_of B.most nodes.now arguments.now) out.old) }
 {
     lay_routine_call(tasks, nodes, Veneer::Process, arguments, None, out)
 }
@@ -361,7 +361,7 @@ fn lay_action_on<B: Bounds>(
     tasks: &mut Tasks,
     out: &mut Output<B>,
 ) -> Result<(), AllocError>
-    ensures { OnOk result (out.new ≡ action_on (part_of nodes.now action) (trees_from nodes.now nouns.now) out.old) }
+    ensures { OnOk result (out.new ≡ action_on B.most (part_of B.most nodes.now action) (trees_from nodes.now nouns.now) out.old) }
 {
     match nouns {
         [] => lay_process(&[action], nodes, tasks, out),
@@ -379,7 +379,7 @@ pub(crate) fn lay_action<B: Bounds>(
     tasks: &mut Tasks,
     out: &mut Output<B>,
 ) -> Result<(), AllocError>
-    ensures { OnOk result (out.new ≡ action_laid (map tree_in (trees_in forest.now)) out.old) }
+    ensures { OnOk result (out.new ≡ action_laid B.most (map tree_in (trees_in forest.now)) out.old) }
 {
     match forest.roots.as_slice().split_first() {
         Some((root, nouns)) => {
@@ -410,7 +410,8 @@ fn lay_attribute<B: Bounds>(
     out: &mut Output<B>,
 ) -> Result<(), AllocError>
     requires { Takes opcode 2 false false }
-    ensures { OnOk result (out.new ≡ attribute_code opcode (part_of nodes.now object) (trees_from nodes.now roots.now) out.old) }
+    ensures { OnOk result (out.new ≡ attribute_code B.most opcode (part_of B.most nodes.now object) (trees_from nodes.now roots.now)
+        out.old) }
 {
     match roots.first() {
         Some(root) => {
@@ -430,7 +431,8 @@ fn lay_attributes<B: Bounds>(
     tasks: &mut Tasks,
     out: &mut Output<B>,
 ) -> Result<(), AllocError>
-    ensures { OnOk result (out.new ≡ attributes_given (part_of nodes.now object) items.now (trees_from nodes.now roots.now) out.old) }
+    ensures { OnOk result (out.new ≡ attributes_given B.most (part_of B.most nodes.now object) items.now (trees_from nodes.now roots.now)
+        out.old) }
 {
     let mut left = items;
     let mut attributes = roots;
@@ -457,14 +459,14 @@ pub(crate) fn lay_give<B: Bounds>(
     tasks: &mut Tasks,
     out: &mut Output<B>,
 ) -> Result<(), AllocError>
-    ensures { OnOk result (out.new ≡ attributes_changed items.now (map tree_in (trees_in forest.now)) out.old) }
+    ensures { OnOk result (out.new ≡ attributes_changed B.most items.now (map tree_in (trees_in forest.now)) out.old) }
 {
     let nodes = &forest.nodes;
     let Some((root, attributes)) = forest.roots.as_slice().split_first() else {
         return Ok(());
     };
     let mut object = Argument::Of(root.place);
-    if are_several(items) && simple_of(nodes, root.place).is_none() {
+    if are_several(items) && simple_of::<B>(nodes, root.place).is_none() {
         lay_value(tasks, nodes, root.place, TEMP, out)?;
         object = Argument::Is(Simple::Variable(TEMP));
     }
@@ -492,7 +494,7 @@ pub(crate) fn style_of(name: &[u8]) -> Option<u16>
 
 /// `style`: the style of a name.
 pub(crate) fn lay_style<B: Bounds>(name: &[u8], out: &mut Output<B>) -> Result<(), AllocError>
-    ensures { OnOk result (out.new ≡ styled name.now out.old) }
+    ensures { OnOk result (out.new ≡ styled B.most name.now out.old) }
 {
     match style_of(name) {
         Some(style) => out.instruct(Opcode::SetTextStyle, &[Simple::Known(style)], None, None),
@@ -505,7 +507,7 @@ pub(crate) fn lay_jump<B: Bounds>(
     label: Option<Label>,
     out: &mut Output<B>,
 ) -> Result<(), AllocError>
-    ensures { OnOk result (out.new ≡ jumped_to label out.old) }
+    ensures { OnOk result (out.new ≡ jumped_to B.most label out.old) }
 {
     match label {
         Some(label) => out.jump(label),

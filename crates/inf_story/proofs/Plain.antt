@@ -9,8 +9,8 @@ use Rattle.inf_world.specs.Areas.{first_names}
 pub tables_are_plain : TablesArePlain
 unfolding property_defaults objects property_tables class_numbers globals dictionary packed longest character_zs first_names no_attributes
     attribute_cells flag_byte all_falling
-tables_are_plain settings main finished strings = refl
+tables_are_plain main finished strings = refl
 
 pub lookup_is_plain : LookupIsPlain
 unfolding table_places packed longest character_zs first_names all_falling
-lookup_is_plain settings names = refl
+lookup_is_plain names = refl

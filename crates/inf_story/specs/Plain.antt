@@ -11,7 +11,6 @@ use Rattle.inf_characters.specs.declared.texts.TextItem.TheVariants.{Character}
 use Rattle.inf_code.specs.Code.{code_cells, known}
 use Rattle.inf_link.specs.declared.areas.Areas.{Areas}
 use Rattle.inf_link.specs.Targets.{Lookup}
-use Rattle.inf_settings.specs.declared.settings.Settings.{Settings}
 use Rattle.inf_story.specs.Tables.{abbreviations, areas, looked_up, low_strings}
 use Rattle.inf_tables.specs.Tables.{no_tables}
 use Rattle.inf_text.specs.Packing.{packed}
@@ -83,8 +82,8 @@ plain_lookup names =
     record { names = names; property_tables = table_places; individual_tables = replicate 4 0; verbs = []; words = []; last_object = 4 }
 
 abbrev pub TablesArePlain : Type 0
-TablesArePlain = (settings : Settings) (main : ℕ) (finished : List Cell) (strings : List ℕ)
-    → areas main finished strings (no_tables settings) ≡ plain_areas main finished strings
+TablesArePlain = (main : ℕ) (finished : List Cell) (strings : List ℕ)
+    → areas main finished strings no_tables ≡ plain_areas main finished strings
 
 abbrev pub LookupIsPlain : Type 0
-LookupIsPlain = (settings : Settings) (names : List Value) → looked_up names (no_tables settings) ≡ plain_lookup names
+LookupIsPlain = (names : List Value) → looked_up names no_tables ≡ plain_lookup names

@@ -1,13 +1,14 @@
 -- The low strings of a story behind the first one, which each story has: three spaces, in two bytes.
 use Rattle.std.specs.Prelude.{ℕ, ◌+◌, List, [], ◌++◌, length, Bool, nat_le}
+use Rattle.inf_settings.specs.Bounds.{Limits}
+use Rattle.inf_settings.specs.declared.setting.Setting.TheVariants as setting
 
--- the bytes of packed texts, and how many there may be with the first one
+-- the bytes of packed texts
 pub record LowArea : Type 0 where
   pub bytes : List ℕ
-  pub limit : ℕ
 
-abbrev pub no_low_strings : ℕ → LowArea
-no_low_strings limit = record { bytes = []; limit = limit }
+abbrev pub no_low_strings : LowArea
+no_low_strings = record { bytes = [] }
 
 -- how many bytes there are with the first one
 abbrev pub low_size : LowArea → ℕ
@@ -18,5 +19,5 @@ abbrev pub with_low : List ℕ → LowArea → LowArea
 with_low text low = record low { bytes = low.bytes ++ text }
 
 -- whether there is room for it
-abbrev pub low_fits : List ℕ → LowArea → Bool
-low_fits text low = nat_le (low_size low + length text) low.limit
+abbrev pub low_fits : Limits → List ℕ → LowArea → Bool
+low_fits limits text low = nat_le (low_size low + length text) (limits setting.LowStrings)

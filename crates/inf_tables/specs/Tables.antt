@@ -1,8 +1,5 @@
 -- The tables of a story, as far as its source told them.
 use Rattle.std.specs.Prelude.{ℕ, List, ◌+◌, ◌-◌, min, [], length}
-use Rattle.inf_settings.specs.Settings.{number_of}
-use Rattle.inf_settings.specs.declared.setting.Setting.TheVariants as setting
-use Rattle.inf_settings.specs.declared.settings.Settings.{Settings}
 use Rattle.inf_area.specs.declared.targets.Value.{Value}
 use Rattle.inf_arrays.specs.Arrays.{AllArrays, all_of, arrays_laters, no_arrays}
 use Rattle.inf_arrays.specs.Kinds.{laters}
@@ -10,7 +7,6 @@ use Rattle.inf_dictionary.specs.Words.{Words}
 use Rattle.inf_verbs.specs.Routines.{AllActions}
 use Rattle.inf_verbs.specs.Verbs.{AllVerbs, verbs_laters}
 use Rattle.inf_world.specs.World.{WorldOf, fixups_now, no_world}
-use Rattle.inf_world.specs.declared.kinds.Limits.{Limits}
 use Rattle.inf_tables.specs.LowStrings.{LowArea, no_low_strings}
 
 -- one of each table
@@ -24,21 +20,17 @@ pub record AllTables : Type 0 where
   pub parsing : List ℕ
   pub low_strings : LowArea
 
--- what there may be of the world
-abbrev pub world_limits : Settings → Limits
-world_limits settings = record { objects = number_of setting.Objects settings; property_bytes = number_of setting.PropertyTables settings }
-
 -- of a source that told nothing yet
-abbrev pub no_tables : Settings → AllTables
-no_tables settings = record {
-  dictionary = record { list = []; limit = number_of setting.DictionaryEntries settings };
-  arrays = no_arrays (number_of setting.Arrays settings);
+abbrev pub no_tables : AllTables
+no_tables = record {
+  dictionary = record { list = [] };
+  arrays = no_arrays;
   globals = [];
-  world = no_world (world_limits settings);
-  verbs = record { list = []; limit = number_of setting.Verbs settings; space = number_of setting.GrammarLines settings };
-  actions = record { routines = []; fakes = 0; limit = number_of setting.Actions settings };
+  world = no_world;
+  verbs = record { list = [] };
+  actions = record { routines = []; fakes = 0 };
   parsing = [];
-  low_strings = no_low_strings (number_of setting.LowStrings settings);
+  low_strings = no_low_strings;
 }
 
 -- a count and another one: no number of the program is above the greatest

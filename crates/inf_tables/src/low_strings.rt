@@ -1,5 +1,5 @@
 //! The low strings of a story.
-ghost use Rattle.std.specs.Prelude.{◌≡◌, ◌≤◌, IfOk, if◌then◌else◌, max, true};
+ghost use Rattle.std.specs.Prelude.{◌≡◌, ◌≤◌, IfOk, if◌then◌else◌, max};
 ghost use Rattle.inf_tables.specs.LowStrings.{low_fits, low_size, with_low};
 ghost use Rattle.inf_settings.specs.declared.setting.Setting.TheVariants as setting;
 
@@ -18,7 +18,7 @@ pub struct LowStrings<B: Bounds> {
     bytes: Vec<u8>,
     limit: usize,
     of: PhantomData<B>,
-    ghost is_allowed: { B.allows setting.LowStrings limit ≡ true },
+    ghost is_most: { limit ≡ B.most setting.LowStrings },
 }
 
 impl<B: Bounds> Model for LowStrings<B> {
@@ -27,7 +27,7 @@ impl<B: Bounds> Model for LowStrings<B> {
 
     ghost Value = { LowArea };
 
-    ghost view = { λ low. record { bytes = low.bytes.items; limit = low.limit } };
+    ghost view = { λ low. record { bytes = low.bytes.items } };
 
     ghost invariant = { λ low. 2 + length low.bytes.items ≤ max 2 low.limit };
 }
@@ -37,8 +37,8 @@ impl<B: Bounds> LowStrings<B> {
 
     /// None but the first one, of at most so many bytes with it. They take no memory until the next one comes.
     pub fn new(alloc: Global, limit: usize) -> LowStrings<B>
-        requires { B.allows setting.LowStrings limit ≡ true }
-        ensures { result ≡ no_low_strings limit }
+        requires { limit ≡ B.most setting.LowStrings }
+        ensures { result ≡ no_low_strings }
     {
         LowStrings {
             bytes: Vec::new(alloc),
@@ -50,16 +50,15 @@ impl<B: Bounds> LowStrings<B> {
     /// How many bytes they have with the first one: the place of the next one.
     pub fn len(&self) -> usize
         ensures value { result ≡ low_size self.now }
-        ensures few { result ≤ max 2 self.now.limit }
-        ensures allowed { B.allows setting.LowStrings self.now.limit ≡ true }
+        ensures few { result ≤ max 2 (B.most setting.LowStrings) }
     {
         FIRST_BYTES + self.bytes.len()
     }
 
     /// Adds a low string of these bytes, and answers that it was added; or that it would pass the limit.
     pub fn add(&mut self, text: &[u8]) -> Result<bool, AllocError>
-        ensures { IfOk result (λ added. (added ≡ low_fits text.now self.old)
-            × (self.new ≡ if low_fits text.now self.old then with_low text.now self.old else self.old)) }
+        ensures { IfOk result (λ added. (added ≡ low_fits B.most text.now self.old)
+            × (self.new ≡ if low_fits B.most text.now self.old then with_low text.now self.old else self.old)) }
     {
         let size = self.len();
         if self.limit < size || self.limit - size < text.len() {

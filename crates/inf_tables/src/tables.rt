@@ -1,8 +1,8 @@
 //! One of each table.
-ghost use Rattle.std.specs.Prelude.{◌≡◌, true};
+ghost use Rattle.std.specs.Prelude.{◌≡◌};
 ghost use Rattle.inf_settings.specs.declared.setting.Setting.TheVariants as setting;
-ghost use Rattle.inf_settings.specs.Bounds.{Allows};
-ghost use Rattle.inf_tables.specs.Tables.{more, no_tables, references, references_with, world_limits};
+ghost use Rattle.inf_settings.specs.Bounds.{AreSet};
+ghost use Rattle.inf_tables.specs.Tables.{more, no_tables, references, references_with};
 
 use crate::low_strings::LowStrings;
 use inf_arrays::{Arrays, Globals};
@@ -50,10 +50,9 @@ impl<B: Bounds> Model for Tables<B> {
 
 /// What there may be of the world.
 fn world_limits<B: Bounds>(settings: &Settings) -> Limits
-    requires { Allows B.allows settings.now }
-    ensures value { result ≡ world_limits settings.now }
-    ensures objects { B.allows setting.Objects result.objects ≡ true }
-    ensures bytes { B.allows setting.PropertyTables result.property_bytes ≡ true }
+    requires { AreSet B.most settings.now }
+    ensures objects { result.objects ≡ B.most setting.Objects }
+    ensures bytes { result.property_bytes ≡ B.most setting.PropertyTables }
 {
     Limits {
         objects: settings.bound::<B>(Setting::Objects),
@@ -74,8 +73,8 @@ impl<B: Bounds> Tables<B> {
     /// They
     /// take no memory.
     pub fn new(alloc: Global, settings: &Settings) -> Tables<B>
-        requires { Allows B.allows settings.now }
-        ensures { result ≡ no_tables settings.now }
+        requires { AreSet B.most settings.now }
+        ensures { result ≡ no_tables }
     {
         Tables {
             dictionary: Dictionary::new(

@@ -1,14 +1,18 @@
 //! Actions and parsing routines.
-use crate::words::{number_at, repeated, word};
+ghost use Rattle.std.specs.Prelude.{◌≡◌};
+ghost use Rattle.inf_settings.specs.declared.setting.Setting.TheVariants as setting;
+
+use crate::words::{as_text, number_at, repeated, word};
 use crate::writing::Written;
-use inf_settings::bounds::Unbounded;
+use inf_settings::bounds::Bounds;
 use inf_verbs::{Actions, ParsingRoutines};
 use std::alloc::{AllocError, Global};
+use std::marker::Brand;
 
 /// What comes of a command to actions.
-fn obey(
+fn obey<B: Bounds>(
     alloc: Global,
-    actions: &mut Actions<Unbounded>,
+    actions: &mut Actions<B>,
     command: &str,
 ) -> Result<String, AllocError> {
     match word(command, 0) {
@@ -30,9 +34,16 @@ fn obey(
 
 /// What comes of a line.
 pub(crate) fn answer(alloc: Global, line: &str) -> Result<String, AllocError> {
-    let mut actions = Actions::new(alloc, number_at(line, 1));
+    answer_under::<Brand>(alloc, number_at(line, 1), line.as_bytes())
+}
+
+/// What comes of it where there may be so many.
+fn answer_under<B: Bounds>(alloc: Global, limit: usize, line: &[u8]) -> Result<String, AllocError>
+    requires { limit ≡ B.most setting.Actions }
+{
+    let mut actions = Actions::<B>::new(alloc, limit);
     let mut told = String::from_str(alloc, "actions")?;
-    for command in line.split(" | ").skip(1) {
+    for command in as_text(line).split(" | ").skip(1) {
         let (count, command) = repeated(command);
         let mut last = String::new(alloc);
         for _ in 0..count {

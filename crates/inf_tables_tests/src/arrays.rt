@@ -1,9 +1,13 @@
 //! Arrays and global variables.
-use crate::words::{bytes_of, number_at, repeated, value_of, word};
+ghost use Rattle.std.specs.Prelude.{◌≡◌};
+ghost use Rattle.inf_settings.specs.declared.setting.Setting.TheVariants as setting;
+
+use crate::words::{as_text, bytes_of, number_at, repeated, value_of, word};
 use crate::writing::Written;
 use inf_arrays::{ArrayFault, ArrayKind, Arrays, Globals};
-use inf_settings::bounds::Unbounded;
+use inf_settings::bounds::Bounds;
 use std::alloc::{AllocError, Global};
+use std::marker::Brand;
 
 /// A kind by its name.
 fn kind_of(name: &str) -> ArrayKind {
@@ -24,7 +28,11 @@ fn told_of(alloc: Global, outcome: Result<(), ArrayFault>) -> Result<String, All
 }
 
 /// What is written.
-fn write(alloc: Global, arrays: &Arrays<Unbounded>, command: &str) -> Result<String, AllocError> {
+fn write<B: Bounds>(
+    alloc: Global,
+    arrays: &Arrays<B>,
+    command: &str,
+) -> Result<String, AllocError> {
     let mut written = Written::new(alloc, command)?;
     let flat = arrays.write(&mut written.flat.area, &mut written.flat.refs);
     let paged = arrays.write(&mut written.paged.area, &mut written.paged.refs);
@@ -32,7 +40,11 @@ fn write(alloc: Global, arrays: &Arrays<Unbounded>, command: &str) -> Result<Str
 }
 
 /// What comes of entries of the open array.
-fn add(alloc: Global, arrays: &mut Arrays<Unbounded>, command: &str) -> Result<String, AllocError> {
+fn add<B: Bounds>(
+    alloc: Global,
+    arrays: &mut Arrays<B>,
+    command: &str,
+) -> Result<String, AllocError> {
     if !arrays.is_open() {
         return String::from_str(alloc, "no array");
     }
@@ -45,9 +57,9 @@ fn add(alloc: Global, arrays: &mut Arrays<Unbounded>, command: &str) -> Result<S
 }
 
 /// What comes of an array that is opened.
-fn open(
+fn open<B: Bounds>(
     alloc: Global,
-    arrays: &mut Arrays<Unbounded>,
+    arrays: &mut Arrays<B>,
     command: &str,
 ) -> Result<String, AllocError> {
     match arrays.open(kind_of(word(command, 1))) {
@@ -57,9 +69,9 @@ fn open(
 }
 
 /// What comes of a command.
-fn obey(
+fn obey<B: Bounds>(
     alloc: Global,
-    arrays: &mut Arrays<Unbounded>,
+    arrays: &mut Arrays<B>,
     command: &str,
 ) -> Result<String, AllocError> {
     match word(command, 0) {
@@ -73,9 +85,16 @@ fn obey(
 
 /// What comes of a line.
 pub(crate) fn answer(alloc: Global, line: &str) -> Result<String, AllocError> {
-    let mut arrays = Arrays::new(alloc, number_at(line, 1));
+    answer_under::<Brand>(alloc, number_at(line, 1), line.as_bytes())
+}
+
+/// What comes of it where there may be so many.
+fn answer_under<B: Bounds>(alloc: Global, limit: usize, line: &[u8]) -> Result<String, AllocError>
+    requires { limit ≡ B.most setting.Arrays }
+{
+    let mut arrays = Arrays::<B>::new(alloc, limit);
     let mut told = String::from_str(alloc, "arrays")?;
-    for command in line.split(" | ").skip(1) {
+    for command in as_text(line).split(" | ").skip(1) {
         let (count, command) = repeated(command);
         let mut last = String::new(alloc);
         for _ in 0..count {

@@ -1,10 +1,14 @@
 //! Dictionaries.
-use crate::words::{number, number_at, repeated, text_of, word};
+ghost use Rattle.std.specs.Prelude.{◌≡◌};
+ghost use Rattle.inf_settings.specs.declared.setting.Setting.TheVariants as setting;
+
+use crate::words::{as_text, number, number_at, repeated, text_of, word};
 use crate::writing::Written;
 use inf_cells::WriteFault;
 use inf_dictionary::{Dictionary, WordUse};
-use inf_settings::bounds::Unbounded;
+use inf_settings::bounds::Bounds;
 use std::alloc::{AllocError, Global};
+use std::marker::Brand;
 
 /// What a word is used as.
 fn use_of(kind: &str) -> WordUse {
@@ -30,9 +34,9 @@ fn texts_of(alloc: Global, command: &str) -> Result<Vec<[u8; 6]>, AllocError> {
 }
 
 /// What comes of a use.
-fn add(
+fn add<B: Bounds>(
     alloc: Global,
-    words: &mut Dictionary<Unbounded>,
+    words: &mut Dictionary<B>,
     command: &str,
 ) -> Result<String, AllocError> {
     let text = text_of(word(command, 1));
@@ -43,9 +47,9 @@ fn add(
 }
 
 /// What is written.
-fn write(
+fn write<B: Bounds>(
     alloc: Global,
-    words: &Dictionary<Unbounded>,
+    words: &Dictionary<B>,
     command: &str,
 ) -> Result<String, AllocError> {
     let mut written = Written::new(alloc, command)?;
@@ -59,9 +63,9 @@ fn write(
 }
 
 /// How many words stand before each of some texts.
-fn ranks(
+fn ranks<B: Bounds>(
     alloc: Global,
-    words: &Dictionary<Unbounded>,
+    words: &Dictionary<B>,
     command: &str,
 ) -> Result<String, AllocError> {
     let places = words.places(alloc)?;
@@ -74,9 +78,9 @@ fn ranks(
 }
 
 /// What comes of a command.
-fn obey(
+fn obey<B: Bounds>(
     alloc: Global,
-    words: &mut Dictionary<Unbounded>,
+    words: &mut Dictionary<B>,
     command: &str,
 ) -> Result<String, AllocError> {
     let text = text_of(word(command, 1));
@@ -95,9 +99,16 @@ fn obey(
 
 /// What comes of a line.
 pub(crate) fn answer(alloc: Global, line: &str) -> Result<String, AllocError> {
-    let mut words = Dictionary::new(alloc, number_at(line, 1));
+    answer_under::<Brand>(alloc, number_at(line, 1), line.as_bytes())
+}
+
+/// What comes of it where there may be so many.
+fn answer_under<B: Bounds>(alloc: Global, limit: usize, line: &[u8]) -> Result<String, AllocError>
+    requires { limit ≡ B.most setting.DictionaryEntries }
+{
+    let mut words = Dictionary::<B>::new(alloc, limit);
     let mut told = String::from_str(alloc, "dictionary")?;
-    for command in line.split(" | ").skip(1) {
+    for command in as_text(line).split(" | ").skip(1) {
         let (count, command) = repeated(command);
         let mut last = String::new(alloc);
         for _ in 0..count {

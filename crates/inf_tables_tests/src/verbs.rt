@@ -1,9 +1,13 @@
 //! Verbs and their lines.
-use crate::words::{number, number_at, repeated, text_of, word};
+ghost use Rattle.std.specs.Prelude.{◌≡◌};
+ghost use Rattle.inf_settings.specs.declared.setting.Setting.TheVariants as setting;
+
+use crate::words::{as_text, number, number_at, repeated, text_of, word};
 use crate::writing::Written;
-use inf_settings::bounds::Unbounded;
+use inf_settings::bounds::Bounds;
 use inf_verbs::{LineToken, Noun, Place, Verbs};
 use std::alloc::{AllocError, Global};
+use std::marker::Brand;
 
 /// A place by its name.
 fn place_of(name: &str) -> Place {
@@ -85,9 +89,9 @@ fn tokens_of(alloc: Global, command: &str) -> Result<Vec<LineToken>, AllocError>
 }
 
 /// What comes of a line of a verb.
-fn add_line(
+fn add_line<B: Bounds>(
     alloc: Global,
-    verbs: &mut Verbs<Unbounded>,
+    verbs: &mut Verbs<B>,
     command: &str,
 ) -> Result<String, AllocError> {
     let number = (number_at(command, 1) % 256) as u8;
@@ -110,9 +114,9 @@ fn add_line(
 }
 
 /// What comes of a verb that is extended.
-fn extend(
+fn extend<B: Bounds>(
     alloc: Global,
-    verbs: &mut Verbs<Unbounded>,
+    verbs: &mut Verbs<B>,
     command: &str,
 ) -> Result<String, AllocError> {
     let number = (number_at(command, 1) % 256) as u8;
@@ -124,7 +128,7 @@ fn extend(
 }
 
 /// What is written.
-fn write(alloc: Global, verbs: &Verbs<Unbounded>, command: &str) -> Result<String, AllocError> {
+fn write<B: Bounds>(alloc: Global, verbs: &Verbs<B>, command: &str) -> Result<String, AllocError> {
     let mut written = Written::new(alloc, command)?;
     let flat = verbs.write(&mut written.flat.area, &mut written.flat.refs);
     let paged = verbs.write(&mut written.paged.area, &mut written.paged.refs);
@@ -132,7 +136,11 @@ fn write(alloc: Global, verbs: &Verbs<Unbounded>, command: &str) -> Result<Strin
 }
 
 /// What comes of a command.
-fn obey(alloc: Global, verbs: &mut Verbs<Unbounded>, command: &str) -> Result<String, AllocError> {
+fn obey<B: Bounds>(
+    alloc: Global,
+    verbs: &mut Verbs<B>,
+    command: &str,
+) -> Result<String, AllocError> {
     match word(command, 0) {
         "add" => match verbs.add() {
             Ok(number) => format!(in alloc; "{number}"),
@@ -150,9 +158,27 @@ fn obey(alloc: Global, verbs: &mut Verbs<Unbounded>, command: &str) -> Result<St
 
 /// What comes of a line.
 pub(crate) fn answer(alloc: Global, line: &str) -> Result<String, AllocError> {
-    let mut verbs = Verbs::new(alloc, number_at(line, 1), number_at(line, 2));
+    answer_under::<Brand>(
+        alloc,
+        number_at(line, 1),
+        number_at(line, 2),
+        line.as_bytes(),
+    )
+}
+
+/// What comes of it where there may be so many verbs, and so many bytes.
+fn answer_under<B: Bounds>(
+    alloc: Global,
+    limit: usize,
+    space: usize,
+    line: &[u8],
+) -> Result<String, AllocError>
+    requires verbs { limit ≡ B.most setting.Verbs }
+    requires bytes { space ≡ B.most setting.GrammarLines }
+{
+    let mut verbs = Verbs::<B>::new(alloc, limit, space);
     let mut told = String::from_str(alloc, "verbs")?;
-    for command in line.split(" | ").skip(1) {
+    for command in as_text(line).split(" | ").skip(1) {
         let (count, command) = repeated(command);
         let mut last = String::new(alloc);
         for _ in 0..count {

@@ -1,10 +1,14 @@
 //! Worlds.
-use crate::words::{bytes_of, number, number_at, repeated, value_of, word};
+ghost use Rattle.std.specs.Prelude.{◌≡◌};
+ghost use Rattle.inf_settings.specs.declared.setting.Setting.TheVariants as setting;
+
+use crate::words::{as_text, bytes_of, number, number_at, repeated, value_of, word};
 use crate::writing::Written;
 use inf_area::Value;
-use inf_settings::bounds::Unbounded;
+use inf_settings::bounds::Bounds;
 use inf_world::{AddFault, Limits, Parent, ShortName, World, WorldArea};
 use std::alloc::{AllocError, Global};
+use std::marker::Brand;
 
 /// A limit.
 fn limit(text: &str, place: usize) -> u32 {
@@ -47,9 +51,9 @@ fn first_of(command: &str) -> Option<Value> {
 }
 
 /// What comes of a declaration or a header that has a number.
-fn declare(
+fn declare<B: Bounds>(
     alloc: Global,
-    world: &mut World<Unbounded>,
+    world: &mut World<B>,
     command: &str,
 ) -> Result<String, AllocError> {
     let outcome = match word(command, 0) {
@@ -73,7 +77,7 @@ fn declare(
 }
 
 /// What comes of an entry of a body, of its end, or of a header in error.
-fn entered(world: &mut World<Unbounded>, command: &str) -> Result<(), AddFault> {
+fn entered<B: Bounds>(world: &mut World<B>, command: &str) -> Result<(), AddFault> {
     let number = number_at(command, 1);
     match word(command, 0) {
         "lost" => world.begin_lost(),
@@ -91,7 +95,11 @@ fn entered(world: &mut World<Unbounded>, command: &str) -> Result<(), AddFault> 
 }
 
 /// What comes of it, in words.
-fn enter(alloc: Global, world: &mut World<Unbounded>, command: &str) -> Result<String, AllocError> {
+fn enter<B: Bounds>(
+    alloc: Global,
+    world: &mut World<B>,
+    command: &str,
+) -> Result<String, AllocError> {
     match entered(world, command) {
         Ok(()) => String::from_str(alloc, "ok"),
         Err(fault) => format!(in alloc; "{fault:?}"),
@@ -99,7 +107,7 @@ fn enter(alloc: Global, world: &mut World<Unbounded>, command: &str) -> Result<S
 }
 
 /// What is written.
-fn write(alloc: Global, world: &World<Unbounded>, command: &str) -> Result<String, AllocError> {
+fn write<B: Bounds>(alloc: Global, world: &World<B>, command: &str) -> Result<String, AllocError> {
     let area = area_of(word(command, 4));
     let mut written = Written::new(alloc, command)?;
     let flat = world.write(area, &mut written.flat.area, &mut written.flat.refs);
@@ -108,7 +116,11 @@ fn write(alloc: Global, world: &World<Unbounded>, command: &str) -> Result<Strin
 }
 
 /// What comes of a command.
-fn obey(alloc: Global, world: &mut World<Unbounded>, command: &str) -> Result<String, AllocError> {
+fn obey<B: Bounds>(
+    alloc: Global,
+    world: &mut World<B>,
+    command: &str,
+) -> Result<String, AllocError> {
     match word(command, 0) {
         "attribute" | "property" | "individual" | "class" | "object" => {
             declare(alloc, world, command)
@@ -131,9 +143,17 @@ pub(crate) fn answer(alloc: Global, line: &str) -> Result<String, AllocError> {
         objects: limit(line, 1),
         property_bytes: limit(line, 2),
     };
-    let mut world = World::new(alloc, limits);
+    answer_under::<Brand>(alloc, limits, line.as_bytes())
+}
+
+/// What comes of it where there may be so much.
+fn answer_under<B: Bounds>(alloc: Global, limits: Limits, line: &[u8]) -> Result<String, AllocError>
+    requires objects { limits.objects ≡ B.most setting.Objects }
+    requires bytes { limits.property_bytes ≡ B.most setting.PropertyTables }
+{
+    let mut world = World::<B>::new(alloc, limits);
     let mut told = String::from_str(alloc, "world")?;
-    for command in line.split(" | ").skip(1) {
+    for command in as_text(line).split(" | ").skip(1) {
         let (count, command) = repeated(command);
         let mut last = String::new(alloc);
         for _ in 0..count {

@@ -2,6 +2,7 @@
 use Rattle.std.proofs.Common.{◌≡◌, ℕ, zero, suc, ◌≤◌, List, [], ◌∷◌, ◌++◌, Option, None, length, take, ap, sym, ◌∙◌, refl}
 use Rattle.std.proofs.Math.Seq.{take-append_seam}
 use Rattle.std.proofs.lemmas.List.{take_all}
+use Rattle.inf_settings.specs.Bounds.{Limits}
 use Rattle.inf_output.specs.declared.operands.Simple.{Simple}
 use Rattle.inf_output.specs.declared.veneer.Veneer.{Veneer}
 use Rattle.inf_output.specs.Output.{Out, instruction, routine, used}
@@ -28,13 +29,13 @@ taken_twice (suc n) (x ∷ all) = ap (λ xs. x ∷ xs) (taken_twice n all)
 front_twice : (given all : List Simple) → given ≡ take 7 all → take 7 given ≡ take 7 all
 front_twice given all is = ap (take 7) is ∙ taken_twice 7 all
 
-pub calling_given : (f : Simple) (given all : List Simple) (store : Option ℕ) (o : Out) → given ≡ take 7 all →
-    calling f given store o ≡ calling f all store o
+pub calling_given : (limits : Limits) (f : Simple) (given all : List Simple) (store : Option ℕ) (o : Out) → given ≡ take 7 all →
+    calling limits f given store o ≡ calling limits f all store o
 unfolding calling
-calling_given f given all store o is =
-    ap (λ gs. instruction (call_opcode store (length gs)) (f ∷ gs) store None o) (front_twice given all is)
+calling_given limits f given all store o is =
+    ap (λ gs. instruction limits (call_opcode store (length gs)) (f ∷ gs) store None o) (front_twice given all is)
 
-pub calling_routine_given : (v : Veneer) (given all : List Simple) (store : Option ℕ) (o : Out) → given ≡ take 7 all →
-    calling_routine v given store o ≡ calling_routine v all store o
+pub calling_routine_given : (limits : Limits) (v : Veneer) (given all : List Simple) (store : Option ℕ) (o : Out) → given ≡ take 7 all →
+    calling_routine limits v given store o ≡ calling_routine limits v all store o
 unfolding calling_routine
-calling_routine_given v given all store o is = calling_given (routine v o) given all store (used v o) is
+calling_routine_given limits v given all store o is = calling_given limits (routine limits v o) given all store (used limits v o) is

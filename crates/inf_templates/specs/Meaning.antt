@@ -1,5 +1,6 @@
 -- The code of expressions, row by row: with the value in a variable or on the stack, without result, and as a branch.
 use Rattle.std.specs.Prelude.{ℕ, nat_lt, ◌==◌, Bool, true, false, not, List, [], ◌∷◌, ◌++◌, length, take, Option, Some, None, if◌then◌else◌}
+use Rattle.inf_settings.specs.Bounds.{Limits}
 use Rattle.inf_opcode.specs.declared.instructions.Label.{Label}
 use Rattle.inf_opcode.specs.declared.opcodes.Opcode.{Opcode}
 use Rattle.inf_opcode.specs.declared.opcodes.Opcode.TheVariants as opcode
@@ -56,33 +57,33 @@ parts m = m.first ∷ m.others
 
 -- Leaves
 
-abbrev pub jump_if : Bool → Label → Code
-jump_if true label = jumped label
-jump_if false label = nothing
+abbrev pub jump_if : Limits → Bool → Label → Code
+jump_if limits true label = jumped limits label
+jump_if limits false label = nothing
 
 abbrev pub is_true : ℕ → Bool
 is_true number = not (number == 0)
 
 -- the truth of a known number is known
-abbrev pub leaf_branch : Simple → Bool → Label → Code
-leaf_branch (Known number) sense label = jump_if (if sense then is_true number else not (is_true number)) label
-leaf_branch (Variable number) sense label = jump_zero (Variable number) sense label
-leaf_branch (Later target) sense label = jump_zero (Later target) sense label
+abbrev pub leaf_branch : Limits → Simple → Bool → Label → Code
+leaf_branch limits (Known number) sense label = jump_if limits (if sense then is_true number else not (is_true number)) label
+leaf_branch limits (Variable number) sense label = jump_zero limits (Variable number) sense label
+leaf_branch limits (Later target) sense label = jump_zero limits (Later target) sense label
 
 abbrev pub leaf_target : Simple → Target
 leaf_target (Known number) = Nowhere
 leaf_target (Variable number) = InVariable number
 leaf_target (Later target) = Nowhere
 
-abbrev pub leaf : Simple → Meaning
-leaf operand = record {
+abbrev pub leaf : Limits → Simple → Meaning
+leaf limits operand = record {
   operand = Some operand;
   target = leaf_target operand;
-  first = record { operand = Some operand; value = put operand };
+  first = record { operand = Some operand; value = put limits operand };
   others = [];
-  value = put operand;
+  value = put limits operand;
   alone = nothing;
-  branch = leaf_branch operand;
+  branch = leaf_branch limits operand;
 }
 
 -- Values and conditions
@@ -100,22 +101,23 @@ made value alone branch = record {
 }
 
 -- a value, which is tested against 0
-abbrev pub valued : (ℕ → Code) → Code → Meaning
-valued value alone = made value alone (λ sense label. value SP ▸ jump_zero (Variable SP) sense label)
+abbrev pub valued : Limits → (ℕ → Code) → Code → Meaning
+valued limits value alone = made value alone (λ sense label. value SP ▸ jump_zero limits (Variable SP) sense label)
 
 -- a condition by its branch: its value is 1 or 0
-abbrev pub truth_behind : Label → Label → ℕ → Code
-truth_behind fails last d = put (Known 1) d ▸ jumped last ▸ marked fails ▸ put (Known 0) d ▸ marked last
+abbrev pub truth_behind : Limits → Label → Label → ℕ → Code
+truth_behind limits fails last d =
+    put limits (Known 1) d ▸ jumped limits last ▸ marked limits fails ▸ put limits (Known 0) d ▸ marked limits last
 
-abbrev pub truth : (Bool → Label → Code) → ℕ → Code
-truth branch d = with_label (λ fails. with_label (λ last. branch false fails ▸ truth_behind fails last d))
+abbrev pub truth : Limits → (Bool → Label → Code) → ℕ → Code
+truth limits branch d = with_label (λ fails. with_label (λ last. branch false fails ▸ truth_behind limits fails last d))
 
-abbrev pub condition : (Bool → Label → Code) → Meaning
-condition branch = made (truth branch) (truth branch TEMP) branch
+abbrev pub condition : Limits → (Bool → Label → Code) → Meaning
+condition limits branch = made (truth limits branch) (truth limits branch TEMP) branch
 
 -- an instruction that stores its result
-abbrev pub computed : Opcode → List Part → Meaning
-computed opcode ps = valued (λ d. worked opcode ps (Some d) None) (worked opcode ps (Some TEMP) None)
+abbrev pub computed : Limits → Opcode → List Part → Meaning
+computed limits opcode ps = valued limits (λ d. worked limits opcode ps (Some d) None) (worked limits opcode ps (Some TEMP) None)
 
 abbrev pub operation_opcode : Operation → Opcode
 operation_opcode operation.Add = opcode.Add
@@ -141,32 +143,32 @@ setter memory.Byte = veneer.WriteByte
 setter memory.Word = veneer.WriteWord
 setter memory.Property = veneer.WriteProperty
 
-abbrev pub stored : Memory → List Simple → Code
-stored memory.Byte all = instruction opcode.Storeb all None None
-stored memory.Word all = instruction opcode.Storew all None None
-stored memory.Property all = calling_routine veneer.WriteProperty all None
+abbrev pub stored : Limits → Memory → List Simple → Code
+stored limits memory.Byte all = instruction limits opcode.Storeb all None None
+stored limits memory.Word all = instruction limits opcode.Storew all None None
+stored limits memory.Property all = calling_routine limits veneer.WriteProperty all None
 
-abbrev pub assigned_value : Target → Meaning → ℕ → Code
-assigned_value Nowhere a d = a.value d
-assigned_value (InVariable v) a d = a.value v ▸ load v d
-assigned_value (InMemory m ps) a d = call_routine (setter m) (ps ++ part a ∷ []) (Some d)
+abbrev pub assigned_value : Limits → Target → Meaning → ℕ → Code
+assigned_value limits Nowhere a d = a.value d
+assigned_value limits (InVariable v) a d = a.value v ▸ load limits v d
+assigned_value limits (InMemory m ps) a d = call_routine limits (setter m) (ps ++ part a ∷ []) (Some d)
 
-abbrev pub assigned_alone : Target → Meaning → Code
-assigned_alone Nowhere a = a.alone
-assigned_alone (InVariable v) a = a.value v
-assigned_alone (InMemory m ps) a = let all = ps ++ part a ∷ [] in evaluated all ▸ stored m (operands all)
+abbrev pub assigned_alone : Limits → Target → Meaning → Code
+assigned_alone limits Nowhere a = a.alone
+assigned_alone limits (InVariable v) a = a.value v
+assigned_alone limits (InMemory m ps) a = let all = ps ++ part a ∷ [] in evaluated all ▸ stored limits m (operands all)
 
-unfoldable pub assign_value : Meaning → Meaning → ℕ → Code
-assign_value v a d = assigned_value v.target a d
+unfoldable pub assign_value : Limits → Meaning → Meaning → ℕ → Code
+assign_value limits v a d = assigned_value limits v.target a d
 
-unfoldable pub assign_alone : Meaning → Meaning → Code
-assign_alone v a = assigned_alone v.target a
+unfoldable pub assign_alone : Limits → Meaning → Meaning → Code
+assign_alone limits v a = assigned_alone limits v.target a
 
 -- Steps
 
-abbrev pub stepping : Step → ℕ → Code
-stepping step.Up v = naming opcode.Inc v [] None None
-stepping step.Down v = naming opcode.Dec v [] None None
+abbrev pub stepping : Limits → Step → ℕ → Code
+stepping limits step.Up v = naming limits opcode.Inc v [] None None
+stepping limits step.Down v = naming limits opcode.Dec v [] None None
 
 -- the routine of the veneer that steps, by what, and whether it leaves the new value
 abbrev pub stepper : Memory → Veneer
@@ -182,33 +184,33 @@ abbrev pub leaves_new : Bool → Simple
 leaves_new true = Known 1
 leaves_new false = Known 0
 
-abbrev pub step_in_memory : Bool → Step → Memory → List Part → Option ℕ → Code
-step_in_memory before s m ps store = call_routine (stepper m) (ps ++ is (by s) ∷ is (leaves_new before) ∷ []) store
+abbrev pub step_in_memory : Limits → Bool → Step → Memory → List Part → Option ℕ → Code
+step_in_memory limits before s m ps store = call_routine limits (stepper m) (ps ++ is (by s) ∷ is (leaves_new before) ∷ []) store
 
-abbrev pub stepped_value : Bool → Step → Target → Meaning → ℕ → Code
-stepped_value before s Nowhere a d = a.value d
-stepped_value true s (InVariable v) a d = stepping s v ▸ load v d
-stepped_value false s (InVariable v) a d = load v d ▸ stepping s v
-stepped_value before s (InMemory m ps) a d = step_in_memory before s m ps (Some d)
+abbrev pub stepped_value : Limits → Bool → Step → Target → Meaning → ℕ → Code
+stepped_value limits before s Nowhere a d = a.value d
+stepped_value limits true s (InVariable v) a d = stepping limits s v ▸ load limits v d
+stepped_value limits false s (InVariable v) a d = load limits v d ▸ stepping limits s v
+stepped_value limits before s (InMemory m ps) a d = step_in_memory limits before s m ps (Some d)
 
-abbrev pub stepped_alone : Bool → Step → Target → Meaning → Code
-stepped_alone before s Nowhere a = a.alone
-stepped_alone before s (InVariable v) a = stepping s v
-stepped_alone before s (InMemory m ps) a = step_in_memory before s m ps None
+abbrev pub stepped_alone : Limits → Bool → Step → Target → Meaning → Code
+stepped_alone limits before s Nowhere a = a.alone
+stepped_alone limits before s (InVariable v) a = stepping limits s v
+stepped_alone limits before s (InMemory m ps) a = step_in_memory limits before s m ps None
 
-unfoldable pub step_value : Bool → Step → Meaning → ℕ → Code
-step_value before s a d = stepped_value before s a.target a d
+unfoldable pub step_value : Limits → Bool → Step → Meaning → ℕ → Code
+step_value limits before s a d = stepped_value limits before s a.target a d
 
-unfoldable pub step_alone : Bool → Step → Meaning → Code
-step_alone before s a = stepped_alone before s a.target a
+unfoldable pub step_alone : Limits → Bool → Step → Meaning → Code
+step_alone limits before s a = stepped_alone limits before s a.target a
 
-abbrev pub stepped : Bool → Step → Meaning → Meaning
-stepped before s a = valued (step_value before s a) (step_alone before s a)
+abbrev pub stepped : Limits → Bool → Step → Meaning → Meaning
+stepped limits before s a = valued limits (step_value limits before s a) (step_alone limits before s a)
 
 -- Calls
 
-abbrev pub called : (Option ℕ → Code) → Meaning
-called code = valued (λ d. code (Some d)) (code None)
+abbrev pub called : Limits → (Option ℕ → Code) → Meaning
+called limits code = valued limits (λ d. code (Some d)) (code None)
 
 -- what is asked of a property is asked of a routine of the veneer
 abbrev pub reader : PropertyPart → Veneer
@@ -227,19 +229,19 @@ operation_target operation.Word ps = InMemory memory.Word ps
 operation_target _ ps = Nowhere
 
 -- what is called: a value, or a property as a message
-abbrev pub called_by : Target → Meaning → List Part → Option ℕ → Code
-called_by Nowhere f ps store = call (part f) ps store
-called_by (InVariable v) f ps store = call (part f) ps store
-called_by (InMemory memory.Byte qs) f ps store = call (part f) ps store
-called_by (InMemory memory.Word qs) f ps store = call (part f) ps store
-called_by (InMemory memory.Property qs) f ps store = call_routine veneer.CallProperty (qs ++ ps) store
+abbrev pub called_by : Limits → Target → Meaning → List Part → Option ℕ → Code
+called_by limits Nowhere f ps store = call limits (part f) ps store
+called_by limits (InVariable v) f ps store = call limits (part f) ps store
+called_by limits (InMemory memory.Byte qs) f ps store = call limits (part f) ps store
+called_by limits (InMemory memory.Word qs) f ps store = call limits (part f) ps store
+called_by limits (InMemory memory.Property qs) f ps store = call_routine limits veneer.CallProperty (qs ++ ps) store
 
-unfoldable pub call_of : Meaning → List Part → Option ℕ → Code
-call_of f ps store = called_by f.target f ps store
+unfoldable pub call_of : Limits → Meaning → List Part → Option ℕ → Code
+call_of limits f ps store = called_by limits f.target f ps store
 
 -- an object that an instruction finds: it branches to what follows
-unfoldable pub related : Opcode → Part → ℕ → Code
-related opcode p d = with_label (λ next. worked opcode (p ∷ []) (Some d) (to true next) ▸ marked next)
+unfoldable pub related : Limits → Opcode → Part → ℕ → Code
+related limits opcode p d = with_label (λ next. worked limits opcode (p ∷ []) (Some d) (to true next) ▸ marked limits next)
 
 abbrev pub related_opcode : Relative → Opcode
 related_opcode relative.Child = opcode.GetChild
@@ -252,38 +254,38 @@ abbrev pub either : Meaning → Meaning → Bool → Label → Code
 either a b sense label = a.branch sense label ▸ b.branch sense label
 
 -- where the truth of a is not `sense` it decides, and else b
-abbrev pub both : Meaning → Meaning → Bool → Label → Code
-both a b sense label = with_label (λ over. a.branch (not sense) over ▸ b.branch sense label ▸ marked over)
+abbrev pub both : Limits → Meaning → Meaning → Bool → Label → Code
+both limits a b sense label = with_label (λ over. a.branch (not sense) over ▸ b.branch sense label ▸ marked limits over)
 
-unfoldable pub and_branch : Meaning → Meaning → Bool → Label → Code
-and_branch a b sense = if sense then both a b true else either a b false
+unfoldable pub and_branch : Limits → Meaning → Meaning → Bool → Label → Code
+and_branch limits a b sense = if sense then both limits a b true else either a b false
 
-unfoldable pub or_branch : Meaning → Meaning → Bool → Label → Code
-or_branch a b sense = if sense then either a b true else both a b false
+unfoldable pub or_branch : Limits → Meaning → Meaning → Bool → Label → Code
+or_branch limits a b sense = if sense then either a b true else both limits a b false
 
 -- Tests
 
-abbrev pub branching : Opcode → List Simple → Bool → Label → Code
-branching opcode all sense label = instruction opcode all None (to sense label)
+abbrev pub branching : Limits → Opcode → List Simple → Bool → Label → Code
+branching limits opcode all sense label = instruction limits opcode all None (to sense label)
 
 -- a test by a routine of the veneer
-abbrev pub asking : Veneer → List Simple → Bool → Label → Code
-asking v all sense label = calling_routine v all (Some SP) ▸ jump_zero (Variable SP) sense label
+abbrev pub asking : Limits → Veneer → List Simple → Bool → Label → Code
+asking limits v all sense label = calling_routine limits v all (Some SP) ▸ jump_zero limits (Variable SP) sense label
 
 -- a test of some operands, as a branch to a label where its truth is this
-abbrev pub compared : Test → List Simple → Bool → Label → Code
-compared test.Equal all sense label = branching opcode.Je all sense label
-compared test.Less all sense label = branching opcode.Jl all sense label
-compared test.Greater all sense label = branching opcode.Jg all sense label
-compared test.AtMost all sense label = branching opcode.Jg all (not sense) label
-compared test.AtLeast all sense label = branching opcode.Jl all (not sense) label
-compared test.Has all sense label = branching opcode.TestAttr all sense label
-compared test.In all sense label = branching opcode.Jin all sense label
-compared test.OfClass all sense label = asking veneer.OfClass all sense label
-compared test.Provides all sense label = asking veneer.Provides all sense label
+abbrev pub compared : Limits → Test → List Simple → Bool → Label → Code
+compared limits test.Equal all sense label = branching limits opcode.Je all sense label
+compared limits test.Less all sense label = branching limits opcode.Jl all sense label
+compared limits test.Greater all sense label = branching limits opcode.Jg all sense label
+compared limits test.AtMost all sense label = branching limits opcode.Jg all (not sense) label
+compared limits test.AtLeast all sense label = branching limits opcode.Jl all (not sense) label
+compared limits test.Has all sense label = branching limits opcode.TestAttr all sense label
+compared limits test.In all sense label = branching limits opcode.Jin all sense label
+compared limits test.OfClass all sense label = asking limits veneer.OfClass all sense label
+compared limits test.Provides all sense label = asking limits veneer.Provides all sense label
 
-abbrev pub tested : Test → List Part → Bool → Label → Code
-tested t ps sense label = evaluated ps ▸ compared t (operands ps) sense label
+abbrev pub tested : Limits → Test → List Part → Bool → Label → Code
+tested limits t ps sense label = evaluated ps ▸ compared limits t (operands ps) sense label
 
 -- je takes up to three alternatives, and other tests take one
 abbrev pub takes_three : Test → Bool
@@ -294,73 +296,74 @@ abbrev pub group : Test → ℕ
 group t = if takes_three t then 3 else 1
 
 -- Groups of alternatives to a simple value. All but the last go `there` where they hold.
-unfoldable pub triple_tests : Simple → List Part → Bool → Label → Label → Code
-triple_tests x [] sense label there = nothing
-triple_tests x (b ∷ []) sense label there = tested test.Equal (is x ∷ b ∷ []) sense label
-triple_tests x (b ∷ c ∷ []) sense label there = tested test.Equal (is x ∷ b ∷ c ∷ []) sense label
-triple_tests x (b ∷ c ∷ d ∷ []) sense label there = tested test.Equal (is x ∷ b ∷ c ∷ d ∷ []) sense label
-triple_tests x (b ∷ c ∷ d ∷ e ∷ others) sense label there =
-    tested test.Equal (is x ∷ b ∷ c ∷ d ∷ []) true there ▸ triple_tests x (e ∷ others) sense label there
+unfoldable pub triple_tests : Limits → Simple → List Part → Bool → Label → Label → Code
+triple_tests limits x [] sense label there = nothing
+triple_tests limits x (b ∷ []) sense label there = tested limits test.Equal (is x ∷ b ∷ []) sense label
+triple_tests limits x (b ∷ c ∷ []) sense label there = tested limits test.Equal (is x ∷ b ∷ c ∷ []) sense label
+triple_tests limits x (b ∷ c ∷ d ∷ []) sense label there = tested limits test.Equal (is x ∷ b ∷ c ∷ d ∷ []) sense label
+triple_tests limits x (b ∷ c ∷ d ∷ e ∷ others) sense label there =
+    tested limits test.Equal (is x ∷ b ∷ c ∷ d ∷ []) true there ▸ triple_tests limits x (e ∷ others) sense label there
 
-unfoldable pub single_tests : Test → Simple → List Part → Bool → Label → Label → Code
-single_tests t x [] sense label there = nothing
-single_tests t x (b ∷ []) sense label there = tested t (is x ∷ b ∷ []) sense label
-single_tests t x (b ∷ c ∷ others) sense label there =
-    tested t (is x ∷ b ∷ []) true there ▸ single_tests t x (c ∷ others) sense label there
+unfoldable pub single_tests : Limits → Test → Simple → List Part → Bool → Label → Label → Code
+single_tests limits t x [] sense label there = nothing
+single_tests limits t x (b ∷ []) sense label there = tested limits t (is x ∷ b ∷ []) sense label
+single_tests limits t x (b ∷ c ∷ others) sense label there =
+    tested limits t (is x ∷ b ∷ []) true there ▸ single_tests limits t x (c ∷ others) sense label there
 
-unfoldable pub tests : Test → Simple → List Part → Bool → Label → Label → Code
-tests t x ps sense label there = if takes_three t then triple_tests x ps sense label there else single_tests t x ps sense label there
+unfoldable pub tests : Limits → Test → Simple → List Part → Bool → Label → Label → Code
+tests limits t x ps sense label there =
+    if takes_three t then triple_tests limits x ps sense label there else single_tests limits t x ps sense label there
 
 -- a value and its alternatives, of which there are no more than one instruction takes
 abbrev pub most_compared : Test → ℕ
 most_compared t = if takes_three t then 4 else 2
 
-abbrev pub tested_at_once : Test → Part → List Part → Bool → Label → Code
-tested_at_once t a ps sense label = evaluated (a ∷ ps) ▸ compared t (take (most_compared t) (operands (a ∷ ps))) sense label
+abbrev pub tested_at_once : Limits → Test → Part → List Part → Bool → Label → Code
+tested_at_once limits t a ps sense label = evaluated (a ∷ ps) ▸ compared limits t (take (most_compared t) (operands (a ∷ ps))) sense label
 
 -- Where a test needs several instructions, a value that is not simple is kept in a variable.
-abbrev pub kept_tests : Bool → Test → Meaning → List Part → Bool → Label → Label → Code
-kept_tests true t a ps sense label there = a.value TEMP ▸ tests t (Variable TEMP) ps sense label there
-kept_tests false t a ps sense label there = tested_at_once t (part a) ps sense label
+abbrev pub kept_tests : Limits → Bool → Test → Meaning → List Part → Bool → Label → Label → Code
+kept_tests limits true t a ps sense label there = a.value TEMP ▸ tests limits t (Variable TEMP) ps sense label there
+kept_tests limits false t a ps sense label there = tested_at_once limits t (part a) ps sense label
 
-abbrev pub tests_by : Option Simple → Test → Meaning → List Part → Bool → Label → Label → Code
-tests_by (Some x) t a ps sense label there = tests t x ps sense label there
-tests_by None t a ps sense label there = kept_tests (nat_lt (group t) (length ps)) t a ps sense label there
+abbrev pub tests_by : Limits → Option Simple → Test → Meaning → List Part → Bool → Label → Label → Code
+tests_by limits (Some x) t a ps sense label there = tests limits t x ps sense label there
+tests_by limits None t a ps sense label there = kept_tests limits (nat_lt (group t) (length ps)) t a ps sense label there
 
-unfoldable pub test_branch : Test → Meaning → Meaning → Bool → Label → Code
-test_branch t a b sense label =
-    with_label (λ over. tests_by a.operand t a (parts b) sense label (if sense then label else over) ▸ marked over)
+unfoldable pub test_branch : Limits → Test → Meaning → Meaning → Bool → Label → Code
+test_branch limits t a b sense label =
+    with_label (λ over. tests_by limits a.operand t a (parts b) sense label (if sense then label else over) ▸ marked limits over)
 
 -- The rows
 
-abbrev pub one : Unary → Meaning → Meaning
-one unary.Negate a = computed opcode.Sub (is (Known 0) ∷ part a ∷ [])
-one unary.Not a = condition (λ sense label. a.branch (not sense) label)
-one (unary.Single s) a = computed (single_opcode s) (part a ∷ [])
-one (unary.Before s) a = stepped true s a
-one (unary.Behind s) a = stepped false s a
-one (unary.Relative r) a = let find = related (related_opcode r) (part a) in valued find (find TEMP)
-one unary.Children a = called (call_routine veneer.Children (part a ∷ []))
-one unary.Call f = called (call_of f [])
-one unary.Indirect list = called (call list.first list.others)
+abbrev pub one : Limits → Unary → Meaning → Meaning
+one limits unary.Negate a = computed limits opcode.Sub (is (Known 0) ∷ part a ∷ [])
+one limits unary.Not a = condition limits (λ sense label. a.branch (not sense) label)
+one limits (unary.Single s) a = computed limits (single_opcode s) (part a ∷ [])
+one limits (unary.Before s) a = stepped limits true s a
+one limits (unary.Behind s) a = stepped limits false s a
+one limits (unary.Relative r) a = let find = related limits (related_opcode r) (part a) in valued limits find (find TEMP)
+one limits unary.Children a = called limits (call_routine limits veneer.Children (part a ∷ []))
+one limits unary.Call f = called limits (call_of limits f [])
+one limits unary.Indirect list = called limits (call limits list.first list.others)
 
 -- A range and a list are no values: they stand as their first.
-abbrev pub two : Binary → Meaning → Meaning → Meaning
-two (binary.Operation o) a b =
-    let ps = part a ∷ part b ∷ [] in record (computed (operation_opcode o) ps) { target = operation_target o ps }
-two (binary.Property p) a b =
-    let ps = part a ∷ part b ∷ [] in record (called (call_routine (reader p) ps)) { target = property_target p ps }
-two (binary.Test t) a b = condition (test_branch t a b)
-two (binary.Fails t) a b = condition (λ sense. test_branch t a b (not sense))
-two binary.Assign v a = valued (assign_value v a) (assign_alone v a)
-two binary.Comma a b = valued (λ d. a.alone ▸ b.value d) (a.alone ▸ b.value TEMP)
-two binary.And a b = condition (and_branch a b)
-two binary.Or a b = condition (or_branch a b)
-two binary.Call f list = called (call_of f (parts list))
-two binary.Then a list = record (valued a.value a.alone) { first = part a; others = parts list }
-two binary.To a b = valued a.value a.alone
+abbrev pub two : Limits → Binary → Meaning → Meaning → Meaning
+two limits (binary.Operation o) a b =
+    let ps = part a ∷ part b ∷ [] in record (computed limits (operation_opcode o) ps) { target = operation_target o ps }
+two limits (binary.Property p) a b =
+    let ps = part a ∷ part b ∷ [] in record (called limits (call_routine limits (reader p) ps)) { target = property_target p ps }
+two limits (binary.Test t) a b = condition limits (test_branch limits t a b)
+two limits (binary.Fails t) a b = condition limits (λ sense. test_branch limits t a b (not sense))
+two limits binary.Assign v a = valued limits (assign_value limits v a) (assign_alone limits v a)
+two limits binary.Comma a b = valued limits (λ d. a.alone ▸ b.value d) (a.alone ▸ b.value TEMP)
+two limits binary.And a b = condition limits (and_branch limits a b)
+two limits binary.Or a b = condition limits (or_branch limits a b)
+two limits binary.Call f list = called limits (call_of limits f (parts list))
+two limits binary.Then a list = record (valued limits a.value a.alone) { first = part a; others = parts list }
+two limits binary.To a b = valued limits a.value a.alone
 
-abbrev pub meaning : Tree → Meaning
-meaning (Leaf operand) = leaf (simple operand)
-meaning (One op a) = one op (meaning a)
-meaning (Two op a b) = two op (meaning a) (meaning b)
+abbrev pub meaning : Limits → Tree → Meaning
+meaning limits (Leaf operand) = leaf limits (simple operand)
+meaning limits (One op a) = one limits op (meaning limits a)
+meaning limits (Two op a b) = two limits op (meaning limits a) (meaning limits b)

@@ -1,5 +1,6 @@
 -- What is left to be laid.
 use Rattle.std.specs.Prelude.{◌≡◌, ℕ, true, List, [], ◌∷◌, map, take, Some, None}
+use Rattle.inf_settings.specs.Bounds.{Limits}
 use Rattle.inf_opcode.specs.declared.opcodes.Opcode.TheVariants as opcode
 use Rattle.inf_expressions.specs.declared.operators.Test.TheVariants as test
 use Rattle.inf_expressions.specs.Trees.{Tree}
@@ -21,75 +22,85 @@ use Rattle.inf_templates.specs.Parts.{Part, calling, calling_routine, evaluated,
 use Rattle.inf_templates.specs.Meaning.{Meaning, Target, Nowhere, InVariable, InMemory, by, compared, leaves_new, meaning, most_compared, operation_opcode, part, parts, related_opcode, single_opcode, single_tests, stepper, stepping, stored, triple_tests}
 
 -- what the tree at a place means
-abbrev pub at : List Tree → ℕ → Meaning
-at trees place = meaning (tree_at trees place)
+abbrev pub at : Limits → List Tree → ℕ → Meaning
+at limits trees place = meaning limits (tree_at trees place)
 
 -- what is given as an operand, as a part
-abbrev pub part_of : List Tree → Argument → Part
-part_of trees (Of place) = part (at trees place)
-part_of trees (Is operand) = is operand
+abbrev pub part_of : Limits → List Tree → Argument → Part
+part_of limits trees (Of place) = part (at limits trees place)
+part_of limits trees (Is operand) = is operand
 
-abbrev pub few_parts : List Tree → Few → List Part
-few_parts trees (few.One a) = part (at trees a) ∷ []
-few_parts trees (few.Two a b) = part (at trees a) ∷ part (at trees b) ∷ []
-few_parts trees (few.Three a b c) = part (at trees a) ∷ part (at trees b) ∷ part (at trees c) ∷ []
+abbrev pub few_parts : Limits → List Tree → Few → List Part
+few_parts limits trees (few.One a) = part (at limits trees a) ∷ []
+few_parts limits trees (few.Two a b) = part (at limits trees a) ∷ part (at limits trees b) ∷ []
+few_parts limits trees (few.Three a b c) = part (at limits trees a) ∷ part (at limits trees b) ∷ part (at limits trees c) ∷ []
 
 -- an instruction whose parts are worked out
-abbrev pub worked_code : List Tree → Worked → Code
-worked_code trees (worked.Compute o a b d) =
-    instruction (operation_opcode o) (operands (part (at trees a) ∷ part (at trees b) ∷ [])) (Some d) None
-worked_code trees (worked.Negate a d) = instruction opcode.Sub (operands (is (Known 0) ∷ part (at trees a) ∷ [])) (Some d) None
-worked_code trees (worked.Single s a d) = instruction (single_opcode s) (operands (part (at trees a) ∷ [])) (Some d) None
-worked_code trees (worked.Find r a d label) = instruction (related_opcode r) (operands (part (at trees a) ∷ [])) (Some d) (to true label)
-worked_code trees (worked.Three x b c d label) =
-    compared test.Equal (operands (is x ∷ part (at trees b) ∷ part (at trees c) ∷ part (at trees d) ∷ [])) true label
-worked_code trees (worked.Compare t x b sense label) = compared t (operands (is x ∷ part (at trees b) ∷ [])) sense label
-worked_code trees (worked.Any t a list sense label) =
-    compared t (take (most_compared t) (operands (part_of trees a ∷ parts (at trees list)))) sense label
-worked_code trees (worked.Store m a b c) = stored m (operands (part (at trees a) ∷ part (at trees b) ∷ part (at trees c) ∷ []))
-worked_code trees (worked.Routine v few store) = calling_routine v (operands (few_parts trees few)) store
-worked_code trees (worked.StepInMemory before s m a b store) =
-    calling_routine (stepper m) (operands (part (at trees a) ∷ part (at trees b) ∷ is (by s) ∷ is (leaves_new before) ∷ [])) store
-worked_code trees (worked.BareCall f store) = calling (operand_of (part (at trees f))) [] store
-worked_code trees (worked.Call f list store) = calling (operand_of (part (at trees f))) (operands (parts (at trees list))) store
-worked_code trees (worked.Message a b list store) =
-    calling_routine veneer.CallProperty (operands (part (at trees a) ∷ part (at trees b) ∷ parts (at trees list))) store
-worked_code trees (worked.Indirect list store) = calling (operand_of (at trees list).first) (operands (at trees list).others) store
+abbrev pub worked_code : Limits → List Tree → Worked → Code
+worked_code limits trees (worked.Compute o a b d) =
+    instruction limits (operation_opcode o) (operands (part (at limits trees a) ∷ part (at limits trees b) ∷ [])) (Some d) None
+worked_code limits trees (worked.Negate a d) =
+    instruction limits opcode.Sub (operands (is (Known 0) ∷ part (at limits trees a) ∷ [])) (Some d) None
+worked_code limits trees (worked.Single s a d) =
+    instruction limits (single_opcode s) (operands (part (at limits trees a) ∷ [])) (Some d) None
+worked_code limits trees (worked.Find r a d label) =
+    instruction limits (related_opcode r) (operands (part (at limits trees a) ∷ [])) (Some d) (to true label)
+worked_code limits trees (worked.Three x b c d label) =
+    compared limits test.Equal (operands (is x ∷ part (at limits trees b) ∷ part (at limits trees c) ∷ part (at limits trees d) ∷ [])) true
+    label
+worked_code limits trees (worked.Compare t x b sense label) =
+    compared limits t (operands (is x ∷ part (at limits trees b) ∷ [])) sense label
+worked_code limits trees (worked.Any t a list sense label) =
+    compared limits t (take (most_compared t) (operands (part_of limits trees a ∷ parts (at limits trees list)))) sense label
+worked_code limits trees (worked.Store m a b c) =
+    stored limits m (operands (part (at limits trees a) ∷ part (at limits trees b) ∷ part (at limits trees c) ∷ []))
+worked_code limits trees (worked.Routine v few store) = calling_routine limits v (operands (few_parts limits trees few)) store
+worked_code limits trees (worked.StepInMemory before s m a b store) =
+    calling_routine limits (stepper m) (operands (part (at limits trees a) ∷ part (at limits trees b) ∷ is (by s) ∷ is (leaves_new before) ∷
+    [])) store
+worked_code limits trees (worked.BareCall f store) = calling limits (operand_of (part (at limits trees f))) [] store
+worked_code limits trees (worked.Call f list store) =
+    calling limits (operand_of (part (at limits trees f))) (operands (parts (at limits trees list))) store
+worked_code limits trees (worked.Message a b list store) =
+    calling_routine limits veneer.CallProperty (operands (part (at limits trees a) ∷ part (at limits trees b) ∷ parts
+    (at limits trees list))) store
+worked_code limits trees (worked.Indirect list store) =
+    calling limits (operand_of (at limits trees list).first) (operands (at limits trees list).others) store
 
-abbrev pub task_code : List Tree → Task → Code
-task_code trees (task.Value place d) = (at trees place).value d
-task_code trees (task.Alone place) = (at trees place).alone
-task_code trees (task.Branch place sense label) = (at trees place).branch sense label
-task_code trees (task.Evaluate argument) = worked_out (part_of trees argument)
-task_code trees (task.List place) = evaluated (parts (at trees place))
-task_code trees (task.Triples x list sense label there) = triple_tests x (parts (at trees list)) sense label there
-task_code trees (task.Singles t x list sense label there) = single_tests t x (parts (at trees list)) sense label there
-task_code trees (task.Put operand d) = put operand d
-task_code trees (task.Jump label) = jumped label
-task_code trees (task.Mark label) = marked label
-task_code trees (task.Load v d) = load v d
-task_code trees (task.Step s v) = stepping s v
-task_code trees (task.JumpZero operand sense label) = jump_zero operand sense label
-task_code trees (task.Instruct w) = worked_code trees w
+abbrev pub task_code : Limits → List Tree → Task → Code
+task_code limits trees (task.Value place d) = (at limits trees place).value d
+task_code limits trees (task.Alone place) = (at limits trees place).alone
+task_code limits trees (task.Branch place sense label) = (at limits trees place).branch sense label
+task_code limits trees (task.Evaluate argument) = worked_out (part_of limits trees argument)
+task_code limits trees (task.List place) = evaluated (parts (at limits trees place))
+task_code limits trees (task.Triples x list sense label there) = triple_tests limits x (parts (at limits trees list)) sense label there
+task_code limits trees (task.Singles t x list sense label there) = single_tests limits t x (parts (at limits trees list)) sense label there
+task_code limits trees (task.Put operand d) = put limits operand d
+task_code limits trees (task.Jump label) = jumped limits label
+task_code limits trees (task.Mark label) = marked limits label
+task_code limits trees (task.Load v d) = load limits v d
+task_code limits trees (task.Step s v) = stepping limits s v
+task_code limits trees (task.JumpZero operand sense label) = jump_zero limits operand sense label
+task_code limits trees (task.Instruct w) = worked_code limits trees w
 
 -- what a place of the code is where something is assigned
-abbrev pub target_of : List Tree → Goal → Target
-target_of trees goal.Nowhere = Nowhere
-target_of trees (goal.Variable v) = InVariable v
-target_of trees (goal.Memory m a b) = InMemory m (part (at trees a) ∷ part (at trees b) ∷ [])
+abbrev pub target_of : Limits → List Tree → Goal → Target
+target_of limits trees goal.Nowhere = Nowhere
+target_of limits trees (goal.Variable v) = InVariable v
+target_of limits trees (goal.Memory m a b) = InMemory m (part (at limits trees a) ∷ part (at limits trees b) ∷ [])
 
-abbrev pub tasks_code : List Tree → List Task → Code
-tasks_code trees [] = nothing
-tasks_code trees (t ∷ tasks) = task_code trees t ▸ tasks_code trees tasks
+abbrev pub tasks_code : Limits → List Tree → List Task → Code
+tasks_code limits trees [] = nothing
+tasks_code limits trees (t ∷ tasks) = task_code limits trees t ▸ tasks_code limits trees tasks
 
 -- what is left now, from what there is now, is some code and then what was left, from what there was
-abbrev pub Leads : List Tree → Code → List Task → List Task → Out → Out → Type 0
-Leads trees code old new before now = tasks_code trees new now ≡ tasks_code trees old (code before)
+abbrev pub Leads : Limits → List Tree → Code → List Task → List Task → Out → Out → Type 0
+Leads limits trees code old new before now = tasks_code limits trees new now ≡ tasks_code limits trees old (code before)
 
 -- the same where nothing was laid meanwhile
-abbrev pub Puts : List Tree → Code → List Task → List Task → Type 0
-Puts trees code old new = (o : Out) → Leads trees code old new o o
+abbrev pub Puts : Limits → List Tree → Code → List Task → List Task → Type 0
+Puts limits trees code old new = (o : Out) → Leads limits trees code old new o o
 
 -- what is given as the operands of an instruction, as parts
-abbrev pub parts_of : List Tree → List Argument → List Part
-parts_of trees arguments = map (part_of trees) arguments
+abbrev pub parts_of : Limits → List Tree → List Argument → List Part
+parts_of limits trees arguments = map (part_of limits trees) arguments

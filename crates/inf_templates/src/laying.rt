@@ -1,4 +1,5 @@
 //! Tasks, one by one.
+ghost use Rattle.inf_settings.specs.Bounds.{Limits};
 ghost use Rattle.std.specs.Prelude.{◌≡◌, ◌≤◌, ◌<◌, ◌+◌, [], ◌∷◌, ◌++◌, List, OnOk, Option, length, take};
 ghost use Rattle.inf_expressions.specs.Trees.{Tree};
 ghost use Rattle.inf_output.specs.Output.{Out};
@@ -31,7 +32,8 @@ fn evaluate<B: Bounds>(
     tasks: &mut Tasks,
     out: &mut Output<B>,
 ) -> Result<(), AllocError>
-    ensures code { OnOk result (Leads nodes.now (task_code nodes.now (task.Evaluate argument)) tasks.old tasks.new out.old out.new) }
+    ensures code { OnOk result (Leads B.most nodes.now (task_code B.most nodes.now (task.Evaluate argument)) tasks.old tasks.new out.old
+        out.new) }
     ensures less { OnOk result (WeighsUnder nodes.now (weight nodes.now (task.Evaluate argument)) tasks.old tasks.new) }
 {
     match argument {
@@ -45,7 +47,8 @@ fn evaluate<B: Bounds>(
 
 /// The members of a list, from the last to the first.
 fn list(nodes: &Nodes, place: usize, tasks: &mut Tasks) -> Result<(), AllocError>
-    ensures code { OnOk result ((o : Out) → tasks_code nodes.now tasks.new o ≡ tasks_code nodes.now (task.List place ∷ tasks.old) o) }
+    ensures code { OnOk result ((limits : Limits) → (o : Out) → tasks_code limits nodes.now tasks.new o ≡ tasks_code limits nodes.now
+        (task.List place ∷ tasks.old) o) }
     ensures less { OnOk result (WeighsUnder nodes.now (weight nodes.now (task.List place)) tasks.old tasks.new) }
 {
     match split(nodes, place) {
@@ -63,7 +66,7 @@ fn with_list(
 ) -> ArrayVec<Simple, MOST_OPERANDS>
     requires front { length front.items ≤ most }
     requires few { most ≤ 8 }
-    ensures value { result.items ≡ take most (front.items ++ operands (parts (at nodes.now list))) }
+    ensures value { (limits : Limits) → result.items ≡ take most (front.items ++ operands (parts (at limits nodes.now list))) }
     ensures few { length result.items ≤ most }
     ensures more { length front.items < most → length front.items < length result.items }
 {
@@ -86,7 +89,7 @@ fn with_list(
 
 /// The operands of a few trees.
 fn few_operands(nodes: &Nodes, few: Few) -> ArrayVec<Simple, MOST_OPERANDS>
-    ensures { result.items ≡ operands (few_parts nodes.now few) }
+    ensures { (limits : Limits) → result.items ≡ operands (few_parts limits nodes.now few) }
 {
     let mut operands = ArrayVec::new();
     match few {
@@ -113,7 +116,7 @@ fn compute<B: Bounds>(
     d: u8,
     out: &mut Output<B>,
 ) -> Result<(), AllocError>
-    ensures { OnOk result (out.new ≡ worked_code nodes.now (worked.Compute operation a b d) out.old) }
+    ensures { OnOk result (out.new ≡ worked_code B.most nodes.now (worked.Compute operation a b d) out.old) }
 {
     let operands = [operand_of(nodes, a), operand_of(nodes, b)];
     out.instruct(operation_opcode(operation), &operands, Some(d), None)
@@ -128,7 +131,7 @@ fn find<B: Bounds>(
     label: Label,
     out: &mut Output<B>,
 ) -> Result<(), AllocError>
-    ensures { OnOk result (out.new ≡ worked_code nodes.now (worked.Find relative a d label) out.old) }
+    ensures { OnOk result (out.new ≡ worked_code B.most nodes.now (worked.Find relative a d label) out.old) }
 {
     let operands = [operand_of(nodes, a)];
     out.instruct(
@@ -149,7 +152,7 @@ fn three<B: Bounds>(
     label: Label,
     out: &mut Output<B>,
 ) -> Result<(), AllocError>
-    ensures { OnOk result (out.new ≡ worked_code nodes.now (worked.Three x b c d label) out.old) }
+    ensures { OnOk result (out.new ≡ worked_code B.most nodes.now (worked.Three x b c d label) out.old) }
 {
     let operands = [
         x,
@@ -169,7 +172,7 @@ fn store<B: Bounds>(
     c: usize,
     out: &mut Output<B>,
 ) -> Result<(), AllocError>
-    ensures { OnOk result (out.new ≡ worked_code nodes.now (worked.Store memory a b c) out.old) }
+    ensures { OnOk result (out.new ≡ worked_code B.most nodes.now (worked.Store memory a b c) out.old) }
 {
     let operands = [
         operand_of(nodes, a),
@@ -190,7 +193,7 @@ fn step_in_memory<B: Bounds>(
     store: Option<u8>,
     out: &mut Output<B>,
 ) -> Result<(), AllocError>
-    ensures { OnOk result (out.new ≡ worked_code nodes.now (worked.StepInMemory before step memory a b store) out.old) }
+    ensures { OnOk result (out.new ≡ worked_code B.most nodes.now (worked.StepInMemory before step memory a b store) out.old) }
 {
     let operands = [
         operand_of(nodes, a),
@@ -211,10 +214,10 @@ fn any<B: Bounds>(
     label: Label,
     out: &mut Output<B>,
 ) -> Result<(), AllocError>
-    ensures { OnOk result (out.new ≡ worked_code nodes.now (worked.Any test a list sense label) out.old) }
+    ensures { OnOk result (out.new ≡ worked_code B.most nodes.now (worked.Any test a list sense label) out.old) }
 {
     let mut front = ArrayVec::new();
-    front.push(argument_of(nodes, a));
+    front.push(argument_of::<B>(nodes, a));
     let operands = with_list(nodes, front, list, most_compared(test));
     compared(test, &operands, sense, label, out)
 }
@@ -228,7 +231,7 @@ fn call<B: Bounds>(
     store: Option<u8>,
     out: &mut Output<B>,
 ) -> Result<(), AllocError>
-    ensures { OnOk result (out.new ≡ worked_code nodes.now (worked.Call f list store) out.old) }
+    ensures { OnOk result (out.new ≡ worked_code B.most nodes.now (worked.Call f list store) out.old) }
 {
     let arguments = with_list(nodes, ArrayVec::new(), list, MOST_ARGUMENTS);
     calling(operand_of(nodes, f), &arguments, store, out)
@@ -244,7 +247,7 @@ fn message<B: Bounds>(
     store: Option<u8>,
     out: &mut Output<B>,
 ) -> Result<(), AllocError>
-    ensures { OnOk result (out.new ≡ worked_code nodes.now (worked.Message a b list store) out.old) }
+    ensures { OnOk result (out.new ≡ worked_code B.most nodes.now (worked.Message a b list store) out.old) }
 {
     let mut front = ArrayVec::new();
     front.push(operand_of(nodes, a));
@@ -260,7 +263,7 @@ fn indirect<B: Bounds>(
     store: Option<u8>,
     out: &mut Output<B>,
 ) -> Result<(), AllocError>
-    ensures { OnOk result (out.new ≡ worked_code nodes.now (worked.Indirect list store) out.old) }
+    ensures { OnOk result (out.new ≡ worked_code B.most nodes.now (worked.Indirect list store) out.old) }
 {
     match split(nodes, list) {
         Some((f, others)) => call(nodes, f, others, store, out),
@@ -274,7 +277,7 @@ fn work<B: Bounds>(
     instruction: Worked,
     out: &mut Output<B>,
 ) -> Result<(), AllocError>
-    ensures { OnOk result (out.new ≡ worked_code nodes.now instruction out.old) }
+    ensures { OnOk result (out.new ≡ worked_code B.most nodes.now instruction out.old) }
 {
     match instruction {
         Worked::Compute(operation, a, b, d) => compute(nodes, operation, a, b, d, out),
@@ -314,7 +317,7 @@ fn step<B: Bounds>(
     tasks: &mut Tasks,
     out: &mut Output<B>,
 ) -> Result<(), AllocError>
-    ensures code { OnOk result (Leads nodes.now (task_code nodes.now task) tasks.old tasks.new out.old out.new) }
+    ensures code { OnOk result (Leads B.most nodes.now (task_code B.most nodes.now task) tasks.old tasks.new out.old out.new) }
     ensures less { OnOk result (WeighsUnder nodes.now (weight nodes.now task) tasks.old tasks.new) }
 {
     match task {
@@ -345,7 +348,7 @@ pub(crate) fn lay_all<B: Bounds>(
     tasks: &mut Tasks,
     out: &mut Output<B>,
 ) -> Result<(), AllocError>
-    ensures { OnOk result (out.new ≡ tasks_code nodes.now tasks.old out.old) }
+    ensures { OnOk result (out.new ≡ tasks_code B.most nodes.now tasks.old out.old) }
 {
     while let Some(task) = tasks.next() {
         step(nodes, task, tasks, out)?;

@@ -28,7 +28,7 @@ pub(crate) fn to(sense: bool, label: Label) -> Option<Branch>
 
 /// A simple value goes to a variable or the stack.
 pub(crate) fn put<B: Bounds>(operand: Simple, d: u8, out: &mut Output<B>) -> Result<(), AllocError>
-    ensures { OnOk result (out.new ≡ put operand d out.old) }
+    ensures { OnOk result (out.new ≡ put B.most operand d out.old) }
 {
     if d == STACK {
         out.instruct(Opcode::Push, &[operand], None, None)
@@ -39,7 +39,7 @@ pub(crate) fn put<B: Bounds>(operand: Simple, d: u8, out: &mut Output<B>) -> Res
 
 /// A variable's value goes to another one or the stack.
 pub(crate) fn load<B: Bounds>(variable: u8, d: u8, out: &mut Output<B>) -> Result<(), AllocError>
-    ensures { OnOk result (out.new ≡ load variable d out.old) }
+    ensures { OnOk result (out.new ≡ load B.most variable d out.old) }
 {
     out.instruct_naming(Opcode::Load, variable, &[], Some(d), None)
 }
@@ -51,7 +51,7 @@ pub(crate) fn jump_zero<B: Bounds>(
     label: Label,
     out: &mut Output<B>,
 ) -> Result<(), AllocError>
-    ensures { OnOk result (out.new ≡ jump_zero operand sense label out.old) }
+    ensures { OnOk result (out.new ≡ jump_zero B.most operand sense label out.old) }
 {
     out.instruct(Opcode::Jz, &[operand], None, to(!sense, label))
 }
@@ -62,7 +62,7 @@ pub(crate) fn stepping<B: Bounds>(
     variable: u8,
     out: &mut Output<B>,
 ) -> Result<(), AllocError>
-    ensures { OnOk result (out.new ≡ stepping step variable out.old) }
+    ensures { OnOk result (out.new ≡ stepping B.most step variable out.old) }
 {
     match step {
         Step::Up => out.instruct_naming(Opcode::Inc, variable, &[], None, None),
@@ -104,7 +104,7 @@ pub(crate) fn calling<B: Bounds>(
     store: Option<u8>,
     out: &mut Output<B>,
 ) -> Result<(), AllocError>
-    ensures { OnOk result (out.new ≡ calling routine arguments.now store out.old) }
+    ensures { OnOk result (out.new ≡ calling B.most routine arguments.now store out.old) }
 {
     let given = cut(arguments, MOST_ARGUMENTS);
     let mut operands: ArrayVec<Simple, MOST_OPERANDS> = ArrayVec::new();
@@ -123,7 +123,7 @@ pub(crate) fn calling_routine<B: Bounds>(
     store: Option<u8>,
     out: &mut Output<B>,
 ) -> Result<(), AllocError>
-    ensures { OnOk result (out.new ≡ calling_routine veneer arguments.now store out.old) }
+    ensures { OnOk result (out.new ≡ calling_routine B.most veneer arguments.now store out.old) }
 {
     let routine = out.routine(veneer)?;
     calling(routine, arguments, store, out)
@@ -217,7 +217,7 @@ pub(crate) fn stored<B: Bounds>(
     operands: &[Simple; 3],
     out: &mut Output<B>,
 ) -> Result<(), AllocError>
-    ensures { OnOk result (out.new ≡ stored memory operands.now out.old) }
+    ensures { OnOk result (out.new ≡ stored B.most memory operands.now out.old) }
 {
     match memory {
         Memory::Byte => out.instruct(Opcode::Storeb, operands, None, None),
@@ -235,7 +235,7 @@ fn branching<B: Bounds>(
     out: &mut Output<B>,
 ) -> Result<(), AllocError>
     requires { Takes opcode (length operands.now) false true }
-    ensures { OnOk result (out.new ≡ branching opcode operands.now sense label out.old) }
+    ensures { OnOk result (out.new ≡ branching B.most opcode operands.now sense label out.old) }
 {
     out.instruct(opcode, operands, None, to(sense, label))
 }
@@ -248,7 +248,7 @@ fn asking<B: Bounds>(
     label: Label,
     out: &mut Output<B>,
 ) -> Result<(), AllocError>
-    ensures { OnOk result (out.new ≡ asking veneer operands.now sense label out.old) }
+    ensures { OnOk result (out.new ≡ asking B.most veneer operands.now sense label out.old) }
 {
     calling_routine(veneer, operands, Some(STACK), out)?;
     jump_zero(Simple::Variable(STACK), sense, label, out)
@@ -264,7 +264,7 @@ pub(crate) fn compared<B: Bounds>(
 ) -> Result<(), AllocError>
     requires enough { 2 ≤ length operands.now }
     requires few { length operands.now ≤ most_compared test }
-    ensures { OnOk result (out.new ≡ compared test operands.now sense label out.old) }
+    ensures { OnOk result (out.new ≡ compared B.most test operands.now sense label out.old) }
 {
     match test {
         Test::Equal => branching(Opcode::Je, operands, sense, label, out),

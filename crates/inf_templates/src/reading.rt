@@ -1,4 +1,5 @@
 //! What trees are that templates go by.
+ghost use Rattle.inf_settings.specs.Bounds.{Limits};
 ghost use Rattle.std.specs.Prelude.{◌≡◌, ◌≤◌, ◌+◌, [], ◌∷◌, ◌<◌, IfSome, MatchOption, Some, None, nat_lt, length};
 ghost use Rattle.inf_templates.specs.Parts.{operand_of, simple};
 ghost use Rattle.inf_templates.specs.Meaning.{group, most_compared, part, parts, takes_three};
@@ -8,6 +9,7 @@ ghost use Rattle.inf_templates.specs.Tasks.{at, part_of, target_of};
 use crate::tasks::{Argument, Memory};
 use inf_expressions::{Binary, Node, Nodes, Operand, Operation, PropertyPart, Test};
 use inf_output::Simple;
+use inf_settings::bounds::Bounds;
 
 /// The stack as a variable (Z-Machine Standard 1.1, section 4.2.2).
 pub(crate) const STACK: u8 = 0;
@@ -38,7 +40,7 @@ pub(crate) fn simple(operand: Operand) -> Simple
 
 /// The operand that a tree is once it is worked out: its own, where it is simple, and else the stack.
 pub(crate) fn operand_of(nodes: &Nodes, place: usize) -> Simple
-    ensures { result ≡ operand_of (part (at nodes.now place)) }
+    ensures { (limits : Limits) → result ≡ operand_of (part (at limits nodes.now place)) }
 {
     match nodes.node(place) {
         Node::Leaf(operand) => simple(operand),
@@ -47,8 +49,8 @@ pub(crate) fn operand_of(nodes: &Nodes, place: usize) -> Simple
 }
 
 /// The operand of what is given as one.
-pub(crate) fn argument_of(nodes: &Nodes, argument: Argument) -> Simple
-    ensures { result ≡ operand_of (part_of nodes.now argument) }
+pub(crate) fn argument_of<B: Bounds>(nodes: &Nodes, argument: Argument) -> Simple
+    ensures { result ≡ operand_of (part_of B.most nodes.now argument) }
 {
     match argument {
         Argument::Of(place) => operand_of(nodes, place),
@@ -57,8 +59,8 @@ pub(crate) fn argument_of(nodes: &Nodes, argument: Argument) -> Simple
 }
 
 /// The operand that a tree is itself, where it is simple.
-pub fn simple_of(nodes: &Nodes, place: usize) -> Option<Simple>
-    ensures { result ≡ (at nodes.now place).operand }
+pub fn simple_of<B: Bounds>(nodes: &Nodes, place: usize) -> Option<Simple>
+    ensures { result ≡ (at B.most nodes.now place).operand }
 {
     match nodes.node(place) {
         Node::Leaf(operand) => Some(simple(operand)),
@@ -91,7 +93,7 @@ pub(crate) fn most_compared(test: Test) -> usize
 
 /// Where a tree can be assigned.
 pub(crate) fn target(nodes: &Nodes, place: usize) -> Goal
-    ensures code { target_of nodes.now result ≡ (at nodes.now place).target }
+    ensures code { (limits : Limits) → target_of limits nodes.now result ≡ (at limits nodes.now place).target }
     ensures less { goal_load nodes.now result ≤ load_at nodes.now place }
 {
     match nodes.node(place) {
@@ -111,8 +113,8 @@ pub(crate) fn target(nodes: &Nodes, place: usize) -> Goal
 /// The first member of a list and the list of the others, if there are any.
 pub(crate) fn split(nodes: &Nodes, list: usize) -> Option<(usize, usize)>
     ensures less { IfSome result (λ p. load_at nodes.now list ≡ 16 + load_at nodes.now p.0 + load_at nodes.now p.1) }
-    ensures code { MatchOption result (parts (at nodes.now list) ≡ part (at nodes.now list) ∷ [])
-        (λ p. parts (at nodes.now list) ≡ part (at nodes.now p.0) ∷ parts (at nodes.now p.1)) }
+    ensures code { MatchOption result ((limits : Limits) → parts (at limits nodes.now list) ≡ part (at limits nodes.now list) ∷ [])
+        (λ p. (limits : Limits) → parts (at limits nodes.now list) ≡ part (at limits nodes.now p.0) ∷ parts (at limits nodes.now p.1)) }
 {
     match nodes.node(list) {
         Node::Two(Binary::Then, a, others) => Some((a, others)),
@@ -122,7 +124,7 @@ pub(crate) fn split(nodes: &Nodes, list: usize) -> Option<(usize, usize)>
 
 /// Whether a list has more than so many members.
 pub(crate) fn has_more(nodes: &Nodes, list: usize, count: u8) -> bool
-    ensures { result ≡ nat_lt count (length (parts (at nodes.now list))) }
+    ensures { (limits : Limits) → result ≡ nat_lt count (length (parts (at limits nodes.now list))) }
 {
     let mut left = list;
     for _ in 0..count {

@@ -1,4 +1,5 @@
 //! What each operator is laid as, by its parts.
+ghost use Rattle.inf_settings.specs.Bounds.{Limits};
 ghost use Rattle.std.specs.Prelude.{◌≡◌, ◌+◌, [], ◌∷◌, List, OnOk, IfOk, Option};
 ghost use Rattle.inf_expressions.specs.Trees.{Tree};
 ghost use Rattle.inf_output.specs.Output.{behind, next_label};
@@ -28,7 +29,8 @@ pub(crate) fn value<B: Bounds>(
     tasks: &mut Tasks,
     out: &mut Output<B>,
 ) -> Result<(), AllocError>
-    ensures code { OnOk result (Leads nodes.now (task_code nodes.now (task.Value place to)) tasks.old tasks.new out.old out.new) }
+    ensures code { OnOk result (Leads B.most nodes.now (task_code B.most nodes.now (task.Value place to)) tasks.old tasks.new out.old
+        out.new) }
     ensures less { OnOk result (WeighsUnder nodes.now (weight nodes.now (task.Value place to)) tasks.old tasks.new) }
 {
     match nodes.node(place) {
@@ -47,7 +49,8 @@ fn one_value<B: Bounds>(
     tasks: &mut Tasks,
     out: &mut Output<B>,
 ) -> Result<(), AllocError>
-    ensures code { OnOk result (Leads nodes.now ((one op (at nodes.now a)).value to) tasks.old tasks.new out.old out.new) }
+    ensures code { OnOk result (Leads B.most nodes.now ((one B.most op (at B.most nodes.now a)).value to) tasks.old tasks.new out.old
+        out.new) }
     ensures less { OnOk result (WeighsUnder nodes.now (18 + load_at nodes.now a) tasks.old tasks.new) }
 {
     match op {
@@ -82,8 +85,8 @@ fn two_value<B: Bounds>(
     tasks: &mut Tasks,
     out: &mut Output<B>,
 ) -> Result<(), AllocError>
-    ensures code { let code = (two op (at nodes.now a) (at nodes.now b)).value to in
-        OnOk result (Leads nodes.now code tasks.old tasks.new out.old out.new) }
+    ensures code { let code = (two B.most op (at B.most nodes.now a) (at B.most nodes.now b)).value to in
+        OnOk result (Leads B.most nodes.now code tasks.old tasks.new out.old out.new) }
     ensures less { OnOk result (WeighsUnder nodes.now (18 + load_at nodes.now a + load_at nodes.now b) tasks.old tasks.new) }
 {
     match op {
@@ -123,7 +126,7 @@ pub(crate) fn alone<B: Bounds>(
     tasks: &mut Tasks,
     out: &mut Output<B>,
 ) -> Result<(), AllocError>
-    ensures code { OnOk result (Leads nodes.now (task_code nodes.now (task.Alone place)) tasks.old tasks.new out.old out.new) }
+    ensures code { OnOk result (Leads B.most nodes.now (task_code B.most nodes.now (task.Alone place)) tasks.old tasks.new out.old out.new) }
     ensures less { OnOk result (WeighsUnder nodes.now (weight nodes.now (task.Alone place)) tasks.old tasks.new) }
 {
     match nodes.node(place) {
@@ -160,8 +163,8 @@ pub(crate) fn branch<B: Bounds>(
     tasks: &mut Tasks,
     out: &mut Output<B>,
 ) -> Result<(), AllocError>
-    ensures code { let code = task_code nodes.now (task.Branch place sense label) in
-        OnOk result (Leads nodes.now code tasks.old tasks.new out.old out.new) }
+    ensures code { let code = task_code B.most nodes.now (task.Branch place sense label) in
+        OnOk result (Leads B.most nodes.now code tasks.old tasks.new out.old out.new) }
     ensures less { OnOk result (WeighsUnder nodes.now (weight nodes.now (task.Branch place sense label)) tasks.old tasks.new) }
 {
     match nodes.node(place) {
@@ -206,7 +209,7 @@ pub(crate) fn branch<B: Bounds>(
 /// What stands behind the branch of a condition whose value is wanted: 1 where it does not go to the label that is answered, and else 0.
 fn truth<B: Bounds>(d: u8, tasks: &mut Tasks, out: &mut Output<B>) -> Result<Label, AllocError>
     ensures code { IfOk result (λ fails. (trees : List Tree) →
-        Puts trees (truth_behind fails (next_label (record out.old { next = behind out.old.next })) d) tasks.old tasks.new) }
+        Puts B.most trees (truth_behind B.most fails (next_label (record out.old { next = behind out.old.next })) d) tasks.old tasks.new) }
     ensures less { OnOk result ((trees : List Tree) → WeighsUnder trees 6 tasks.old tasks.new) }
     ensures label { IfOk result (λ fails. fails ≡ next_label out.old) }
     ensures out { out.new ≡ record out.old { next = behind (behind out.old.next) } }
@@ -230,7 +233,8 @@ fn leaf_branch(
     label: Label,
     tasks: &mut Tasks,
 ) -> Result<(), AllocError>
-    ensures code { OnOk result ((trees : List Tree) → Puts trees (leaf_branch operand sense label) tasks.old tasks.new) }
+    ensures code { OnOk result ((limits : Limits) → (trees : List Tree) → Puts limits trees (leaf_branch limits operand sense label)
+        tasks.old tasks.new) }
     ensures less { OnOk result ((trees : List Tree) → WeighsUnder trees 2 tasks.old tasks.new) }
 {
     match operand {
@@ -258,7 +262,7 @@ fn and_branch<B: Bounds>(
     out: &mut Output<B>,
 ) -> Result<(), AllocError>
     ensures code { OnOk result ((trees : List Tree) →
-        Leads trees (and_branch (at trees a) (at trees b) sense label) tasks.old tasks.new out.old out.new) }
+        Leads B.most trees (and_branch B.most (at B.most trees a) (at B.most trees b) sense label) tasks.old tasks.new out.old out.new) }
     ensures less { OnOk result ((trees : List Tree) → WeighsUnder trees (8 + load_at trees a + load_at trees b) tasks.old tasks.new) }
 {
     if sense {
@@ -279,7 +283,7 @@ fn or_branch<B: Bounds>(
     out: &mut Output<B>,
 ) -> Result<(), AllocError>
     ensures code { OnOk result ((trees : List Tree) →
-        Leads trees (or_branch (at trees a) (at trees b) sense label) tasks.old tasks.new out.old out.new) }
+        Leads B.most trees (or_branch B.most (at B.most trees a) (at B.most trees b) sense label) tasks.old tasks.new out.old out.new) }
     ensures less { OnOk result ((trees : List Tree) → WeighsUnder trees (8 + load_at trees a + load_at trees b) tasks.old tasks.new) }
 {
     if sense {
@@ -299,7 +303,7 @@ fn both<B: Bounds>(
     out: &mut Output<B>,
 ) -> Result<(), AllocError>
     ensures code { OnOk result ((trees : List Tree) →
-        Leads trees (both (at trees a) (at trees b) sense label) tasks.old tasks.new out.old out.new) }
+        Leads B.most trees (both B.most (at B.most trees a) (at B.most trees b) sense label) tasks.old tasks.new out.old out.new) }
     ensures less { OnOk result ((trees : List Tree) → WeighsUnder trees (8 + load_at trees a + load_at trees b) tasks.old tasks.new) }
 {
     let over = out.label();
@@ -320,7 +324,8 @@ fn step_value(
     to: u8,
     tasks: &mut Tasks,
 ) -> Result<(), AllocError>
-    ensures code { OnOk result (Puts nodes.now (step_value before step (at nodes.now a) to) tasks.old tasks.new) }
+    ensures code { OnOk result ((limits : Limits) → Puts limits nodes.now (step_value limits before step (at limits nodes.now a) to)
+        tasks.old tasks.new) }
     ensures less { OnOk result (WeighsUnder nodes.now (6 + load_at nodes.now a) tasks.old tasks.new) }
 {
     match target(nodes, a) {
@@ -348,7 +353,8 @@ fn step_alone(
     a: usize,
     tasks: &mut Tasks,
 ) -> Result<(), AllocError>
-    ensures code { OnOk result (Puts nodes.now (step_alone before step (at nodes.now a)) tasks.old tasks.new) }
+    ensures code { OnOk result ((limits : Limits) → Puts limits nodes.now (step_alone limits before step (at limits nodes.now a)) tasks.old
+        tasks.new) }
     ensures less { OnOk result (WeighsUnder nodes.now (6 + load_at nodes.now a) tasks.old tasks.new) }
 {
     match target(nodes, a) {
@@ -371,7 +377,8 @@ fn assign_value(
     to: u8,
     tasks: &mut Tasks,
 ) -> Result<(), AllocError>
-    ensures code { OnOk result (Puts nodes.now (assign_value (at nodes.now v) (at nodes.now a) to) tasks.old tasks.new) }
+    ensures code { OnOk result ((limits : Limits) → Puts limits nodes.now (assign_value limits (at limits nodes.now v)
+        (at limits nodes.now a) to) tasks.old tasks.new) }
     ensures less { OnOk result (WeighsUnder nodes.now (8 + load_at nodes.now v + load_at nodes.now a) tasks.old tasks.new) }
 {
     match target(nodes, v) {
@@ -392,7 +399,8 @@ fn assign_value(
 /// An assignment without result.
 #[tactic(auto, unfolding(crate::specs::Meaning::assign_alone))]
 fn assign_alone(nodes: &Nodes, v: usize, a: usize, tasks: &mut Tasks) -> Result<(), AllocError>
-    ensures code { OnOk result (Puts nodes.now (assign_alone (at nodes.now v) (at nodes.now a)) tasks.old tasks.new) }
+    ensures code { OnOk result ((limits : Limits) → Puts limits nodes.now (assign_alone limits (at limits nodes.now v)
+        (at limits nodes.now a)) tasks.old tasks.new) }
     ensures less { OnOk result (WeighsUnder nodes.now (8 + load_at nodes.now v + load_at nodes.now a) tasks.old tasks.new) }
 {
     match target(nodes, v) {
@@ -415,7 +423,8 @@ fn bare_call(
     store: Option<u8>,
     tasks: &mut Tasks,
 ) -> Result<(), AllocError>
-    ensures code { OnOk result (Puts nodes.now (call_of (at nodes.now f) [] store) tasks.old tasks.new) }
+    ensures code { OnOk result ((limits : Limits) → Puts limits nodes.now (call_of limits (at limits nodes.now f) [] store) tasks.old
+        tasks.new) }
     ensures less { OnOk result (WeighsUnder nodes.now (6 + load_at nodes.now f) tasks.old tasks.new) }
 {
     match target(nodes, f) {
@@ -442,7 +451,8 @@ fn call_of(
     store: Option<u8>,
     tasks: &mut Tasks,
 ) -> Result<(), AllocError>
-    ensures code { OnOk result (Puts nodes.now (call_of (at nodes.now f) (parts (at nodes.now list)) store) tasks.old tasks.new) }
+    ensures code { OnOk result ((limits : Limits) → Puts limits nodes.now (call_of limits (at limits nodes.now f)
+        (parts (at limits nodes.now list)) store) tasks.old tasks.new) }
     ensures less { OnOk result (WeighsUnder nodes.now (9 + load_at nodes.now f + load_at nodes.now list) tasks.old tasks.new) }
 {
     match target(nodes, f) {
@@ -474,8 +484,8 @@ fn indirect(list: usize, store: Option<u8>, tasks: &mut Tasks) -> Result<(), All
 
 /// The number of an object's children is counted by a routine of the veneer.
 fn children(a: usize, store: Option<u8>, tasks: &mut Tasks) -> Result<(), AllocError>
-    ensures code { OnOk result ((trees : List Tree) →
-        Puts trees (call_routine veneer.Children (part (at trees a) ∷ []) store) tasks.old tasks.new) }
+    ensures code { OnOk result ((limits : Limits) → (trees : List Tree) →
+        Puts limits trees (call_routine limits veneer.Children (part (at limits trees a) ∷ []) store) tasks.old tasks.new) }
     ensures less { OnOk result ((trees : List Tree) → WeighsUnder trees (4 + load_at trees a) tasks.old tasks.new) }
 {
     tasks.first(&[
@@ -492,8 +502,9 @@ fn property(
     store: Option<u8>,
     tasks: &mut Tasks,
 ) -> Result<(), AllocError>
-    ensures code { OnOk result ((trees : List Tree) →
-        Puts trees (call_routine (reader asked) (part (at trees a) ∷ part (at trees b) ∷ []) store) tasks.old tasks.new) }
+    ensures code { OnOk result ((limits : Limits) → (trees : List Tree) →
+        Puts limits trees (call_routine limits (reader asked) (part (at limits trees a) ∷ part (at limits trees b) ∷ []) store) tasks.old
+        tasks.new) }
     ensures less { OnOk result ((trees : List Tree) → WeighsUnder trees (6 + load_at trees a + load_at trees b) tasks.old tasks.new) }
 {
     let veneer = match asked {
@@ -518,7 +529,7 @@ fn related<B: Bounds>(
     out: &mut Output<B>,
 ) -> Result<(), AllocError>
     ensures code { OnOk result ((trees : List Tree) →
-        Leads trees (related (related_opcode relative) (part (at trees a)) to) tasks.old tasks.new out.old out.new) }
+        Leads B.most trees (related B.most (related_opcode relative) (part (at B.most trees a)) to) tasks.old tasks.new out.old out.new) }
     ensures less { OnOk result ((trees : List Tree) → WeighsUnder trees (5 + load_at trees a) tasks.old tasks.new) }
 {
     let next = out.label();

@@ -25,7 +25,7 @@ pub fn lay_alone<B: Bounds>(
     place: usize,
     out: &mut Output<B>,
 ) -> Result<(), AllocError>
-    ensures { OnOk result (out.new ≡ (at nodes.now place).alone out.old) }
+    ensures { OnOk result (out.new ≡ (at B.most nodes.now place).alone out.old) }
 {
     lay(tasks, nodes, Task::Alone(place), out)
 }
@@ -38,7 +38,7 @@ pub fn lay_value<B: Bounds>(
     variable: u8,
     out: &mut Output<B>,
 ) -> Result<(), AllocError>
-    ensures { OnOk result (out.new ≡ (at nodes.now place).value variable out.old) }
+    ensures { OnOk result (out.new ≡ (at B.most nodes.now place).value variable out.old) }
 {
     lay(tasks, nodes, Task::Value(place, variable), out)
 }
@@ -52,7 +52,7 @@ pub fn lay_branch<B: Bounds>(
     label: Label,
     out: &mut Output<B>,
 ) -> Result<(), AllocError>
-    ensures { OnOk result (out.new ≡ (at nodes.now place).branch sense label out.old) }
+    ensures { OnOk result (out.new ≡ (at B.most nodes.now place).branch sense label out.old) }
 {
     lay(tasks, nodes, Task::Branch(place, sense, label), out)
 }
@@ -68,10 +68,10 @@ pub fn lay_instruction<B: Bounds>(
     out: &mut Output<B>,
 ) -> Result<(), AllocError>
     requires { Takes opcode (length arguments.now) (is_some store) (is_some branch) }
-    ensures { OnOk result (out.new ≡ worked opcode (parts_of nodes.now arguments.now) store branch out.old) }
+    ensures { OnOk result (out.new ≡ worked B.most opcode (parts_of B.most nodes.now arguments.now) store branch out.old) }
 {
     evaluate_all(tasks, nodes, arguments, out)?;
-    let operands = operands(nodes, arguments, usize::from(opcode.row().most));
+    let operands = operands::<B>(nodes, arguments, usize::from(opcode.row().most));
     out.instruct(opcode, &operands, store, branch)
 }
 
@@ -85,12 +85,12 @@ pub fn lay_call<B: Bounds>(
     store: Option<u8>,
     out: &mut Output<B>,
 ) -> Result<(), AllocError>
-    ensures { OnOk result (out.new ≡ call (part_of nodes.now routine) (parts_of nodes.now arguments.now) store out.old) }
+    ensures { OnOk result (out.new ≡ call B.most (part_of B.most nodes.now routine) (parts_of B.most nodes.now arguments.now) store out.old) }
 {
     evaluate_all(tasks, nodes, arguments, out)?;
     lay(tasks, nodes, Task::Evaluate(routine), out)?;
-    let operands = operands(nodes, arguments, MOST_ARGUMENTS);
-    calling(argument_of(nodes, routine), &operands, store, out)
+    let operands = operands::<B>(nodes, arguments, MOST_ARGUMENTS);
+    calling(argument_of::<B>(nodes, routine), &operands, store, out)
 }
 
 /// A call of a routine of the veneer is laid, with its result in a variable if it is wanted. Of the arguments the first seven are given.
@@ -103,10 +103,10 @@ pub fn lay_routine_call<B: Bounds>(
     store: Option<u8>,
     out: &mut Output<B>,
 ) -> Result<(), AllocError>
-    ensures { OnOk result (out.new ≡ call_routine veneer (parts_of nodes.now arguments.now) store out.old) }
+    ensures { OnOk result (out.new ≡ call_routine B.most veneer (parts_of B.most nodes.now arguments.now) store out.old) }
 {
     evaluate_all(tasks, nodes, arguments, out)?;
-    let operands = operands(nodes, arguments, MOST_ARGUMENTS);
+    let operands = operands::<B>(nodes, arguments, MOST_ARGUMENTS);
     calling_routine(veneer, &operands, store, out)
 }
 
@@ -117,7 +117,7 @@ fn lay<B: Bounds>(
     task: Task,
     out: &mut Output<B>,
 ) -> Result<(), AllocError>
-    ensures { OnOk result (out.new ≡ tasks_code nodes.now (task ∷ []) out.old) }
+    ensures { OnOk result (out.new ≡ tasks_code B.most nodes.now (task ∷ []) out.old) }
 {
     tasks.clear();
     tasks.first(&[task])?;
@@ -132,7 +132,7 @@ fn evaluate_all<B: Bounds>(
     arguments: &[Argument],
     out: &mut Output<B>,
 ) -> Result<(), AllocError>
-    ensures { OnOk result (out.new ≡ evaluated (parts_of nodes.now arguments.now) out.old) }
+    ensures { OnOk result (out.new ≡ evaluated (parts_of B.most nodes.now arguments.now) out.old) }
 {
     let mut left = arguments;
     while let Some((last, others)) = left.split_last() {
@@ -143,13 +143,17 @@ fn evaluate_all<B: Bounds>(
 }
 
 /// The operands of parts that are worked out: of the first, at most so many.
-fn operands(nodes: &Nodes, arguments: &[Argument], most: usize) -> ArrayVec<Simple, MOST_OPERANDS>
+fn operands<B: Bounds>(
+    nodes: &Nodes,
+    arguments: &[Argument],
+    most: usize,
+) -> ArrayVec<Simple, MOST_OPERANDS>
     requires { most ≤ 8 }
-    ensures { result.items ≡ take most (operands (parts_of nodes.now arguments.now)) }
+    ensures { result.items ≡ take most (operands (parts_of B.most nodes.now arguments.now)) }
 {
     let mut operands = ArrayVec::new();
     for argument in cut(arguments, most) {
-        operands.push(argument_of(nodes, *argument));
+        operands.push(argument_of::<B>(nodes, *argument));
     }
     operands
 }

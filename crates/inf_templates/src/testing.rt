@@ -1,4 +1,5 @@
 //! Tests of a value against a list, of which one is to hold.
+ghost use Rattle.inf_settings.specs.Bounds.{Limits};
 ghost use Rattle.std.specs.Prelude.{◌≡◌, ◌≤◌, ◌<◌, ◌+◌, [], ◌∷◌, List, OnOk, if◌then◌else◌};
 ghost use Rattle.inf_expressions.specs.Trees.{Tree};
 ghost use Rattle.inf_output.specs.Output.{Out};
@@ -27,13 +28,13 @@ pub(crate) fn test_branch<B: Bounds>(
     tasks: &mut Tasks,
     out: &mut Output<B>,
 ) -> Result<(), AllocError>
-    ensures code { let code = test_branch test (at nodes.now a) (at nodes.now list) sense label in
-        OnOk result (Leads nodes.now code tasks.old tasks.new out.old out.new) }
+    ensures code { let code = test_branch B.most test (at B.most nodes.now a) (at B.most nodes.now list) sense label in
+        OnOk result (Leads B.most nodes.now code tasks.old tasks.new out.old out.new) }
     ensures less { OnOk result (WeighsUnder nodes.now (10 + load_at nodes.now a + load_at nodes.now list) tasks.old tasks.new) }
 {
     let over = out.label();
     let there = chosen(sense, label, over);
-    match simple_of(nodes, a) {
+    match simple_of::<B>(nodes, a) {
         Some(x) => tasks.first(&[tests(test, x, list, sense, label, there), Task::Mark(over)]),
         None if has_more(nodes, list, group(test)) => {
             let kept = Simple::Variable(TEMP);
@@ -65,7 +66,8 @@ fn chosen(sense: bool, label: Label, over: Label) -> Label
 /// The tests of a list.
 #[tactic(auto, unfolding(crate::specs::Meaning::tests))]
 fn tests(test: Test, x: Simple, list: usize, sense: bool, label: Label, there: Label) -> Task
-    ensures code { (trees : List Tree) (o : Out) → task_code trees result o ≡ tests test x (parts (at trees list)) sense label there o }
+    ensures code { (limits : Limits) → (trees : List Tree) (o : Out) →
+        task_code limits trees result o ≡ tests limits test x (parts (at limits trees list)) sense label there o }
     ensures less { (trees : List Tree) → weight trees result ≡ 6 + load_at trees list }
 {
     if takes_three(test) {
@@ -86,7 +88,8 @@ pub(crate) fn triple_tests(
     there: Label,
     tasks: &mut Tasks,
 ) -> Result<(), AllocError>
-    ensures code { OnOk result (Puts nodes.now (task_code nodes.now (task.Triples x list sense label there)) tasks.old tasks.new) }
+    ensures code { OnOk result ((limits : Limits) → Puts limits nodes.now (task_code limits nodes.now
+        (task.Triples x list sense label there)) tasks.old tasks.new) }
     ensures less { OnOk result (WeighsUnder nodes.now (weight nodes.now (task.Triples x list sense label there)) tasks.old tasks.new) }
 {
     let last = Worked::Any(Test::Equal, Argument::Is(x), list, sense, label);
@@ -120,7 +123,8 @@ pub(crate) fn single_tests(
     there: Label,
     tasks: &mut Tasks,
 ) -> Result<(), AllocError>
-    ensures code { OnOk result (Puts nodes.now (task_code nodes.now (task.Singles test x list sense label there)) tasks.old tasks.new) }
+    ensures code { OnOk result ((limits : Limits) → Puts limits nodes.now (task_code limits nodes.now
+        (task.Singles test x list sense label there)) tasks.old tasks.new) }
     ensures less { let most = weight nodes.now (task.Singles test x list sense label there) in
         OnOk result (WeighsUnder nodes.now most tasks.old tasks.new) }
 {

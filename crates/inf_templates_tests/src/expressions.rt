@@ -6,7 +6,7 @@ use inf_expressions::{
 };
 use inf_names::symbols::Symbols;
 use inf_scanner::Place;
-use inf_settings::bounds::Unbounded;
+use inf_settings::bounds::Bounds;
 use std::alloc::{AllocError, Global};
 
 /// Where all tokens stand.
@@ -97,7 +97,7 @@ fn operator(word: &str) -> Option<Symbol> {
 }
 
 /// What a name stands for that is known later.
-fn later(names: &mut Symbols<Place, Unbounded>, name: &str) -> Operand {
+fn later<B: Bounds>(names: &mut Symbols<Place, B>, name: &str) -> Operand {
     if name.len() > 35 {
         return Operand::Unknown;
     }
@@ -108,7 +108,7 @@ fn later(names: &mut Symbols<Place, Unbounded>, name: &str) -> Operand {
 }
 
 /// What a leaf stands for.
-fn operand(names: &mut Symbols<Place, Unbounded>, word: &str) -> Operand {
+fn operand<B: Bounds>(names: &mut Symbols<Place, B>, word: &str) -> Operand {
     if let Some(function) = function(word) {
         return Operand::Function(function);
     }
@@ -122,9 +122,9 @@ fn operand(names: &mut Symbols<Place, Unbounded>, word: &str) -> Operand {
 }
 
 /// The trees of some words.
-pub(crate) fn trees(
+pub(crate) fn trees<B: Bounds>(
     alloc: Global,
-    names: &mut Symbols<Place, Unbounded>,
+    names: &mut Symbols<Place, B>,
     spelled: &str,
 ) -> Result<Forest, AllocError> {
     let mut symbols = Vec::new(alloc);

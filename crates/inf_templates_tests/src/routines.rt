@@ -1,32 +1,41 @@
 //! Routines of expressions.
+ghost use Rattle.std.specs.Prelude.{◌≡◌};
+ghost use Rattle.inf_code.specs.Code.{code_limits};
+ghost use Rattle.inf_settings.specs.declared.setting.Setting.TheVariants as setting;
+ghost use Rattle.inf_templates_tests.specs.Most.{AreUsual};
+
 use crate::expressions::{HERE, trees};
-use crate::words::{add_bytes, number_or, word};
+use crate::words::{add_bytes, number_or, text_of, word};
 use inf_area::{Area, AreaName, PagedArea, Refs, Target};
+use inf_arrays::{Arrays, Globals};
 use inf_assembler::RoutineKind;
 use inf_cells::Scale;
 use inf_code::code::{Code, CodeLimits};
+use inf_dictionary::Dictionary;
 use inf_expressions::{Forest, Root};
 use inf_names::hashing::NameHashing;
 use inf_names::symbols::Symbols;
 use inf_opcode::Opcode;
 use inf_output::{Output, Simple, Strings, Veneer};
 use inf_scanner::Place;
-use inf_settings::bounds::Unbounded;
-use inf_settings::settings::Settings;
-use inf_tables::Tables;
+use inf_settings::bounds::Bounds;
+use inf_tables::{LowStrings, Tables};
 use inf_templates::{
     Argument, Tasks, lay_alone, lay_branch, lay_call, lay_instruction, lay_routine_call, lay_value,
 };
+use inf_verbs::{Actions, ParsingRoutines, Verbs};
+use inf_world::{Limits, World};
 use std::alloc::{AllocError, Global};
+use std::marker::Brand;
 
 /// What lays expressions.
 #[derive(Drop)]
-struct Laying {
+struct Laying<B: Bounds> {
     tasks: Tasks,
-    out: Output<Unbounded>,
+    out: Output<B>,
 }
 
-impl Laying {
+impl<B: Bounds> Laying<B> {
     /// Each expression is laid without result.
     fn alone(&mut self, forest: &Forest) -> Result<(), AllocError> {
         for root in &forest.roots {
@@ -170,10 +179,10 @@ fn argument(forest: &Forest, number: usize) -> Argument {
 }
 
 /// Adds the names that were used.
-fn add_names(
+fn add_names<B: Bounds>(
     alloc: Global,
     told: &mut String,
-    names: &Symbols<Place, Unbounded>,
+    names: &Symbols<Place, B>,
 ) -> Result<(), AllocError> {
     told.push_str("; names")?;
     for number in 0..names.len() {
@@ -188,7 +197,7 @@ fn add_names(
 }
 
 /// What stands for names: from 1000 on in hexadecimal digits.
-fn numbers(alloc: Global, names: &Symbols<Place, Unbounded>) -> Result<Vec<u16>, AllocError> {
+fn numbers<B: Bounds>(alloc: Global, names: &Symbols<Place, B>) -> Result<Vec<u16>, AllocError> {
     let mut numbers = Vec::new(alloc);
     let mut number: u16 = 0x1000;
     for _ in 0..names.len() {
@@ -199,7 +208,11 @@ fn numbers(alloc: Global, names: &Symbols<Place, Unbounded>) -> Result<Vec<u16>,
 }
 
 /// The area of some code, with the numbers of names in their places.
-fn filled(alloc: Global, code: Code<Unbounded>, numbers: &[u16]) -> Result<PagedArea, AllocError> {
+fn filled<B: Bounds>(
+    alloc: Global,
+    code: Code<B>,
+    numbers: &[u16],
+) -> Result<PagedArea, AllocError> {
     let mut refs = Refs::new(alloc, usize::MAX);
     let Ok(mut area) = code.into_area(Target::Place(AreaName::Code, 8), &mut refs) else {
         return Err(AllocError);
@@ -216,9 +229,9 @@ fn filled(alloc: Global, code: Code<Unbounded>, numbers: &[u16]) -> Result<Paged
 }
 
 /// Tells of some bytes and names.
-fn told_bytes(
+fn told_bytes<B: Bounds>(
     alloc: Global,
-    names: &Symbols<Place, Unbounded>,
+    names: &Symbols<Place, B>,
     area: &PagedArea,
 ) -> Result<String, AllocError> {
     let mut told = String::from_str(alloc, "bytes")?;
@@ -228,10 +241,10 @@ fn told_bytes(
 }
 
 /// Tells of the bytes of closed routines, and of their names.
-fn told_area(
+fn told_area<B: Bounds>(
     alloc: Global,
-    names: &Symbols<Place, Unbounded>,
-    code: Code<Unbounded>,
+    names: &Symbols<Place, B>,
+    code: Code<B>,
 ) -> Result<String, AllocError> {
     let numbers = numbers(alloc, names)?;
     let area = filled(alloc, code, &numbers)?;
@@ -239,10 +252,10 @@ fn told_area(
 }
 
 /// Closes the routine, and tells of its bytes and names.
-fn told_closed(
+fn told_closed<B: Bounds>(
     alloc: Global,
-    names: Symbols<Place, Unbounded>,
-    mut code: Code<Unbounded>,
+    names: Symbols<Place, B>,
+    mut code: Code<B>,
 ) -> Result<String, AllocError> {
     match code.close(RoutineKind::Plain) {
         Ok(()) => told_area(alloc, &names, code),
@@ -251,37 +264,74 @@ fn told_closed(
 }
 
 /// The same, unless a limit was passed.
-fn told_of(alloc: Global, out: Output<Unbounded>) -> Result<String, AllocError> {
+fn told_of<B: Bounds>(alloc: Global, out: Output<B>) -> Result<String, AllocError> {
     match out.full() {
         Some(limit) => format!(in alloc; "Full({limit:?})"),
         None => told_closed(alloc, out.names, out.code),
     }
 }
 
-/// An output with some names, for as many labels, bytes and references as a way says.
-fn output_for(
-    alloc: Global,
-    way: &str,
-    names: Symbols<Place, Unbounded>,
-) -> Result<Output<Unbounded>, AllocError> {
-    let limits = CodeLimits {
-        labels: number_or(way, 3, 1_000),
-        code: number_or(way, 4, 262_144),
-        refs: number_or(way, 5, 50_000),
+/// How much there may be of names and of code.
+#[derive(Clone, Copy)]
+struct Most {
+    names: u32,
+    code: CodeLimits,
+}
+
+/// As much as a way says.
+fn most_of(way: &str) -> Most {
+    Most {
+        names: word(way, 2).parse().unwrap_or(10_000),
+        code: CodeLimits {
+            labels: number_or(way, 3, 1_000),
+            code: number_or(way, 4, 262_144),
+            refs: number_or(way, 5, 50_000),
+        },
+    }
+}
+
+/// Tables of which nothing is used.
+fn tables<B: Bounds>(alloc: Global) -> Tables<B>
+    requires { AreUsual B.most }
+{
+    let limits = Limits {
+        objects: 640,
+        property_bytes: 30_000,
     };
+    Tables {
+        dictionary: Dictionary::new(alloc, 2_000),
+        arrays: Arrays::new(alloc, 10_000),
+        globals: Globals::new(alloc),
+        world: World::new(alloc, limits),
+        verbs: Verbs::new(alloc, 200, 16_000),
+        actions: Actions::new(alloc, 200),
+        parsing: ParsingRoutines::new(alloc),
+        low_strings: LowStrings::new(alloc, 2_048),
+    }
+}
+
+/// An output with some names.
+fn output_for<B: Bounds>(
+    alloc: Global,
+    limits: CodeLimits,
+    names: Symbols<Place, B>,
+) -> Result<Output<B>, AllocError>
+    requires code { limits ≡ code_limits B.most }
+    requires strings { 262144 ≡ B.most setting.Strings }
+    requires others { AreUsual B.most }
+{
     let code = Code::new(alloc, limits, Scale::Four)?;
     let strings = Strings::new(alloc, 262_144, Scale::Four);
-    let tables = Tables::new(alloc, &Settings::new());
     let seen = Symbols::new(alloc, u32::MAX, false, NameHashing::new(b""));
-    Ok(Output::new(code, strings, tables, names, seen, HERE))
+    Ok(Output::new(code, strings, tables::<B>(alloc), names, seen, HERE))
 }
 
 /// What comes of some expressions that are laid in a way.
-fn told_by(
+fn told_by<B: Bounds>(
     alloc: Global,
     way: &str,
     forest: &Forest,
-    mut laying: Laying,
+    mut laying: Laying<B>,
 ) -> Result<String, AllocError> {
     laying.begin(alloc, way, forest)?;
     told_of(alloc, laying.out)
@@ -289,12 +339,26 @@ fn told_by(
 
 /// The same of some that are spelled.
 pub(crate) fn answer(alloc: Global, way: &str, spelled: &str) -> Result<String, AllocError> {
-    let most_names = word(way, 2).parse().unwrap_or(10_000);
-    let mut names = Symbols::new(alloc, most_names, false, NameHashing::new(b""));
-    let forest = trees(alloc, &mut names, spelled)?;
+    answer_under::<Brand>(alloc, most_of(way), way.as_bytes(), spelled.as_bytes())
+}
+
+/// The same, where there may be so much.
+fn answer_under<B: Bounds>(
+    alloc: Global,
+    most: Most,
+    way: &[u8],
+    spelled: &[u8],
+) -> Result<String, AllocError>
+    requires names { most.names ≡ B.most setting.Symbols }
+    requires code { most.code ≡ code_limits B.most }
+    requires strings { 262144 ≡ B.most setting.Strings }
+    requires others { AreUsual B.most }
+{
+    let mut names = Symbols::<Place, B>::new(alloc, most.names, false, NameHashing::new(b""));
+    let forest = trees(alloc, &mut names, text_of(spelled))?;
     let laying = Laying {
         tasks: Tasks::new(alloc),
-        out: output_for(alloc, way, names)?,
+        out: output_for(alloc, most.code, names)?,
     };
-    told_by(alloc, way, &forest, laying)
+    told_by(alloc, text_of(way), &forest, laying)
 }

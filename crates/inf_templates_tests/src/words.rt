@@ -2,6 +2,11 @@
 use inf_area::{Area, PagedArea};
 use std::alloc::{AllocError, Global};
 
+/// The text of some bytes, or an empty one.
+pub(crate) fn text_of(bytes: &[u8]) -> &str {
+    str::from_utf8(bytes).unwrap_or("")
+}
+
 /// The word at a place, or an empty one.
 pub(crate) fn word(text: &str, place: usize) -> &str {
     text.split(' ').nth(place).unwrap_or("")

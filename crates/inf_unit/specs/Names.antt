@@ -7,14 +7,11 @@ use Rattle.inf_names.specs.declared.meanings.Meaning.TheVariants as meaning
 use Rattle.inf_names.specs.declared.symbols.Found.{Found}
 use Rattle.inf_names.specs.declared.symbols.Found.TheVariants as found
 use Rattle.inf_report.specs.Messages.{Undeclared}
-use Rattle.inf_settings.specs.Settings.{number_of}
-use Rattle.inf_settings.specs.declared.setting.Setting.TheVariants as setting
-use Rattle.inf_settings.specs.declared.settings.Settings.{Settings}
 use Rattle.inf_unit.specs.Messages.{FileNames, Reported, location, with_error}
 
--- none, of which there may be as many as the settings say
-abbrev pub no_symbols : Settings → Table Place
-no_symbols settings = no_names (number_of setting.Symbols settings) false
+-- none
+abbrev pub no_symbols : Table Place
+no_symbols = no_names false
 
 -- the routine with which a story begins
 abbrev pub main_name : List ℕ

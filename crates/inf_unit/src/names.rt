@@ -1,6 +1,6 @@
 //! The names of a source, and the routine with which its story begins.
 ghost use Rattle.std.specs.Prelude.{◌≡◌, OnOk};
-ghost use Rattle.inf_settings.specs.Bounds.{Allows};
+ghost use Rattle.inf_settings.specs.Bounds.{AreSet};
 ghost use Rattle.inf_unit.specs.Names.{main_of, no_symbols, routine_of, with_all_undeclared};
 
 use crate::messages::{Diagnostics, location};
@@ -20,8 +20,8 @@ pub fn no_symbols<B: Bounds>(
     settings: &Settings,
     hashing: NameHashing,
 ) -> Symbols<Place, B>
-    requires { Allows B.allows settings.now }
-    ensures { result ≡ no_symbols settings.now }
+    requires { AreSet B.most settings.now }
+    ensures { result ≡ no_symbols }
 {
     Symbols::new(alloc, settings.bound::<B>(Setting::Symbols), false, hashing)
 }

@@ -2,6 +2,7 @@
 -- section 30.
 use Rattle.std.specs.Prelude.{ℕ, zero, suc, ◌+◌, ◌-◌, ◌==◌, min, nat_le, nat_lt, List, [], ◌∷◌, ◌++◌, length, codes, Bool, true, false, not, ◌||◌, if◌then◌else◌, Option, Some, None, is_some, option_map}
 use Rattle.std.specs.Str.{str_eq_ignore_ascii_case}
+use Rattle.inf_settings.specs.Bounds.{Limits}
 use Rattle.inf_dictionary.specs.Texts.{Text}
 use Rattle.inf_dictionary.specs.Words.{first_misfit, verb_of}
 use Rattle.inf_dictionary.specs.declared.uses.WordUse.{WordUse}
@@ -72,8 +73,8 @@ word_at tokens at = word_in (kind_at tokens at)
 abbrev pub verb_findings : Option Finding → Findings
 verb_findings found = record (found_alone found) { many = countable.Verbs }
 
-abbrev pub verb_ended : Context → Place → Option Finding → Compilation → Compilation
-verb_ended context first found w = unit_ended context first false (verb_findings found) w
+abbrev pub verb_ended : Limits → Context → Place → Option Finding → Compilation → Compilation
+verb_ended limits context first found w = unit_ended limits context first false (verb_findings found) w
 
 -- that the word at a place is one of a verb, or is none
 abbrev pub wrong_verb : ℕ → Finding
@@ -150,62 +151,63 @@ head_finding head tokens o = least_of_both (like_finding head.like tokens o) (wo
 abbrev pub with_verbs : AllVerbs → Code
 with_verbs verbs o = record o { tables = record o.tables { verbs = verbs } }
 
-abbrev pub verb_passed : Setting → Out → Out × Opened
-verb_passed limit o = (passed_table limit o, record { words = Some 0; lines = None })
+abbrev pub verb_passed : Limits → Setting → Out → Out × Opened
+verb_passed limits limit o = (passed_table limits limit o, record { words = Some 0; lines = None })
 
-abbrev pub new_verb_by : Option VerbFault → Out → Out × Opened
-new_verb_by None o =
+abbrev pub new_verb_by : Limits → Option VerbFault → Out → Out × Opened
+new_verb_by limits None o =
     let number =
     length o.tables.verbs.list in (with_verbs (with_verb o.tables.verbs) o, record { words = Some number; lines = Some number })
-new_verb_by (Some refused.TooMany) o = (o, record { words = None; lines = None })
-new_verb_by (Some refused.Full) o = verb_passed setting.Verbs o
-new_verb_by (Some refused.NoSpace) o = verb_passed setting.GrammarLines o
-new_verb_by (Some refused.Memory) o = (o, record { words = None; lines = None })
+new_verb_by limits (Some refused.TooMany) o = (o, record { words = None; lines = None })
+new_verb_by limits (Some refused.Full) o = verb_passed limits setting.Verbs o
+new_verb_by limits (Some refused.NoSpace) o = verb_passed limits setting.GrammarLines o
+new_verb_by limits (Some refused.Memory) o = (o, record { words = None; lines = None })
 
-abbrev pub new_verb : Out → Out × Opened
-new_verb o = new_verb_by (add_fault o.tables.verbs) o
+abbrev pub new_verb : Limits → Out → Out × Opened
+new_verb limits o = new_verb_by limits (add_fault limits o.tables.verbs) o
 
-abbrev pub verb_begun : Option ℕ → List SourceToken → Out → Out × Opened
-verb_begun None tokens o = new_verb o
-verb_begun (Some at) tokens o = (o, record { words = verb_named tokens at o; lines = None })
+abbrev pub verb_begun : Limits → Option ℕ → List SourceToken → Out → Out × Opened
+verb_begun limits None tokens o = new_verb limits o
+verb_begun limits (Some at) tokens o = (o, record { words = verb_named tokens at o; lines = None })
 
 -- its words are used
 abbrev pub verb_use : ℕ → Bool → WordUse
 verb_use number is_meta = if is_meta then word_use.MetaVerb number else word_use.Verb number
 
-abbrev pub word_used : Option DictionaryWord → WordUse → Code
-word_used None how o = o
-word_used (Some word) how o = with_word word.text how word.is_plural o
+abbrev pub word_used : Limits → Option DictionaryWord → WordUse → Code
+word_used limits None how o = o
+word_used limits (Some word) how o = with_word limits word.text how word.is_plural o
 
-abbrev pub words_used : ℕ → List SourceToken → WordUse → Code
-words_used zero tokens how o = o
-words_used (suc at) tokens how o = word_used (word_at tokens at) how (words_used at tokens how o)
+abbrev pub words_used : Limits → ℕ → List SourceToken → WordUse → Code
+words_used limits zero tokens how o = o
+words_used limits (suc at) tokens how o = word_used limits (word_at tokens at) how (words_used limits at tokens how o)
 
-abbrev pub like_used : Option ℕ → List SourceToken → ℕ → Code
-like_used None tokens number o = o
-like_used (Some at) tokens number o = word_used (word_at tokens at) (word_use.Verb number) o
+abbrev pub like_used : Limits → Option ℕ → List SourceToken → ℕ → Code
+like_used limits None tokens number o = o
+like_used limits (Some at) tokens number o = word_used limits (word_at tokens at) (word_use.Verb number) o
 
-abbrev pub words_given : Option ℕ → VerbHead → List SourceToken → Code
-words_given None head tokens o = o
-words_given (Some number) head tokens o = like_used head.like tokens number (words_used head.end tokens (verb_use number head.is_meta) o)
+abbrev pub words_given : Limits → Option ℕ → VerbHead → List SourceToken → Code
+words_given limits None head tokens o = o
+words_given limits (Some number) head tokens o =
+    like_used limits head.like tokens number (words_used limits head.end tokens (verb_use number head.is_meta) o)
 
-abbrev pub verb_opened : VerbHead → List SourceToken → Out → Out × Option ℕ
-verb_opened head tokens o = let b = verb_begun head.like tokens o in (words_given b.1.words head tokens b.0, b.1.lines)
+abbrev pub verb_opened : Limits → VerbHead → List SourceToken → Out → Out × Option ℕ
+verb_opened limits head tokens o = let b = verb_begun limits head.like tokens o in (words_given limits b.1.words head tokens b.0, b.1.lines)
 
 abbrev pub lines_of : Option ℕ → LinePlace → Extending
 lines_of verb place = record { verb = verb; place = place }
 
-abbrev pub header_opened : Option Finding → VerbHead → Compilation → Compilation
-header_opened (Some f) head w = record w { extending = lines_of None line_place.Last }
-header_opened None head w =
-    let v = verb_opened head w.unit.tokens w.output in record w { output = v.0; extending = lines_of v.1 line_place.Last }
+abbrev pub header_opened : Limits → Option Finding → VerbHead → Compilation → Compilation
+header_opened limits (Some f) head w = record w { extending = lines_of None line_place.Last }
+header_opened limits None head w =
+    let v = verb_opened limits head w.unit.tokens w.output in record w { output = v.0; extending = lines_of v.1 line_place.Last }
 
-abbrev pub verb_header_with : Context → Place → VerbHead → Compilation → Compilation
-verb_header_with context first head w =
-    let found = head_finding head w.unit.tokens w.output in verb_ended context first found (header_opened found head w)
+abbrev pub verb_header_with : Limits → Context → Place → VerbHead → Compilation → Compilation
+verb_header_with limits context first head w =
+    let found = head_finding head w.unit.tokens w.output in verb_ended limits context first found (header_opened limits found head w)
 
-abbrev pub verb_header : Context → Place → Compilation → Compilation
-verb_header context first w = verb_header_with context first (verb_head w.unit.tokens) w
+abbrev pub verb_header : Limits → Context → Place → Compilation → Compilation
+verb_header limits context first w = verb_header_with limits context first (verb_head w.unit.tokens) w
 
 -- The header of `Extend`: where further lines go is told by the word behind that of the verb.
 abbrev pub place_named : List ℕ → LinePlace
@@ -217,19 +219,19 @@ abbrev pub lines_extended : ℕ → LinePlace → Code
 lines_extended number place o =
     if has_verb number o then with_verbs (with_extended number place o.tables.verbs) o else o
 
-abbrev pub verb_extended : Option ℕ → LinePlace → Option DictionaryWord → Code
-verb_extended None place word o = o
-verb_extended (Some number) place word o = lines_extended number place (word_used word (word_use.Verb number) o)
+abbrev pub verb_extended : Limits → Option ℕ → LinePlace → Option DictionaryWord → Code
+verb_extended limits None place word o = o
+verb_extended limits (Some number) place word o = lines_extended number place (word_used limits word (word_use.Verb number) o)
 
-abbrev pub extend_with : Context → Place → ℕ → Option ℕ → LinePlace → Compilation → Compilation
-extend_with context first at number place w =
-    verb_ended context first (no_verb_finding at number)
-    (record w { extending = lines_of number place; output = verb_extended number place (word_at w.unit.tokens at) w.output })
+abbrev pub extend_with : Limits → Context → Place → ℕ → Option ℕ → LinePlace → Compilation → Compilation
+extend_with limits context first at number place w =
+    verb_ended limits context first (no_verb_finding at number)
+    (record w { extending = lines_of number place; output = verb_extended limits number place (word_at w.unit.tokens at) w.output })
 
-abbrev pub extend_header : Context → Place → Compilation → Compilation
-extend_header context first w =
+abbrev pub extend_header : Limits → Context → Place → Compilation → Compilation
+extend_header limits context first w =
     let at = name_order w.unit.tokens in
-    extend_with context first at (verb_named w.unit.tokens at w.output) (place_named (bytes_at w.unit.tokens (at + 1))) w
+    extend_with limits context first at (verb_named w.unit.tokens at w.output) (place_named (bytes_at w.unit.tokens (at + 1))) w
 
 -- What is wrong with a line
 
@@ -322,9 +324,9 @@ parsing_as (Some routine) o = (with_parsing (with_routine routine o.tables.parsi
 abbrev pub parsing_of : Out × Option ℕ → Out × ℕ
 parsing_of r = parsing_as r.1 r.0
 
-abbrev pub parsing_routine : Option Name → Out → Out × ℕ
-parsing_routine None o = (o, 0)
-parsing_routine (Some n) o = parsing_of (routine_referred n.bytes n.place o)
+abbrev pub parsing_routine : Limits → Option Name → Out → Out × ℕ
+parsing_routine limits None o = (o, 0)
+parsing_routine limits (Some n) o = parsing_of (routine_referred limits n.bytes n.place o)
 
 abbrev pub filter_token : Out × ℕ → Out × Option LineToken
 filter_token r = (r.0, Some (line_token_of.Filter r.1))
@@ -335,29 +337,29 @@ scope_token r = (r.0, Some (line_token_of.Scope r.1))
 abbrev pub routine_token : Out × ℕ → Out × Option LineToken
 routine_token r = (r.0, Some (line_token_of.Routine r.1))
 
-abbrev pub lone_by : Option Noun → Option ℕ → Option Name → Out → Out × Option LineToken
-lone_by (Some n) attribute name o = (o, Some (line_token_of.Noun n))
-lone_by None (Some number) name o = (o, Some (line_token_of.Attribute number))
-lone_by None None name o = routine_token (parsing_routine name o)
+abbrev pub lone_by : Limits → Option Noun → Option ℕ → Option Name → Out → Out × Option LineToken
+lone_by limits (Some n) attribute name o = (o, Some (line_token_of.Noun n))
+lone_by limits None (Some number) name o = (o, Some (line_token_of.Attribute number))
+lone_by limits None None name o = routine_token (parsing_routine limits name o)
 
-abbrev pub lone_token : List SourceToken → ℕ → Out → Out × Option LineToken
-lone_token tokens at o =
-    lone_by (noun_named (bytes_at tokens at)) (attribute_in (found_in (bytes_at tokens at) o.names)) (name_at tokens at) o
+abbrev pub lone_token : Limits → List SourceToken → ℕ → Out → Out × Option LineToken
+lone_token limits tokens at o =
+    lone_by limits (noun_named (bytes_at tokens at)) (attribute_in (found_in (bytes_at tokens at) o.names)) (name_at tokens at) o
 
-abbrev pub name_token : Named → List SourceToken → ℕ → Out → Out × Option LineToken
-name_token named.Sign tokens at o = (o, None)
-name_token named.Filter tokens at o = filter_token (parsing_routine (name_at tokens at) o)
-name_token named.Scope tokens at o = scope_token (parsing_routine (name_at tokens at) o)
-name_token named.Alone tokens at o = lone_token tokens at o
+abbrev pub name_token : Limits → Named → List SourceToken → ℕ → Out → Out × Option LineToken
+name_token limits named.Sign tokens at o = (o, None)
+name_token limits named.Filter tokens at o = filter_token (parsing_routine limits (name_at tokens at) o)
+name_token limits named.Scope tokens at o = scope_token (parsing_routine limits (name_at tokens at) o)
+name_token limits named.Alone tokens at o = lone_token limits tokens at o
 
-abbrev pub line_token_by : Option TokenKind → List SourceToken → ℕ → Out → Out × Option LineToken
-line_token_by (Some (kind.Word word)) tokens at o =
-    (with_word word.text word_use.Preposition word.is_plural o, Some (preposition tokens at word))
-line_token_by (Some kind.Name) tokens at o = name_token (named_at tokens at) tokens at o
-line_token_by _ tokens at o = (o, None)
+abbrev pub line_token_by : Limits → Option TokenKind → List SourceToken → ℕ → Out → Out × Option LineToken
+line_token_by limits (Some (kind.Word word)) tokens at o =
+    (with_word limits word.text word_use.Preposition word.is_plural o, Some (preposition tokens at word))
+line_token_by limits (Some kind.Name) tokens at o = name_token limits (named_at tokens at) tokens at o
+line_token_by limits _ tokens at o = (o, None)
 
-abbrev pub line_token : List SourceToken → ℕ → Out → Out × Option LineToken
-line_token tokens at o = line_token_by (kind_at tokens at) tokens at o
+abbrev pub line_token : Limits → List SourceToken → ℕ → Out → Out × Option LineToken
+line_token limits tokens at o = line_token_by limits (kind_at tokens at) tokens at o
 
 abbrev pub with_token : Option LineToken → List LineToken → List LineToken
 with_token None line = line
@@ -367,9 +369,9 @@ abbrev pub with_next : Out × Option LineToken → List LineToken → Out × Lis
 with_next t line = (t.0, with_token t.1 line)
 
 -- those before a place
-abbrev pub line_tokens : ℕ → List SourceToken → Out → Out × List LineToken
-line_tokens zero tokens o = (o, [])
-line_tokens (suc at) tokens o = let line = line_tokens at tokens o in with_next (line_token tokens at line.0) line.1
+abbrev pub line_tokens : Limits → ℕ → List SourceToken → Out → Out × List LineToken
+line_tokens limits zero tokens o = (o, [])
+line_tokens limits (suc at) tokens o = let line = line_tokens limits at tokens o in with_next (line_token limits tokens at line.0) line.1
 
 -- A line
 
@@ -384,60 +386,63 @@ arrow_before (suc at) tokens = arrow_or tokens at (arrow_before at tokens)
 abbrev pub arrow_in : List SourceToken → ℕ
 arrow_in tokens = arrow_before (length tokens) tokens
 
-abbrev pub action_by : Option Name → Out → Out × ℕ
-action_by None o = (o, 0)
-action_by (Some n) o = action_of n.bytes n.place o
+abbrev pub action_by : Limits → Option Name → Out → Out × ℕ
+action_by limits None o = (o, 0)
+action_by limits (Some n) o = action_of limits n.bytes n.place o
 
 -- behind its action `reverse` may stand
 abbrev pub is_reverse : List SourceToken → ℕ → Bool
 is_reverse tokens arrow = nat_lt 2 (length tokens - arrow)
 
 -- It is one of the verb whose lines are read. Where there would be too many lines, that limit is passed.
-abbrev pub one_line_by : Option LineFault → ℕ → LinePlace → LineOf → Code
-one_line_by None number place line o = with_verbs (with_line_of number place line o.tables.verbs) o
-one_line_by (Some f) number place line o = passed_table setting.GrammarLines o
+abbrev pub one_line_by : Limits → Option LineFault → ℕ → LinePlace → LineOf → Code
+one_line_by limits None number place line o = with_verbs (with_line_of number place line o.tables.verbs) o
+one_line_by limits (Some f) number place line o = passed_table limits setting.GrammarLines o
 
-abbrev pub one_line : ℕ → LinePlace → LineOf → Code
-one_line number place line o =
-    if has_verb number o then one_line_by (line_fault_of (length line.tokens) o.tables.verbs) number place line o else o
+abbrev pub one_line : Limits → ℕ → LinePlace → LineOf → Code
+one_line limits number place line o =
+    if has_verb number o then one_line_by limits (line_fault_of limits (length line.tokens) o.tables.verbs) number place line o else o
 
-abbrev pub line_kept_by : Option ℕ → LinePlace → LineOf → Code
-line_kept_by None place line o = o
-line_kept_by (Some number) place line o = one_line number place line o
+abbrev pub line_kept_by : Limits → Option ℕ → LinePlace → LineOf → Code
+line_kept_by limits None place line o = o
+line_kept_by limits (Some number) place line o = one_line limits number place line o
 
-abbrev pub line_kept : Extending → LineOf → Code
-line_kept e line o = line_kept_by e.verb e.place line o
+abbrev pub line_kept : Limits → Extending → LineOf → Code
+line_kept limits e line o = line_kept_by limits e.verb e.place line o
 
-abbrev pub line_with : Extending → List LineToken → Bool → Out × ℕ → Out
-line_with e taken is_reverse action = line_kept e (record { action = action.1; is_reverse = is_reverse; tokens = taken }) action.0
+abbrev pub line_with : Limits → Extending → List LineToken → Bool → Out × ℕ → Out
+line_with limits e taken is_reverse action =
+    line_kept limits e (record { action = action.1; is_reverse = is_reverse; tokens = taken }) action.0
 
-abbrev pub line_behind : Extending → List SourceToken → ℕ → Out × List LineToken → Out
-line_behind e tokens arrow line = line_with e line.1 (is_reverse tokens arrow) (action_by (name_at tokens (next_place arrow)) line.0)
+abbrev pub line_behind : Limits → Extending → List SourceToken → ℕ → Out × List LineToken → Out
+line_behind limits e tokens arrow line =
+    line_with limits e line.1 (is_reverse tokens arrow) (action_by limits (name_at tokens (next_place arrow)) line.0)
 
-abbrev pub line_added : Extending → List SourceToken → ℕ → Code
-line_added e tokens arrow o = line_behind e tokens arrow (line_tokens arrow tokens o)
+abbrev pub line_added : Limits → Extending → List SourceToken → ℕ → Code
+line_added limits e tokens arrow o = line_behind limits e tokens arrow (line_tokens limits arrow tokens o)
 
-abbrev pub line_laid : Option Finding → ℕ → Compilation → Compilation
-line_laid (Some f) arrow w = w
-line_laid None arrow w = record w { output = line_added w.extending w.unit.tokens arrow w.output }
+abbrev pub line_laid : Limits → Option Finding → ℕ → Compilation → Compilation
+line_laid limits (Some f) arrow w = w
+line_laid limits None arrow w = record w { output = line_added limits w.extending w.unit.tokens arrow w.output }
 
-abbrev pub line_found : Context → Place → Option Finding → ℕ → Compilation → Compilation
-line_found context first found arrow w = verb_ended context first found (line_laid found arrow w)
+abbrev pub line_found : Limits → Context → Place → Option Finding → ℕ → Compilation → Compilation
+line_found limits context first found arrow w = verb_ended limits context first found (line_laid limits found arrow w)
 
-abbrev pub line_judged : Context → Place → ℕ → Compilation → Compilation
-line_judged context first arrow w = line_found context first (tokens_finding arrow w.unit.tokens w.output.names) arrow w
+abbrev pub line_judged : Limits → Context → Place → ℕ → Compilation → Compilation
+line_judged limits context first arrow w = line_found limits context first (tokens_finding arrow w.unit.tokens w.output.names) arrow w
 
-abbrev pub line_ended : Context → Place → Compilation → Compilation
-line_ended context place w = line_judged context (first_place w.unit.tokens place) (arrow_in w.unit.tokens) w
+abbrev pub line_ended : Limits → Context → Place → Compilation → Compilation
+line_ended limits context place w = line_judged limits context (first_place w.unit.tokens place) (arrow_in w.unit.tokens) w
 
 -- A fake action
 
 abbrev pub fake_findings : Option Again → Findings
 fake_findings again = record (found_alone (again_finding 1 again)) { again = again }
 
-abbrev pub fake_with : Context → Place → Name → Out × Option (DeclareFault Place) → Compilation → Compilation
-fake_with context first name f w = unit_ended context first true (fake_findings (again_by name f.1)) (record w { output = f.0 })
+abbrev pub fake_with : Limits → Context → Place → Name → Out × Option (DeclareFault Place) → Compilation → Compilation
+fake_with limits context first name f w =
+    unit_ended limits context first true (fake_findings (again_by name f.1)) (record w { output = f.0 })
 
-abbrev pub fake_action : Context → Place → List Name → Compilation → Compilation
-fake_action context first [] w = passed true w
-fake_action context first (name ∷ names) w = fake_with context first name (faked name.bytes name.place w.output) w
+abbrev pub fake_action : Limits → Context → Place → List Name → Compilation → Compilation
+fake_action limits context first [] w = passed true w
+fake_action limits context first (name ∷ names) w = fake_with limits context first name (faked limits name.bytes name.place w.output) w

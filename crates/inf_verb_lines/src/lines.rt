@@ -200,7 +200,7 @@ fn parsing_routine<B: Bounds>(
     out: &mut Output<B>,
 ) -> Result<u16, AllocError>
     requires { IfSome name (λ n. length n.bytes.now ≤ 32) }
-    ensures { IfOk result (λ number. (out.new, number) ≡ parsing_routine (option_map named_token name.entry) out.old) }
+    ensures { IfOk result (λ number. (out.new, number) ≡ parsing_routine B.most (option_map named_token name.entry) out.old) }
 {
     let Some(name) = name else {
         return Ok(0);
@@ -219,7 +219,7 @@ fn lone_by<B: Bounds>(
     out: &mut Output<B>,
 ) -> Result<Option<LineToken>, AllocError>
     requires { IfSome name (λ n. length n.bytes.now ≤ 32) }
-    ensures { IfOk result (λ token. (out.new, token) ≡ lone_by noun attribute (option_map named_token name.entry) out.old) }
+    ensures { IfOk result (λ token. (out.new, token) ≡ lone_by B.most noun attribute (option_map named_token name.entry) out.old) }
 {
     match (noun, attribute) {
         (Some(noun), _) => Ok(Some(LineToken::Noun(noun))),
@@ -234,7 +234,7 @@ fn lone_token<B: Bounds>(
     at: usize,
     out: &mut Output<B>,
 ) -> Result<Option<LineToken>, AllocError>
-    ensures { IfOk result (λ token. (out.new, token) ≡ lone_token tokens.now at out.old) }
+    ensures { IfOk result (λ token. (out.new, token) ≡ lone_token B.most tokens.now at out.old) }
 {
     let name = tokens.bytes_at(at);
     let attribute = attribute_in(out.names.look(name));
@@ -248,7 +248,7 @@ fn name_token<B: Bounds>(
     at: usize,
     out: &mut Output<B>,
 ) -> Result<Option<LineToken>, AllocError>
-    ensures { IfOk result (λ token. (out.new, token) ≡ name_token named tokens.now at out.old) }
+    ensures { IfOk result (λ token. (out.new, token) ≡ name_token B.most named tokens.now at out.old) }
 {
     match named {
         Named::Sign => Ok(None),
@@ -270,7 +270,7 @@ fn line_token<B: Bounds>(
     at: usize,
     out: &mut Output<B>,
 ) -> Result<Option<LineToken>, AllocError>
-    ensures { IfOk result (λ token. (out.new, token) ≡ line_token tokens.now at out.old) }
+    ensures { IfOk result (λ token. (out.new, token) ≡ line_token B.most tokens.now at out.old) }
 {
     match tokens.kind(at) {
         Some(TokenKind::Word(word)) => {
@@ -299,7 +299,7 @@ fn add_next<B: Bounds>(
     out: &mut Output<B>,
     line: &mut Vec<LineToken>,
 ) -> Result<(), AllocError>
-    ensures { OnOk result ((out.new, line.new.items) ≡ with_next (line_token tokens.now at out.old) line.old.items) }
+    ensures { OnOk result ((out.new, line.new.items) ≡ with_next (line_token B.most tokens.now at out.old) line.old.items) }
 {
     let token = line_token(tokens, at, out)?;
     add_token(token, line)
@@ -312,7 +312,7 @@ fn line_tokens<B: Bounds>(
     tokens: &UnitTokens,
     out: &mut Output<B>,
 ) -> Result<Vec<LineToken>, AllocError>
-    ensures { IfOk result (λ line. (out.new, line.items) ≡ line_tokens end tokens.now out.old) }
+    ensures { IfOk result (λ line. (out.new, line.items) ≡ line_tokens B.most end tokens.now out.old) }
 {
     let mut line = Vec::new(alloc);
     for at in 0..end {
@@ -346,7 +346,7 @@ fn arrow_in(tokens: &UnitTokens) -> usize
 /// The number of the action of a name, which appears there.
 fn action_by<B: Bounds>(name: Option<NameToken<'_>>, out: &mut Output<B>) -> Result<u16, AllocError>
     requires { IfSome name (λ n. length n.bytes.now ≤ 32) }
-    ensures { IfOk result (λ number. (out.new, number) ≡ action_by (option_map named_token name.entry) out.old) }
+    ensures { IfOk result (λ number. (out.new, number) ≡ action_by B.most (option_map named_token name.entry) out.old) }
 {
     match name {
         Some(name) => out.action(name.bytes, name.place),
@@ -371,7 +371,7 @@ fn one_line<B: Bounds>(
     out: &mut Output<B>,
 ) -> Result<(), AllocError>
     ensures { let l : LineOf = record { action = action; is_reverse = is_reverse; tokens = line.now } in
-        OnOk result (out.new ≡ one_line number place l out.old) }
+        OnOk result (out.new ≡ one_line B.most number place l out.old) }
 {
     if !has_verb(number, out) {
         return Ok(());
@@ -399,7 +399,7 @@ fn keep_line<B: Bounds>(
     out: &mut Output<B>,
 ) -> Result<(), AllocError>
     ensures { let l : LineOf = record { action = action; is_reverse = is_reverse; tokens = line.now } in
-        OnOk result (out.new ≡ line_kept extending l out.old) }
+        OnOk result (out.new ≡ line_kept B.most extending l out.old) }
 {
     match extending.verb {
         Some(number) => one_line(number, extending.place, action, is_reverse, line, out),
@@ -415,7 +415,7 @@ fn add_behind<B: Bounds>(
     line: &[LineToken],
     out: &mut Output<B>,
 ) -> Result<(), AllocError>
-    ensures { OnOk result (out.new ≡ line_behind extending tokens.now arrow (out.old, line.now)) }
+    ensures { OnOk result (out.new ≡ line_behind B.most extending tokens.now arrow (out.old, line.now)) }
 {
     let action = action_by(tokens.name_at(next_place(arrow)), out)?;
     keep_line(extending, action, is_reverse(tokens, arrow), line, out)
@@ -429,7 +429,7 @@ fn add_line<B: Bounds>(
     arrow: usize,
     out: &mut Output<B>,
 ) -> Result<(), AllocError>
-    ensures { OnOk result (out.new ≡ line_added extending tokens.now arrow out.old) }
+    ensures { OnOk result (out.new ≡ line_added B.most extending tokens.now arrow out.old) }
 {
     let line = line_tokens(alloc, arrow, tokens, out)?;
     add_behind(extending, tokens, arrow, line.as_slice(), out)
@@ -441,7 +441,7 @@ fn lay_line<B: Bounds>(
     found: Option<Finding>,
     arrow: usize,
 ) -> Result<(), AllocError>
-    ensures { OnOk result (work compilation.new ≡ line_laid found arrow (work compilation.old)) }
+    ensures { OnOk result (work compilation.new ≡ line_laid B.most found arrow (work compilation.old)) }
 {
     match found {
         Some(_) => Ok(()),
@@ -463,7 +463,7 @@ fn end_found<B: Bounds>(
     found: Option<Finding>,
     arrow: usize,
 ) -> Result<(), AllocError>
-    ensures { OnOk result (work compilation.new ≡ line_found (handed context.now) first found arrow (work compilation.old)) }
+    ensures { OnOk result (work compilation.new ≡ line_found B.most (handed context.now) first found arrow (work compilation.old)) }
 {
     lay_line(compilation, found, arrow)?;
     end_of_verb(compilation, context, first, found)
@@ -483,7 +483,7 @@ fn judge_line<B: Bounds>(
     first: Place,
     arrow: usize,
 ) -> Result<(), AllocError>
-    ensures { OnOk result (work compilation.new ≡ line_judged (handed context.now) first arrow (work compilation.old)) }
+    ensures { OnOk result (work compilation.new ≡ line_judged B.most (handed context.now) first arrow (work compilation.old)) }
 {
     let found = line_finding(compilation, arrow);
     end_found(compilation, context, first, found, arrow)
@@ -495,7 +495,7 @@ pub fn end_line<B: Bounds>(
     context: &Context<'_>,
     place: Place,
 ) -> Result<(), AllocError>
-    ensures { OnOk result (work compilation.new ≡ line_ended (handed context.now) place (work compilation.old)) }
+    ensures { OnOk result (work compilation.new ≡ line_ended B.most (handed context.now) place (work compilation.old)) }
 {
     let first = compilation.unit.first_place(place);
     let arrow = arrow_in(&compilation.unit.tokens);

@@ -280,7 +280,7 @@ fn head_finding<B: Bounds>(
 
 /// There would be more verbs, or lines, than this limit allows. Nobody asks any more which verb words are of.
 fn pass_verb<B: Bounds>(limit: Setting, out: &mut Output<B>) -> Opened
-    ensures { (out.new, result) ≡ verb_passed limit out.old }
+    ensures { (out.new, result) ≡ verb_passed B.most limit out.old }
 {
     out.pass_table(limit);
     Opened {
@@ -291,7 +291,7 @@ fn pass_verb<B: Bounds>(limit: Setting, out: &mut Output<B>) -> Opened
 
 /// A new verb, whose lines follow. Where there would be too many that limit is passed.
 fn new_verb<B: Bounds>(out: &mut Output<B>) -> Result<Opened, AllocError>
-    ensures { IfOk result (λ opened. (out.new, opened) ≡ new_verb out.old) }
+    ensures { IfOk result (λ opened. (out.new, opened) ≡ new_verb B.most out.old) }
 {
     match out.tables.verbs.add() {
         Ok(number) => Ok(Opened {
@@ -314,7 +314,7 @@ fn begin_verb<B: Bounds>(
     tokens: &UnitTokens,
     out: &mut Output<B>,
 ) -> Result<Opened, AllocError>
-    ensures { IfOk result (λ opened. (out.new, opened) ≡ verb_begun like tokens.now out.old) }
+    ensures { IfOk result (λ opened. (out.new, opened) ≡ verb_begun B.most like tokens.now out.old) }
 {
     match like {
         Some(at) => Ok(Opened {
@@ -342,7 +342,7 @@ pub fn use_word<B: Bounds>(
     word_use: WordUse,
     out: &mut Output<B>,
 ) -> Result<(), AllocError>
-    ensures { OnOk result (out.new ≡ word_used word word_use out.old) }
+    ensures { OnOk result (out.new ≡ word_used B.most word word_use out.old) }
 {
     match word {
         Some(word) => out.word(word.text, word_use, word.is_plural),
@@ -357,7 +357,7 @@ fn use_words<B: Bounds>(
     word_use: WordUse,
     out: &mut Output<B>,
 ) -> Result<(), AllocError>
-    ensures { OnOk result (out.new ≡ words_used end tokens.now word_use out.old) }
+    ensures { OnOk result (out.new ≡ words_used B.most end tokens.now word_use out.old) }
 {
     for at in 0..end {
         use_word(word_at(tokens, at), word_use, out)?;
@@ -372,7 +372,7 @@ fn use_like<B: Bounds>(
     number: u8,
     out: &mut Output<B>,
 ) -> Result<(), AllocError>
-    ensures { OnOk result (out.new ≡ like_used like tokens.now number out.old) }
+    ensures { OnOk result (out.new ≡ like_used B.most like tokens.now number out.old) }
 {
     match like {
         Some(at) => use_word(word_at(tokens, at), WordUse::Verb(number), out),
@@ -387,7 +387,7 @@ fn give_words<B: Bounds>(
     tokens: &UnitTokens,
     out: &mut Output<B>,
 ) -> Result<(), AllocError>
-    ensures { OnOk result (out.new ≡ words_given verb head tokens.now out.old) }
+    ensures { OnOk result (out.new ≡ words_given B.most verb head tokens.now out.old) }
 {
     let Some(number) = verb else {
         return Ok(());
@@ -402,7 +402,7 @@ fn open_verb<B: Bounds>(
     tokens: &UnitTokens,
     out: &mut Output<B>,
 ) -> Result<Option<u8>, AllocError>
-    ensures { IfOk result (λ lines. (out.new, lines) ≡ verb_opened head tokens.now out.old) }
+    ensures { IfOk result (λ lines. (out.new, lines) ≡ verb_opened B.most head tokens.now out.old) }
 {
     let opened = begin_verb(head.like, tokens, out)?;
     give_words(opened.words, head, tokens, out)?;
@@ -444,7 +444,7 @@ fn extend_verb<B: Bounds>(
     word: Option<DictionaryWord>,
     out: &mut Output<B>,
 ) -> Result<(), AllocError>
-    ensures { OnOk result (out.new ≡ verb_extended verb place word out.old) }
+    ensures { OnOk result (out.new ≡ verb_extended B.most verb place word out.old) }
 {
     let Some(number) = verb else {
         return Ok(());
@@ -467,7 +467,7 @@ pub(crate) fn end_of_verb<B: Bounds>(
     first: Place,
     found: Option<Finding>,
 ) -> Result<(), AllocError>
-    ensures { OnOk result (work compilation.new ≡ verb_ended (handed context.now) first found (work compilation.old)) }
+    ensures { OnOk result (work compilation.new ≡ verb_ended B.most (handed context.now) first found (work compilation.old)) }
 {
     compilation.end_unit(context, first, false, &verb_findings(found))
 }
@@ -478,7 +478,7 @@ fn open_header<B: Bounds>(
     found: Option<Finding>,
     head: VerbHead,
 ) -> Result<(), AllocError>
-    ensures { OnOk result (work compilation.new ≡ header_opened found head (work compilation.old)) }
+    ensures { OnOk result (work compilation.new ≡ header_opened B.most found head (work compilation.old)) }
 {
     match found {
         Some(_) => compilation.extending = lines_of(None, LinePlace::Last),
@@ -497,7 +497,7 @@ fn verb_header_with<B: Bounds>(
     first: Place,
     head: VerbHead,
 ) -> Result<(), AllocError>
-    ensures { OnOk result (work compilation.new ≡ verb_header_with (handed context.now) first head (work compilation.old)) }
+    ensures { OnOk result (work compilation.new ≡ verb_header_with B.most (handed context.now) first head (work compilation.old)) }
 {
     let found = head_finding(
         compilation.alloc,
@@ -515,7 +515,7 @@ pub fn verb_header<B: Bounds>(
     context: &Context<'_>,
     first: Place,
 ) -> Result<(), AllocError>
-    ensures { OnOk result (work compilation.new ≡ verb_header (handed context.now) first (work compilation.old)) }
+    ensures { OnOk result (work compilation.new ≡ verb_header B.most (handed context.now) first (work compilation.old)) }
 {
     let head = verb_head(&compilation.unit.tokens);
     verb_header_with(compilation, context, first, head)
@@ -530,7 +530,7 @@ fn extend_with<B: Bounds>(
     verb: Option<u8>,
     place: LinePlace,
 ) -> Result<(), AllocError>
-    ensures { OnOk result (work compilation.new ≡ extend_with (handed context.now) first at verb place (work compilation.old)) }
+    ensures { OnOk result (work compilation.new ≡ extend_with B.most (handed context.now) first at verb place (work compilation.old)) }
 {
     compilation.extending = lines_of(verb, place);
     let word = word_at(&compilation.unit.tokens, at);
@@ -544,7 +544,7 @@ pub fn extend_header<B: Bounds>(
     context: &Context<'_>,
     first: Place,
 ) -> Result<(), AllocError>
-    ensures { OnOk result (work compilation.new ≡ extend_header (handed context.now) first (work compilation.old)) }
+    ensures { OnOk result (work compilation.new ≡ extend_header B.most (handed context.now) first (work compilation.old)) }
 {
     let at = compilation.unit.tokens.name_order() as usize;
     let place = place_named(compilation.unit.tokens.bytes_at(at + 1));
@@ -560,7 +560,8 @@ fn one_fake<B: Bounds>(
     name: &Name,
 ) -> Result<(), AllocError>
     ensures { let before = work compilation.old in let n = as_name name.now in
-        OnOk result (work compilation.new ≡ fake_with (handed context.now) first n (faked n.bytes n.place before.output) before) }
+        OnOk result (work compilation.new ≡ fake_with B.most (handed context.now) first n (faked B.most n.bytes n.place before.output)
+        before) }
 {
     let refused = compilation.output.fake_action(name.bytes(), name.place)?;
     let found = fake_findings(again_by(name, refused));
@@ -574,7 +575,8 @@ pub fn fake_action<B: Bounds>(
     first: Place,
     names: &[Name],
 ) -> Result<(), AllocError>
-    ensures { OnOk result (work compilation.new ≡ fake_action (handed context.now) first (map as_name names.now) (work compilation.old)) }
+    ensures { OnOk result (work compilation.new ≡ fake_action B.most (handed context.now) first (map as_name names.now)
+        (work compilation.old)) }
 {
     match names.first() {
         Some(name) => one_fake(compilation, context, first, name),

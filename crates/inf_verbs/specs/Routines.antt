@@ -5,6 +5,8 @@ use Rattle.indexmap.specs.IndexSet.{insert_key}
 use Rattle.inf_area.specs.declared.targets.Target.TheVariants as target
 use Rattle.inf_cells.specs.declared.cells.Cell.{Cell}
 use Rattle.inf_cells.specs.declared.cells.Cell.TheVariants as cell
+use Rattle.inf_settings.specs.Bounds.{Limits}
+use Rattle.inf_settings.specs.declared.setting.Setting.TheVariants as setting
 use Rattle.inf_verbs.specs.declared.routines.ActionFault.{ActionFault}
 use Rattle.inf_verbs.specs.declared.routines.ActionFault.TheVariants as fault
 
@@ -24,11 +26,10 @@ number_of routine routines = position_or_len (nat_eq routine) routines % 65536
 abbrev pub number_in : ℕ → List ℕ → Option ℕ
 number_in routine routines = if is_among routine routines then Some (number_of routine routines) else None
 
--- the actions with routines, how many have none, and how many may have one
+-- the actions with routines, and how many have none
 pub record AllActions : Type 0 where
   pub routines : List ℕ
   pub fakes : ℕ
-  pub limit : ℕ
 
 abbrev pub with_action : ℕ → AllActions → AllActions
 with_action routine actions = record actions { routines = with_routine routine actions.routines }
@@ -37,9 +38,9 @@ abbrev pub with_fake : AllActions → AllActions
 with_fake actions = record actions { fakes = (actions.fakes + 1) % 65536 }
 
 -- why one cannot be added: it is new, and there are as many as there may be
-abbrev pub action_fault : ℕ → AllActions → Option ActionFault
-action_fault routine actions =
-    if not (is_among routine actions.routines) && nat_le actions.limit (length actions.routines) then Some fault.Full else None
+abbrev pub action_fault : Limits → ℕ → AllActions → Option ActionFault
+action_fault limits routine actions =
+    if not (is_among routine actions.routines) && nat_le (limits setting.Actions) (length actions.routines) then Some fault.Full else None
 
 -- As they are written: a place for each one's address.
 abbrev pub routines_cells : List ℕ → List Cell

@@ -4,6 +4,8 @@ use Rattle.inf_area.specs.declared.targets.AreaName.TheVariants as area_name
 use Rattle.inf_area.specs.declared.targets.Target.TheVariants as target
 use Rattle.inf_cells.specs.declared.cells.Cell.{Cell}
 use Rattle.inf_cells.specs.declared.cells.Cell.TheVariants as cell
+use Rattle.inf_settings.specs.Bounds.{Limits}
+use Rattle.inf_settings.specs.declared.setting.Setting.TheVariants as setting
 use Rattle.inf_verbs.specs.Lines.{LineOf, lines_cells, lines_prepositions, lines_size}
 use Rattle.inf_verbs.specs.declared.verbs.Place.{Place}
 use Rattle.inf_verbs.specs.declared.verbs.Place.TheVariants as place
@@ -46,11 +48,9 @@ with_line place.First line verb = with_first line verb
 with_line place.Last line verb = with_last line verb
 with_line place.Replace line verb = with_last line verb
 
--- all verbs by number, how many there may be, and how many bytes their lines may have
+-- all verbs by number
 pub record AllVerbs : Type 0 where
   pub list : List VerbOf
-  pub limit : ℕ
-  pub space : ℕ
 
 abbrev pub verb_at : ℕ → AllVerbs → VerbOf
 verb_at number verbs = slice_index_or verbs.list number no_lines
@@ -84,16 +84,17 @@ verbs_laters [] = 0
 verbs_laters (verb ∷ verbs) = verb_laters verb + verbs_laters verbs
 
 -- why another verb cannot be added: there are 255, or as many as there may be, or there would be more bytes than there may be
-abbrev pub add_fault : AllVerbs → Option VerbFault
-add_fault verbs =
+abbrev pub add_fault : Limits → AllVerbs → Option VerbFault
+add_fault limits verbs =
     if nat_le 255 (length verbs.list) then Some verb_fault.TooMany
-    else if nat_le verbs.limit (length verbs.list) then Some verb_fault.Full
-    else if nat_lt verbs.space (verbs_size verbs.list + 3) then Some verb_fault.NoSpace
+    else if nat_le (limits setting.Verbs) (length verbs.list) then Some verb_fault.Full
+    else if nat_lt (limits setting.GrammarLines) (verbs_size verbs.list + 3) then Some verb_fault.NoSpace
     else None
 
 -- why another line of so many tokens cannot be
-abbrev pub line_fault_of : ℕ → AllVerbs → Option LineFault
-line_fault_of count verbs = if nat_lt verbs.space (verbs_size verbs.list + (3 + 3 * count)) then Some line_fault.NoSpace else None
+abbrev pub line_fault_of : Limits → ℕ → AllVerbs → Option LineFault
+line_fault_of limits count verbs =
+    if nat_lt (limits setting.GrammarLines) (verbs_size verbs.list + (3 + 3 * count)) then Some line_fault.NoSpace else None
 
 -- As they are written: the address of each one's lines, then for each how many there are and its lines.
 abbrev pub verb_cells : VerbOf → List Cell

@@ -1,5 +1,5 @@
 //! Routines that a grammar names, by number.
-ghost use Rattle.std.specs.Prelude.{◌≡◌, ◌<◌, ◌≤◌, ◌+◌, ◌++◌, ◌%◌, [], None, OnOk, OnErr, IfOk, IfErr, MatchResult, length, unwrap_or, true};
+ghost use Rattle.std.specs.Prelude.{◌≡◌, ◌<◌, ◌≤◌, ◌+◌, ◌++◌, ◌%◌, [], None, OnOk, OnErr, IfOk, IfErr, MatchResult, length, unwrap_or};
 ghost use Rattle.inf_area.specs.Fixups.{with_fixups};
 ghost use Rattle.inf_area.specs.declared.targets.AreaName.TheVariants as area_name;
 ghost use Rattle.inf_cells.specs.Cells.{bytes_of, fixups_of};
@@ -45,7 +45,7 @@ pub struct Actions<B: Bounds> {
     fakes: u16,
     limit: usize,
     of: PhantomData<B>,
-    ghost is_allowed: { B.allows setting.Actions limit ≡ true },
+    ghost is_most: { limit ≡ B.most setting.Actions },
 }
 
 impl<B: Bounds> Model for Actions<B> {
@@ -54,7 +54,7 @@ impl<B: Bounds> Model for Actions<B> {
 
     ghost Value = { AllActions };
 
-    ghost view = { λ a. record { routines = a.routines.keys; fakes = a.fakes; limit = a.limit } };
+    ghost view = { λ a. record { routines = a.routines.keys; fakes = a.fakes } };
 
     ghost invariant = { λ a. length a.routines.keys ≤ a.limit };
 }
@@ -62,8 +62,8 @@ impl<B: Bounds> Model for Actions<B> {
 impl<B: Bounds> Actions<B> {
     /// No actions, of which there may be so many beside fake ones. It takes no memory until the first one comes.
     pub fn new(alloc: Global, limit: usize) -> Actions<B>
-        requires { B.allows setting.Actions limit ≡ true }
-        ensures { result ≡ record { routines = []; fakes = 0; limit = limit } }
+        requires { limit ≡ B.most setting.Actions }
+        ensures { result ≡ record { routines = []; fakes = 0 } }
     {
         Actions {
             alloc,
@@ -77,8 +77,7 @@ impl<B: Bounds> Actions<B> {
     /// How many actions there are beside fake ones, which are never more than there may be; and so how many fixups are written.
     pub fn len(&self) -> usize
         ensures value { result ≡ length self.now.routines }
-        ensures limited { result ≤ self.now.limit }
-        ensures allowed { B.allows setting.Actions self.now.limit ≡ true }
+        ensures limited { result ≤ B.most setting.Actions }
     {
         self.routines.len()
     }
@@ -98,7 +97,7 @@ impl<B: Bounds> Actions<B> {
         ensures ok { OnOk result (self.new ≡ with_action routine self.old) }
         ensures number { IfOk result (λ number. number ≡ number_of routine self.old.routines) }
         ensures err { OnErr result (self.new ≡ self.old) }
-        ensures fault { let fault = action_fault routine self.old in
+        ensures fault { let fault = action_fault B.most routine self.old in
             MatchResult result (λ _. fault ≡ None) (λ refused. refused ≡ unwrap_or fault Memory) }
     {
         if !self.routines.contains(&routine) && self.routines.len() >= self.limit {

@@ -1,5 +1,5 @@
 //! Verbs, line by line.
-ghost use Rattle.std.specs.Prelude.{◌≡◌, ◌<◌, ◌≤◌, ◌+◌, ◌*◌, ◌++◌, ◌^◌, [], None, OnOk, OnErr, IfOk, IfErr, IfNone, MatchResult, length, unwrap_or, true};
+ghost use Rattle.std.specs.Prelude.{◌≡◌, ◌<◌, ◌≤◌, ◌+◌, ◌*◌, ◌++◌, ◌^◌, [], None, OnOk, OnErr, IfOk, IfErr, IfNone, MatchResult, length, unwrap_or};
 ghost use Rattle.inf_area.specs.Fixups.{with_fixups};
 ghost use Rattle.inf_area.specs.declared.targets.AreaName.TheVariants as area_name;
 ghost use Rattle.inf_cells.specs.Cells.{bytes_of, fixups_of};
@@ -80,8 +80,8 @@ pub struct Verbs<B: Bounds> {
     limit: usize,
     space: usize,
     of: PhantomData<B>,
-    ghost verbs_allowed: { B.allows setting.Verbs limit ≡ true },
-    ghost bytes_allowed: { B.allows setting.GrammarLines space ≡ true },
+    ghost is_most: { limit ≡ B.most setting.Verbs },
+    ghost is_most_bytes: { space ≡ B.most setting.GrammarLines },
 }
 
 impl<B: Bounds> Model for Verbs<B> {
@@ -90,7 +90,7 @@ impl<B: Bounds> Model for Verbs<B> {
 
     ghost Value = { AllVerbs };
 
-    ghost view = { λ v. record { list = v.verbs.items; limit = v.limit; space = v.space } };
+    ghost view = { λ v. record { list = v.verbs.items } };
 
     ghost invariant = { λ v. (v.size ≡ verbs_size v.verbs.items) × (v.later ≡ verbs_laters v.verbs.items)
         × (length v.verbs.items ≤ 255) × (length v.verbs.items ≤ v.limit) × (v.size ≤ v.space) };
@@ -99,9 +99,9 @@ impl<B: Bounds> Model for Verbs<B> {
 impl<B: Bounds> Verbs<B> {
     /// No verbs, of which there may be so many, with so many bytes of grammar. It takes no memory until the first one comes.
     pub fn new(alloc: Global, limit: usize, space: usize) -> Verbs<B>
-        requires verbs { B.allows setting.Verbs limit ≡ true }
-        requires bytes { B.allows setting.GrammarLines space ≡ true }
-        ensures { result ≡ record { list = []; limit = limit; space = space } }
+        requires verbs { limit ≡ B.most setting.Verbs }
+        requires bytes { space ≡ B.most setting.GrammarLines }
+        ensures { result ≡ record { list = [] } }
     {
         Verbs {
             alloc,
@@ -117,8 +117,7 @@ impl<B: Bounds> Verbs<B> {
     /// How many verbs there are, which are at most 255, and never more than there may be.
     pub fn len(&self) -> usize
         ensures value { result ≡ length self.now.list }
-        ensures limited { result ≤ self.now.limit }
-        ensures allowed { B.allows setting.Verbs self.now.limit ≡ true }
+        ensures limited { result ≤ B.most setting.Verbs }
         ensures byte { result ≤ 255 }
     {
         self.verbs.len()
@@ -127,8 +126,7 @@ impl<B: Bounds> Verbs<B> {
     /// The bytes of the grammar, which are never more than there may be.
     pub fn size(&self) -> usize
         ensures value { result ≡ verbs_size self.now.list }
-        ensures limited { result ≤ self.now.space }
-        ensures allowed { B.allows setting.GrammarLines self.now.space ≡ true }
+        ensures limited { result ≤ B.most setting.GrammarLines }
     {
         self.size
     }
@@ -149,7 +147,7 @@ impl<B: Bounds> Verbs<B> {
         ensures ok { OnOk result (self.new ≡ with_verb self.old) }
         ensures number { IfOk result (λ number. number ≡ length self.old.list) }
         ensures err { OnErr result (self.new ≡ self.old) }
-        ensures fault { let fault = add_fault self.old in
+        ensures fault { let fault = add_fault B.most self.old in
             MatchResult result (λ _. fault ≡ None) (λ refused. refused ≡ unwrap_or fault verb_fault.Memory) }
     {
         let number = self.verbs.len();
@@ -164,10 +162,10 @@ impl<B: Bounds> Verbs<B> {
 
     // Why another verb cannot be added, whatever memory there is.
     fn add_fault(&self) -> Option<VerbFault>
-        ensures value { result ≡ add_fault self.now }
+        ensures value { result ≡ add_fault B.most self.now }
         ensures few { IfNone result (length self.now.list < 255) }
-        ensures room { IfNone result (length self.now.list < self.now.limit) }
-        ensures space { IfNone result (verbs_size self.now.list + 3 ≤ self.now.space) }
+        ensures room { IfNone result (length self.now.list < B.most setting.Verbs) }
+        ensures space { IfNone result (verbs_size self.now.list + 3 ≤ B.most setting.GrammarLines) }
     {
         if self.verbs.len() >= MOST {
             return Some(VerbFault::TooMany);
@@ -215,7 +213,7 @@ impl<B: Bounds> Verbs<B> {
         ensures ok { OnOk result (self.new
             ≡ with_line_of number place (record { action = action; is_reverse = is_reverse; tokens = tokens.now }) self.old) }
         ensures err { OnErr result (self.new ≡ self.old) }
-        ensures fault { let fault = line_fault_of (length tokens.now) self.old in
+        ensures fault { let fault = line_fault_of B.most (length tokens.now) self.old in
             MatchResult result (λ _. fault ≡ None) (λ refused. refused ≡ unwrap_or fault line_fault.Memory) }
     {
         if (self.space - self.size) / 3 <= tokens.len() {

@@ -3,6 +3,7 @@ use Rattle.std.proofs.Common.{◌≡◌, ◌≤◌, ◌+◌, ◌∷◌, ◌++◌
 use Rattle.std.specs.Prelude.{IsErrAnd, MatchResult, Result, Ok, Err, nat_lt, option_map, slice_get, sum_by, if◌then◌else◌}
 use Rattle.std.proofs.lemmas.Bool.{ne_eqb}
 use Rattle.std.proofs.lemmas.List.Sums.{sum_by_push, sum_by-cons}
+use Rattle.inf_settings.specs.Bounds.{Limits as SettingLimits}
 use Rattle.inf_properties.specs.declared.values.Property.{Property}
 use Rattle.inf_properties.specs.declared.sizes.Owner.{Owner}
 use Rattle.inf_properties.specs.declared.sizes.Owner.TheVariants as owner
@@ -19,6 +20,7 @@ use Rattle.inf_world.specs.declared.faults.AddFault.TheVariants as fault
 use Rattle.inf_world.specs.declared.faults.Misfit.TheVariants as misfit
 use Rattle.inf_world.specs.Faults.{given_fault}
 use Rattle.inf_world.specs.Objects.{class_at, or_latest}
+use Rattle.inf_world.specs.declared.kinds.Limits.{Limits}
 use Rattle.inf_world.specs.World.{AreHung, IsRefused, IsWorld, WorldOf, class_by_fault, class_of_fault, open_count, room_beside, with_properties}
 use Rattle.inf_world.proofs.Latest.{latest-push, told}
 
@@ -77,10 +79,11 @@ one_open owner.Nothing e = cc
 abbrev pub with_last : WorldOf → WorldOf
 with_last w = record w { objects = w.objects ++ ended w.body ∷ []; is_open = false; body = nothing_read }
 
-pub ends : (w : WorldOf) (latest new : List ℕ) (bytes fixups : ℕ) → IsWorld w latest bytes fixups → is_lost w.body.properties.owner ≡ false
+pub ends : (limits : Limits) (w : WorldOf) (latest new : List ℕ) (bytes fixups : ℕ) → IsWorld limits w latest bytes fixups →
+    is_lost w.body.properties.owner ≡ false
     → ((arrows : ℕ) → slice_get new arrows ≡ or_latest (told arrows (5 + length w.objects) (ended w.body)) (slice_get latest arrows))
-    → IsWorld (with_last w) new (bytes + object_bytes (ended w.body)) (fixups + object_fixups (ended w.body))
-ends w latest new bytes fixups h e later =
+    → IsWorld limits (with_last w) new (bytes + object_bytes (ended w.body)) (fixups + object_fixups (ended w.body))
+ends limits w latest new bytes fixups h e later =
     let o = ended w.body in
     let count : length (w.objects ++ o ∷ []) ≡ length w.objects + 1 = omega (arith, length-append w.objects (o ∷ [])) in
     let sum = sum_by_push object_bytes w.objects o in
@@ -111,20 +114,20 @@ told_by (Ok u) P Q g h q = absurd h
 told_by (Err f) P Q g h q = subst Q (sym h) q
 
 -- why a class is refused that is there
-pub class_fault_is : (w : WorldOf) (number : ℕ) (class : Object) → w.is_open ≡ true → (number ≡ 0 → ⊥) →
+pub class_fault_is : (limits : SettingLimits) (w : WorldOf) (number : ℕ) (class : Object) → w.is_open ≡ true → (number ≡ 0 → ⊥) →
     class_at number w.objects ≡ Some class
-    → class_of_fault number w ≡ option_map given_fault (join_fault number class (room_beside w) w.body)
-class_fault_is w number class e some is =
-    ap (λ (b : Bool). if b then (if number == 0 then None else class_by_fault (class_at number w.objects) number w) else Some
+    → class_of_fault limits number w ≡ option_map given_fault (join_fault number class (room_beside limits w) w.body)
+class_fault_is limits w number class e some is =
+    ap (λ (b : Bool). if b then (if number == 0 then None else class_by_fault limits (class_at number w.objects) number w) else Some
     (fault.Misfit misfit.NoBody)) e
-    ∙ ap (λ (b : Bool). if b then None else class_by_fault (class_at number w.objects) number w) (ne_eqb number 0 some)
-    ∙ ap (λ o. class_by_fault o number w) is
+    ∙ ap (λ (b : Bool). if b then None else class_by_fault limits (class_at number w.objects) number w) (ne_eqb number 0 some)
+    ∙ ap (λ o. class_by_fault limits o number w) is
 
 -- a body that belongs to nothing has other properties
-pub lost_stays : (w : WorldOf) (o : Open) (latest : List ℕ) (bytes fixups : ℕ) → IsWorld w latest bytes fixups →
+pub lost_stays : (limits : Limits) (w : WorldOf) (o : Open) (latest : List ℕ) (bytes fixups : ℕ) → IsWorld limits w latest bytes fixups →
     w.body.properties.owner ≡ owner.Nothing → o.owner ≡ owner.Nothing
-    → IsWorld (with_properties o w) latest bytes fixups
-lost_stays w o latest bytes fixups h e f =
+    → IsWorld limits (with_properties o w) latest bytes fixups
+lost_stays limits w o latest bytes fixups h e f =
     let table = ap (λ x. table_bytes x (all o)) f ∙ nothing_bytes (all o) in
     let head = ap (λ x. head_bytes x (length w.body.name) (length w.body.classes)) (f ∙ sym e) in
     let count = ap open_count (f ∙ sym e) in

@@ -18,15 +18,16 @@ use Rattle.inf_world.specs.declared.faults.Misfit.{Misfit}
 use Rattle.inf_world.specs.declared.faults.Misfit.TheVariants as misfit
 use Rattle.inf_world.specs.declared.faults.Setting.TheVariants as setting
 use Rattle.inf_world.specs.declared.kinds.Declared.{Declared}
+use Rattle.inf_settings.specs.Bounds.{Limits as SettingLimits}
+use Rattle.inf_settings.specs.declared.setting.Setting.TheVariants as bound
 use Rattle.inf_world.specs.declared.kinds.Limits.{Limits}
 use Rattle.inf_world.specs.declared.kinds.Parent.{Parent}
 use Rattle.inf_world.specs.Faults.{given_fault}
 use Rattle.inf_world.specs.Objects.{arrows_of, class_at, latest_with, parent_of}
 
--- How much there may be; how many attributes, which properties and how many individual ones were declared; the objects and classes whose
+-- How many attributes, which properties and how many individual ones were declared; the objects and classes whose
 -- bodies ended, from number 5 on; and whether a body is open, with what was read of it.
 pub record WorldOf : Type 0 where
-  pub limits : Limits
   pub attributes : ℕ
   pub declared : List Declared
   pub individuals : ℕ
@@ -34,9 +35,9 @@ pub record WorldOf : Type 0 where
   pub is_open : Bool
   pub body : Body
 
-abbrev pub no_world : Limits → WorldOf
-no_world limits =
-    record { limits = limits; attributes = 0; declared = []; individuals = 0; objects = []; is_open = false; body = nothing_read }
+abbrev pub no_world : WorldOf
+no_world =
+    record { attributes = 0; declared = []; individuals = 0; objects = []; is_open = false; body = nothing_read }
 
 -- Counts
 
@@ -103,18 +104,18 @@ abbrev pub with_body : Body → WorldOf → WorldOf
 with_body body w = record w { is_open = true; body = body }
 
 -- a count that would pass its setting
-abbrev pub full_fault : WorldOf → Option AddFault
-full_fault w =
-    if nat_lt w.limits.objects (object_count w) then Some (fault.Full setting.Objects)
-    else if nat_lt w.limits.property_bytes (bytes_now w) then Some (fault.Full setting.PropertyTables)
+abbrev pub full_fault : SettingLimits → WorldOf → Option AddFault
+full_fault limits w =
+    if nat_lt (limits bound.Objects) (object_count w) then Some (fault.Full setting.Objects)
+    else if nat_lt (limits bound.PropertyTables) (bytes_now w) then Some (fault.Full setting.PropertyTables)
     else None
 
 -- a class is a child of the object `Class`
 abbrev pub with_class_header : List ℕ → WorldOf → WorldOf
 with_class_header name w = with_body (begun owner.Class 1 0 name) w
 
-abbrev pub class_header_fault : List ℕ → WorldOf → Option AddFault
-class_header_fault name w = if w.is_open then Some (fault.Misfit misfit.BodyIsOpen) else full_fault (with_class_header name w)
+abbrev pub class_header_fault : SettingLimits → List ℕ → WorldOf → Option AddFault
+class_header_fault limits name w = if w.is_open then Some (fault.Misfit misfit.BodyIsOpen) else full_fault limits (with_class_header name w)
 
 abbrev pub with_hung : Result ℕ Misfit → ℕ → List ℕ → WorldOf → WorldOf
 with_hung (Err m) arrows name w = w
@@ -123,13 +124,13 @@ with_hung (Ok number) arrows name w = with_body (begun owner.Object number arrow
 abbrev pub with_object_header : Parent → List ℕ → WorldOf → WorldOf
 with_object_header parent name w = with_hung (parent_of parent w.objects) (arrows_of parent) name w
 
-abbrev pub hung_fault : Result ℕ Misfit → ℕ → List ℕ → WorldOf → Option AddFault
-hung_fault (Err m) arrows name w = Some (fault.Misfit m)
-hung_fault (Ok number) arrows name w = full_fault (with_body (begun owner.Object number arrows name) w)
+abbrev pub hung_fault : SettingLimits → Result ℕ Misfit → ℕ → List ℕ → WorldOf → Option AddFault
+hung_fault limits (Err m) arrows name w = Some (fault.Misfit m)
+hung_fault limits (Ok number) arrows name w = full_fault limits (with_body (begun owner.Object number arrows name) w)
 
-abbrev pub object_header_fault : Parent → List ℕ → WorldOf → Option AddFault
-object_header_fault parent name w =
-    if w.is_open then Some (fault.Misfit misfit.BodyIsOpen) else hung_fault (parent_of parent w.objects) (arrows_of parent) name w
+abbrev pub object_header_fault : SettingLimits → Parent → List ℕ → WorldOf → Option AddFault
+object_header_fault limits parent name w =
+    if w.is_open then Some (fault.Misfit misfit.BodyIsOpen) else hung_fault limits (parent_of parent w.objects) (arrows_of parent) name w
 
 -- a body that belongs to nothing, since its header was in error
 abbrev pub with_lost_header : WorldOf → WorldOf
@@ -141,12 +142,12 @@ lost_header_fault w = if w.is_open then Some (fault.Misfit misfit.BodyIsOpen) el
 -- Bodies
 
 -- what there may be of properties beside all else
-abbrev pub room_of : WorldOf → Room
-room_of w = record { others = bytes_beside w; limit = w.limits.property_bytes }
+abbrev pub room_of : SettingLimits → WorldOf → Room
+room_of limits w = record { others = bytes_beside w; limit = limits bound.PropertyTables }
 
 -- beside all but the open body
-abbrev pub room_beside : WorldOf → Room
-room_beside w = record { others = ended_bytes w.objects; limit = w.limits.property_bytes }
+abbrev pub room_beside : SettingLimits → WorldOf → Room
+room_beside limits w = record { others = ended_bytes w.objects; limit = limits bound.PropertyTables }
 
 -- whether a number is a property's, and whether that one is additive; what stands with 0 is one that is not
 abbrev pub kind_of : ℕ → WorldOf → Option Bool
@@ -179,22 +180,22 @@ abbrev pub lost_given_fault : ℕ → Open → Option GiveFault
 lost_given_fault number o = give_fault (given_first number false None) (record { others = 0; limit = 4294967295 }) o
 
 -- only one of these can stand: a property that was given already gives nothing that could be too long or too much
-abbrev pub given_fault_of : Option Bool → ℕ → Option Value → WorldOf → Option AddFault
-given_fault_of None number first w = Some (fault.Misfit misfit.NotAProperty)
-given_fault_of (Some is_additive) number first w =
+abbrev pub given_fault_of : SettingLimits → Option Bool → ℕ → Option Value → WorldOf → Option AddFault
+given_fault_of limits None number first w = Some (fault.Misfit misfit.NotAProperty)
+given_fault_of limits (Some is_additive) number first w =
     if is_lost w.body.properties.owner then option_map given_fault (lost_given_fault number w.body.properties)
-    else option_map given_fault (give_fault (given_first number is_additive first) (room_of w) w.body.properties)
+    else option_map given_fault (give_fault (given_first number is_additive first) (room_of limits w) w.body.properties)
 
-abbrev pub given_property_fault : ℕ → Option Value → WorldOf → Option AddFault
-given_property_fault number first w =
-    if w.is_open then given_fault_of (kind_of number w) number first w else Some (fault.Misfit misfit.NoBody)
+abbrev pub given_property_fault : SettingLimits → ℕ → Option Value → WorldOf → Option AddFault
+given_property_fault limits number first w =
+    if w.is_open then given_fault_of limits (kind_of number w) number first w else Some (fault.Misfit misfit.NoBody)
 
 abbrev pub with_further_value : Value → WorldOf → WorldOf
 with_further_value v w = with_properties (with_value v w.body.properties) w
 
-abbrev pub further_value_fault : Value → WorldOf → Option AddFault
-further_value_fault v w =
-    if w.is_open then option_map given_fault (value_fault v (room_of w) w.body.properties) else Some (fault.Misfit misfit.NoBody)
+abbrev pub further_value_fault : SettingLimits → Value → WorldOf → Option AddFault
+further_value_fault limits v w =
+    if w.is_open then option_map given_fault (value_fault v (room_of limits w) w.body.properties) else Some (fault.Misfit misfit.NoBody)
 
 abbrev pub with_lost_property : WorldOf → WorldOf
 with_lost_property w = with_properties (record w.body.properties { takes_values = false }) w
@@ -215,13 +216,13 @@ class_by (Some class) number w = record w { body = with_named_class number class
 abbrev pub with_class_of : ℕ → WorldOf → WorldOf
 with_class_of number w = if number == 0 then w else class_by (class_at number w.objects) number w
 
-abbrev pub class_by_fault : Option Object → ℕ → WorldOf → Option AddFault
-class_by_fault None number w = Some (fault.Misfit misfit.NotAClass)
-class_by_fault (Some class) number w = option_map given_fault (join_fault number class (room_beside w) w.body)
+abbrev pub class_by_fault : SettingLimits → Option Object → ℕ → WorldOf → Option AddFault
+class_by_fault limits None number w = Some (fault.Misfit misfit.NotAClass)
+class_by_fault limits (Some class) number w = option_map given_fault (join_fault number class (room_beside limits w) w.body)
 
-abbrev pub class_of_fault : ℕ → WorldOf → Option AddFault
-class_of_fault number w =
-    if w.is_open then if number == 0 then None else class_by_fault (class_at number w.objects) number w
+abbrev pub class_of_fault : SettingLimits → ℕ → WorldOf → Option AddFault
+class_of_fault limits number w =
+    if w.is_open then if number == 0 then None else class_by_fault limits (class_at number w.objects) number w
     else Some (fault.Misfit misfit.NoBody)
 
 -- what is refused where lists are made before all is seen: that fault, or that memory ran out first
@@ -247,7 +248,7 @@ abbrev pub AreHung : ℕ → List Object → Type 0
 AreHung most [] = Unit {0}
 AreHung most (o ∷ objects) = (o.parent ≤ most) × (is_lost o.owner ≡ false) × AreHung most objects
 
-pub record IsWorld (w : WorldOf) (latest : List ℕ) (bytes fixups : ℕ) : Type 0 where
+pub record IsWorld (limits : Limits) (w : WorldOf) (latest : List ℕ) (bytes fixups : ℕ) : Type 0 where
   pub bytes_are : bytes ≡ ended_bytes w.objects
   pub fixups_are : fixups ≡ ended_fixups w.objects
   pub few_fixups : fixups ≤ bytes
@@ -255,8 +256,8 @@ pub record IsWorld (w : WorldOf) (latest : List ℕ) (bytes fixups : ℕ) : Type
   pub arrows_within : w.body.arrows ≤ length latest
   pub parents_within : AreHung (4 + length w.objects) w.objects
   pub parent_within : w.body.parent ≤ 4 + length w.objects
-  pub bytes_within : bytes_now w ≤ max 30 w.limits.property_bytes
-  pub count_within : object_count w ≤ max 4 w.limits.objects
-  pub small : w.limits.property_bytes < 2 ^ 32
+  pub bytes_within : bytes_now w ≤ max 30 limits.property_bytes
+  pub count_within : object_count w ≤ max 4 limits.objects
+  pub small : limits.property_bytes < 2 ^ 32
   pub few_attributes : w.attributes ≤ 48
   pub few_properties : length w.declared ≤ 60

@@ -68,14 +68,13 @@ pub struct World<B: Bounds> {
 }
 
 impl<B: Bounds> Model for World<B> {
-    ghost use Rattle.std.specs.Prelude.{◌≡◌, true};
+    ghost use Rattle.std.specs.Prelude.{◌≡◌};
     ghost use Rattle.inf_settings.specs.declared.setting.Setting.TheVariants as setting;
     ghost use Rattle.inf_world.specs.World.{IsWorld, WorldOf};
 
     ghost Value = { WorldOf };
 
     ghost view = { λ w. record {
-      limits = w.limits;
       attributes = w.attributes;
       declared = w.declared.items;
       individuals = w.individuals;
@@ -84,8 +83,7 @@ impl<B: Bounds> Model for World<B> {
       body = w.body;
     } };
 
-    ghost invariant = { λ w. IsWorld (record {
-      limits = w.limits;
+    ghost invariant = { λ w. IsWorld w.limits (record {
       attributes = w.attributes;
       declared = w.declared.items;
       individuals = w.individuals;
@@ -93,15 +91,15 @@ impl<B: Bounds> Model for World<B> {
       is_open = w.is_open;
       body = w.body;
     }) w.latest.items w.bytes w.fixups
-        × (B.allows setting.Objects w.limits.objects ≡ true) × (B.allows setting.PropertyTables w.limits.property_bytes ≡ true) };
+        × (w.limits.objects ≡ B.most setting.Objects) × (w.limits.property_bytes ≡ B.most setting.PropertyTables) };
 }
 
 impl<B: Bounds> World<B> {
     /// A world with the first four objects. It takes no memory.
     pub fn new(alloc: Global, limits: Limits) -> World<B>
-        requires objects { B.allows setting.Objects limits.objects ≡ true }
-        requires bytes { B.allows setting.PropertyTables limits.property_bytes ≡ true }
-        ensures { result ≡ no_world limits }
+        requires objects { limits.objects ≡ B.most setting.Objects }
+        requires bytes { limits.property_bytes ≡ B.most setting.PropertyTables }
+        ensures { result ≡ no_world }
     {
         World {
             alloc,
@@ -196,7 +194,7 @@ impl<B: Bounds> World<B> {
         ensures ok { OnOk result (self.new ≡ with_class_header name self.old) }
         ensures number { IfOk result (λ number. number ≡ 5 + length self.old.objects) }
         ensures err { OnErr result (self.new ≡ self.old) }
-        ensures fault { let fault = class_header_fault name self.old in
+        ensures fault { let fault = class_header_fault B.most name self.old in
             MatchResult result (λ _. fault ≡ None) (λ refused. fault ≡ Some refused) }
     {
         if self.is_open {
@@ -213,7 +211,7 @@ impl<B: Bounds> World<B> {
         ensures ok { OnOk result (self.new ≡ with_object_header parent name self.old) }
         ensures number { IfOk result (λ number. number ≡ 5 + length self.old.objects) }
         ensures err { OnErr result (self.new ≡ self.old) }
-        ensures fault { let fault = object_header_fault parent name self.old in
+        ensures fault { let fault = object_header_fault B.most parent name self.old in
             MatchResult result (λ _. fault ≡ None) (λ refused. fault ≡ Some refused) }
     {
         if self.is_open {
@@ -305,7 +303,7 @@ impl<B: Bounds> World<B> {
         ensures ok { OnOk result (self.new ≡ with_body (begun owner parent arrows name) self.old) }
         ensures number { IfOk result (λ number. number ≡ 5 + length self.old.objects) }
         ensures err { OnErr result (self.new ≡ self.old) }
-        ensures fault { let fault = full_fault (with_body (begun owner parent arrows name) self.old) in
+        ensures fault { let fault = full_fault B.most (with_body (begun owner parent arrows name) self.old) in
             MatchResult result (λ _. fault ≡ None) (λ refused. fault ≡ Some refused) }
     {
         let number = SYSTEM_OBJECTS + self.objects.len() + 1;
@@ -336,7 +334,7 @@ impl<B: Bounds> World<B> {
     pub fn give_property(&mut self, number: usize, first: Option<Value>) -> Result<(), AddFault>
         ensures ok { OnOk result (self.new ≡ with_given_property number first self.old) }
         ensures err { OnErr result (self.new ≡ self.old) }
-        ensures fault { let fault = given_property_fault number first self.old in
+        ensures fault { let fault = given_property_fault B.most number first self.old in
             MatchResult result (λ _. fault ≡ None) (λ refused. refused ≡ unwrap_or fault Memory) }
     {
         if !self.is_open {
@@ -359,7 +357,7 @@ impl<B: Bounds> World<B> {
     pub fn add_value(&mut self, value: Value) -> Result<(), AddFault>
         ensures ok { OnOk result (self.new ≡ with_further_value value self.old) }
         ensures err { OnErr result (self.new ≡ self.old) }
-        ensures fault { let fault = further_value_fault value self.old in
+        ensures fault { let fault = further_value_fault B.most value self.old in
             MatchResult result (λ _. fault ≡ None) (λ refused. refused ≡ unwrap_or fault Memory) }
     {
         if !self.is_open {
@@ -372,7 +370,7 @@ impl<B: Bounds> World<B> {
 
     /// Why `give_property` would refuse a property, whatever memory there is.
     pub fn give_fault(&self, number: usize, first: Option<Value>) -> Option<AddFault>
-        ensures { result ≡ given_property_fault number first self.now }
+        ensures { result ≡ given_property_fault B.most number first self.now }
     {
         if !self.is_open {
             return Some(AddFault::Misfit(Misfit::NoBody));
@@ -390,7 +388,7 @@ impl<B: Bounds> World<B> {
 
     /// Why `add_value` would refuse a further value, whatever memory there is.
     pub fn value_fault(&self, value: Value) -> Option<AddFault>
-        ensures { result ≡ further_value_fault value self.now }
+        ensures { result ≡ further_value_fault B.most value self.now }
     {
         if !self.is_open {
             return Some(AddFault::Misfit(Misfit::NoBody));
@@ -429,7 +427,7 @@ impl<B: Bounds> World<B> {
     pub fn join_class(&mut self, number: usize) -> Result<(), AddFault>
         ensures ok { OnOk result (self.new ≡ with_class_of number self.old) }
         ensures err { OnErr result (self.new ≡ self.old) }
-        ensures fault { let fault = class_of_fault number self.old in
+        ensures fault { let fault = class_of_fault B.most number self.old in
             MatchResult result (λ _. fault ≡ None) (IsRefused fault) }
     {
         if !self.is_open {
@@ -471,7 +469,7 @@ impl<B: Bounds> World<B> {
 
     // What there may be of properties beside all else.
     fn room(&self) -> Room
-        ensures { result ≡ room_of self.now }
+        ensures { result ≡ room_of B.most self.now }
     {
         Room {
             others: self.bytes + self.body.head_bytes(),
@@ -529,7 +527,7 @@ impl<B: Bounds> World<B> {
         ensures ok { let p = given_first number is_additive first in
             OnOk result (self.new ≡ with_properties (with_given p self.old.body.properties) self.old) }
         ensures err { OnErr result (self.new ≡ self.old) }
-        ensures fault { let fault = give_fault (given_first number is_additive first) (room_of self.old) self.old.body.properties in
+        ensures fault { let fault = give_fault (given_first number is_additive first) (room_of B.most self.old) self.old.body.properties in
             MatchResult result (λ _. fault ≡ None) (λ refused. refused ≡ unwrap_or (option_map given_fault fault) Memory) }
     {
         let room = self.room();
@@ -595,8 +593,7 @@ impl<B: Bounds> World<B> {
     /// How many objects there are, the first four, classes and that of the open body counted in. It is the number of the last one.
     pub fn object_count(&self) -> usize
         ensures value { result ≡ object_count self.now }
-        ensures limited { result ≤ max 4 self.now.limits.objects }
-        ensures allowed { B.allows setting.Objects self.now.limits.objects ≡ true }
+        ensures limited { result ≤ max 4 (B.most setting.Objects) }
     {
         let count = SYSTEM_OBJECTS + self.objects.len();
         match self.body.properties.owner() {
@@ -609,8 +606,7 @@ impl<B: Bounds> World<B> {
     /// ended here. Beyond the 30 of the first four objects these are never more than there may be.
     pub fn property_bytes(&self) -> usize
         ensures value { result ≡ bytes_now self.now }
-        ensures limited { result ≤ max 30 self.now.limits.property_bytes }
-        ensures allowed { B.allows setting.PropertyTables self.now.limits.property_bytes ≡ true }
+        ensures limited { result ≤ max 30 (B.most setting.PropertyTables) }
     {
         self.bytes + self.body.bytes()
     }

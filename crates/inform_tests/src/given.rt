@@ -1,4 +1,5 @@
 //! How many bytes of each source were given behind each step of a session.
+ghost use Rattle.inf_settings.specs.Bounds.{AreSet};
 ghost use Rattle.std.specs.Prelude.{◌≡◌, ◌<◌, IfOk, None, OnOk, [], false, length, min};
 ghost use Rattle.inf_session.specs.Standing.{IsSet};
 ghost use Rattle.inf_files.specs.Files.{last_count};
@@ -9,7 +10,7 @@ use inf_files::files::{Files, OpenFault, ReadFault};
 use inf_files::memory_files::MemoryFiles;
 use inf_session::session::Session;
 use inf_session::setup::Setup;
-use inf_settings::bounds::Unbounded;
+use inf_settings::bounds::Bounds;
 use inf_settings::setting::Setting;
 use inf_settings::settings::Settings;
 use inf_sinks::memory_sink::MemorySink;
@@ -17,6 +18,7 @@ use inf_sources::open_files::OpenFiles;
 use inf_text::CharSet;
 use inform_trials::devices::folder_of;
 use std::alloc::{AllocError, Global};
+use std::marker::Brand;
 use std::process::Abort;
 use std::test::Fail;
 
@@ -88,8 +90,8 @@ impl Files for Counted {
 
 /// A session with its devices.
 #[derive(Drop)]
-struct Run<'a> {
-    session: Session<'a, Unbounded>,
+struct Run<'a, B: Bounds> {
+    session: Session<'a, B>,
     files: Counted,
     messages: MemorySink,
 }
@@ -104,11 +106,12 @@ fn assert_near(rt: &impl Abort, given: usize, end: usize) {
 }
 
 /// A session at the front of `t.inf`.
-fn begin<'a>(
+fn begin<'a, B: Bounds>(
     alloc: Global,
     settings: &'a Settings,
     files: &mut Counted,
-) -> Result<Session<'a, Unbounded>, Fail>
+) -> Result<Session<'a, B>, Fail>
+    requires { AreSet B.most settings.now }
     ensures is_open { IfOk result (λ session. length session.open_files.outer < length files.new.files.openings.open_places) }
     ensures goes { IfOk result (λ session. session.open_files.lexer.has_failed ≡ false) }
     ensures set { IfOk result (λ session. IsSet session) }
@@ -128,7 +131,7 @@ fn begin<'a>(
     Ok(session)
 }
 
-impl<'a> Run<'a> {
+impl<'a, B: Bounds> Run<'a, B> {
     /// Makes a step, and asserts what was given.
     fn step(&mut self, rt: &impl Abort, first: usize, included: usize) -> Result<(), Fail>
         requires is_open { length self.old.session.open_files.outer < length self.old.files.files.openings.open_places }
@@ -159,7 +162,7 @@ impl<'a> Run<'a> {
 }
 
 /// Makes a step for each of these.
-fn make_steps(rt: &impl Abort, run: &mut Run<'_>, ends: &[Ends]) -> Result<(), Fail>
+fn make_steps<B: Bounds>(rt: &impl Abort, run: &mut Run<'_, B>, ends: &[Ends]) -> Result<(), Fail>
     requires is_open { length run.old.session.open_files.outer < length run.old.files.files.openings.open_places }
     requires goes { run.old.session.open_files.lexer.has_failed ≡ false }
     requires set { IsSet run.old.session }
@@ -179,8 +182,21 @@ fn step_through(
     ends: &[Ends],
 ) -> Result<(), Fail> {
     let settings = Settings::new();
+    step_under::<Brand>(rt, alloc, &settings, files, ends)
+}
+
+/// The same with these settings.
+fn step_under<B: Bounds>(
+    rt: &impl Abort,
+    alloc: Global,
+    settings: &Settings,
+    files: MemoryFiles,
+    ends: &[Ends],
+) -> Result<(), Fail>
+    requires { AreSet B.most settings.now }
+{
     let mut files = Counted::new(files);
-    let session = begin(alloc, &settings, &mut files)?;
+    let session = begin::<B>(alloc, settings, &mut files)?;
     let mut run = Run {
         session,
         files,

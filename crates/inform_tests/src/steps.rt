@@ -1,4 +1,5 @@
 //! The steps of a session, what was told behind each, and how much there is then of what the settings bound.
+ghost use Rattle.inf_settings.specs.Bounds.{AreSet};
 ghost use Rattle.std.specs.Prelude.{◌≡◌, ◌<◌, IfOk, OnOk, length, false};
 ghost use Rattle.inf_session.specs.Standing.{IsSet};
 
@@ -8,7 +9,7 @@ use inf_files::memory_files::MemoryFiles;
 use inf_session::compiled::Compiled;
 use inf_session::session::{Session, Step};
 use inf_session::setup::Setup;
-use inf_settings::bounds::Unbounded;
+use inf_settings::bounds::Bounds;
 use inf_settings::setting::Setting;
 use inf_settings::settings::Settings;
 use inf_sinks::memory_sink::MemorySink;
@@ -16,6 +17,7 @@ use inf_sources::open_files::OpenFiles;
 use inf_text::CharSet;
 use inform_trials::devices::folder;
 use std::alloc::{AllocError, Global};
+use std::marker::Brand;
 use std::process::Abort;
 use std::test::Fail;
 
@@ -47,13 +49,13 @@ const FIVE: &str = "t.inf(1): Error: Syntax error at \"5\"\n";
 
 /// A session with its devices.
 #[derive(Drop)]
-struct Run<'a> {
-    session: Session<'a, Unbounded>,
+struct Run<'a, B: Bounds> {
+    session: Session<'a, B>,
     files: MemoryFiles,
     messages: MemorySink,
 }
 
-impl<'a> Run<'a> {
+impl<'a, B: Bounds> Run<'a, B> {
     /// Makes a step, and answers what it comes to.
     fn go_on(&mut self) -> Result<Step, Fail>
         requires is_open { length self.old.session.open_files.outer < length self.old.files.openings.open_places }
@@ -117,11 +119,11 @@ impl<'a> Run<'a> {
     }
 
     /// Ends the session. Asserts that there are errors, and these messages.
-    fn finish(self, rt: &impl Abort, lines: &str) -> Result<(), Fail>
+    fn finish(self, rt: &impl Abort, lines: &[u8]) -> Result<(), Fail>
         requires is_open { length self.session.open_files.outer < length self.files.openings.open_places }
     {
         let (compiled, messages) = self.close();
-        assert_written(rt, messages.bytes(), lines.as_bytes());
+        assert_written(rt, messages.bytes(), lines);
         assert_refused(rt, compiled?);
         Ok(())
     }
@@ -134,7 +136,7 @@ impl<'a> Run<'a> {
             let _ = self.close();
             return Ok(());
         };
-        self.finish(rt, lines)
+        self.finish(rt, lines.as_bytes())
     }
 
     /// Ends a session of which a step failed.
@@ -153,11 +155,12 @@ fn assert_refused(rt: &impl Abort, compiled: Compiled) {
 }
 
 /// A session at the front of `t.inf`.
-fn begin<'a>(
+fn begin<'a, B: Bounds>(
     alloc: Global,
     settings: &'a Settings,
     files: &mut MemoryFiles,
-) -> Result<Session<'a, Unbounded>, Fail>
+) -> Result<Session<'a, B>, Fail>
+    requires { AreSet B.most settings.now }
     ensures is_open { IfOk result (λ session. length session.open_files.outer < length files.new.openings.open_places) }
     ensures goes { IfOk result (λ session. session.open_files.lexer.has_failed ≡ false) }
     ensures set { IfOk result (λ session. IsSet session) }
@@ -177,9 +180,10 @@ fn begin<'a>(
     Ok(session)
 }
 
-impl<'a> Run<'a> {
+impl<'a, B: Bounds> Run<'a, B> {
     /// A session at the front of a source.
-    fn begin(alloc: Global, settings: &'a Settings, source: &[u8]) -> Result<Run<'a>, Fail>
+    fn begin(alloc: Global, settings: &'a Settings, source: &[u8]) -> Result<Run<'a, B>, Fail>
+        requires { AreSet B.most settings.now }
         ensures is_open { IfOk result (λ run. length run.session.open_files.outer < length run.files.openings.open_places) }
         ensures goes { IfOk result (λ run. run.session.open_files.lexer.has_failed ≡ false) }
         ensures set { IfOk result (λ run. IsSet run.session) }
@@ -353,7 +357,11 @@ static FILLED: [Wanted; 11] = [
 ];
 
 /// Makes these steps, one after the other.
-fn make_steps(rt: &impl Abort, run: &mut Run<'_>, wanted: &[Wanted]) -> Result<(), Fail>
+fn make_steps<B: Bounds>(
+    rt: &impl Abort,
+    run: &mut Run<'_, B>,
+    wanted: &[Wanted],
+) -> Result<(), Fail>
     requires is_open { length run.old.session.open_files.outer < length run.old.files.openings.open_places }
     requires goes { run.old.session.open_files.lexer.has_failed ≡ false }
     requires set { IsSet run.old.session }
@@ -370,6 +378,13 @@ fn usual() -> Settings {
     Settings::new()
 }
 
+/// The steps of a session, and the messages behind them, where they are given.
+#[derive(Clone, Copy)]
+struct Course<'c> {
+    steps: &'c [Wanted],
+    last: Option<&'c str>,
+}
+
 /// Reads a source in these steps, and ends the session behind them with these messages, where they are given.
 fn play(
     rt: &impl Abort,
@@ -379,9 +394,26 @@ fn play(
     last: Option<&str>,
 ) -> Result<(), Fail> {
     let settings = usual();
-    let mut run = Run::begin(alloc, &settings, source)?;
-    match make_steps(rt, &mut run, wanted) {
-        Ok(()) => run.end(rt, last),
+    let course = Course {
+        steps: wanted,
+        last,
+    };
+    play_under::<Brand>(rt, alloc, &settings, source, course)
+}
+
+/// The same with these settings.
+fn play_under<B: Bounds>(
+    rt: &impl Abort,
+    alloc: Global,
+    settings: &Settings,
+    source: &[u8],
+    course: Course<'_>,
+) -> Result<(), Fail>
+    requires { AreSet B.most settings.now }
+{
+    let mut run = Run::<B>::begin(alloc, settings, source)?;
+    match make_steps(rt, &mut run, course.steps) {
+        Ok(()) => run.end(rt, course.last),
         Err(fail) => run.give_up(fail),
     }
 }
@@ -410,16 +442,26 @@ fn what_tables_take_is_counted(rt: HostRuntime) -> Result<(), Fail> {
 /// A word counts once, as an entry of an array it is an expression of one token, and each is a reference of two bytes.
 #[test]
 fn words_and_entries_are_counted(rt: HostRuntime) -> Result<(), Fail> {
-    let settings = usual();
     let source = b"[ Main; ]; Array a --> 'xa' 'xb' 'xa';";
-    let mut run = Run::begin(rt.alloc(), &settings, source)?;
+    let held = [2, 1, 2, 0, 2, 4, 0, 0, 0, 30, 6, 2, 12, 0, 8];
+    count_under::<Brand>(&rt, rt.alloc(), &usual(), source, held)
+}
+
+/// Reads two parts of a source with these settings, behind which there is so much.
+fn count_under<B: Bounds>(
+    rt: &impl Abort,
+    alloc: Global,
+    settings: &Settings,
+    source: &[u8],
+    wanted: [usize; 15],
+) -> Result<(), Fail>
+    requires { AreSet B.most settings.now }
+{
+    let mut run = Run::<B>::begin(alloc, settings, source)?;
     match run.two_parts() {
         Ok(held) => {
-            assert!(rt;
-                held == [2, 1, 2, 0, 2, 4, 0, 0, 0, 30, 6, 2, 12, 0, 8],
-                "{held:?}"
-            );
-            run.end(&rt, None)
+            assert!(rt; held == wanted, "{held:?}");
+            run.end(rt, None)
         }
         Err(fail) => run.give_up(fail),
     }
@@ -446,7 +488,20 @@ fn refuse(
     source: &[u8],
     lines: &str,
 ) -> Result<(), Fail> {
-    let mut run = Run::begin(alloc, settings, source)?;
+    refuse_under::<Brand>(rt, alloc, settings, source, lines.as_bytes())
+}
+
+/// The same, where there may be as much as these settings say.
+fn refuse_under<B: Bounds>(
+    rt: &impl Abort,
+    alloc: Global,
+    settings: &Settings,
+    source: &[u8],
+    lines: &[u8],
+) -> Result<(), Fail>
+    requires { AreSet B.most settings.now }
+{
+    let mut run = Run::<B>::begin(alloc, settings, source)?;
     match run.go_on() {
         Ok(step) => {
             assert!(rt; step == Step::Fatal);

@@ -7,5 +7,6 @@ use Rattle.inf_actions.proofs.acting.act_each.Given as goal
 -- the actions that are left lead from here to where all lead
 abbrev pub invariant-loop-action : goal.invariant-loop-action
 invariant-loop-action g l =
-    acted (handed l.context) l.place (drop l.action-index l.actions) (work l.compilation) ≡ acted (handed l.context) l.place l.actions
+    acted g.B.Bounds.most (handed l.context) l.place (drop l.action-index l.actions) (work l.compilation) ≡ acted g.B.Bounds.most
+    (handed l.context) l.place l.actions
     (work l.fn.compilation)

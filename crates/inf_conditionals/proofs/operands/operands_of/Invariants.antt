@@ -7,4 +7,4 @@ use Rattle.inf_conditionals.proofs.operands.operands_of.Given as goal
 abbrev pub invariant-loop-leaf : goal.invariant-loop-leaf
 invariant-loop-leaf g l =
     operands_from l.declared l.out l.tokens (drop l.leaf-index l.leaves) l.ahead l.operands.items
-    ≡ operands_from l.declared l.out l.tokens l.leaves (no_names 4294967295 false) []
+    ≡ operands_from l.declared l.out l.tokens l.leaves (no_names false) []

@@ -6,7 +6,8 @@ use Rattle.inf_constructs.proofs.cases.lay_values.Given as goal
 -- what is left leads from here to where all leads
 abbrev pub invariant-loop-root : goal.invariant-loop-root
 invariant-loop-root g l =
-    grouped l.group.items (trees_from l.nodes l.left) l.here l.next l.out ≡ grouped [] (trees_from l.nodes l.roots) l.here l.next l.fn.out
+    grouped g.B.Bounds.most l.group.items (trees_from l.nodes l.left) l.here l.next l.out ≡ grouped g.B.Bounds.most []
+    (trees_from l.nodes l.roots) l.here l.next l.fn.out
 
 abbrev pub decreases-loop-root : goal.decreases-loop-root
 decreases-loop-root g l = length l.left

@@ -25,12 +25,16 @@ returns-in-Ok-clause-concludes g c = λ honest start nested.
     let mid = g.M.Sink.taken c.read.new.messages in
     let new = g.M.Sink.taken c.finish.new.messages in
     let read = c.in-Ok.ensures.read honest start nested in
-    subst (λ (f : Open). IfOk c.finish.result.1 (λ x. Concludes s o c.args.serial.now (state s start first c.args.session []) start here f
+    subst (λ (f : Open). IfOk c.finish.result.1 (λ x. Concludes g.B.Bounds.most s o c.args.serial.now
+    (state s start first c.args.session []) start here f
     old new x)) (sym c.finish.ensures.files)
     (if_ok_more c.finish.result.1
-    (λ x. Delivers (finished c.args.serial.now c.read.new.self.open_files.nest.names (work_of c.read.new.self.progress.work)) x mid new)
-    (λ x. Concludes s o c.args.serial.now (state s start first c.args.session []) start here c.read.new.self.open_files old new x)
-    (λ x d. concludes s o c.args.serial.now (state s start first c.args.session) (state s start here c.read.new.self) start here
+    (λ x. Delivers (finished g.B.Bounds.most c.args.serial.now c.read.new.self.open_files.nest.names
+    (work_of c.read.new.self.progress.work)) x mid new)
+    (λ x. Concludes g.B.Bounds.most s o c.args.serial.now (state s start first c.args.session []) start here c.read.new.self.open_files old
+    new x)
+    (λ x d. concludes g.B.Bounds.most s o c.args.serial.now (state s start first c.args.session) (state s start here c.read.new.self) start
+    here
     c.read.new.self.open_files old mid new read.0 x read.1
     (λ told. c.in-Ok.ensures.ended) (λ told. refl) (c.in-Ok.ensures.went.nested honest start nested) (λ told. refl) (λ told. d))
     c.finish.ensures.ok)
@@ -47,9 +51,11 @@ returns-in-Ok-clause-stops g c = λ honest start nested.
     let new = g.M.Sink.taken c.finish.new.messages in
     let read = c.in-Ok.ensures.read honest start nested in
     on_err_leads c.finish.result.1
-    (TakesFront (finished c.args.serial.now c.read.new.self.open_files.nest.names (work_of c.read.new.self.progress.work)).messages mid new)
-    (Stops s o c.args.serial.now (state s start first c.args.session []) old new)
-    (λ t. stops_ending s o c.args.serial.now (state s start first c.args.session) (state s start here c.read.new.self) old mid new read.0
+    (TakesFront (finished g.B.Bounds.most c.args.serial.now c.read.new.self.open_files.nest.names
+    (work_of c.read.new.self.progress.work)).messages mid new)
+    (Stops g.B.Bounds.most s o c.args.serial.now (state s start first c.args.session []) old new)
+    (λ t. stops_ending g.B.Bounds.most s o c.args.serial.now (state s start first c.args.session) (state s start here c.read.new.self) old
+    mid new read.0
     read.1
     (λ told. c.in-Ok.ensures.ended) (λ told. refl) (λ told. t))
     c.finish.ensures.err
@@ -62,7 +68,8 @@ returns-in-Err-clause-stops g c = λ honest start nested.
     let files = g.F.Files in
     let s = files.sources c.args.files.now in
     let cut = c.in-Err.ensures.cut honest start nested in
-    stops_reading s (chosen c.args.session.setup) c.args.serial.now (state s start (files.openings c.args.files.now) c.args.session)
+    stops_reading g.B.Bounds.most s (chosen c.args.session.setup) c.args.serial.now
+    (state s start (files.openings c.args.files.now) c.args.session)
     (g.M.Sink.taken c.args.messages.now) (g.M.Sink.taken c.read.new.messages) cut.0 cut.1
 
 pub returns-in-Err-clause-heard : goal.returns-in-Err-clause-heard
@@ -76,7 +83,7 @@ returns-in-Ok-clause-opened g c = λ honest start nested.
     let read = c.in-Ok.ensures.read honest start nested in
     on_err c.finish.result.1 (
       read.0,
-      opened_behind s (chosen c.args.session.setup) read.0 (state s start (files.openings c.args.files.now) c.args.session)
+      opened_behind g.B.Bounds.most s (chosen c.args.session.setup) read.0 (state s start (files.openings c.args.files.now) c.args.session)
           (state s start here c.read.new.self)
           (g.M.Sink.taken c.args.messages.now) (g.M.Sink.taken c.read.new.messages) (opened_since start here) read.1 (λ told. refl),
     )

@@ -17,9 +17,9 @@ returns-clause-clean g c =
     let new = g.M.Sink.taken c.written.new.messages in
     let names = c.args.names.now.names in
     let serial = c.args.serial.now in
-    let e = finished serial names (work_of c.args.work) in
+    let e = finished g.B.Bounds.most serial names (work_of c.args.work) in
     if_ok_more c.written.result (λ x. Delivers e x old new) (λ x. x.status ≡ status.Success → EndsClean old new)
-    (λ x d. ends_clean e x old new (success_clean serial names (work_of c.args.work)) d)
+    (λ x d. ends_clean e x old new (success_clean g.B.Bounds.most serial names (work_of c.args.work)) d)
     (subst (λ (t : Outcome). IfOk c.written.result (λ x. Delivers t x old new)) c.in_ok-ending.ensures c.written.ensures.ok)
 
 pub returns-clause-errors : goal.returns-clause-errors
@@ -28,7 +28,7 @@ returns-clause-errors g c =
     let new = g.M.Sink.taken c.written.new.messages in
     let names = c.args.names.now.names in
     let serial = c.args.serial.now in
-    let e = finished serial names (work_of c.args.work) in
+    let e = finished g.B.Bounds.most serial names (work_of c.args.work) in
     if_ok_more c.written.result (λ x. Delivers e x old new) (λ x. x.status ≡ status.Errors → x.story ≡ None)
-    (λ x d. has_none e x old new (errors_none serial names (work_of c.args.work)) d)
+    (λ x d. has_none e x old new (errors_none g.B.Bounds.most serial names (work_of c.args.work)) d)
     (subst (λ (t : Outcome). IfOk c.written.result (λ x. Delivers t x old new)) c.in_ok-ending.ensures c.written.ensures.ok)

@@ -5,6 +5,7 @@ use Rattle.inf_statements.proofs.assembly.operands_in.Given as goal
 
 -- what is there, with what is left, is all
 abbrev pub invariant-loop-root : goal.invariant-loop-root
-invariant-loop-root l =
-    (l.operands.items ++ operands_in (trees_from l.nodes (drop l.root-index l.roots)) ≡ operands_in (trees_from l.nodes l.roots))
+invariant-loop-root g l =
+    (l.operands.items ++ operands_in g.B.Bounds.most (trees_from l.nodes (drop l.root-index l.roots)) ≡ operands_in g.B.Bounds.most
+    (trees_from l.nodes l.roots))
     × ((length l.operands.items ≡ l.root-index) × (length l.roots ≤ 8))

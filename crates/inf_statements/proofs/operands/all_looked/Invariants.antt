@@ -8,4 +8,4 @@ use Rattle.inf_statements.proofs.operands.all_looked.Given as goal
 abbrev pub invariant-loop-leaf : goal.invariant-loop-leaf
 invariant-loop-leaf g l =
     looked_from (listed l.locals) l.out l.tokens (drop l.leaf-index l.leaves) l.ahead l.operands.items
-    ≡ looked_from (listed l.locals) l.out l.tokens l.leaves (no_names 4294967295 false) []
+    ≡ looked_from (listed l.locals) l.out l.tokens l.leaves (no_names false) []

@@ -8,4 +8,5 @@ abbrev pub invariant-loop-leaf : goal.invariant-loop-leaf
 invariant-loop-leaf g l =
     let now : Settled = record { out = l.out; operands = l.operands.items } in
     let first : Settled = record { out = l.fn.out; operands = [] } in
-    settled l.set (listed l.locals) l.tokens (drop l.leaf-index l.leaves) now ≡ settled l.set (listed l.locals) l.tokens l.leaves first
+    settled g.B.Bounds.most l.set (listed l.locals) l.tokens (drop l.leaf-index l.leaves) now ≡ settled g.B.Bounds.most l.set
+    (listed l.locals) l.tokens l.leaves first

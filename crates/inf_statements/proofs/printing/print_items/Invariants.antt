@@ -7,8 +7,9 @@ use Rattle.inf_statements.proofs.printing.print_items.Given as goal
 -- what is left leads from here to where all leads
 abbrev pub invariant-loop-item : goal.invariant-loop-item
 invariant-loop-item g l =
-    items_printed l.printing.set l.printing.tokens.now l.printing.returns l.ends l.left (trees_from l.nodes l.roots) l.out
-    ≡ items_printed l.printing.set l.printing.tokens.now l.printing.returns false l.items (map tree_in (trees_in l.forest)) l.fn.out
+    items_printed g.B.Bounds.most l.printing.set l.printing.tokens.now l.printing.returns l.ends l.left (trees_from l.nodes l.roots) l.out
+    ≡ items_printed g.B.Bounds.most l.printing.set l.printing.tokens.now l.printing.returns false l.items (map tree_in (trees_in l.forest))
+    l.fn.out
 
 abbrev pub decreases-loop-item : goal.decreases-loop-item
 decreases-loop-item g l = length l.left

@@ -7,8 +7,8 @@ use Rattle.inf_statements.proofs.statements.lay_attributes.Given as goal
 -- what is left leads from here to where all leads
 abbrev pub invariant-loop-item : goal.invariant-loop-item
 invariant-loop-item g l =
-    attributes_given (part_of l.nodes l.object) l.left (trees_from l.nodes l.attributes) l.out
-    ≡ attributes_given (part_of l.nodes l.object) l.items (trees_from l.nodes l.roots) l.fn.out
+    attributes_given g.B.Bounds.most (part_of g.B.Bounds.most l.nodes l.object) l.left (trees_from l.nodes l.attributes) l.out
+    ≡ attributes_given g.B.Bounds.most (part_of g.B.Bounds.most l.nodes l.object) l.items (trees_from l.nodes l.roots) l.fn.out
 
 abbrev pub decreases-loop-item : goal.decreases-loop-item
 decreases-loop-item g l = length l.left

@@ -5,7 +5,8 @@ use Rattle.inf_templates.proofs.laying.lay_all.Given as goal
 
 -- what is left leads from here to where all leads
 abbrev pub invariant-loop-task : goal.invariant-loop-task
-invariant-loop-task g l = tasks_code l.nodes l.tasks l.out ≡ tasks_code l.nodes l.initial.tasks l.initial.out
+invariant-loop-task g l =
+    tasks_code g.B.Bounds.most l.nodes l.tasks l.out ≡ tasks_code g.B.Bounds.most l.nodes l.initial.tasks l.initial.out
 
 abbrev pub decreases-loop-task : goal.decreases-loop-task
 decreases-loop-task g l = weights l.nodes l.tasks

@@ -5,9 +5,9 @@ use Rattle.inf_templates.proofs.Cuts.{front, whole}
 use Rattle.inf_templates.proofs.laying.with_list.Goals as goal
 
 pub returns-in-None-clause-value : goal.returns-in-None-clause-value
-returns-in-None-clause-value c =
-    whole c.args.most _ _ _ _ _ c.loop.invariant.0 (ap operands c.in-None.ensures.code)
-    (rw c.operand_of-in-None.ensures at c.push-in-None.ensures.items) (omega arith)
+returns-in-None-clause-value c = λ limits.
+    whole c.args.most _ _ _ _ _ (c.loop.invariant.0 limits) (ap operands (c.in-None.ensures.code limits))
+    (rw (c.operand_of-in-None.ensures limits) at c.push-in-None.ensures.items) (omega arith)
 
 pub returns-clause-value : goal.returns-clause-value
-returns-clause-value c = front c.args.most _ _ _ c.loop.invariant.0 (omega arith)
+returns-clause-value c = λ limits. front c.args.most _ _ _ (c.loop.invariant.0 limits) (omega arith)

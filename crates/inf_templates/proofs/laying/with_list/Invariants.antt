@@ -1,4 +1,5 @@
 use Rattle.std.proofs.Common.{◌≡◌, ◌++◌, length}
+use Rattle.inf_settings.specs.Bounds.{Limits}
 use Rattle.inf_templates.specs.Parts.{operands}
 use Rattle.inf_templates.specs.Meaning.{parts}
 use Rattle.inf_templates.specs.Tasks.{at}
@@ -6,5 +7,6 @@ use Rattle.inf_templates.proofs.laying.with_list.Given as goal
 
 abbrev pub invariant-loop : goal.invariant-loop
 invariant-loop l =
-    (l.operands.items ++ operands (parts (at l.nodes l.left)) ≡ l.fn.front.items ++ operands (parts (at l.nodes l.list)))
+    ((limits : Limits) → l.operands.items ++ operands (parts (at limits l.nodes l.left)) ≡ l.fn.front.items ++ operands
+    (parts (at limits l.nodes l.list)))
     × (length l.operands.items ≡ l.counter)

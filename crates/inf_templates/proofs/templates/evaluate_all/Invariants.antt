@@ -5,7 +5,8 @@ use Rattle.inf_templates.proofs.templates.evaluate_all.Given as goal
 
 -- what is left leads from here to where all leads
 abbrev pub invariant-loop-last : goal.invariant-loop-last
-invariant-loop-last g l = evaluated (parts_of l.nodes l.left) l.out ≡ evaluated (parts_of l.nodes l.fn.arguments) l.initial.out
+invariant-loop-last g l =
+    evaluated (parts_of g.B.Bounds.most l.nodes l.left) l.out ≡ evaluated (parts_of g.B.Bounds.most l.nodes l.fn.arguments) l.initial.out
 
 abbrev pub decreases-loop-last : goal.decreases-loop-last
 decreases-loop-last g l = length l.left

@@ -16,8 +16,10 @@ instruct-requires g c =
     let few : length arguments ≤ c.from.result =
     omega (arith, c.requires.few, c.from.ensures, ap (λ (r : OpcodeRow). r.most) c.row.ensures.exact) in
     let all =
-    c.deref.ensures.0 ∙ operands_all nodes c.from.result arguments c.operands-operands.result.items c.operands-operands.ensures few in
-    subst (λ n. Takes c.args.opcode n (is_some c.args.store) (is_some c.args.branch)) (sym (ap length all ∙ operands_len nodes arguments))
+    c.deref.ensures.0 ∙ operands_all g.B.Bounds.most nodes c.from.result arguments c.operands-operands.result.items
+    c.operands-operands.ensures few in
+    subst (λ n. Takes c.args.opcode n (is_some c.args.store) (is_some c.args.branch))
+    (sym (ap length all ∙ operands_len g.B.Bounds.most nodes arguments))
     c.requires
 
 pub returns : goal.returns
@@ -27,8 +29,10 @@ returns g c =
     let few : length arguments ≤ c.from.result =
     omega (arith, c.requires.few, c.from.ensures, ap (λ (r : OpcodeRow). r.most) c.row.ensures.exact) in
     let all =
-    c.deref.ensures.0 ∙ operands_all nodes c.from.result arguments c.operands-operands.result.items c.operands-operands.ensures few in
+    c.deref.ensures.0 ∙ operands_all g.B.Bounds.most nodes c.from.result arguments c.operands-operands.result.items
+    c.operands-operands.ensures few in
     let Gives : List Simple → Out → Type 0 =
-    λ given o. OnOk c.instruct.result (c.instruct.new.self ≡ instruction c.args.opcode given c.args.store c.args.branch o) in
-    subst (Gives (operands (parts_of nodes arguments))) c.in_ok-evaluate_all.ensures
+    λ given o. OnOk c.instruct.result (c.instruct.new.self ≡ instruction g.B.Bounds.most c.args.opcode given c.args.store c.args.branch o)
+    in
+    subst (Gives (operands (parts_of g.B.Bounds.most nodes arguments))) c.in_ok-evaluate_all.ensures
     (subst (λ given. Gives given c.evaluate_all.new.out) all c.instruct.ensures)

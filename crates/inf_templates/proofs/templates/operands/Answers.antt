@@ -6,8 +6,8 @@ use Rattle.inf_templates.proofs.Given.{all_found, operands_front}
 use Rattle.inf_templates.proofs.templates.operands.Goals as goal
 
 pub returns : goal.returns
-returns c =
-    all_found c.args.nodes.now c.loop-argument.operands.items c.cut-argument-items.result.now c.loop-argument.argument-index
+returns g c =
+    all_found g.B.Bounds.most c.args.nodes.now c.loop-argument.operands.items c.cut-argument-items.result.now c.loop-argument.argument-index
     c.loop-argument.invariant.0 (omega (arith, c.loop-argument-test.false))
-    ∙ ap (λ gs. operands (parts_of c.args.nodes.now gs)) c.cut-argument-items.ensures.value
-    ∙ operands_front c.args.nodes.now c.args.most c.args.arguments.now
+    ∙ ap (λ gs. operands (parts_of g.B.Bounds.most c.args.nodes.now gs)) c.cut-argument-items.ensures.value
+    ∙ operands_front g.B.Bounds.most c.args.nodes.now c.args.most c.args.arguments.now

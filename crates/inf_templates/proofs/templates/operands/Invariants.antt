@@ -5,7 +5,7 @@ use Rattle.inf_templates.proofs.templates.operands.Given as goal
 
 -- what is there, with what is left, is all
 abbrev pub invariant-loop-argument : goal.invariant-loop-argument
-invariant-loop-argument l =
-    (l.operands.items ++ operands (parts_of l.nodes (drop l.argument-index l.argument-items)) ≡ operands
-    (parts_of l.nodes l.argument-items))
+invariant-loop-argument g l =
+    (l.operands.items ++ operands (parts_of g.B.Bounds.most l.nodes (drop l.argument-index l.argument-items)) ≡ operands
+    (parts_of g.B.Bounds.most l.nodes l.argument-items))
     × (length l.operands.items + (length l.argument-items - l.argument-index) ≤ 8)

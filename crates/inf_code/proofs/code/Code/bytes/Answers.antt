@@ -16,7 +16,6 @@ returns g c =
     let before = source_cells inside.finished inside.refs inside.area in
     let With : Bool → Option State → Routines = λ b r.
     record {
-      limits = inside.limits;
       scale = inside.scale;
       has_begun = inside.has_begun;
       finished = before;

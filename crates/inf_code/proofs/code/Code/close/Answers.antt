@@ -5,7 +5,8 @@ use Rattle.inf_assembler.specs.declared.routines.CloseFault.{CloseFault}
 use Rattle.inf_assembler.specs.declared.routines.CloseFault.TheVariants as close_fault
 use Rattle.inf_assembler.specs.Routines.{State, contents_of}
 use Rattle.inf_cells.specs.declared.cells.Cell.{Cell as CodeCell}
-use Rattle.inf_code.specs.Code.{Routines, IsCode, open_in, closed_cells, place_behind, source_cells, with_closed, fault_closed, fault_behind}
+use Rattle.inf_code.specs.declared.code.CodeLimits.{CodeLimits}
+use Rattle.inf_code.specs.Code.{Routines, IsCode, open_in, closed_cells, place_behind, source_cells, with_closed, fault_closed, fault_behind, fault_end}
 use Rattle.inf_code.proofs.CodeSteps.{closed_size, code_after, finished_closed, size_finished}
 use Rattle.inf_code.proofs.Ends.{is_first, told_first, told_lost, zeros_none, zeros_told}
 use Rattle.inf_code.proofs.code.Code.close.Goals as goal
@@ -19,10 +20,10 @@ returns-then-self-clause-fault g c =
     let lost : inside.is_lost ≡ true = c.if-self.true in
     let is : IsCode inside.limits inside.finished inside.refs inside.area (Some routine) =
     (subst (IsCode inside.limits inside.finished inside.refs inside.area) some c.self.invariant.0) in
+    let Closed : CodeLimits → Routines → Option CloseFault = λ l r. fault_end l r.scale kind r.finished r.opened in
     let before = source_cells inside.finished inside.refs inside.area in
     let With : Bool → Option State → Routines = λ b r.
     record {
-      limits = inside.limits;
       scale = inside.scale;
       has_begun = inside.has_begun;
       finished = before;
@@ -33,8 +34,9 @@ returns-then-self-clause-fault g c =
     λ wrong. MatchResult c.close_lost.result (λ _. wrong ≡ None) (λ fault. (fault ≡ close_fault.Memory) ⊎ (wrong ≡ Some fault)) in
     let start = is.behind.start ∙ sym (size_finished inside.limits inside.finished inside.refs inside.area (Some routine) is) in
     let told = subst (λ n. Tells (fault_behind n 0 (contents_of routine inside.area))) start c.close_lost.ensures.fault in
-    subst Tells (ap (λ r. fault_closed kind (With true r)) (sym some) ∙ ap (λ b. fault_closed kind (With b inside.routine)) (sym lost) ∙ ap
-    (fault_closed kind) c.self.view_is)
+    subst Tells (ap (λ r. Closed inside.limits (With true r)) (sym some)
+    ∙ ap (λ b. Closed inside.limits (With b inside.routine)) (sym lost)
+    ∙ ap (λ l. Closed l (With inside.is_lost inside.routine)) inside.is_most ∙ ap (fault_closed g.B.Bounds.most kind) c.self.view_is)
     (told_lost c.close_lost.result _ told)
 
 pub returns-in-Err-clause-fault : goal.returns-in-Err-clause-fault
@@ -46,10 +48,10 @@ returns-in-Err-clause-fault g c =
     let kept : inside.is_lost ≡ false = c.if-self.false in
     let is : IsCode inside.limits inside.finished inside.refs inside.area (Some routine) =
     (subst (IsCode inside.limits inside.finished inside.refs inside.area) some c.self.invariant.0) in
+    let Closed : CodeLimits → Routines → Option CloseFault = λ l r. fault_end l r.scale kind r.finished r.opened in
     let before = source_cells inside.finished inside.refs inside.area in
     let With : Bool → Option State → Routines = λ b r.
     record {
-      limits = inside.limits;
       scale = inside.scale;
       has_begun = inside.has_begun;
       finished = before;
@@ -59,8 +61,9 @@ returns-in-Err-clause-fault g c =
     let Tells : Option CloseFault → Type 0 = λ wrong. (c.in-Err.fault ≡ close_fault.Memory) ⊎ (wrong ≡ Some c.in-Err.fault) in
     let first = is_first inside.limits inside.finished inside.refs inside.spare inside.area false routine kind is c.self.invariant.1.1
     inside.refs refl in
-    subst Tells (ap (λ r. fault_closed kind (With false r)) (sym some) ∙ ap (λ b. fault_closed kind (With b inside.routine)) (sym kept) ∙ ap
-    (fault_closed kind) c.self.view_is)
+    subst Tells (ap (λ r. Closed inside.limits (With false r)) (sym some)
+    ∙ ap (λ b. Closed inside.limits (With b inside.routine)) (sym kept)
+    ∙ ap (λ l. Closed l (With inside.is_lost inside.routine)) inside.is_most ∙ ap (fault_closed g.B.Bounds.most kind) c.self.view_is)
     (told_first _ _ c.in-Err.fault (subst Tells first c.in-Err.ensures.fault))
 
 pub invariant_of-self-2 : goal.invariant_of-self-2
@@ -95,7 +98,6 @@ returns-clause-ok g c =
     routine c.in-Ok.closed is c.in-Ok.ensures.ok c.in_default-fill_up.ensures.ok in
     let Of : List CodeCell → Option State → Routines = λ cells r.
     record {
-      limits = inside.limits;
       scale = inside.scale;
       has_begun = inside.has_begun;
       finished = cells;
@@ -104,7 +106,6 @@ returns-clause-ok g c =
     } in
     let With : Bool → Option State → Routines = λ b r.
     record {
-      limits = inside.limits;
       scale = inside.scale;
       has_begun = inside.has_begun;
       finished = before ++ closed_cells inside.scale
@@ -125,10 +126,10 @@ returns-in-Err-fill_up-clause-fault g c =
     let kept : inside.is_lost ≡ false = c.if-self.false in
     let is : IsCode inside.limits inside.finished inside.refs inside.area (Some routine) =
     (subst (IsCode inside.limits inside.finished inside.refs inside.area) some c.self.invariant.0) in
+    let Closed : CodeLimits → Routines → Option CloseFault = λ l r. fault_end l r.scale kind r.finished r.opened in
     let before = source_cells inside.finished inside.refs inside.area in
     let With : Bool → Option State → Routines = λ b r.
     record {
-      limits = inside.limits;
       scale = inside.scale;
       has_begun = inside.has_begun;
       finished = before;
@@ -143,8 +144,9 @@ returns-in-Err-fill_up-clause-fault g c =
     inside.refs refl in
     let Tells : Option CloseFault → Type 0 =
     λ wrong. (c.in-Err-fill_up.fault ≡ close_fault.Memory) ⊎ (wrong ≡ Some c.in-Err-fill_up.fault) in
-    subst Tells (ap (λ r. fault_closed kind (With false r)) (sym some) ∙ ap (λ b. fault_closed kind (With b inside.routine)) (sym kept) ∙ ap
-    (fault_closed kind) c.self.view_is)
+    subst Tells (ap (λ r. Closed inside.limits (With false r)) (sym some)
+    ∙ ap (λ b. Closed inside.limits (With b inside.routine)) (sym kept)
+    ∙ ap (λ l. Closed l (With inside.is_lost inside.routine)) inside.is_most ∙ ap (fault_closed g.B.Bounds.most kind) c.self.view_is)
     (zeros_told _ inside.limits.code _ c.in-Err-fill_up.fault _ (sym first ∙ c.in-Ok.ensures.fault) same c.in-Err-fill_up.ensures.fault)
 
 pub returns-clause-fault : goal.returns-clause-fault
@@ -156,10 +158,10 @@ returns-clause-fault g c =
     let kept : inside.is_lost ≡ false = c.if-self.false in
     let is : IsCode inside.limits inside.finished inside.refs inside.area (Some routine) =
     (subst (IsCode inside.limits inside.finished inside.refs inside.area) some c.self.invariant.0) in
+    let Closed : CodeLimits → Routines → Option CloseFault = λ l r. fault_end l r.scale kind r.finished r.opened in
     let before = source_cells inside.finished inside.refs inside.area in
     let With : Bool → Option State → Routines = λ b r.
     record {
-      limits = inside.limits;
       scale = inside.scale;
       has_begun = inside.has_begun;
       finished = before;
@@ -172,6 +174,7 @@ returns-clause-fault g c =
     let over = ap (nat_lt inside.limits.code) size_is ∙ c.in_default-fill_up.ensures.fault in
     let first = is_first inside.limits inside.finished inside.refs inside.spare inside.area false routine kind is c.self.invariant.1.1
     inside.refs refl in
-    subst (λ wrong. wrong ≡ None) (ap (λ r. fault_closed kind (With false r)) (sym some) ∙ ap
-    (λ b. fault_closed kind (With b inside.routine)) (sym kept) ∙ ap (fault_closed kind) c.self.view_is)
+    subst (λ wrong. wrong ≡ None) (ap (λ r. Closed inside.limits (With false r)) (sym some)
+    ∙ ap (λ b. Closed inside.limits (With b inside.routine)) (sym kept)
+    ∙ ap (λ l. Closed l (With inside.is_lost inside.routine)) inside.is_most ∙ ap (fault_closed g.B.Bounds.most kind) c.self.view_is)
     (zeros_none _ inside.limits.code _ (sym first ∙ c.in-Ok.ensures.fault) over)

@@ -32,7 +32,6 @@ returns-clause-fault g c =
     let kept = lists inside.is_lost inside.finished inside.refs inside.spare inside.area c.listed-refs.result.now is.stands is.limit
     c.self.invariant.1.1 c.listed-refs.ensures in
     let With : Option State → Routines = λ r. record {
-      limits = inside.limits;
       scale = inside.scale;
       has_begun = inside.has_begun;
       finished = before;

@@ -5,7 +5,7 @@ use Rattle.std.specs.Prelude.{nat_lt}
 use Rattle.inf_assembler.specs.declared.routines.Limit.{Limit}
 use Rattle.inf_assembler.specs.declared.routines.Limit.TheVariants as setting
 use Rattle.inf_assembler.specs.Routines.{refusal}
-use Rattle.inf_code.specs.Code.{full_behind_bytes, full_opened, full_before, unlimited}
+use Rattle.inf_code.specs.Code.{full_behind_bytes, full_opened, full_before, place_behind, source_cells, unlimited}
 use Rattle.inf_code.proofs.CodeSteps.{length_finished, size_finished}
 use Rattle.inf_code.proofs.Full.{code_is_free}
 use Rattle.inf_code.proofs.code.Code.open.Goals as goal
@@ -15,7 +15,10 @@ returns-in-Some-clause-fault g c =
     let inside = c.self.inside in
     let count = size_finished inside.limits inside.finished inside.refs inside.area inside.routine c.self.invariant.0 in
     let same =
-    ap (full_behind_bytes inside.limits c.args.is_lost inside.has_begun) (sym count) ∙ ap (full_opened c.args.is_lost) c.self.view_is in
+    ap (full_behind_bytes inside.limits c.args.is_lost inside.has_begun) (sym count)
+    ∙ ap (λ l. full_behind_bytes l c.args.is_lost inside.has_begun (place_behind (source_cells inside.finished inside.refs inside.area)))
+    inside.is_most
+    ∙ ap (full_opened g.B.Bounds.most c.args.is_lost) c.self.view_is in
     ap refusal (sym c.in-Some.is ∙ c.full_opened.ensures ∙ same)
 
 pub returns-in_err-routine-clause-fault : goal.returns-in_err-routine-clause-fault
@@ -24,7 +27,10 @@ returns-in_err-routine-clause-fault g c =
     let bound = inside.limits in
     let count = size_finished bound inside.finished inside.refs inside.area inside.routine c.self.invariant.0 in
     let same =
-    ap (full_behind_bytes inside.limits c.args.is_lost inside.has_begun) (sym count) ∙ ap (full_opened c.args.is_lost) c.self.view_is in
+    ap (full_behind_bytes inside.limits c.args.is_lost inside.has_begun) (sym count)
+    ∙ ap (λ l. full_behind_bytes l c.args.is_lost inside.has_begun (place_behind (source_cells inside.finished inside.refs inside.area)))
+    inside.is_most
+    ∙ ap (full_opened g.B.Bounds.most c.args.is_lost) c.self.view_is in
     let none : full_behind_bytes inside.limits c.args.is_lost inside.has_begun inside.finished ≡ None =
     sym c.full_opened.ensures ∙ c.in_default.is in
     let cut =
@@ -40,5 +46,8 @@ returns-clause-fault g c =
     let inside = c.self.inside in
     let count = size_finished inside.limits inside.finished inside.refs inside.area inside.routine c.self.invariant.0 in
     let same =
-    ap (full_behind_bytes inside.limits c.args.is_lost inside.has_begun) (sym count) ∙ ap (full_opened c.args.is_lost) c.self.view_is in
+    ap (full_behind_bytes inside.limits c.args.is_lost inside.has_begun) (sym count)
+    ∙ ap (λ l. full_behind_bytes l c.args.is_lost inside.has_begun (place_behind (source_cells inside.finished inside.refs inside.area)))
+    inside.is_most
+    ∙ ap (full_opened g.B.Bounds.most c.args.is_lost) c.self.view_is in
     sym same ∙ sym c.full_opened.ensures ∙ c.in_default.is

@@ -7,5 +7,5 @@ use Rattle.inf_constructs.proofs.constructs.Constructs.end_all.Goals as goal
 pub loop-left-preserved : goal.loop-left-preserved
 loop-left-preserved g c =
     let n = c.loop-left.left in
-    ap (λ (e : _). all_ended (n - 1) e.0 e.1) c.in_ok-end.ensures
-    ∙ sym (next_ended n c.loop-left.self c.loop-left.out (omega (arith, c.loop-left-test.true))) ∙ c.loop-left.invariant
+    ap (λ (e : _). all_ended g.B.Bounds.most (n - 1) e.0 e.1) c.in_ok-end.ensures
+    ∙ sym (next_ended g.B.Bounds.most n c.loop-left.self c.loop-left.out (omega (arith, c.loop-left-test.true))) ∙ c.loop-left.invariant

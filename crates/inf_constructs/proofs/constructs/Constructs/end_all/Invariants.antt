@@ -7,4 +7,4 @@ abbrev pub decreases-loop-left : goal.decreases-loop-left
 decreases-loop-left g l = l.left
 
 abbrev pub invariant-loop-left : goal.invariant-loop-left
-invariant-loop-left g l = all_ended l.left l.self l.out ≡ all_ended l.count l.fn.self l.fn.out
+invariant-loop-left g l = all_ended g.B.Bounds.most l.left l.self l.out ≡ all_ended g.B.Bounds.most l.count l.fn.self l.fn.out

@@ -4,6 +4,7 @@ use Rattle.std.proofs.lemmas.List.{length-map}
 use Rattle.std.specs.Prelude.{is_some, nat_le}
 use Rattle.inf_names.specs.Entries.{as_named}
 use Rattle.inf_names.specs.SystemNames.{system_meaning}
+use Rattle.inf_settings.specs.declared.setting.Setting.TheVariants as setting
 use Rattle.inf_names.specs.Symbols.{Named, IsDeclared, declarations, declare_fault, folded, put, standing_of, with_declared}
 use Rattle.inf_names.proofs.Putting.{declarations-declared, declarations-few, fits_behind, length-put, open_where_fit, put-insert, room_where_fit}
 use Rattle.inf_names.proofs.symbols.Symbols.declare.Goals as goal
@@ -29,16 +30,15 @@ invariant_of-self-2 g c =
     let key = folded c.args.name.now in
     let known = standing_of key names in
     let system = system_meaning inside.is_debugging c.args.name.now in
-    let full = nat_le inside.limit (length names) in
+    let full = nat_le (g.B.Bounds.most setting.Symbols) (length names) in
     let put_in = IsDeclared inside.declared c.args.meaning c.args.place in
-    let fit : declare_fault c.args.name.now (record {
+    let fit : declare_fault g.B.Bounds.most c.args.name.now (record {
       names = names;
       declared = inside.declared;
-      limit = inside.limit;
       is_debugging =
           inside.is_debugging;
     }) ≡ None =
-    ap (declare_fault c.args.name.now) c.self.view_is ∙ sym c.in_default.ensures in
+    ap (declare_fault g.B.Bounds.most c.args.name.now) c.self.view_is ∙ sym c.in_default.ensures in
     let new = c.insert.new.self.entries in
     let is : map as_named new ≡ put key put_in names =
     ap (map as_named) c.in_ok-insert.ensures.entries ∙ put-insert _ _ es ∙ ap (λ k. put k put_in names) c.of.ensures in
@@ -46,7 +46,8 @@ invariant_of-self-2 g c =
     sym (length-map new as_named) ∙ ap length is ∙ length-put key put_in names
     ∙ ap (λ n. n + cond (is_some known) 0 1) (length-map es as_named) in
     let room : is_some known ≡ false → nat_le inside.limit (length es) ≡ false =
-    λ absent. ap (nat_le inside.limit) (sym (length-map es as_named)) ∙ room_where_fit system known full fit absent in (
+    λ absent. ap (nat_le inside.limit) (sym (length-map es as_named)) ∙ ap (λ n. nat_le n (length names)) inside.is_most
+    ∙ room_where_fit system known full fit absent in (
       ap (λ n. n + 1) c.self.invariant.0 ∙ omega arith ∙ sym
           (ap declarations is ∙ declarations-declared key inside.declared c.args.meaning c.args.place names
           (open_where_fit system known full fit)),
@@ -63,7 +64,6 @@ returns-clause-ok g c =
     ap (λ (names : List (Named _)). record {
       names = names;
       declared = inside.declared + 1;
-      limit = inside.limit;
       is_debugging =
           inside.is_debugging;
     }) is

@@ -28,7 +28,8 @@ invariant_of-self-2 g c =
     sym (length-map new as_named) ∙ ap length is ∙ length-put key put_in names
     ∙ ap (λ n. n + cond (is_some known) 0 1) (length-map es as_named) in
     let room : is_some known ≡ false → nat_le inside.limit (length es) ≡ false =
-    λ absent. ap (nat_le inside.limit) (sym (length-map es as_named)) ∙ ap is_full c.self.view_is ∙ sym c.is_full.ensures
+    λ absent. ap (nat_le inside.limit) (sym (length-map es as_named)) ∙ ap (λ n. nat_le n (length names)) inside.is_most
+    ∙ ap (is_full g.B.Bounds.most) c.self.view_is ∙ sym c.is_full.ensures
     ∙ c.if-is_full.false in (
       c.self.invariant.0 ∙ sym (ap declarations is ∙ declarations-used key c.args.name.now c.args.place names absent),
       fits_behind inside.limit (length es) (length new) (is_some known) c.self.invariant.1 count room,
@@ -41,7 +42,7 @@ returns-clause-ok g c =
     let names = map as_named es in
     let key = folded c.args.name.now in
     let system = system_meaning inside.is_debugging c.args.name.now in
-    let t : Table _ = record { names = names; declared = inside.declared; limit = inside.limit; is_debugging = inside.is_debugging } in
+    let t : Table _ = record { names = names; declared = inside.declared; is_debugging = inside.is_debugging } in
     let absent : is_some (standing_of key names) ≡ false =
     ap (λ (t : Table _). is_some (standing_of key t.names)) c.self.view_is
     ∙ not_numbered key c.args.self.now.names (c.in_default.ensures ∙ ap (λ k. number_among k c.args.self.now.names) c.of-key.ensures) in
@@ -53,7 +54,6 @@ returns-clause-ok g c =
     ap (λ (names : List (Named _)). record {
       names = names;
       declared = inside.declared;
-      limit = inside.limit;
       is_debugging =
           inside.is_debugging;
     }) is
@@ -67,7 +67,7 @@ returns-clause-number g c =
     let names = map as_named es in
     let key = folded c.args.name.now in
     let system = system_meaning inside.is_debugging c.args.name.now in
-    let t : Table _ = record { names = names; declared = inside.declared; limit = inside.limit; is_debugging = inside.is_debugging } in
+    let t : Table _ = record { names = names; declared = inside.declared; is_debugging = inside.is_debugging } in
     let absent : is_some (standing_of key names) ≡ false =
     ap (λ (t : Table _). is_some (standing_of key t.names)) c.self.view_is
     ∙ not_numbered key c.args.self.now.names (c.in_default.ensures ∙ ap (λ k. number_among k c.args.self.now.names) c.of-key.ensures) in

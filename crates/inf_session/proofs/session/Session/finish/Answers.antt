@@ -10,7 +10,7 @@ returns-clause-ok g c =
     let old = g.M.Sink.taken c.args.messages.now in
     let new = g.M.Sink.taken c.conclude-compiled.new.messages in
     subst (λ (n : FileNames). IfOk c.conclude-compiled.result
-    (λ compiled. Delivers (finished c.args.serial.now n (work_of c.args.self.progress.work)) compiled old new))
+    (λ compiled. Delivers (finished g.B.Bounds.most c.args.serial.now n (work_of c.args.self.progress.work)) compiled old new))
     (ap (λ s. s.names) c.names.ensures) c.conclude-compiled.ensures.ok
 
 pub returns-clause-err : goal.returns-clause-err
@@ -18,5 +18,5 @@ returns-clause-err g c =
     let old = g.M.Sink.taken c.args.messages.now in
     let new = g.M.Sink.taken c.conclude-compiled.new.messages in
     subst (λ (n : FileNames). OnErr c.conclude-compiled.result
-    (TakesFront (finished c.args.serial.now n (work_of c.args.self.progress.work)).messages old new))
+    (TakesFront (finished g.B.Bounds.most c.args.serial.now n (work_of c.args.self.progress.work)).messages old new))
     (ap (λ s. s.names) c.names.ensures) c.conclude-compiled.ensures.err

@@ -22,7 +22,7 @@ loop-self-init g c =
     record {
       led = λ honest start nested. (
         0,
-        writes_none s (chosen c.args.self.now.setup) (state s start (files.openings c.args.files.now)
+        writes_none g.B.Bounds.most s (chosen c.args.self.now.setup) (state s start (files.openings c.args.files.now)
             c.args.self.now) (g.M.Sink.taken c.args.messages.now),
       );
       went = went_none files c.args.files.now c.args.self.now.open_files;
@@ -52,18 +52,21 @@ loop-self-preserved g c =
           let then_at = files.openings c.step.new.files in
           let ran = took.part still start (inv.went.nested honest start nested) in
           let more = ran.0 in
-          let turned : Writes (run s o more) (state s start here c.loop-self.self) (state s start then_at c.step.new.self)
+          let turned : Writes (run g.B.Bounds.most s o more) (state s start here c.loop-self.self) (state s start then_at c.step.new.self)
           (g.M.Sink.taken c.loop-self.messages) (g.M.Sink.taken c.step.new.messages) =
-          subst (λ (x : Choices). Writes (run s x more) (state s start here c.loop-self.self) (state s start then_at c.step.new.self)
+          subst (λ (x : Choices). Writes (run g.B.Bounds.most s x more) (state s start here c.loop-self.self)
+          (state s start then_at c.step.new.self)
           (g.M.Sink.taken c.loop-self.messages) (g.M.Sink.taken c.step.new.messages)) (ap chosen inv.setup)
-          (subst (λ (x : Sources). Writes (run x p more) (state x start here c.loop-self.self) (state x start then_at c.step.new.self)
+          (subst (λ (x : Sources). Writes (run g.B.Bounds.most x p more) (state x start here c.loop-self.self)
+          (state x start then_at c.step.new.self)
           (g.M.Sink.taken c.loop-self.messages) (g.M.Sink.taken c.step.new.messages)) inv.went.sources
           ran.1.1) in (
             so_far.0 + more,
-            writes_on (run s o so_far.0) (run s o (so_far.0 + more)) (run s o more) (state s start first c.args.self.now)
+            writes_on (run g.B.Bounds.most s o so_far.0) (run g.B.Bounds.most s o (so_far.0 + more)) (run g.B.Bounds.most s o more)
+                (state s start first c.args.self.now)
                 (state s start here c.loop-self.self) (state s start then_at c.step.new.self)
                 (g.M.Sink.taken c.args.messages.now) (g.M.Sink.taken c.loop-self.messages) (g.M.Sink.taken c.step.new.messages)
-                (λ told. run_sum s o so_far.0 more (state s start first c.args.self.now told)) so_far.1 turned,
+                (λ told. run_sum g.B.Bounds.most s o so_far.0 more (state s start first c.args.self.now told)) so_far.1 turned,
           );
       went = went_then files c.args.files.now c.loop-self.files c.step.new.files c.args.self.now.open_files c.loop-self.self.open_files
           c.step.new.self.open_files inv.went c.step.ensures.went;
@@ -89,19 +92,22 @@ returns-in_err-step-clause-cut g c = λ honest start nested.
     let here = files.openings c.loop-self.files in
     let ran = c.in_err-step.ensures.cut still start (inv.went.nested honest start nested) in
     let more = ran.0 in
-    let cut : CutsShort (run s o more) (state s start here c.loop-self.self) (g.M.Sink.taken c.loop-self.messages)
+    let cut : CutsShort (run g.B.Bounds.most s o more) (state s start here c.loop-self.self) (g.M.Sink.taken c.loop-self.messages)
     (g.M.Sink.taken c.step.new.messages) =
-    subst (λ (x : Choices). CutsShort (run s x more) (state s start here c.loop-self.self) (g.M.Sink.taken c.loop-self.messages)
+    subst (λ (x : Choices). CutsShort (run g.B.Bounds.most s x more) (state s start here c.loop-self.self)
+    (g.M.Sink.taken c.loop-self.messages)
     (g.M.Sink.taken c.step.new.messages)) (ap chosen inv.setup)
-    (subst (λ (x : Sources). CutsShort (run x p more) (state x start here c.loop-self.self) (g.M.Sink.taken c.loop-self.messages)
+    (subst (λ (x : Sources). CutsShort (run g.B.Bounds.most x p more) (state x start here c.loop-self.self)
+    (g.M.Sink.taken c.loop-self.messages)
     (g.M.Sink.taken c.step.new.messages)) inv.went.sources
     ran.1) in
     on_err c.from_residual.result (
       so_far.0 + more,
-      cuts_on (run s o so_far.0) (run s o (so_far.0 + more)) (run s o more) (state s start first c.args.self.now)
+      cuts_on (run g.B.Bounds.most s o so_far.0) (run g.B.Bounds.most s o (so_far.0 + more)) (run g.B.Bounds.most s o more)
+          (state s start first c.args.self.now)
           (state s start here c.loop-self.self)
           (g.M.Sink.taken c.args.messages.now) (g.M.Sink.taken c.loop-self.messages) (g.M.Sink.taken c.step.new.messages)
-          (λ told. run_sum s o so_far.0 more (state s start first c.args.self.now told)) so_far.1 cut,
+          (λ told. run_sum g.B.Bounds.most s o so_far.0 more (state s start first c.args.self.now told)) so_far.1 cut,
     )
 
 pub returns-in_err-step-clause-unread : goal.returns-in_err-step-clause-unread
@@ -123,16 +129,20 @@ returns-in_err-step-clause-unread g c = λ honest start nested.
     let failed = Rose (files.faults c.args.files.now) (files.faults c.step.new.files) in
     let so_far = inv.led honest start nested in
     let still = subst (λ b. IsTrue b) (sym inv.went.honesty) honest in
-    let Last = λ (name : List ℕ). GivenUp later t p (state t start here c.loop-self.self) between new start now after name in
+    let Last =
+    λ (name : List ℕ). GivenUp g.B.Bounds.most later t p (state t start here c.loop-self.self) between new start now after name in
     let given : IfErr c.step.result (λ fault. IfRead fault Last) =
     c.step.ensures.unread still start (inv.went.nested honest start nested) in
     let last : IfErr c.from_residual.result (λ fault. IfRead fault Last) = search rules in
-    if_read_more c.from_residual.result Last (λ name. GivenUp failed s o was old new start now after name)
-    (λ name w. given_up_on later failed s o so_far.0 was (state s start here c.loop-self.self) old between new start now after name
+    if_read_more c.from_residual.result Last (λ name. GivenUp g.B.Bounds.most failed s o was old new start now after name)
+    (λ name w. given_up_on g.B.Bounds.most later failed s o so_far.0 was (state s start here c.loop-self.self) old between new start now
+    after name
     (λ rose. rose_earlier (files.faults c.args.files.now) (files.faults c.loop-self.files) (files.faults c.step.new.files) inv.went.faults
     rose) so_far.1
-    (subst (λ (x : Choices). GivenUp later s x (state s start here c.loop-self.self) between new start now after name) (ap chosen inv.setup)
-    (subst (λ (x : Sources). GivenUp later x p (state x start here c.loop-self.self) between new start now after name) inv.went.sources w)))
+    (subst (λ (x : Choices). GivenUp g.B.Bounds.most later s x (state s start here c.loop-self.self) between new start now after name)
+    (ap chosen inv.setup)
+    (subst (λ (x : Sources). GivenUp g.B.Bounds.most later x p (state x start here c.loop-self.self) between new start now after name)
+    inv.went.sources w)))
     last
 
 pub returns-in_err-step-clause-fault : goal.returns-in_err-step-clause-fault
@@ -168,12 +178,13 @@ returns-in_err-step-clause-opened g c = λ honest start nested.
     let mid = state s start here c.loop-self.self in
     let opened = opened_since start (files.openings c.step.new.files) in
     let ran = c.in_err-step.ensures.opened still start (inv.went.nested honest start nested) in
-    let all : OpensAll (run s o ran.0) mid opened =
-    subst (λ (x : Choices). OpensAll (run s x ran.0) mid opened) (ap chosen inv.setup)
-    (subst (λ (x : Sources). OpensAll (run x p ran.0) (state x start here c.loop-self.self) opened) inv.went.sources ran.1) in
+    let all : OpensAll (run g.B.Bounds.most s o ran.0) mid opened =
+    subst (λ (x : Choices). OpensAll (run g.B.Bounds.most s x ran.0) mid opened) (ap chosen inv.setup)
+    (subst (λ (x : Sources). OpensAll (run g.B.Bounds.most x p ran.0) (state x start here c.loop-self.self) opened) inv.went.sources ran.1)
+    in
     on_err c.from_residual.result (
       so_far.0 + ran.0,
-      opened_on s o so_far.0 ran.0 (state s start (files.openings c.args.files.now) c.args.self.now) mid
+      opened_on g.B.Bounds.most s o so_far.0 ran.0 (state s start (files.openings c.args.files.now) c.args.self.now) mid
           (g.M.Sink.taken c.args.messages.now) (g.M.Sink.taken c.loop-self.messages) opened so_far.1 all,
     )
 

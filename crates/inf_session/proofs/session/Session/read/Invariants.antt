@@ -15,7 +15,8 @@ invariant-loop-self g l =
     let sources = files.sources l.fn.files in
     record {
       led : Honestly files l.fn.files l.fn.self.open_files (λ start.
-          (turns : ℕ) × Writes (run sources (chosen l.fn.self.setup) turns) (state sources start (files.openings l.fn.files) l.fn.self)
+          (turns : ℕ) × Writes (run g.B.Bounds.most sources (chosen l.fn.self.setup) turns)
+          (state sources start (files.openings l.fn.files) l.fn.self)
           (state sources start (files.openings l.files) l.self) (g.M.Sink.taken l.fn.messages) (g.M.Sink.taken l.messages));
       went : Went files l.fn.files l.files l.fn.self.open_files l.self.open_files;
       is_open : length l.self.open_files.outer < files.depth l.files;

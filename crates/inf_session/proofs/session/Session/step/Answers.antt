@@ -35,9 +35,9 @@ loop-self-init g c =
           let turned = took.turned honest start nested in (
             zero,
             (
-              part_first s o was now old new (λ told. going) turned,
-              writes_then s o zero was was now old old new (λ told. going)
-                  (writes_none s o was old) turned,
+              part_first g.B.Bounds.most s o was now old new (λ told. going) turned,
+              writes_then g.B.Bounds.most s o zero was was now old old new (λ told. going)
+                  (writes_none g.B.Bounds.most s o was old) turned,
             ),
           );
       falls = took.falls;
@@ -69,12 +69,13 @@ loop-self-preserved g c =
           let first = files.openings c.args.files.now in
           let here = files.openings c.loop-self.files in
           let then_at = files.openings c.turn-in-loop-self.new.files in
-          let turned : Writes (turn s o) (state s start here c.loop-self.self) (state s start then_at c.turn-in-loop-self.new.self)
+          let turned : Writes (turn g.B.Bounds.most s o) (state s start here c.loop-self.self)
+          (state s start then_at c.turn-in-loop-self.new.self)
           (g.M.Sink.taken c.loop-self.messages) (g.M.Sink.taken c.turn-in-loop-self.new.messages) =
-          subst (λ (x : Choices). Writes (turn s x) (state s start here c.loop-self.self)
+          subst (λ (x : Choices). Writes (turn g.B.Bounds.most s x) (state s start here c.loop-self.self)
           (state s start then_at c.turn-in-loop-self.new.self) (g.M.Sink.taken c.loop-self.messages)
           (g.M.Sink.taken c.turn-in-loop-self.new.messages)) (ap chosen inv.setup)
-          (subst (λ (x : Sources). Writes (turn x p) (state x start here c.loop-self.self)
+          (subst (λ (x : Sources). Writes (turn g.B.Bounds.most x p) (state x start here c.loop-self.self)
           (state x start then_at c.turn-in-loop-self.new.self) (g.M.Sink.taken c.loop-self.messages)
           (g.M.Sink.taken c.turn-in-loop-self.new.messages)) inv.went.sources
           (took.turned still start (inv.went.nested honest start nested))) in
@@ -83,10 +84,10 @@ loop-self-preserved g c =
           let going : (told : List ℕ) → has_ended (mid told) ≡ false = λ told. still_going (mid told) open_still in (
             suc so_far.0,
             (
-              part_then s o so_far.0 was mid (state s start then_at c.turn-in-loop-self.new.self)
+              part_then g.B.Bounds.most s o so_far.0 was mid (state s start then_at c.turn-in-loop-self.new.self)
                   (g.M.Sink.taken c.args.messages.now) (g.M.Sink.taken c.loop-self.messages)
                   (g.M.Sink.taken c.turn-in-loop-self.new.messages) (λ told. first_going) (λ told. open_still) so_far.1.0 turned,
-              writes_then s o (suc so_far.0) was mid (state s start then_at c.turn-in-loop-self.new.self)
+              writes_then g.B.Bounds.most s o (suc so_far.0) was mid (state s start then_at c.turn-in-loop-self.new.self)
                   (g.M.Sink.taken c.args.messages.now) (g.M.Sink.taken c.loop-self.messages)
                   (g.M.Sink.taken c.turn-in-loop-self.new.messages) going so_far.1.1 turned,
             ),
@@ -121,16 +122,17 @@ returns-in_err-turn-2-clause-cut g c = λ honest start nested.
     let still = subst (λ b. IsTrue b) (sym inv.went.honesty) honest in
     let first = files.openings c.args.files.now in
     let here = files.openings c.loop-self.files in
-    let cut : CutsShort (turn s o) (state s start here c.loop-self.self) (g.M.Sink.taken c.loop-self.messages)
+    let cut : CutsShort (turn g.B.Bounds.most s o) (state s start here c.loop-self.self) (g.M.Sink.taken c.loop-self.messages)
     (g.M.Sink.taken c.turn-in-loop-self.new.messages) =
-    subst (λ (x : Choices). CutsShort (turn s x) (state s start here c.loop-self.self) (g.M.Sink.taken c.loop-self.messages)
+    subst (λ (x : Choices). CutsShort (turn g.B.Bounds.most s x) (state s start here c.loop-self.self) (g.M.Sink.taken c.loop-self.messages)
     (g.M.Sink.taken c.turn-in-loop-self.new.messages)) (ap chosen inv.setup)
-    (subst (λ (x : Sources). CutsShort (turn x p) (state x start here c.loop-self.self) (g.M.Sink.taken c.loop-self.messages)
+    (subst (λ (x : Sources). CutsShort (turn g.B.Bounds.most x p) (state x start here c.loop-self.self)
+    (g.M.Sink.taken c.loop-self.messages)
     (g.M.Sink.taken c.turn-in-loop-self.new.messages)) inv.went.sources
     (c.in_err-turn-2.ensures.cut still start (inv.went.nested honest start nested))) in
     on_err c.from_residual-in_err-turn-2.result (
       suc (suc so_far.0),
-      cuts_then s o (suc so_far.0) (state s start first c.args.self.now) (state s start here c.loop-self.self)
+      cuts_then g.B.Bounds.most s o (suc so_far.0) (state s start first c.args.self.now) (state s start here c.loop-self.self)
           (g.M.Sink.taken c.args.messages.now) (g.M.Sink.taken c.loop-self.messages) (g.M.Sink.taken c.turn-in-loop-self.new.messages)
           (λ told. still_going (state s start here c.loop-self.self told) open_still) so_far.1.1 cut,
     )
@@ -142,7 +144,7 @@ returns-then-has_ended-clause-part g c = λ honest start nested.
     let o = chosen c.args.self.now.setup in
     let was = state s start (files.openings c.args.files.now) c.args.self.now in
     let old = g.M.Sink.taken c.args.messages.now in
-    (zero, (part_none s o was old, writes_none s o was old))
+    (zero, (part_none g.B.Bounds.most s o was old, writes_none g.B.Bounds.most s o was old))
 
 pub returns-in_err-turn-clause-cut : goal.returns-in_err-turn-clause-cut
 returns-in_err-turn-clause-cut g c = λ honest start nested.
@@ -154,7 +156,8 @@ returns-in_err-turn-clause-cut g c = λ honest start nested.
     let going : ended c.args.self.now ≡ false = sym c.has_ended.ensures ∙ c.if-has_ended.false in
     on_err c.from_residual.result (
       suc zero,
-      cuts_then s o zero was was old old (g.M.Sink.taken c.turn.new.messages) (λ told. going) (writes_none s o was old)
+      cuts_then g.B.Bounds.most s o zero was was old old (g.M.Sink.taken c.turn.new.messages) (λ told. going)
+          (writes_none g.B.Bounds.most s o was old)
           (c.in_err-turn.ensures.cut honest start nested),
     )
 
@@ -185,12 +188,13 @@ returns-in_err-turn-clause-unread g c = λ honest start nested.
     let new = g.M.Sink.taken c.turn.new.messages in
     let failed = Rose (files.faults c.args.files.now) (files.faults c.turn.new.files) in
     let going : ended c.args.self.now ≡ false = sym c.has_ended.ensures ∙ c.if-has_ended.false in
-    let StopsSo = λ (name : List ℕ). (told : List ℕ) → StopsFor failed s o (was told) start now after name in
+    let StopsSo = λ (name : List ℕ). (told : List ℕ) → StopsFor g.B.Bounds.most failed s o (was told) start now after name in
     let stopped : IfErr c.turn.result (λ fault. IfRead fault StopsSo) = c.turn.ensures.stops honest start nested in
     let same : IfErr c.from_residual.result (λ fault. IfRead fault (λ name. new ≡ old)) = search rules in
     let stops : IfErr c.from_residual.result (λ fault. IfRead fault StopsSo) = search rules in
-    if_read_both c.from_residual.result (new ≡ old) StopsSo (λ name. GivenUp failed s o was old new start now after name)
-    (λ name e h. given_up failed s o zero was was old old new start now after name (writes_none s o was old) (λ told. refl) e
+    if_read_both c.from_residual.result (new ≡ old) StopsSo (λ name. GivenUp g.B.Bounds.most failed s o was old new start now after name)
+    (λ name e h. given_up g.B.Bounds.most failed s o zero was was old old new start now after name (writes_none g.B.Bounds.most s o was old)
+    (λ told. refl) e
     (λ told. going) h) same stops
 
 pub returns-in_err-turn-2-clause-unread : goal.returns-in_err-turn-2-clause-unread
@@ -214,19 +218,22 @@ returns-in_err-turn-2-clause-unread g c = λ honest start nested.
     let open_still : parted c.loop-self.self ≡ false = sym c.has_parted.ensures ∙ c.loop-self-test.true in
     let so_far = inv.led honest start nested in
     let still = subst (λ b. IsTrue b) (sym inv.went.honesty) honest in
-    let StopsSo = λ (name : List ℕ). (told : List ℕ) → StopsFor later t p (state t start here c.loop-self.self told) start now after name in
+    let StopsSo = λ (name : List ℕ). (told : List ℕ) → StopsFor g.B.Bounds.most later t p (state t start here c.loop-self.self told) start
+    now after name in
     let stopped : IfErr c.turn-in-loop-self.result (λ fault. IfRead fault StopsSo) =
     c.turn-in-loop-self.ensures.stops still start (inv.went.nested honest start nested) in
     let same : IfErr c.from_residual-in_err-turn-2.result (λ fault. IfRead fault (λ name. new ≡ between)) = search rules in
     let stops : IfErr c.from_residual-in_err-turn-2.result (λ fault. IfRead fault StopsSo) = search rules in
-    if_read_both c.from_residual-in_err-turn-2.result (new ≡ between) StopsSo (λ name. GivenUp failed s o was old new start now after name)
-    (λ name e h. given_up failed s o (suc so_far.0) was mid old between new start now after name so_far.1.1 (λ told. refl) e
+    if_read_both c.from_residual-in_err-turn-2.result (new ≡ between) StopsSo
+    (λ name. GivenUp g.B.Bounds.most failed s o was old new start now after name)
+    (λ name e h. given_up g.B.Bounds.most failed s o (suc so_far.0) was mid old between new start now after name so_far.1.1 (λ told. refl) e
     (λ told. still_going (mid told) open_still)
-    (λ told. stops_more later failed s o (mid told) start now after name
+    (λ told. stops_more g.B.Bounds.most later failed s o (mid told) start now after name
     (λ rose. rose_earlier (files.faults c.args.files.now) (files.faults c.loop-self.files) (files.faults c.turn-in-loop-self.new.files)
     inv.went.faults rose)
-    (subst (λ (x : Choices). StopsFor later s x (mid told) start now after name) (ap chosen inv.setup)
-    (subst (λ (x : Sources). StopsFor later x p (state x start here c.loop-self.self told) start now after name) inv.went.sources
+    (subst (λ (x : Choices). StopsFor g.B.Bounds.most later s x (mid told) start now after name) (ap chosen inv.setup)
+    (subst (λ (x : Sources). StopsFor g.B.Bounds.most later x p (state x start here c.loop-self.self told) start now after name)
+    inv.went.sources
     (h told))))) same stops
 
 pub returns-in_err-turn-2-clause-fault : goal.returns-in_err-turn-2-clause-fault
@@ -259,7 +266,8 @@ returns-in_err-turn-clause-opened g c = λ honest start nested.
     let old = g.M.Sink.taken c.args.messages.now in
     let going : ended c.args.self.now ≡ false = sym c.has_ended.ensures ∙ c.if-has_ended.false in
     on_err c.from_residual.result
-    (opened_then s o zero was was old old (opened_since start (files.openings c.turn.new.files)) (λ told. going) (writes_none s o was old)
+    (opened_then g.B.Bounds.most s o zero was was old old (opened_since start (files.openings c.turn.new.files)) (λ told. going)
+    (writes_none g.B.Bounds.most s o was old)
     (c.in_err-turn.ensures.opened honest start nested))
 
 pub returns-in_err-turn-2-clause-opened : goal.returns-in_err-turn-2-clause-opened
@@ -275,12 +283,12 @@ returns-in_err-turn-2-clause-opened g c = λ honest start nested.
     let here = files.openings c.loop-self.files in
     let mid = state s start here c.loop-self.self in
     let opened = opened_since start (files.openings c.turn-in-loop-self.new.files) in
-    let within : OpensWithin (turn s o) mid opened =
-    subst (λ (x : Choices). OpensWithin (turn s x) mid opened) (ap chosen inv.setup)
-    (subst (λ (x : Sources). OpensWithin (turn x p) (state x start here c.loop-self.self) opened) inv.went.sources
+    let within : OpensWithin (turn g.B.Bounds.most s o) mid opened =
+    subst (λ (x : Choices). OpensWithin (turn g.B.Bounds.most s x) mid opened) (ap chosen inv.setup)
+    (subst (λ (x : Sources). OpensWithin (turn g.B.Bounds.most x p) (state x start here c.loop-self.self) opened) inv.went.sources
     (c.in_err-turn-2.ensures.opened still start (inv.went.nested honest start nested))) in
     on_err c.from_residual-in_err-turn-2.result
-    (opened_then s o (suc so_far.0) (state s start (files.openings c.args.files.now) c.args.self.now) mid
+    (opened_then g.B.Bounds.most s o (suc so_far.0) (state s start (files.openings c.args.files.now) c.args.self.now) mid
     (g.M.Sink.taken c.args.messages.now) (g.M.Sink.taken c.loop-self.messages) opened
     (λ told. still_going (mid told) open_still) so_far.1.1 within)
 

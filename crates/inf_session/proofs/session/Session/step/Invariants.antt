@@ -15,10 +15,11 @@ invariant-loop-self g l =
     let sources = files.sources l.fn.files in
     record {
       led : Honestly files l.fn.files l.fn.self.open_files (λ start.
-          (turns : ℕ) × (Writes (part sources (chosen l.fn.self.setup) (suc turns))
+          (turns : ℕ) × (Writes (part g.B.Bounds.most sources (chosen l.fn.self.setup) (suc turns))
           (state sources start (files.openings l.fn.files) l.fn.self)
           (state sources start (files.openings l.files) l.self) (g.M.Sink.taken l.fn.messages) (g.M.Sink.taken l.messages)
-          × Writes (run sources (chosen l.fn.self.setup) (suc turns)) (state sources start (files.openings l.fn.files) l.fn.self)
+          × Writes (run g.B.Bounds.most sources (chosen l.fn.self.setup) (suc turns))
+          (state sources start (files.openings l.fn.files) l.fn.self)
           (state sources start (files.openings l.files) l.self) (g.M.Sink.taken l.fn.messages) (g.M.Sink.taken l.messages)));
       falls : (ended l.self ≡ true) ⊎ (weight l.self.open_files < weight l.fn.self.open_files);
       went : Went files l.fn.files l.files l.fn.self.open_files l.self.open_files;

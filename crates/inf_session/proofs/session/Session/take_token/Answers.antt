@@ -39,11 +39,13 @@ returns-clause-moves g c =
     let stand = reporting (standing before.progress) c.tell.new.report c.tell.new.out in
     let out = before.progress.work.output in
     let site = c.site-site.result in
-    let takes = c.in_ok-take_judged.ensures ∙ ap (λ (t : SourceToken). judged_taken context t c.in_ok-judged.judged stand) is in
+    let takes =
+    c.in_ok-take_judged.ensures ∙ ap (λ (t : SourceToken). judged_taken g.B.Bounds.most context t c.in_ok-judged.judged stand) is in
     let judges = c.in_ok-judged.ensures ∙ ap (λ (t : SourceToken). judged site out t before.conditionals) is in
     elim took.one [
       | inl end ↦ inl (ap (λ (s : ReaderState). is_mode_ended s.reading.mode) takes
-          ∙ end_ends context token.kind c.spelling-spelling.result.now token.place named before.progress.work.output before.conditionals
+          ∙ end_ends g.B.Bounds.most context token.kind c.spelling-spelling.result.now token.place named before.progress.work.output
+          before.conditionals
           stand site _ _ judges end)
       | inr less ↦ inr (room_less c.args.self.now.open_files.lexer c.next.new.self.lexer less c.in-Ok.ensures.few)
     ]
@@ -71,7 +73,8 @@ returns-in-Err-Read-clause-stops g c = λ honest start nested.
       names = ap (λ (n : Nest). n.names) same.0;
       numbers =
           ap (λ (n : ℕ). n ∷ files_of (lexers_of (reverse after.outer))) same.1.1
-          ∙ ap (λ (fs : List OpenFile). before.lexer.file ∷ files_of (lexers_of (reverse fs))) same.1.0 ∙ sym (files_are s start old before nested);
+          ∙ ap (λ (fs : List OpenFile). before.lexer.file ∷ files_of (lexers_of (reverse fs))) same.1.0
+          ∙ sym (files_are s start old before nested);
       name_is = is ∙ c.innermost.ensures.file ∙ ap (λ (n : Nest). unwrap_or (slice_get n.names after.lexer.file) []) same.0
           ∙ ap (λ (k : ℕ). unwrap_or (slice_get before.nest.names k) []) same.1.1;
     }) c.unread.ensures
@@ -86,7 +89,8 @@ returns-clause-longest g c = λ before.
     let longest = λ (t : SourceToken). quoted_behind site c.in_ok-judged.judged t c.args.self.now.quoted in
     subst (λ n. n ≤ most) (sym (c.quoted_behind-self.ensures ∙ ap longest c.token_at-spelled.ensures))
     (quoted_within site c.in_ok-judged.judged
-    (token_at site token.kind c.spelling-spelling.result.now token.place (work c.args.self.now.progress.work)) c.args.self.now.quoted most few before)
+    (token_at site token.kind c.spelling-spelling.result.now token.place (work c.args.self.now.progress.work)) c.args.self.now.quoted most
+    few before)
 
 pub returns-clause-stepped : goal.returns-clause-stepped
 returns-clause-stepped g c = λ honest start nested told.
@@ -105,7 +109,8 @@ returns-clause-stepped g c = λ honest start nested told.
     let site = c.site-site.ensures in
     let spelled = token_at c.site-site.result token.kind bytes token.place before.work in
     let spelled_is = c.token_at-spelled.ensures in
-    let is = token_is before c.site-site.result token.kind bytes token.place site reads.kind reads.place (c.spelling-spelling.ensures ∙ reads.bytes) in
+    let is = token_is before c.site-site.result token.kind bytes token.place site reads.kind reads.place
+    (c.spelling-spelling.ensures ∙ reads.bytes) in
     let behind_it =
     c.in_ok-judged.ensures ∙ ap (λ (t : SourceToken). judged c.site-site.result before.work.output t before.conditions) spelled_is
     ∙ ap (λ site. judged site before.work.output spelled before.conditions) site in
@@ -113,18 +118,20 @@ returns-clause-stepped g c = λ honest start nested told.
     let told = c.in_ok-tell.ensures.told ∙ ap (λ names. with_said names said before.work.report) told_names in
     let taken =
     c.in_ok-take_judged.ensures
-    ∙ ap (λ (t : SourceToken). judged_taken (with_names c.names-2.result.now.names) t c.in_ok-judged.judged
+    ∙ ap (λ (t : SourceToken). judged_taken g.B.Bounds.most (with_names c.names-2.result.now.names) t c.in_ok-judged.judged
     (reporting (stand_of before) c.tell.new.report c.tell.new.out)) spelled_is
-    ∙ ap (λ names. judged_taken (with_names names) spelled c.in_ok-judged.judged
+    ∙ ap (λ names. judged_taken g.B.Bounds.most (with_names names) spelled c.in_ok-judged.judged
     (reporting (stand_of before) c.tell.new.report c.tell.new.out)) taken_names
-    ∙ ap (λ (r : Reported). judged_taken context spelled c.in_ok-judged.judged (reporting (stand_of before) r c.tell.new.out)) told
-    ∙ ap (λ (o : Out). judged_taken context spelled c.in_ok-judged.judged
+    ∙ ap (λ (r : Reported). judged_taken g.B.Bounds.most context spelled c.in_ok-judged.judged
+    (reporting (stand_of before) r c.tell.new.out)) told
+    ∙ ap (λ (o : Out). judged_taken g.B.Bounds.most context spelled c.in_ok-judged.judged
     (reporting (stand_of before) (with_said names said before.work.report) o)) c.in_ok-tell.ensures.right in
     let longest =
     c.quoted_behind-self.ensures
     ∙ ap (λ (t : SourceToken). quoted_behind c.site-site.result c.in_ok-judged.judged t before.quoted) spelled_is
     ∙ ap (λ site. quoted_behind site c.in_ok-judged.judged spelled before.quoted) site in
-    step_is o before now (record { now = c.take.new.self; judged = c.in_ok-judged.judged }) c.tell.new.self (standing c.take_judged.new.self)
+    step_is g.B.Bounds.most o before now (record { now = c.take.new.self; judged = c.in_ok-judged.judged }) c.tell.new.self
+    (standing c.take_judged.new.self)
     c.quoted_behind-self.result spelled
     reads.goes_on is behind_it c.in_ok-tell.ensures.silent taken longest
 

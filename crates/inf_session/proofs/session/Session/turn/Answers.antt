@@ -23,7 +23,7 @@ pub returns-in_err-take_token-clause-cut : goal.returns-in_err-take_token-clause
 returns-in_err-take_token-clause-cut g c = λ honest start nested.
     let files = g.F.Files in
     on_err c.from_residual.result
-    (cut_at_once (files.sources c.args.files.now) (chosen c.args.self.now.setup)
+    (cut_at_once g.B.Bounds.most (files.sources c.args.files.now) (chosen c.args.self.now.setup)
     (state (files.sources c.args.files.now) start (files.openings c.args.files.now) c.args.self.now)
     (g.M.Sink.taken c.args.messages.now) (g.M.Sink.taken c.args.messages.now) (λ told. refl) refl)
 
@@ -31,7 +31,7 @@ pub returns-in_err-follow-clause-cut : goal.returns-in_err-follow-clause-cut
 returns-in_err-follow-clause-cut g c = λ honest start nested.
     let files = g.F.Files in
     on_err c.from_residual-in_err-follow.result
-    (cut_at_once (files.sources c.args.files.now) (chosen c.args.self.now.setup)
+    (cut_at_once g.B.Bounds.most (files.sources c.args.files.now) (chosen c.args.self.now.setup)
     (state (files.sources c.args.files.now) start (files.openings c.args.files.now) c.args.self.now)
     (g.M.Sink.taken c.args.messages.now) (g.M.Sink.taken c.args.messages.now) (λ told. refl) refl)
 
@@ -47,7 +47,8 @@ returns-in_err-flush-clause-cut g c = λ honest start nested.
     let still = subst (λ b. IsTrue b) (sym c.in_ok-take_token.ensures.went.honesty) honest in
     let after = c.in_ok-follow.ensures.followed still start (c.in_ok-take_token.ensures.went.nested honest start nested) in
     on_err c.from_residual-in_err-flush.result
-    (turn_cut s o (state s start (files.openings c.args.files.now) c.args.self.now) mid now (g.M.Sink.taken c.args.messages.now)
+    (turn_cut g.B.Bounds.most s o (state s start (files.openings c.args.files.now) c.args.self.now) mid now
+    (g.M.Sink.taken c.args.messages.now)
     (g.M.Sink.taken c.flush.new.to)
     c.follow.new.self.progress.work.report.lines part.front part.rest first
     (λ told. as_before s (files.sources c.take_token.new.files) o (chosen c.take_token.new.self.setup) start
@@ -64,7 +65,8 @@ returns-clause-turned g c = λ honest start nested.
     let o = chosen c.args.self.now.setup in
     let still = subst (λ b. IsTrue b) (sym c.in_ok-take_token.ensures.went.honesty) honest in
     let after = c.in_ok-follow.ensures.followed still start (c.in_ok-take_token.ensures.went.nested honest start nested) in
-    turn_writes s o (state s start (files.openings c.args.files.now) c.args.self.now) mid now _ (g.M.Sink.taken c.args.messages.now)
+    turn_writes g.B.Bounds.most s o (state s start (files.openings c.args.files.now) c.args.self.now) mid now _
+    (g.M.Sink.taken c.args.messages.now)
     (g.M.Sink.taken c.flush.new.to)
     c.follow.new.self.progress.work.report.lines (c.in_ok-take_token.ensures.stepped honest start nested)
     (λ told. as_before s (files.sources c.take_token.new.files) o (chosen c.take_token.new.self.setup) start
@@ -104,7 +106,7 @@ returns-in_err-follow-clause-opened g c = λ honest start nested.
     (subst (λ (x : Sources). OpensWithin (followed x p) (state x start here mid) opened) c.in_ok-take_token.ensures.went.sources
     (c.in_err-follow.ensures.opened still start (c.in_ok-take_token.ensures.went.nested honest start nested))) in
     on_err c.from_residual-in_err-follow.result
-    (turned_within s o (state s start (files.openings c.args.files.now) c.args.self.now) (state s start here mid) opened
+    (turned_within g.B.Bounds.most s o (state s start (files.openings c.args.files.now) c.args.self.now) (state s start here mid) opened
     (c.in_ok-take_token.ensures.stepped honest start nested) within)
 
 pub returns-in_err-flush-clause-opened : goal.returns-in_err-flush-clause-opened
@@ -118,7 +120,7 @@ returns-in_err-flush-clause-opened g c = λ honest start nested.
     let still = subst (λ b. IsTrue b) (sym c.in_ok-take_token.ensures.went.honesty) honest in
     let after = c.in_ok-follow.ensures.followed still start (c.in_ok-take_token.ensures.went.nested honest start nested) in
     on_err c.from_residual-in_err-flush.result
-    (turned_within s o (state s start (files.openings c.args.files.now) c.args.self.now) mid (opened_since start then_at)
+    (turned_within g.B.Bounds.most s o (state s start (files.openings c.args.files.now) c.args.self.now) mid (opened_since start then_at)
     (c.in_ok-take_token.ensures.stepped honest start nested)
     (inr (λ told. ap (λ (x : State). x.nesting.openings)
     (as_before s (files.sources c.take_token.new.files) o (chosen c.take_token.new.self.setup) start here then_at c.take_token.new.self
@@ -137,7 +139,8 @@ returns-in_err-take_token-clause-stops g c = λ honest start nested.
     let InToken = λ (name : List ℕ). (told : List ℕ) → StopsInToken failed s (was told) start now after name in
     let stops : IfErr c.take_token.result (λ fault. IfRead fault InToken) = c.take_token.ensures.stops honest start nested in
     let token : IfErr c.from_residual.result (λ fault. IfRead fault InToken) = search rules in
-    if_read_more c.from_residual.result InToken (λ name. (told : List ℕ) → StopsFor failed s o (was told) start now after name)
+    if_read_more c.from_residual.result InToken (λ name. (told : List ℕ) → StopsFor g.B.Bounds.most failed s o (was told) start now after
+    name)
     (λ name h told. inl (h told)) token
 
 pub returns-in_err-follow-clause-stops : goal.returns-in_err-follow-clause-stops
@@ -163,8 +166,8 @@ returns-in_err-follow-clause-stops g c = λ honest start nested.
     c.follow.ensures.stops (subst (λ b. IsTrue b) (sym went.honesty) honest) start (went.nested honest start nested) in
     let asked : IfErr c.from_residual-in_err-follow.result (λ fault. IfRead fault AtInclusion) = search rules in
     if_read_more c.from_residual-in_err-follow.result AtInclusion
-    (λ name. (told : List ℕ) → StopsFor failed s o (was told) start now after name)
-    (λ name h told. inr (stops_at_more later failed s o (stepped o (was told)) opened name
+    (λ name. (told : List ℕ) → StopsFor g.B.Bounds.most failed s o (was told) start now after name)
+    (λ name h told. inr (stops_at_more later failed s o (stepped g.B.Bounds.most o (was told)) opened name
     (λ rose. rose_earlier (files.faults c.args.files.now) (files.faults c.take_token.new.files) (files.faults c.follow.new.files)
     went.faults rose)
     (subst (λ (x : State). StopsAtInclusion later s o x opened name) (first told)

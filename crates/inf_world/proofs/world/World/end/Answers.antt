@@ -13,7 +13,6 @@ pub invariant_of-self-2 : goal.invariant_of-self-2
 invariant_of-self-2 g c =
     let i = c.self.inside in
     let w : WorldOf = record {
-      limits = i.limits;
       attributes = i.attributes;
       declared = i.declared.items;
       individuals = i.individuals;
@@ -38,9 +37,8 @@ invariant_of-self-2 g c =
     let pushed : c.push_object.new.objects.items ≡ c.reserve.new.self.items ++ c.in_ok-object.object ∷ [] = c.push_object.ensures in
     let added : c.push_object.new.objects.items ≡ i.objects.items ++ ended i.body ∷ [] =
     pushed ∙ ap (λ os. os ++ c.in_ok-object.object ∷ []) kept ∙ ap (λ o. i.objects.items ++ o ∷ []) object in
-    let done = ends w i.latest.items c.note_latest.new.latest.items i.bytes i.fixups c.self.invariant.0 lost latest in
+    let done = ends i.limits w i.latest.items c.note_latest.new.latest.items i.bytes i.fixups c.self.invariant.0 lost latest in
     let with : List Object → Body → WorldOf = λ objects body. record {
-      limits = i.limits;
       attributes = i.attributes;
       declared = i.declared.items;
       individuals = i.individuals;
@@ -48,13 +46,13 @@ invariant_of-self-2 g c =
       is_open = false;
       body = body;
     } in (
-      subst (λ n. IsWorld (with c.push_object.new.objects.items c.end.new.self) c.note_latest.new.latest.items (i.bytes + n)
+      subst (λ n. IsWorld i.limits (with c.push_object.new.objects.items c.end.new.self) c.note_latest.new.latest.items (i.bytes + n)
           (i.fixups + c.fixups-fixups.result)) (sym c.bytes-bytes.ensures.value)
-          (subst (λ n. IsWorld (with c.push_object.new.objects.items c.end.new.self) c.note_latest.new.latest.items
+          (subst (λ n. IsWorld i.limits (with c.push_object.new.objects.items c.end.new.self) c.note_latest.new.latest.items
           (i.bytes + object_bytes (ended i.body)) (i.fixups + n)) (sym c.fixups-fixups.ensures.value)
-          (subst (λ os. IsWorld (with os c.end.new.self) c.note_latest.new.latest.items (i.bytes + object_bytes (ended i.body))
+          (subst (λ os. IsWorld i.limits (with os c.end.new.self) c.note_latest.new.latest.items (i.bytes + object_bytes (ended i.body))
           (i.fixups + object_fixups (ended i.body))) (sym added)
-          (subst (λ b. IsWorld (with (i.objects.items ++ ended i.body ∷ []) b) c.note_latest.new.latest.items
+          (subst (λ b. IsWorld i.limits (with (i.objects.items ++ ended i.body ∷ []) b) c.note_latest.new.latest.items
           (i.bytes + object_bytes (ended i.body)) (i.fixups + object_fixups (ended i.body))) (sym c.in_ok-object.ensures.ok) done))),
       c.self.invariant.1,
       c.self.invariant.2,

@@ -1,6 +1,7 @@
 -- The turns of a reading by the sides that they keep.
 use Rattle.std.proofs.Common.{◌≡◌, ℕ, zero, suc, ◌+◌, ◌≤◌, [], ◌∷◌, ◌++◌, map, cond, ◌&&◌, Bool, true, false, Option, Some, None, refl, sym, ap, subst, ◌∙◌, arith}
 use Rattle.std.proofs.lemmas.List.{map-append}
+use Rattle.inf_settings.specs.Bounds.{Limits}
 use Rattle.inf_files.specs.Files.{Sources}
 use Rattle.inf_unit.specs.Directives.{Request, End, Include, Nothing}
 use Rattle.inf_unit.specs.Tokens.{SourceToken, keyword}
@@ -53,12 +54,14 @@ rested_conditions s = go (has_ended s) (is_resting s)
     go false true = refl
     go false false = refl
 
-turn_conditions : (sources : Sources) (o : Choices) (s : State) → is_mode_ended (stepped o s).reading.mode ≡ false →
-    is_inclusion (stepped o s).work.asked ≡ false
-    → (turn sources o s).conditions ≡ going_on (at_turn sources o s) s.conditions
-turn_conditions sources o s going none =
-    rested_conditions (carried_out sources o (stepped o s))
-    ∙ ap (ended_behind (ends_there (carried_out sources o (stepped o s)))) (carried_out_conditions sources o (stepped o s) going none)
+turn_conditions : (limits : Limits) (sources : Sources) (o : Choices) (s : State) →
+    is_mode_ended (stepped limits o s).reading.mode ≡ false →
+    is_inclusion (stepped limits o s).work.asked ≡ false
+    → (turn limits sources o s).conditions ≡ going_on (at_turn limits sources o s) s.conditions
+turn_conditions limits sources o s going none =
+    rested_conditions (carried_out sources o (stepped limits o s))
+    ∙ ap (ended_behind (ends_there (carried_out sources o (stepped limits o s))))
+    (carried_out_conditions sources o (stepped limits o s) going none)
 
 -- What it hands on
 
@@ -81,38 +84,39 @@ all_shown j t =
     ∙ ap (λ hs. hs ++ map shown (given_token j.token t)) (shown_sign j.sign)
     ∙ ap (λ hs. handed_sign j.sign ++ hs) (shown_token j.token t)
 
-pub turns_hand_on : TurnsHandOn
-turns_hand_on sources o zero s stay = refl
-turns_hand_on sources o (suc n) s stay =
-    let next = turn sources o s in
+pub turns_hand_on : (limits : Limits) → TurnsHandOn limits
+turns_hand_on limits sources o zero s stay = refl
+turns_hand_on limits sources o (suc n) s stay =
+    let next = turn limits sources o s in
     let t = token_of s in
     let b = judged (site_of s.reading) s.work.output t s.conditions in
-    let tokens = at_turns sources o n next in
-    map-append shown (given_by s) (given_in sources o n next)
-    ∙ ap (λ hs. hs ++ map shown (given_in sources o n next)) (all_shown b.judged t)
-    ∙ ap (λ hs. handed_on b.judged t ++ hs) (turns_hand_on sources o n next stay.1.1 ∙ ap (all_handed_on tokens)
-    (turn_conditions sources o s stay.0 stay.1.0))
+    let tokens = at_turns limits sources o n next in
+    map-append shown (given_by s) (given_in limits sources o n next)
+    ∙ ap (λ hs. hs ++ map shown (given_in limits sources o n next)) (all_shown b.judged t)
+    ∙ ap (λ hs. handed_on b.judged t ++ hs) (turns_hand_on limits sources o n next stay.1.1 ∙ ap (all_handed_on tokens)
+    (turn_conditions limits sources o s stay.0 stay.1.0))
 
-pub turns_keep_sides : TurnsKeepSides
-turns_keep_sides d sources o n s parts stay are_these clear file =
-    turns_hand_on sources o n s stay
+pub turns_keep_sides : (limits : Limits) → TurnsKeepSides limits
+turns_keep_sides limits d sources o n s parts stay are_these clear file =
+    turns_hand_on limits sources o n s stay
     ∙ ap (λ tokens. all_handed_on tokens s.conditions) are_these
     ∙ (one_side_is_kept d parts s.conditions clear file).handed_on
 
-turned_conditions : (sources : Sources) (o : Choices) (n : ℕ) (s : State) → StayInOne sources o n s →
-    (turned sources o n s).conditions ≡ all_behind (at_turns sources o n s) s.conditions
-turned_conditions sources o zero s stay = refl
-turned_conditions sources o (suc n) s stay =
-    let next = turn sources o s in
-    turned_conditions sources o n next stay.1.1 ∙ ap (all_behind (at_turns sources o n next)) (turn_conditions sources o s stay.0 stay.1.0)
+turned_conditions : (limits : Limits) (sources : Sources) (o : Choices) (n : ℕ) (s : State) → StayInOne limits sources o n s →
+    (turned limits sources o n s).conditions ≡ all_behind (at_turns limits sources o n s) s.conditions
+turned_conditions limits sources o zero s stay = refl
+turned_conditions limits sources o (suc n) s stay =
+    let next = turn limits sources o s in
+    turned_conditions limits sources o n next stay.1.1
+    ∙ ap (all_behind (at_turns limits sources o n next)) (turn_conditions limits sources o s stay.0 stay.1.0)
 
-pub turns_tell_missing_ends : TurnsTellMissingEnds
-turns_tell_missing_ends d sources o n s parts stay are_these clear file is_last =
-    let behind = turned sources o n s in
-    let end = at_turn sources o behind in
-    let last = stepped o behind in
+pub turns_tell_missing_ends : (limits : Limits) → TurnsTellMissingEnds limits
+turns_tell_missing_ends limits d sources o n s parts stay are_these clear file is_last =
+    let behind = turned limits sources o n s in
+    let end = at_turn limits sources o behind in
+    let last = stepped limits o behind in
     ap (λ (c : Conditions). file_told last.nesting.names (judged_at end c).now last.work.report)
-    (turned_conditions sources o n s stay ∙ ap (λ tokens. all_behind tokens s.conditions) are_these)
+    (turned_conditions limits sources o n s stay ∙ ap (λ tokens. all_behind tokens s.conditions) are_these)
     ∙ (one_side_is_kept d parts s.conditions clear file).in_file end last.nesting.names last.work.report is_last
 
 pub readings_start_clear : ReadingsStartClear
@@ -122,13 +126,13 @@ readings_start_clear sources o name =
 -- A side that is left out inside a directive
 
 -- a turn in it
-record Still (sources : Sources) (o : Choices) (s : State) (side : LeftOut) : Type 0 where
+record Still (limits : Limits) (sources : Sources) (o : Choices) (s : State) (side : LeftOut) : Type 0 where
   none_given : given_by s ≡ []
-  reading : (turn sources o s).reading ≡ s.reading
-  asked : (turn sources o s).work.asked ≡ Nothing
-  left_out : (turn sources o s).conditions.left_out ≡ Some
+  reading : (turn limits sources o s).reading ≡ s.reading
+  asked : (turn limits sources o s).work.asked ≡ Nothing
+  left_out : (turn limits sources o s).conditions.left_out ≡ Some
       (record side { levels = level_behind (word_of (keyword (token_of s))) side.levels })
-  second : is_second (latest (turn sources o s).conditions) ≡ is_second (latest s.conditions)
+  second : is_second (latest (turn limits sources o s).conditions) ≡ is_second (latest s.conditions)
 
 carried_out_asked : (sources : Sources) (o : Choices) (s : State) → is_mode_ended s.reading.mode ≡ false → s.work.asked ≡ Nothing →
     (carried_out sources o s).work.asked ≡ Nothing
@@ -155,55 +159,57 @@ none_ends s not_resting =
     go e true = refl
     go e false = refl
 
-still : (sources : Sources) (o : Choices) (s : State) (side : LeftOut) → s.conditions.left_out ≡ Some side →
+still : (limits : Limits) (sources : Sources) (o : Choices) (s : State) (side : LeftOut) → s.conditions.left_out ≡ Some side →
     (site_of s.reading).is_between ≡ false → is_mode_ended s.reading.mode ≡ false
     → s.work.asked ≡ Nothing → side.levels + 1 ≤ most_levels → StayIn (is_second (latest s.conditions)) side.levels
-    (as_event (at_turn sources o s) ∷ []) → Still sources o s side
-still sources o s side left_out inner going none few stay =
+    (as_event (at_turn limits sources o s) ∷ []) → Still limits sources o s side
+still limits sources o s side left_out inner going none few stay =
     let c = s.conditions in
     let t = token_of s in
     let site = site_of s.reading in
     let out = s.work.output in
     let context = context_of o s in
     let b = judged site out t c in
-    let stand = said_told b.now.said context (stand_of s) in
+    let stand = said_told limits b.now.said context (stand_of s) in
     let now = inside c side (level_behind (word_of (keyword t)) side.levels) (sign_behind (word_of (keyword t)) t) c.declared in
     let is : inside c side side.levels c.sign c.declared ≡ c = ap (λ (x : Option LeftOut). record c { left_out = x }) (sym left_out) in
     let cut = ap (judged site out t) (sym is) ∙ token_is site out t c side side.levels c.sign c.declared stay.0 stay.1.0 few in
     let judged_so : b.judged ≡ none_handed = ap (λ (x : Behind). x.judged) cut in
     let now_so : b.now ≡ now = ap (λ (x : Behind). x.now) cut in
-    let read : (stepped o s).reading ≡ s.reading = ap (λ j. (judged_taken context t j stand).reading) judged_so in
-    let asked_so : (stepped o s).work.asked ≡ Nothing = ap (λ j. (judged_taken context t j stand).work.asked) judged_so ∙ none in
-    let goes_on : is_mode_ended (stepped o s).reading.mode ≡ false = ap (λ (r : Reading). is_mode_ended r.mode) read ∙ going in
-    let h = carried_out sources o (stepped o s) in
-    let h_read : h.reading ≡ s.reading = carried_out_reading sources o (stepped o s) goes_on ∙ read in
+    let read : (stepped limits o s).reading ≡ s.reading = ap (λ j. (judged_taken limits context t j stand).reading) judged_so in
+    let asked_so : (stepped limits o s).work.asked ≡ Nothing =
+    ap (λ j. (judged_taken limits context t j stand).work.asked) judged_so ∙ none in
+    let goes_on : is_mode_ended (stepped limits o s).reading.mode ≡ false = ap (λ (r : Reading). is_mode_ended r.mode) read ∙ going in
+    let h = carried_out sources o (stepped limits o s) in
+    let h_read : h.reading ≡ s.reading = carried_out_reading sources o (stepped limits o s) goes_on ∙ read in
     let not_resting : is_resting h ≡ false =
     ap (λ (r : Reading). (site_of r).is_between && is_none_pending h.conditions.pending) h_read
     ∙ ap (λ x. x && is_none_pending h.conditions.pending) inner in
-    let conditions : (turn sources o s).conditions ≡ silent now =
-    turn_conditions sources o s goes_on (ap is_inclusion asked_so) ∙ ap (λ e. ended_behind e (silent b.now)) (none_ends h not_resting)
+    let conditions : (turn limits sources o s).conditions ≡ silent now =
+    turn_conditions limits sources o s goes_on (ap is_inclusion asked_so)
+    ∙ ap (λ e. ended_behind e (silent b.now)) (none_ends h not_resting)
     ∙ ap silent now_so in
     record {
       none_given = ap (λ j. given_of j t) judged_so;
-      reading = turn_reading sources o s goes_on ∙ read;
-      asked = rested_asked h ∙ carried_out_asked sources o (stepped o s) goes_on asked_so;
+      reading = turn_reading limits sources o s goes_on ∙ read;
+      asked = rested_asked h ∙ carried_out_asked sources o (stepped limits o s) goes_on asked_so;
       left_out = ap (λ (x : Conditions). x.left_out) conditions;
       second = ap (λ (x : Conditions). is_second (latest x)) conditions;
     }
 
-pub turns_cut_inner_sides : TurnsCutInnerSides
-turns_cut_inner_sides sources o zero s side left_out inner going none few stay = record { none_given = refl; reading = refl }
-turns_cut_inner_sides sources o (suc n) s side left_out inner going none few stay =
-    let next = turn sources o s in
+pub turns_cut_inner_sides : (limits : Limits) → TurnsCutInnerSides limits
+turns_cut_inner_sides limits sources o zero s side left_out inner going none few stay = record { none_given = refl; reading = refl }
+turns_cut_inner_sides limits sources o (suc n) s side left_out inner going none few stay =
+    let next = turn limits sources o s in
     let level = level_behind (word_of (keyword (token_of s))) side.levels in
-    let one = still sources o s side left_out inner going none (omega (arith, few)) (stay.0, (stay.1.0, tt)) in
+    let one = still limits sources o s side left_out inner going none (omega (arith, few)) (stay.0, (stay.1.0, tt)) in
     let all =
-    turns_cut_inner_sides sources o n next (record side { levels = level }) one.left_out
+    turns_cut_inner_sides limits sources o n next (record side { levels = level }) one.left_out
     (ap (λ (r : Reading). (site_of r).is_between) one.reading ∙ inner)
     (ap (λ (r : Reading). is_mode_ended r.mode) one.reading ∙ going) one.asked
     (omega (arith, few, one_more (word_of (keyword (token_of s))) side.levels))
-    (subst (λ b. StayIn b level (map as_event (at_turns sources o n next))) (sym one.second) stay.1.1) in
+    (subst (λ b. StayIn b level (map as_event (at_turns limits sources o n next))) (sym one.second) stay.1.1) in
     record {
-      none_given = ap (λ gs. gs ++ given_in sources o n next) one.none_given ∙ all.none_given;
+      none_given = ap (λ gs. gs ++ given_in limits sources o n next) one.none_given ∙ all.none_given;
       reading = all.reading ∙ one.reading;
     }

@@ -1,5 +1,6 @@
 -- The tokens that the turns of a whole reading hand on, with the conditionals of its file.
 use Rattle.std.specs.Prelude.{◌≡◌, ◌≤◌, ◌+◌, ℕ, zero, suc, List, [], ◌∷◌, ◌++◌, map, Bool, true, false, if◌then◌else◌, Option, Some, None}
+use Rattle.inf_settings.specs.Bounds.{Limits}
 use Rattle.inf_files.specs.Files.{Sources}
 use Rattle.inf_unit.specs.Directives.{Request, End, Include, Nothing}
 use Rattle.inf_unit.specs.Tokens.{is_end}
@@ -21,19 +22,19 @@ abbrev pub ends_there : State → Option ℕ
 ends_there s = if has_ended s then None else if is_resting s then Some s.work.output.names.declared else None
 
 -- what comes to the conditionals by a turn, and by so many
-abbrev pub at_turn : Sources → Choices → State → At
-at_turn sources o s =
+abbrev pub at_turn : Limits → Sources → Choices → State → At
+at_turn limits sources o s =
     record {
       site = site_of s.reading;
       out = s.work.output;
       token = token_of s;
       ended = ends_there
-          (carried_out sources o (stepped o s));
+          (carried_out sources o (stepped limits o s));
     }
 
-abbrev pub at_turns : Sources → Choices → ℕ → State → List At
-at_turns sources o zero s = []
-at_turns sources o (suc n) s = at_turn sources o s ∷ at_turns sources o n (turn sources o s)
+abbrev pub at_turns : Limits → Sources → Choices → ℕ → State → List At
+at_turns limits sources o zero s = []
+at_turns limits sources o (suc n) s = at_turn limits sources o s ∷ at_turns limits sources o n (turn limits sources o s)
 
 -- in these turns no file ends, and none is asked for
 abbrev pub is_inclusion : Request → Bool
@@ -41,11 +42,11 @@ is_inclusion (Include text unit) = true
 is_inclusion End = false
 is_inclusion Nothing = false
 
-abbrev pub StayInOne : Sources → Choices → ℕ → State → Type 0
-StayInOne sources o zero s = Unit {0}
-StayInOne sources o (suc n) s =
-    (is_mode_ended (stepped o s).reading.mode ≡ false) ×
-    ((is_inclusion (stepped o s).work.asked ≡ false) × StayInOne sources o n (turn sources o s))
+abbrev pub StayInOne : Limits → Sources → Choices → ℕ → State → Type 0
+StayInOne limits sources o zero s = Unit {0}
+StayInOne limits sources o (suc n) s =
+    (is_mode_ended (stepped limits o s).reading.mode ≡ false) ×
+    ((is_inclusion (stepped limits o s).work.asked ≡ false) × StayInOne limits sources o n (turn limits sources o s))
 
 -- what is handed on
 abbrev pub shown : Given → Handing
@@ -53,25 +54,28 @@ shown (Kept t) = record { handed = handed.Kept; token = t }
 shown (Unfit t) = record { handed = handed.Unfit; token = t }
 
 -- Turns hand on what conditionals do.
-abbrev pub TurnsHandOn : Type 0
-TurnsHandOn = (sources : Sources) (o : Choices) (n : ℕ) (s : State) → StayInOne sources o n s → map shown (given_in sources o n s) ≡
-    all_handed_on (at_turns sources o n s) s.conditions
+abbrev pub TurnsHandOn : Limits → Type 0
+TurnsHandOn limits =
+    (sources : Sources) (o : Choices) (n : ℕ) (s : State) → StayInOne limits sources o n s → map shown (given_in limits sources o n s) ≡
+    all_handed_on (at_turns limits sources o n s) s.conditions
 
 -- Where the tokens of so many turns are those of a file with such conditionals, just the tokens are handed on that its sides keep.
-abbrev pub TurnsKeepSides : Type 0
-TurnsKeepSides = (answers : Answers) (sources : Sources) (o : Choices) (n : ℕ) (s : State) (parts : Parts) → StayInOne sources o n s →
-    at_turns sources o n s ≡ all_tokens parts
+abbrev pub TurnsKeepSides : Limits → Type 0
+TurnsKeepSides limits =
+    (answers : Answers) (sources : Sources) (o : Choices) (n : ℕ) (s : State) (parts : Parts) → StayInOne limits sources o n s →
+    at_turns limits sources o n s ≡ all_tokens parts
     → IsClear s.conditions → IsFile answers s.conditions.declared parts
-    → map shown (given_in sources o n s) ≡ map as_kept (kept_sides answers none_around parts)
+    → map shown (given_in limits sources o n s) ≡ map as_kept (kept_sides answers none_around parts)
 
 -- Where the file ends with the next turn, just those conditionals are told that are open, in order, but for what was opened in a side that
 -- is left out.
-abbrev pub TurnsTellMissingEnds : Type 0
-TurnsTellMissingEnds = (answers : Answers) (sources : Sources) (o : Choices) (n : ℕ) (s : State) (parts : Parts) → StayInOne sources o n s →
-    at_turns sources o n s ≡ all_tokens parts
+abbrev pub TurnsTellMissingEnds : Limits → Type 0
+TurnsTellMissingEnds limits =
+    (answers : Answers) (sources : Sources) (o : Choices) (n : ℕ) (s : State) (parts : Parts) → StayInOne limits sources o n s →
+    at_turns limits sources o n s ≡ all_tokens parts
     → IsClear s.conditions → IsFile answers s.conditions.declared parts
-    → is_end (token_of (turned sources o n s)).kind ≡ true
-    → let last = stepped o (turned sources o n s) in let around = behind_parts answers none_around parts in
+    → is_end (token_of (turned limits sources o n s)).kind ≡ true
+    → let last = stepped limits o (turned limits sources o n s) in let around = behind_parts answers none_around parts in
     (file_closed last).work.report ≡ with_all_at last.nesting.names (unended around.inside ++ unended around.between) last.work.report
 
 -- So it is from the first token of a main source on.
@@ -84,13 +88,13 @@ abbrev pub as_event : At → Event
 as_event t = Token t.site t.out t.token
 
 -- While a side is left out inside a directive, turns hand on nothing, and how the directive is read stays as it was.
-pub record StandsStill (sources : Sources) (o : Choices) (n : ℕ) (s : State) : Type 0 where
-  pub none_given : given_in sources o n s ≡ []
-  pub reading : (turned sources o n s).reading ≡ s.reading
+pub record StandsStill (limits : Limits) (sources : Sources) (o : Choices) (n : ℕ) (s : State) : Type 0 where
+  pub none_given : given_in limits sources o n s ≡ []
+  pub reading : (turned limits sources o n s).reading ≡ s.reading
 
-abbrev pub TurnsCutInnerSides : Type 0
-TurnsCutInnerSides = (sources : Sources) (o : Choices) (n : ℕ) (s : State) (side : LeftOut) → s.conditions.left_out ≡ Some side →
+abbrev pub TurnsCutInnerSides : Limits → Type 0
+TurnsCutInnerSides limits = (sources : Sources) (o : Choices) (n : ℕ) (s : State) (side : LeftOut) → s.conditions.left_out ≡ Some side →
     (site_of s.reading).is_between ≡ false
     → is_mode_ended s.reading.mode ≡ false → s.work.asked ≡ Nothing → side.levels + n ≤ most_levels
-    → StayIn (is_second (latest s.conditions)) side.levels (map as_event (at_turns sources o n s))
-    → StandsStill sources o n s
+    → StayIn (is_second (latest s.conditions)) side.levels (map as_event (at_turns limits sources o n s))
+    → StandsStill limits sources o n s

@@ -1,4 +1,4 @@
-use Rattle.std.proofs.Common.{◌≡◌, ◌+◌, ◌≤◌, ℕ, [], inr, IsTrue, IfErr, length, min, ap, subst, sym, ◌∙◌}
+use Rattle.std.proofs.Common.{◌≡◌, ◌+◌, ◌≤◌, ℕ, [], inr, IsTrue, IfErr, IfOk, length, min, ap, subst, sym, ◌∙◌}
 use Rattle.std.proofs.lemmas.Result.{on_err_weaker}
 use Rattle.inf_files.specs.Files.{Rose, Sources, last_count}
 use Rattle.inf_lexer.specs.Readers.{at_front}
@@ -14,9 +14,10 @@ use Rattle.inf_session.specs.Standing.{state}
 use Rattle.inf_session.specs.declared.setup.Setup.{Setup}
 use Rattle.inf_session.proofs.Delivering.{if_ok_more}
 use Rattle.inf_session.proofs.Standings.{if_caused_more}
+use Rattle.inf_settings.specs.Bounds.{Limits, limits_of}
 use Rattle.inf_outcome.specs.Comes.{Comes, Concludes, IsUnread, Stops}
 use Rattle.inf_outcome.proofs.Concluding.{begins_of, begun_is, comes_of, given_up_between, heard_from, if_ok_both, none_given, opened_first, opened_some, unread_by}
-use Rattle.inf_outcome.proofs.translation.translate.Goals as goal
+use Rattle.inf_outcome.proofs.translation.translate_under.Goals as goal
 
 pub returns-clause-comes : goal.returns-clause-comes
 returns-clause-comes g c = λ honest.
@@ -28,7 +29,7 @@ returns-clause-comes g c = λ honest.
     let mid = files.openings c.enter_main.new.files in
     let session = c.in-Ok-new.session in
     let serial = c.args.serial.now in
-    let name = c.args.name.now in
+    let name = c.args.main.name.now in
     let before = g.M.Sink.taken c.args.messages.now in
     let after = g.M.Sink.taken c.read_out-open_files.new.messages in
     let now = files.openings c.read_out-open_files.new.files in
@@ -46,18 +47,24 @@ returns-clause-comes g c = λ honest.
     let here = subst (λ (y : Sources). AllGiven y (length old.all) mid session.open_files) (sym c.enter_main.ensures.kept.sources) main in
     let given = subst (λ (y : Sources). AllGiven y (length old.all) now f) c.enter_main.ensures.kept.sources
     (c.read_out-open_files.ensures.went.stays_given still old nested here) in
-    if_ok_more c.read_out-open_files.result.1 (λ x. Concludes t (chosen session.setup) serial (state t old mid session []) old now f before
+    if_ok_more c.read_out-open_files.result.1 (λ x. Concludes (limits_of c.args.setup.settings.now) t (chosen session.setup) serial
+    (state t old mid session []) old now f before
     after x × Each Fits (length old.all) now.all)
     (λ x. Comes s o serial name old (files.openings c.close-2.new.files) before after x)
     (λ x k. comes_of s o serial name old now (files.openings c.close-2.new.files) f (state s old mid session []) before after x
     (c.in-Ok.ensures.there honest) begun
     (c.close-2.ensures.closed last old k.0.nested) given k.1
-    (subst (λ (p : Setup). Concludes s (chosen p) serial (state s old mid session []) old now f before after x) c.in-Ok-new.ensures.setup
-    (subst (λ (y : Sources). Concludes y (chosen session.setup) serial (state y old mid session []) old now f before after x)
+    (subst (λ (p : Setup). Concludes (limits_of c.args.setup.settings.now) s (chosen p) serial (state s old mid session []) old now f before
+    after x) c.in-Ok-new.ensures.setup
+    (subst (λ (y : Sources). Concludes (limits_of c.args.setup.settings.now) y (chosen session.setup) serial (state y old mid session [])
+    old now f before after x)
     c.enter_main.ensures.kept.sources k.0)))
-    (if_ok_both c.read_out-open_files.result.1 (λ x. Concludes t (chosen session.setup) serial (state t old mid session []) old now f before
+    (if_ok_both c.read_out-open_files.result.1 (λ x. Concludes (limits_of c.args.setup.settings.now) t (chosen session.setup) serial
+    (state t old mid session []) old now f before
     after x) (λ x. Each Fits (length old.all) now.all)
-    (c.read_out-open_files.ensures.concludes still old nested)
+    (subst (λ (limits : Limits). IfOk c.read_out-open_files.result.1
+    (λ x. Concludes limits t (chosen session.setup) serial (state t old mid session []) old now f before after x)) c.requires.limits
+    (c.read_out-open_files.ensures.concludes still old nested))
     (if_ok_more c.read_out-open_files.result.1 (λ x. StaysFit files c.enter_main.new.files c.read_out-open_files.new.files
     session.open_files) (λ x. Each Fits (length old.all) now.all)
     (λ x h. h still old nested here (c.in-Ok.ensures.fits honest)) c.read_out-open_files.ensures.fits))
@@ -71,7 +78,7 @@ returns-clause-begins g c = λ honest.
     let mid = files.openings c.enter_main.new.files in
     let session = c.in-Ok-new.session in
     let serial = c.args.serial.now in
-    let name = c.args.name.now in
+    let name = c.args.main.name.now in
     let before = g.M.Sink.taken c.args.messages.now in
     let after = g.M.Sink.taken c.read_out-open_files.new.messages in
     let still = subst (λ b. IsTrue b) (sym c.enter_main.ensures.kept.honesty) honest in
@@ -84,9 +91,13 @@ returns-clause-begins g c = λ honest.
     c.in-Ok-new.ensures.quoted in
     on_err_weaker c.read_out-open_files.result.1
     (λ k. begins_of s o serial name (state s old mid session []) before after (c.in-Ok.ensures.there honest) begun
-    (subst (λ (p : Setup). Stops s (chosen p) serial (state s old mid session []) before after) c.in-Ok-new.ensures.setup
-    (subst (λ (y : Sources). Stops y (chosen session.setup) serial (state y old mid session []) before after)
-    c.enter_main.ensures.kept.sources k)))
+    (subst (λ (p : Setup). Stops (limits_of c.args.setup.settings.now) s (chosen p) serial (state s old mid session []) before after)
+    c.in-Ok-new.ensures.setup
+    (subst (λ (y : Sources). Stops (limits_of c.args.setup.settings.now) y (chosen session.setup) serial (state y old mid session []) before
+    after)
+    c.enter_main.ensures.kept.sources
+    (subst (λ (limits : Limits). Stops limits (files.sources c.enter_main.new.files) (chosen session.setup) serial
+    (state (files.sources c.enter_main.new.files) old mid session []) before after) c.requires.limits k))))
     (c.read_out-open_files.ensures.stops still old nested)
 
 pub returns-clause-fault : goal.returns-clause-fault
@@ -119,7 +130,7 @@ returns-clause-opened g c = λ honest.
     let mid = files.openings c.enter_main.new.files in
     let now = files.openings c.read_out-open_files.new.files in
     let session = c.in-Ok-new.session in
-    let name = c.args.name.now in
+    let name = c.args.main.name.now in
     let still = subst (λ b. IsTrue b) (sym c.enter_main.ensures.kept.honesty) honest in
     let last = subst (λ b. IsTrue b) (sym c.read_out-open_files.ensures.went.honesty) still in
     let nested = subst (λ (x : Open). IsNested old mid x) (sym c.in-Ok-new.ensures.files) (c.in-Ok.ensures.nested honest) in
@@ -137,9 +148,13 @@ returns-clause-opened g c = λ honest.
     (c.read_out-open_files.ensures.went.stays_given still old nested here) in
     on_err_weaker c.read_out-open_files.result.1
     (λ k. inr (opened_some s o name old now (files.openings c.close-2.new.files) f (state s old mid session) k.0 begun closed given
-    (subst (λ (p : Setup). OpensAll (run s (chosen p) k.0) (state s old mid session) (opened_since old now)) c.in-Ok-new.ensures.setup
-    (subst (λ (y : Sources). OpensAll (run y (chosen session.setup) k.0) (state y old mid session) (opened_since old now))
-    c.enter_main.ensures.kept.sources k.1))))
+    (subst (λ (p : Setup). OpensAll (run (limits_of c.args.setup.settings.now) s (chosen p) k.0) (state s old mid session)
+    (opened_since old now)) c.in-Ok-new.ensures.setup
+    (subst (λ (y : Sources). OpensAll (run (limits_of c.args.setup.settings.now) y (chosen session.setup) k.0) (state y old mid session)
+    (opened_since old now))
+    c.enter_main.ensures.kept.sources
+    (subst (λ (limits : Limits). OpensAll (run limits (files.sources c.enter_main.new.files) (chosen session.setup) k.0)
+    (state (files.sources c.enter_main.new.files) old mid session) (opened_since old now)) c.requires.limits k.1)))))
     (c.read_out-open_files.ensures.opened still old nested)
 
 pub returns-clause-heard : goal.returns-clause-heard
@@ -153,7 +168,7 @@ returns-clause-heard g c = λ honest.
     let new = files.openings c.close-2.new.files in
     let f = c.read_out-open_files.result.0 in
     let session = c.in-Ok-new.session in
-    let name = c.args.name.now in
+    let name = c.args.main.name.now in
     let before = g.M.Sink.taken c.args.messages.now in
     let after = g.M.Sink.taken c.read_out-open_files.new.messages in
     let still = subst (λ b. IsTrue b) (sym c.enter_main.ensures.kept.honesty) honest in
@@ -178,14 +193,18 @@ returns-clause-heard g c = λ honest.
     let result = c.read_out-open_files.result.1 in
     heard_from result failed s o name (state s old mid session) old now new f before after begun (c.close-2.ensures.all last)
     (went.nested still old nested) given
-    (given_up_between result later failed s o (state s old mid session) before after old now f
+    (given_up_between (limits_of c.args.setup.settings.now) result later failed s o (state s old mid session) before after old now f
     (λ rose. subst (λ (n : ℕ). Rose first_faults n) (sym c.close-2.ensures.untouched.0)
     (rose_earlier first_faults main_faults read_faults c.enter_main.ensures.kept.faults rose))
-    (subst (λ (p : Setup). IfErr result (λ x. IfRead x (λ told. GivenUp later s (chosen p) (state s old mid session) before after old now f
+    (subst (λ (p : Setup). IfErr result (λ x. IfRead x (λ told. GivenUp (limits_of c.args.setup.settings.now) later s (chosen p)
+    (state s old mid session) before after old now f
     told))) c.in-Ok-new.ensures.setup
-    (subst (λ (y : Sources). IfErr result (λ x. IfRead x (λ told. GivenUp later y (chosen session.setup) (state y old mid session) before
+    (subst (λ (y : Sources). IfErr result (λ x. IfRead x (λ told. GivenUp (limits_of c.args.setup.settings.now) later y
+    (chosen session.setup) (state y old mid session) before
     after old now f told))) c.enter_main.ensures.kept.sources
-    (c.read_out-open_files.ensures.heard still old nested))))
+    (subst (λ (limits : Limits). IfErr result (λ x. IfRead x (λ told. GivenUp limits later (files.sources c.enter_main.new.files)
+    (chosen session.setup) (state (files.sources c.enter_main.new.files) old mid session) before after old now f told))) c.requires.limits
+    (c.read_out-open_files.ensures.heard still old nested)))))
 
 pub returns-in-Err-clause-opened : goal.returns-in-Err-clause-opened
 returns-in-Err-clause-opened g c = λ honest.
@@ -195,6 +214,9 @@ returns-in-Err-clause-opened g c = λ honest.
     let mid = files.openings c.enter_main.new.files in
     let still = subst (λ b. IsTrue b) (sym c.enter_main.ensures.kept.honesty) honest in
     let nested = subst (λ (x : Open). IsNested old mid x) (sym c.in-Err.ensures.back) (c.in-Ok.ensures.nested honest) in
-    inr (opened_first s (chosen c.args.setup) c.args.name.now old mid (files.openings c.close.new.files) c.in-Ok.open_files c.args.setup.set
+    inr (opened_first s (chosen c.args.setup) c.args.main.name.now old mid (files.openings c.close.new.files) c.in-Ok.open_files c.args.setup.set
     c.of-limit.result
     (c.close.ensures.closed still old nested) (c.in-Ok.ensures.given_all honest) (c.in-Ok.ensures.nesting honest))
+
+pub new-requires : goal.new-requires
+new-requires g c = λ s. ap (λ (l : Limits). l s) c.requires.limits

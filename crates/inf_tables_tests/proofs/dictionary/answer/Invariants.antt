@@ -1,0 +1,5 @@
+-- There may be as much as the row says.
+use Rattle.inf_tables_tests.proofs.dictionary.answer.Given as goal
+
+abbrev pub ghosts-answer_under : goal.ghosts-answer_under
+ghosts-answer_under a = record { most = λ _. a.limit }
