@@ -1,11 +1,12 @@
 -- What each action of the grammar does.
 use Rattle.std.specs.Prelude.{List, [], ◌∷◌, length, Bool, false, true, ◌&&◌, None, Some, nat_lt, if◌then◌else◌}
 use Rattle.inf_settings.specs.Bounds.{Limits}
+use Rattle.inf_settings.specs.Settings.{number_of}
 use Rattle.inf_settings.specs.declared.setting.Setting.TheVariants as setting
 use Rattle.inf_scanner.specs.declared.tokens.Place.{Place}
 use Rattle.inf_syntax.specs.declared.actions.Action.{Action}
 use Rattle.inf_compilation.specs.Context.{Context}
-use Rattle.inf_unit.specs.Roles.{is_text, makes_sure, role_of}
+use Rattle.inf_unit.specs.Roles.{is_arrow, is_text, makes_sure, role_of}
 use Rattle.inf_unit.specs.declared.roles.Ending.{Ending}
 use Rattle.inf_unit.specs.declared.roles.Ending.TheVariants as ending
 use Rattle.inf_unit.specs.declared.roles.Note.{Note}
@@ -13,7 +14,7 @@ use Rattle.inf_unit.specs.declared.roles.Opening.{Opening}
 use Rattle.inf_unit.specs.declared.roles.Opening.TheVariants as opening
 use Rattle.inf_unit.specs.declared.roles.Role.{Role}
 use Rattle.inf_unit.specs.declared.roles.Role.TheVariants as role
-use Rattle.inf_unit.specs.Units.{noted as unit_noted, stepped, text_passed}
+use Rattle.inf_unit.specs.Units.{last_leaf, last_passed, noted as unit_noted, stepped, text_passed}
 use Rattle.inf_constructs.specs.declared.constructs.Case.TheVariants as case
 use Rattle.inf_constructs.specs.declared.constructs.Kind.{Kind}
 use Rattle.inf_constructs.specs.declared.constructs.Kind.TheVariants as kind
@@ -32,12 +33,21 @@ use Rattle.inf_compilation.specs.declared.parts.Part.TheVariants as part
 abbrev pub is_crowded : Limits → Compilation → Bool
 is_crowded limits w = nat_lt (limits setting.Code) (length w.unit.items)
 
--- Something is noted of the unit at hand, by which its outermost expression may be too long. Of texts that are printed so many are kept.
+-- Whether the unit at hand has more arrows than there may be objects. It is then below none, whatever else it has: an object has as many
+-- arrows as there are others above it.
+abbrev pub is_tall : Context → Compilation → Bool
+is_tall context w = nat_lt (number_of setting.Objects context.settings) (last_leaf w.unit)
+
+-- Something is noted of the unit at hand, by which its outermost expression may be too long. Of texts that are printed, and of arrows before
+-- an object's name, so many are kept.
 abbrev pub noted_of : Context → Note → Compilation → Compilation
 noted_of context n w = let v = record w { unit = unit_noted n w.unit } in if makes_sure n then sized context v else v
 
 abbrev pub noted : Limits → Context → Note → Compilation → Compilation
-noted limits context n w = if is_text n && is_crowded limits w then record w { unit = text_passed w.unit } else noted_of context n w
+noted limits context n w =
+    if is_text n && is_crowded limits w then record w { unit = text_passed w.unit }
+    else if is_arrow n && is_tall context w then record w { unit = last_passed w.unit }
+    else noted_of context n w
 
 -- The unit at hand ends, before a token at a place.
 abbrev pub ended : Limits → Context → Place → Ending → Compilation → Compilation

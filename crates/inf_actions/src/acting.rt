@@ -1,7 +1,7 @@
 //! What the actions of the grammar do: they gather what a unit has, which acts at its end.
 ghost use Rattle.inf_compilation.specs.Context.{handed};
 ghost use Rattle.std.specs.Prelude.{None, OnOk, ◌≡◌};
-ghost use Rattle.inf_actions.specs.Acting.{act, acted, all_acted, ended, is_crowded, kind_of, noted};
+ghost use Rattle.inf_actions.specs.Acting.{act, acted, all_acted, ended, is_crowded, is_tall, kind_of, noted, noted_of};
 ghost use Rattle.inf_unit.specs.Directives.{Nothing};
 ghost use Rattle.inf_compilation.specs.Actions.{cut, is_deep};
 ghost use Rattle.inf_compilation.specs.Works.{work};
@@ -17,8 +17,9 @@ use inf_constructs::constructs::{Case, Kind, Over};
 use inf_lexer::Place;
 use inf_listings::arrays::end_entry;
 use inf_settings::bounds::Bounds;
+use inf_settings::setting::Setting;
 use inf_syntax::Action;
-use inf_unit::roles::{Ending, Note, Opening, Role, is_text, makes_sure, role_of};
+use inf_unit::roles::{Ending, Note, Opening, Role, is_arrow, is_text, makes_sure, role_of};
 use inf_verb_lines::lines::end_line;
 use std::alloc::AllocError;
 
@@ -115,8 +116,16 @@ fn is_crowded<B: Bounds>(compilation: &Compilation<B>) -> bool
     compilation.unit.items.len() > compilation.output.code.most_bytes()
 }
 
-/// Something is noted of the unit at hand, by which its outermost expression may be too long. Of texts that are printed so many are
-/// kept.
+/// Whether the unit at hand has more arrows than there may be objects. It is then below none, whatever else it has: an object has as many
+/// arrows as there are others above it.
+fn is_tall<B: Bounds>(compilation: &Compilation<B>, context: &Context<'_>) -> bool
+    ensures { result ≡ is_tall (handed context.now) (work compilation.now) }
+{
+    compilation.unit.last() > context.settings.of(Setting::Objects) as usize
+}
+
+/// Something is noted of the unit at hand, by which its outermost expression may be too long. Of texts that are printed, and of arrows before
+/// an object's name, so many are kept.
 fn note<B: Bounds>(
     compilation: &mut Compilation<B>,
     context: &Context<'_>,
@@ -128,6 +137,21 @@ fn note<B: Bounds>(
         compilation.unit.pass_text();
         return Ok(());
     }
+    if is_arrow(note) && is_tall(compilation, context) {
+        compilation.unit.pass_last();
+        return Ok(());
+    }
+    keep_note(compilation, context, note)
+}
+
+/// The same of what is kept.
+fn keep_note<B: Bounds>(
+    compilation: &mut Compilation<B>,
+    context: &Context<'_>,
+    note: Note,
+) -> Result<(), AllocError>
+    ensures { OnOk result (work compilation.new ≡ noted_of (handed context.now) note (work compilation.old)) }
+{
     compilation.unit.note(note)?;
     if makes_sure(note) {
         return compilation.size(context);

@@ -413,6 +413,9 @@ abbrev pub !end_directive : Symbol Action
 abbrev pub !local : Symbol Action
 !local = Act action.Local
 
+abbrev pub !arrow : Symbol Action
+!arrow = Act action.Arrow
+
 abbrev pub !outer : Symbol Action
 !outer = Act action.Outer
 
@@ -424,6 +427,9 @@ abbrev pub !end_entry : Symbol Action
 
 abbrev pub !end_alone : Symbol Action
 !end_alone = Act action.EndAlone
+
+abbrev pub !semicolon : Symbol Action
+!semicolon = Act action.Semicolon
 
 abbrev pub !hold : Symbol Action
 !hold = Act action.Hold

@@ -57,6 +57,11 @@ abbrev pub is_text : Note → Bool
 is_text note.PrintText = true
 is_text _ = false
 
+-- whether an arrow stands before the name of an object
+abbrev pub is_arrow : Note → Bool
+is_arrow note.Arrow = true
+is_arrow _ = false
+
 -- what an action is there for
 abbrev pub role_of : Action → Role
 role_of action.Name = role.Gather step.Leaf
@@ -108,6 +113,8 @@ role_of action.Bracket = role.Gather step.Bracket
 role_of action.Bracketed = role.Gather step.Bracketed
 role_of action.Begin = role.Note note.Begin
 role_of action.Local = role.Note note.Local
+role_of action.Arrow = role.Note note.Arrow
+role_of action.Semicolon = role.Note note.Semicolon
 role_of action.Outer = role.Note (note.Outer true)
 role_of action.OuterMaybe = role.Note (note.Outer false)
 role_of action.OuterWord = role.Note note.OuterWord

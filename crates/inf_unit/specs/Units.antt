@@ -304,10 +304,23 @@ headed_by (Some n) h = with_local n h
 abbrev pub headed_more : Unit → Unit
 headed_more u = record u { headed = headed_by (name_at u.tokens (last_leaf u)) u.headed; tokens = take (last_leaf u) u.tokens }
 
+-- the last token is not kept
+abbrev pub last_passed : Unit → Unit
+last_passed u = record u { tokens = take (last_leaf u) u.tokens }
+
+-- The last token is a semicolon beside the entries of an array. Right behind another one it is not kept.
+abbrev pub is_again : ℕ → List SourceToken → Bool
+is_again at tokens = is_some_mark mark.Semicolon (kind_at tokens (at - 1)) && nat_lt 0 at
+
+abbrev pub semicolon_taken : Unit → Unit
+semicolon_taken u = if is_again (last_leaf u) u.tokens then last_passed u else u
+
 -- what an action notes of the unit
 abbrev pub noted : Note → Unit → Unit
 noted note.Begin u = begun u
 noted note.Local u = headed_more u
+noted note.Arrow u = u
+noted note.Semicolon u = semicolon_taken u
 noted (note.Outer is_sure) u = record u { outer = Some (length u.tokens); is_sure = is_sure }
 noted note.OuterWord u = record u { outer = Some (last_leaf u); is_sure = true }
 noted note.OuterSure u = record u { is_sure = true }

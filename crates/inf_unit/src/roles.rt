@@ -1,6 +1,6 @@
 //! What each action of the grammar is there for.
 ghost use Rattle.std.specs.Prelude.{◌≡◌};
-ghost use Rattle.inf_unit.specs.Roles.{failing, is_text, makes_sure, operation, prefix, property, role_of, suffix, test, two};
+ghost use Rattle.inf_unit.specs.Roles.{failing, is_arrow, is_text, makes_sure, operation, prefix, property, role_of, suffix, test, two};
 
 use crate::steps::Step;
 use inf_expressions::{Binary, Operation, PropertyPart, Single, Step as Stepping, Test, Unary};
@@ -13,6 +13,10 @@ pub enum Note {
     Begin,
     /// The last token names a local in the header of a routine.
     Local,
+    /// The last token is an arrow before the name of an object.
+    Arrow,
+    /// The last token is a semicolon beside the entries of an array.
+    Semicolon,
     /// An outermost expression begins with the next token, and surely is one or not.
     Outer(bool),
     /// An outermost expression began with the last token.
@@ -172,6 +176,13 @@ pub fn is_text(note: Note) -> bool
     matches!(note, Note::PrintText)
 }
 
+/// Whether an arrow stands before the name of an object.
+pub fn is_arrow(note: Note) -> bool
+    ensures { result ≡ is_arrow note }
+{
+    matches!(note, Note::Arrow)
+}
+
 /// What an action is there for. A call would cost more than the look into the table.
 #[inline(always)]
 pub fn role_of(action: Action) -> Role
@@ -227,6 +238,8 @@ pub fn role_of(action: Action) -> Role
         // Units
         Action::Begin => Role::Note(Note::Begin),
         Action::Local => Role::Note(Note::Local),
+        Action::Arrow => Role::Note(Note::Arrow),
+        Action::Semicolon => Role::Note(Note::Semicolon),
         Action::Outer => Role::Note(Note::Outer(true)),
         Action::OuterMaybe => Role::Note(Note::Outer(false)),
         Action::OuterWord => Role::Note(Note::OuterWord),

@@ -2,7 +2,7 @@
 ghost use Rattle.std.specs.Prelude.{◌≡◌, ◌≤◌, ◌++◌, ◌∷◌, [], None, OnOk, Some, length};
 ghost use Rattle.inf_unit.specs.AtHand.{unit};
 ghost use Rattle.inf_unit.specs.Spelled.{spelled};
-ghost use Rattle.inf_unit.specs.Units.{acted, begun, depth_behind, first_place, forgotten, headed_more, is_alone, is_assembly, is_sign, jump_label, jump_of, last_leaf, leaf_of, long_at, marked_from, next_place, no_unit, noted, opcode_text, order, over, outer_tokens, own_place, prepared, ruled, stepped, taken, text_passed, told_leaf, with_item};
+ghost use Rattle.inf_unit.specs.Units.{acted, begun, depth_behind, first_place, forgotten, headed_more, is_again, is_alone, is_assembly, is_sign, jump_label, jump_of, last_leaf, last_passed, leaf_of, long_at, marked_from, next_place, no_unit, noted, opcode_text, order, over, outer_tokens, own_place, prepared, ruled, semicolon_taken, stepped, taken, text_passed, told_leaf, with_item};
 
 use crate::items::{Item, rule_of};
 use crate::kinds::is_mark;
@@ -224,6 +224,8 @@ impl Unit {
         match note {
             Note::Begin => self.begin(),
             Note::Local => self.local(),
+            Note::Arrow => {}
+            Note::Semicolon => self.semicolon(),
             Note::Outer(is_sure) => self.open_outer(is_sure),
             Note::OuterWord => {
                 self.outer = Some(last);
@@ -267,6 +269,33 @@ impl Unit {
         self.tokens.truncate(last);
     }
 
+    /// The last token is a semicolon beside the entries of an array. Right behind another one it is not kept.
+    fn semicolon(&mut self)
+        ensures { unit self.new ≡ semicolon_taken (unit self.old) }
+    {
+        if self.is_again(self.last()) {
+            self.pass_last();
+        }
+    }
+
+    /// Whether a semicolon stands right before a place of it.
+    fn is_again(&self, at: usize) -> bool
+        ensures { result ≡ is_again at (unit self.now).tokens }
+    {
+        match self.tokens.kind(at.saturating_sub(1)) {
+            Some(kind) => is_mark(kind, Mark::Semicolon) && at > 0,
+            None => false,
+        }
+    }
+
+    /// The last token is not kept.
+    pub fn pass_last(&mut self)
+        ensures { unit self.new ≡ last_passed (unit self.old) }
+    {
+        let count = self.last();
+        self.tokens.truncate(count);
+    }
+
     /// An outermost expression begins with the next token.
     fn open_outer(&mut self, is_sure: bool)
         ensures { let before = unit self.old in unit self.new ≡ record before { outer = Some (length before.tokens); is_sure = is_sure } }
@@ -276,7 +305,7 @@ impl Unit {
     }
 
     /// The place of the last token among them.
-    fn last(&self) -> usize
+    pub fn last(&self) -> usize
         ensures { result ≡ last_leaf (unit self.now) }
     {
         self.tokens.len().saturating_sub(1)
