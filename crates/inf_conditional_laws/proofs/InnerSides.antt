@@ -98,7 +98,7 @@ words_end_sides site out t w c side left_out going is ends =
     let now = awaiting place false (awaits.End effect.Nothing) (record (ended_by w c) { left_out = None; sign = None }) in
     let same : judged site out t c ≡ passed now =
     ap (λ (o : Option LeftOut). judged_by o c.sign site out t c) left_out
-    ∙ ap (λ (b : Bool). cond b (offered false site.is_quiet out t (record c { left_out = None; sign = None }))
+    ∙ ap (λ (b : Bool). cond b (offered false site out t (record c { left_out = None; sign = None }))
     (passed (passed_by (word_of (keyword t)) t side c))) going
     ∙ ap (λ (o : Option ConditionalWord). passed (passed_by o t side c)) is
     ∙ ap (λ (b : Bool). passed (cond b now (record c {
@@ -120,8 +120,8 @@ semicolons_end_them site out t place others c all_kept no_sign is_read no_hash l
     let read : Conditions = record c { pending = others } in
     ap (λ o. judged_by o c.sign site out t c) all_kept
     ∙ ap (λ o. judged_by None o site out t c) no_sign
-    ∙ ap (λ b. cond b (passed (held front t.place c)) (offered_to c.pending front quiet out t c)) no_hash
-    ∙ ap (λ ps. offered_to ps front quiet out t c) is_read
+    ∙ ap (λ b. cond b (passed (held front t.place c)) (offered_to c.pending front site out t c)) no_hash
+    ∙ ap (λ ps. offered_to ps front site out t c) is_read
     ∙ ap (λ b. cond b (effected effect.Nothing quiet (ending place) read) (unfit read)) last
 
 -- Which side it is
@@ -136,14 +136,14 @@ hash_step : (site : Site) (out : Out) (t : SourceToken) (c : Conditions) → sit
 hash_step site out t c inside hash =
     let here = at_sign None c in
     let front = site.is_between && is_none_pending c.pending in
-    ap (λ b. cond b (passed (held front t.place here)) (offered_to c.pending front site.is_quiet out t here)) hash
+    ap (λ b. cond b (passed (held front t.place here)) (offered_to c.pending front site out t here)) hash
     ∙ ap (λ b. passed (held b t.place here)) inside
 
 word_step : (flag : Bool) (site : Site) (out : Out) (w : SourceToken) (o : ConditionalWord) (sign : Place) (c : Conditions) →
     word_of (keyword w) ≡ Some o → awaits_of o ≡ awaits.Name flag
     → judged site out w (at_sign (Some sign) c) ≡ passed (awaiting sign true (awaits.Name flag) (at_sign None c))
 word_step flag site out w o sign c is awaits =
-    ap (λ (x : Option ConditionalWord). behind_sign x sign site.is_quiet out w (at_sign (Some sign) c)) is
+    ap (λ (x : Option ConditionalWord). behind_sign x sign site out w (at_sign (Some sign) c)) is
     ∙ ap (λ (a : Awaits). begun_by a (record w { place = sign }) true (at_sign None c)) awaits
 
 end_step : (k : Bool) (site : Site) (out : Out) (t : SourceToken) (p : Pending) (c : Conditions) → is_mark mark.Hash t.kind ≡ false →

@@ -119,9 +119,9 @@ ended_is e w site out t p c at waits =
     let read : Conditions = record c { pending = at.others } in
     ap (λ o. judged_by o c.sign site out t c) at.all_kept
     ∙ ap (λ o. judged_by None o site out t c) at.no_sign
-    ∙ ap (λ b. cond b (passed (held front t.place c)) (offered_to c.pending front quiet out t c)) at.no_hash
-    ∙ ap (λ ps. offered_to ps front quiet out t c) at.is_read
-    ∙ ap (λ a. awaited a quiet out t p read) (at.waits ∙ waits)
+    ∙ ap (λ b. cond b (passed (held front t.place c)) (offered_to c.pending front site out t c)) at.no_hash
+    ∙ ap (λ ps. offered_to ps front site out t c) at.is_read
+    ∙ ap (λ a. awaited a site out t p read) (at.waits ∙ waits)
     ∙ ap (λ b. cond b (effected e quiet p read) (unfit read)) at.is_last
 
 pub ifnot_acts : Acts word.Ifnot
@@ -247,21 +247,21 @@ named_lone (kind.Mark x) bytes if_declared out p c = refl
 named_lone (kind.Bad x) bytes if_declared out p c = refl
 named_lone kind.End bytes if_declared out p c = refl
 
-went_on_lone : (wanted quiet : Bool) (out : Out) (t : SourceToken) (k : Condition) (p : Pending) (c : Conditions) →
-    (went_on wanted quiet out t k p c).judged.unmatched ≡ None
-went_on_lone wanted quiet out t k p c =
-    of_both (λ (b : Behind). b.judged.unmatched ≡ None) (is_whole k) (decided (verdict_of c.declared out k) wanted quiet k p c)
-    (taken (asking p.place p.is_inner wanted k (saying quiet (too_much c.longest t k) (tokens_counted quiet k c))))
+went_on_lone : (wanted : Bool) (site : Site) (out : Out) (t : SourceToken) (k : Condition) (p : Pending) (c : Conditions) →
+    (went_on wanted site out t k p c).judged.unmatched ≡ None
+went_on_lone wanted site out t k p c =
+    of_both (λ (b : Behind). b.judged.unmatched ≡ None) (is_whole k) (decided (verdict_of c.declared out k) wanted site.is_quiet k p c)
+    (taken (asking p.place p.is_inner wanted k (saying site.is_quiet (too_much site.longest t k) (tokens_counted site.is_quiet k c))))
     (λ _. refl) (λ _. refl)
 
-asked_lone : (ks : List Condition) (wanted quiet : Bool) (out : Out) (t : SourceToken) (p : Pending) (c : Conditions) →
-    (asked ks wanted quiet out t p c).judged.unmatched ≡ None
-asked_lone [] wanted quiet out t p c = refl
-asked_lone (k ∷ ks) wanted quiet out t p c =
+asked_lone : (ks : List Condition) (wanted : Bool) (site : Site) (out : Out) (t : SourceToken) (p : Pending) (c : Conditions) →
+    (asked ks wanted site out t p c).judged.unmatched ≡ None
+asked_lone [] wanted site out t p c = refl
+asked_lone (k ∷ ks) wanted site out t p c =
     let read : Conditions = record c { conditions = ks } in
     of_both (λ (b : Behind). b.judged.unmatched ≡ None) (fits grammar known (atom_of t) k.stack)
-    (went_on wanted quiet out t (condition_took t k) p read) (unfit read)
-    (λ _. went_on_lone wanted quiet out t (condition_took t k) p read) (λ _. refl)
+    (went_on wanted site out t (condition_took t k) p read) (unfit read)
+    (λ _. went_on_lone wanted site out t (condition_took t k) p read) (λ _. refl)
 
 -- behind its semicolon
 effected_lone : (e : Effect) (quiet : Bool) (t : SourceToken) (p : Pending) (others : List Pending) (c : Conditions) (place : Place) →
@@ -309,33 +309,35 @@ effected_lone effect.Closes quiet t p others c place read waits no_hash last =
     })
     (λ _. none_some place)
 
-awaited_lone : (a : Awaits) (quiet : Bool) (out : Out) (t : SourceToken) (p : Pending) (others : List Pending) (c : Conditions)
+awaited_lone : (a : Awaits) (site : Site) (out : Out) (t : SourceToken) (p : Pending) (others : List Pending) (c : Conditions)
     (place : Place) → c.pending ≡ p ∷ others → p.awaits ≡ a
-    → is_mark mark.Hash t.kind ≡ false → Tells c quiet t place (awaited a quiet out t p (record c { pending = others }))
-awaited_lone awaits.Word quiet out t p others c place read waits no_hash =
+    → is_mark mark.Hash t.kind ≡ false → Tells c site.is_quiet t place (awaited a site out t p (record c { pending = others }))
+awaited_lone awaits.Word site out t p others c place read waits no_hash =
     λ told. none_some place (sym (behind_front_lone (word_of (keyword t)) t p (record c { pending = others })) ∙ told)
-awaited_lone (awaits.Name if_declared) quiet out t p others c place read waits no_hash =
+awaited_lone (awaits.Name if_declared) site out t p others c place read waits no_hash =
     λ told. none_some place (sym (named_lone t.kind t.bytes if_declared out p (record c { pending = others })) ∙ told)
-awaited_lone (awaits.Condition wanted) quiet out t p others c place read waits no_hash =
-    λ told. none_some place (sym (asked_lone c.conditions wanted quiet out t p (record c { pending = others })) ∙ told)
-awaited_lone (awaits.End e) quiet out t p others c place read waits no_hash =
+awaited_lone (awaits.Condition wanted) site out t p others c place read waits no_hash =
+    λ told. none_some place (sym (asked_lone c.conditions wanted site out t p (record c { pending = others })) ∙ told)
+awaited_lone (awaits.End e) site out t p others c place read waits no_hash =
     let here : Conditions = record c { pending = others } in
-    of_both (Tells c quiet t place) (is_mark mark.Semicolon t.kind) (effected e quiet p here) (unfit here)
-    (λ last. effected_lone e quiet t p others c place read waits no_hash last) (λ _. none_some place)
+    of_both (Tells c site.is_quiet t place) (is_mark mark.Semicolon t.kind) (effected e site.is_quiet p here) (unfit here)
+    (λ last. effected_lone e site.is_quiet t p others c place read waits no_hash last) (λ _. none_some place)
 
-offered_to_lone : (ps : List Pending) (front quiet : Bool) (out : Out) (t : SourceToken) (c : Conditions) (place : Place) → c.pending ≡ ps →
+offered_to_lone : (ps : List Pending) (front : Bool) (site : Site) (out : Out) (t : SourceToken) (c : Conditions) (place : Place) →
+    c.pending ≡ ps →
     is_mark mark.Hash t.kind ≡ false
-    → Tells c quiet t place (offered_to ps front quiet out t c)
-offered_to_lone [] front quiet out t c place read no_hash =
-    of_both (Tells c quiet t place) front (at_front (word_of (keyword t)) t c) (kept c)
+    → Tells c site.is_quiet t place (offered_to ps front site out t c)
+offered_to_lone [] front site out t c place read no_hash =
+    of_both (Tells c site.is_quiet t place) front (at_front (word_of (keyword t)) t c) (kept c)
     (λ _ told. none_some place (sym (front_lone (word_of (keyword t)) t c) ∙ told)) (λ _. none_some place)
-offered_to_lone (p ∷ ps) front quiet out t c place read no_hash = awaited_lone p.awaits quiet out t p ps c place read refl no_hash
+offered_to_lone (p ∷ ps) front site out t c place read no_hash = awaited_lone p.awaits site out t p ps c place read refl no_hash
 
-offered_lone : (front quiet : Bool) (out : Out) (t : SourceToken) (c : Conditions) (place : Place) →
-    Tells c quiet t place (offered front quiet out t c)
-offered_lone front quiet out t c place =
-    of_both (Tells c quiet t place) (is_mark mark.Hash t.kind) (passed (held front t.place c)) (offered_to c.pending front quiet out t c)
-    (λ _. none_some place) (λ no_hash. offered_to_lone c.pending front quiet out t c place refl no_hash)
+offered_lone : (front : Bool) (site : Site) (out : Out) (t : SourceToken) (c : Conditions) (place : Place) →
+    Tells c site.is_quiet t place (offered front site out t c)
+offered_lone front site out t c place =
+    of_both (Tells c site.is_quiet t place) (is_mark mark.Hash t.kind) (passed (held front t.place c))
+    (offered_to c.pending front site out t c)
+    (λ _. none_some place) (λ no_hash. offered_to_lone c.pending front site out t c place refl no_hash)
 
 no_end : (k : TokenKind) → is_mark mark.Semicolon k ≡ true → is_end k ≡ true → ⊥
 no_end kind.Name last end = cc
@@ -348,21 +350,21 @@ no_end (kind.Bad x) last end = cc
 no_end kind.End last end = cc
 
 -- behind a `#` that was held back nothing is being read any more
-sign_lone : (o : Option ConditionalWord) (at : Place) (quiet : Bool) (out : Out) (t : SourceToken) (c : Conditions) (place : Place) →
-    (behind_sign o at quiet out t c).judged.unmatched ≡ Some place → ⊥
-sign_lone None at quiet out t c place told =
-    let found = offered_lone false quiet out t (given_up (record c { sign = None })) place told in
+sign_lone : (o : Option ConditionalWord) (at : Place) (site : Site) (out : Out) (t : SourceToken) (c : Conditions) (place : Place) →
+    (behind_sign o at site out t c).judged.unmatched ≡ Some place → ⊥
+sign_lone None at site out t c place told =
+    let found = offered_lone false site out t (given_up (record c { sign = None })) place told in
     let never : [] ≡ found.directive ∷ found.others = found.is_read in cc
-sign_lone (Some w) at quiet out t c place told = none_some place (sym (begun_lone w t at true (record c { sign = None })) ∙ told)
+sign_lone (Some w) at site out t c place told = none_some place (sym (begun_lone w t at true (record c { sign = None })) ∙ told)
 
 pub only_lones_are : OnlyLonesAre
 only_lones_are site out t c place = by_left c.left_out refl
   where
     by_sign : (o : Option Place) → c.sign ≡ o → c.left_out ≡ None → (judged_by None o site out t c).judged.unmatched ≡ Some place →
         IsLone site t c place
-    by_sign (Some at) e left told = absurd (sign_lone (word_of (keyword t)) at site.is_quiet out t c place told)
+    by_sign (Some at) e left told = absurd (sign_lone (word_of (keyword t)) at site out t c place told)
     by_sign None e left told =
-        let found = offered_lone (site.is_between && is_none_pending c.pending) site.is_quiet out t c place told in
+        let found = offered_lone (site.is_between && is_none_pending c.pending) site out t c place told in
         record {
           word = found.word;
           directive = found.directive;
@@ -385,8 +387,8 @@ only_lones_are site out t c place = by_left c.left_out refl
         IsLone site t c place
     by_left (Some side) e =
         of_both (λ (b : Behind). b.judged.unmatched ≡ Some place → IsLone site t c place) (is_end t.kind)
-        (offered false site.is_quiet out t (record c { left_out = None; sign = None })) (passed (passed_by (word_of (keyword t)) t side c))
-        (λ end told. absurd (no_end t.kind (offered_lone false site.is_quiet out t (record c { left_out = None; sign = None }) place
+        (offered false site out t (record c { left_out = None; sign = None })) (passed (passed_by (word_of (keyword t)) t side c))
+        (λ end told. absurd (no_end t.kind (offered_lone false site out t (record c { left_out = None; sign = None }) place
         told).is_last end))
         (λ _. none_some place)
     by_left None e = by_sign c.sign refl e

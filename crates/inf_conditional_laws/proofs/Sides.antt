@@ -85,7 +85,7 @@ pub token_is : (site : Site) (out : Out) (t : SourceToken) (c : Conditions) (sid
     (inside c side (level_behind (word_of (keyword t)) level) (sign_behind (word_of (keyword t)) t) declared)
 token_is site out t c side level sign declared going e few =
     let here = inside c side level sign declared in
-    ap (λ (b : Bool). cond b (offered false site.is_quiet out t (record here { left_out = None; sign = None }))
+    ap (λ (b : Bool). cond b (offered false site out t (record here { left_out = None; sign = None }))
     (passed (passed_by (word_of (keyword t)) t (record side { levels = level }) here))) going
     ∙ ap passed (passed_is (word_of (keyword t)) t c side level sign declared e few)
 
@@ -160,7 +160,7 @@ pub sides_end : SidesEnd
 sides_end site out t c side left_out going e =
     let is : judged site out t c ≡ passed (passed_by (word_of (keyword t)) t side c) =
     ap (λ (o : Option LeftOut). judged_by o c.sign site out t c) left_out
-    ∙ ap (λ (b : Bool). cond b (offered false site.is_quiet out t (record c { left_out = None; sign = None }))
+    ∙ ap (λ (b : Bool). cond b (offered false site out t (record c { left_out = None; sign = None }))
     (passed (passed_by (word_of (keyword t)) t side c))) going in
     record {
       is_cut = ap (λ (b : Behind). b.judged) is;
@@ -232,11 +232,11 @@ values_decide site out t wanted p k c at =
     let whole = condition_took t k in
     ap (λ o. (judged_by o c.sign site out t c).now.left_out) at.all_kept
     ∙ ap (λ o. (judged_by None o site out t c).now.left_out) at.no_sign
-    ∙ ap (λ b. (cond b (passed (held front t.place c)) (offered_to c.pending front quiet out t c)).now.left_out) at.no_hash
-    ∙ ap (λ ps. (offered_to ps front quiet out t c).now.left_out) at.is_read
-    ∙ ap (λ a. (awaited a quiet out t p read).now.left_out) at.waits
-    ∙ ap (λ ks. (asked ks wanted quiet out t p read).now.left_out) at.is_condition
-    ∙ ap (λ b. (cond b (went_on wanted quiet out t whole p here) (unfit here)).now.left_out) at.goes_on
+    ∙ ap (λ b. (cond b (passed (held front t.place c)) (offered_to c.pending front site out t c)).now.left_out) at.no_hash
+    ∙ ap (λ ps. (offered_to ps front site out t c).now.left_out) at.is_read
+    ∙ ap (λ a. (awaited a site out t p read).now.left_out) at.waits
+    ∙ ap (λ ks. (asked ks wanted site out t p read).now.left_out) at.is_condition
+    ∙ ap (λ b. (cond b (went_on wanted site out t whole p here) (unfit here)).now.left_out) at.goes_on
     ∙ ap (λ b. (cond b (decided (verdict_of here.declared out whole) wanted quiet whole p here)
     (taken (asking p.place p.is_inner wanted whole
-    (saying quiet (too_much here.longest t whole) (tokens_counted quiet whole here))))).now.left_out) at.is_last
+    (saying quiet (too_much site.longest t whole) (tokens_counted quiet whole here))))).now.left_out) at.is_last

@@ -2,9 +2,7 @@
 ghost use Rattle.inf_settings.specs.Bounds.{Limits};
 ghost use Rattle.inf_conditional_laws.specs.MissingEnds.{MissingEndsAreTold};
 ghost use Rattle.inf_conditional_laws.specs.InnerSides.{InnerSidesAgree, InnerSidesAreCut, SemicolonsEndThem, WordsEndSides};
-ghost use Rattle.inf_conditional_laws.specs.KeptSides.{OneSideIsKept};
 ghost use Rattle.inf_conditional_laws.specs.LoneEnds.{LonesAreJudged, LonesAreTold, OnlyLonesAre, SidesFollow};
-ghost use Rattle.inf_conditional_laws.specs.SideTurns.{ReadingsStartClear, TurnsCutInnerSides, TurnsHandOn, TurnsKeepSides, TurnsTellMissingEnds};
 ghost use Rattle.inf_conditional_laws.specs.Sides.{SidesAgree, SidesAreCut, SidesEnd, ValuesDecide};
 
 /// The side of a conditional that is left out is cut, up to the `Ifnot` or `Endif` of its own level, by the levels that the other four
@@ -19,16 +17,13 @@ pub fn sides_are_cut()
 {}
 
 /// A side that is left out inside a directive, of a conditional whose words have a `#` before them, is cut in the same way: no token of it
-/// is handed
-/// on, nor the `#` of the word that ends it, and the turns of a reading leave the directive as it stands. The first side is left out as
-/// between
-/// directives, and the second one where the first was kept.
+/// is handed on, nor the `#` of the word that ends it. The first side is left out as between directives, and the second one where the first
+/// was kept.
 pub fn inner_sides_are_cut()
     ensures cut { InnerSidesAreCut }
     ensures words { WordsEndSides }
     ensures semicolons { SemicolonsEndThem }
     ensures agree { InnerSidesAgree }
-    ensures turns { (limits : Limits) → TurnsCutInnerSides limits }
 {}
 
 /// An `Endif` is told to be without its other end where no conditional is open, and an `Ifnot` where none is, or the latest is in its
@@ -41,23 +36,6 @@ pub fn lone_ends_are_told()
     ensures alone { OnlyLonesAre }
     ensures told { (limits : Limits) → LonesAreTold limits }
     ensures follow { SidesFollow }
-{}
-
-/// Of each conditional, between the directives of a file or inside of one, one side is kept, also in the condition of another one and
-/// between the tokens
-/// of its other directives, to any depth: a token is handed on exactly where of each conditional around it the side stays that it is in,
-/// and no token of
-/// a conditional directive is; its condition is what is kept of it. So do the turns of a reading from its start, as long as no file ends
-/// and none is
-/// included. Where the file ends behind them, just those conditionals are told that are open, in order, but for what was opened in a side
-/// that is left
-/// out.
-pub fn one_side_is_kept()
-    ensures kept { OneSideIsKept }
-    ensures handed_on { (limits : Limits) → TurnsHandOn limits }
-    ensures turns { (limits : Limits) → TurnsKeepSides limits }
-    ensures ends { (limits : Limits) → TurnsTellMissingEnds limits }
-    ensures start { ReadingsStartClear }
 {}
 
 /// Where a conditional must end, at the end of its file or of the directive in which it was opened, those are told that no `Endif` of their

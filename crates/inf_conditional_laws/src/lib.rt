@@ -3,6 +3,4 @@
 
 mod laws;
 
-pub use laws::{
-    inner_sides_are_cut, lone_ends_are_told, missing_ends_are_told, one_side_is_kept, sides_are_cut,
-};
+pub use laws::{inner_sides_are_cut, lone_ends_are_told, missing_ends_are_told, sides_are_cut};

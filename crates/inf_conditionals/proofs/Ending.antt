@@ -39,27 +39,27 @@ as_unfit : (j : Filtered) → j.token ≡ Some handed.Unfit → IsForwarded j
 as_unfit j e = record { handed = handed.Unfit; is = e; on = refl }
 
 -- it fits no condition
-to_offered_condition : (wanted q : Bool) (out : Out) (bytes : List ℕ) (place : Place) (named : Bool) (k : Condition) (p : Pending) (c : Conditions)
+to_offered_condition : (wanted : Bool) (q : Site) (out : Out) (bytes : List ℕ) (place : Place) (named : Bool) (k : Condition) (p : Pending) (c : Conditions)
     → IsForwarded (offered_condition wanted q out (end_of bytes place named) k p c).judged
 to_offered_condition wanted q out bytes place named k p c =
     let t : SourceToken = end_of bytes place named in
     let n : Condition = condition_took t k in
     as_unfit _ (ap (λ (b : Bool). (cond b (went_on wanted q out t n p c) (unfit c)).judged.token) (end_fits_nothing k.stack))
 
-to_asked : (conditions : List Condition) (wanted q : Bool) (out : Out) (bytes : List ℕ) (place : Place) (named : Bool) (p : Pending) (c : Conditions)
+to_asked : (conditions : List Condition) (wanted : Bool) (q : Site) (out : Out) (bytes : List ℕ) (place : Place) (named : Bool) (p : Pending) (c : Conditions)
     → IsForwarded (asked conditions wanted q out (end_of bytes place named) p c).judged
 to_asked [] wanted q out bytes place named p c = as_unfit _ refl
 to_asked (k ∷ conditions) wanted q out bytes place named p c =
     to_offered_condition wanted q out bytes place named k p (record c { conditions = conditions })
 
-to_awaited : (a : Awaits) (q : Bool) (out : Out) (bytes : List ℕ) (place : Place) (named : Bool) (p : Pending) (c : Conditions) →
+to_awaited : (a : Awaits) (q : Site) (out : Out) (bytes : List ℕ) (place : Place) (named : Bool) (p : Pending) (c : Conditions) →
     IsForwarded (awaited a q out (end_of bytes place named) p c).judged
 to_awaited awaits.Word q out bytes place named p c = as_kept _ refl
 to_awaited (awaits.Name b) q out bytes place named p c = as_unfit _ refl
 to_awaited (awaits.Condition wanted) q out bytes place named p c = to_asked c.conditions wanted q out bytes place named p c
 to_awaited (awaits.End e) q out bytes place named p c = as_unfit _ refl
 
-to_offered : (ps : List Pending) (front q : Bool) (out : Out) (bytes : List ℕ) (place : Place) (named : Bool) (c : Conditions) →
+to_offered : (ps : List Pending) (front : Bool) (q : Site) (out : Out) (bytes : List ℕ) (place : Place) (named : Bool) (c : Conditions) →
     IsForwarded (offered_to ps front q out (end_of bytes place named) c).judged
 to_offered [] true q out bytes place named c = as_kept _ refl
 to_offered [] false q out bytes place named c = as_kept _ refl
@@ -68,9 +68,9 @@ to_offered (p ∷ ps) front q out bytes place named c = to_awaited p.awaits q ou
 end_by : (side : Option LeftOut) (sign : Option Place) (site : Site) (out : Out) (bytes : List ℕ) (place : Place) (named : Bool) (c : Conditions)
     → IsForwarded (judged_by side sign site out (end_of bytes place named) c).judged
 end_by (Some side) sign site out bytes place named c =
-    to_offered c.pending false site.is_quiet out bytes place named (record c { left_out = None; sign = None })
+    to_offered c.pending false site out bytes place named (record c { left_out = None; sign = None })
 end_by None (Some at) site out bytes place named c = as_kept _ refl
-end_by None None site out bytes place named c = to_offered c.pending _ site.is_quiet out bytes place named c
+end_by None None site out bytes place named c = to_offered c.pending _ site out bytes place named c
 
 pub end_is_handed : (site : Site) (out : Out) (bytes : List ℕ) (place : Place) (named : Bool) (c : Conditions) →
     IsForwarded (judged site out (end_of bytes place named) c).judged

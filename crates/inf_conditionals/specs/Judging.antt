@@ -145,27 +145,27 @@ decided v wanted is_quiet k p c =
     effected (effect.Opens (if wanted then v.is_true else not v.is_true)) is_quiet p (saying is_quiet (told_by p.place k v.finding) c)
 
 -- behind a token the directive is whole, or goes on
-abbrev pub went_on : Bool → Bool → Out → SourceToken → Condition → Pending → Conditions → Behind
-went_on wanted is_quiet o t k p c =
-    if is_whole k then decided (verdict_of c.declared o k) wanted is_quiet k p c
-    else taken (asking p.place p.is_inner wanted k (saying is_quiet (too_much c.longest t k) (tokens_counted is_quiet k c)))
+abbrev pub went_on : Bool → Site → Out → SourceToken → Condition → Pending → Conditions → Behind
+went_on wanted site o t k p c =
+    if is_whole k then decided (verdict_of c.declared o k) wanted site.is_quiet k p c
+    else taken (asking p.place p.is_inner wanted k (saying site.is_quiet (too_much site.longest t k) (tokens_counted site.is_quiet k c)))
 
-abbrev pub offered_condition : Bool → Bool → Out → SourceToken → Condition → Pending → Conditions → Behind
-offered_condition wanted is_quiet o t k p c =
+abbrev pub offered_condition : Bool → Site → Out → SourceToken → Condition → Pending → Conditions → Behind
+offered_condition wanted site o t k p c =
     if fits grammar known (atom_of t) k.stack
-    then went_on wanted is_quiet o t (condition_took t k) p c else unfit c
+    then went_on wanted site o t (condition_took t k) p c else unfit c
 
 -- the innermost one is that of the directive
-abbrev pub asked : List Condition → Bool → Bool → Out → SourceToken → Pending → Conditions → Behind
-asked [] wanted is_quiet o t p c = unfit c
-asked (k ∷ conditions) wanted is_quiet o t p c = offered_condition wanted is_quiet o t k p (record c { conditions = conditions })
+abbrev pub asked : List Condition → Bool → Site → Out → SourceToken → Pending → Conditions → Behind
+asked [] wanted site o t p c = unfit c
+asked (k ∷ conditions) wanted site o t p c = offered_condition wanted site o t k p (record c { conditions = conditions })
 
 -- a token comes to a directive that waits so; the conditions are those without it
-abbrev pub awaited : Awaits → Bool → Out → SourceToken → Pending → Conditions → Behind
-awaited awaits.Word is_quiet o t p c = behind_front (word_of (keyword t)) t p c
-awaited (awaits.Name if_declared) is_quiet o t p c = named t.kind t.bytes if_declared o p c
-awaited (awaits.Condition wanted) is_quiet o t p c = asked c.conditions wanted is_quiet o t p c
-awaited (awaits.End e) is_quiet o t p c = if is_mark mark.Semicolon t.kind then effected e is_quiet p c else unfit c
+abbrev pub awaited : Awaits → Site → Out → SourceToken → Pending → Conditions → Behind
+awaited awaits.Word site o t p c = behind_front (word_of (keyword t)) t p c
+awaited (awaits.Name if_declared) site o t p c = named t.kind t.bytes if_declared o p c
+awaited (awaits.Condition wanted) site o t p c = asked c.conditions wanted site o t p c
+awaited (awaits.End e) site o t p c = if is_mark mark.Semicolon t.kind then effected e site.is_quiet p c else unfit c
 
 -- A token of a kept side
 
@@ -180,13 +180,13 @@ at_front None t c = kept c
 at_front (Some word) t c = begun word t t.place false c
 
 -- a token where no side is left out and no `#` is held back, at the front of a piece or not
-abbrev pub offered_to : List Pending → Bool → Bool → Out → SourceToken → Conditions → Behind
-offered_to [] is_front is_quiet o t c = if is_front then at_front (word_of (keyword t)) t c else kept c
-offered_to (p ∷ pending) is_front is_quiet o t c = awaited p.awaits is_quiet o t p (record c { pending = pending })
+abbrev pub offered_to : List Pending → Bool → Site → Out → SourceToken → Conditions → Behind
+offered_to [] is_front site o t c = if is_front then at_front (word_of (keyword t)) t c else kept c
+offered_to (p ∷ pending) is_front site o t c = awaited p.awaits site o t p (record c { pending = pending })
 
-abbrev pub offered : Bool → Bool → Out → SourceToken → Conditions → Behind
-offered is_front is_quiet o t c =
-    if is_mark mark.Hash t.kind then passed (held is_front t.place c) else offered_to c.pending is_front is_quiet o t c
+abbrev pub offered : Bool → Site → Out → SourceToken → Conditions → Behind
+offered is_front site o t c =
+    if is_mark mark.Hash t.kind then passed (held is_front t.place c) else offered_to c.pending is_front site o t c
 
 abbrev pub is_none_pending : List Pending → Bool
 is_none_pending [] = true
@@ -194,10 +194,10 @@ is_none_pending (p ∷ pending) = false
 
 -- A token behind a `#` that was held back inside a directive. Where it is no word of a conditional the `#` is kept, or does not
 -- fit the conditional directive in which it stands.
-abbrev pub behind_sign : Option ConditionalWord → Place → Bool → Out → SourceToken → Conditions → Behind
-behind_sign (Some word) place is_quiet o t c = begun word t place true (record c { sign = None })
-behind_sign None place is_quiet o t c =
-    let b = offered false is_quiet o t (given_up (record c { sign = None })) in
+abbrev pub behind_sign : Option ConditionalWord → Place → Site → Out → SourceToken → Conditions → Behind
+behind_sign (Some word) place site o t c = begun word t place true (record c { sign = None })
+behind_sign None place site o t c =
+    let b = offered false site o t (given_up (record c { sign = None })) in
     record b {
       judged = record b.judged {
         sign = Some (record {
@@ -222,17 +222,17 @@ passed_by None t side c = record c { sign = if is_mark mark.Hash t.kind then Som
 passed_by (Some word) t side c = word_passed word t.place side c
 
 -- at the end of the file nothing is left out any more
-abbrev pub in_side : Bool → Out → SourceToken → LeftOut → Conditions → Behind
-in_side is_quiet o t side c =
-    if is_end t.kind then offered false is_quiet o t (record c { left_out = None; sign = None })
+abbrev pub in_side : Site → Out → SourceToken → LeftOut → Conditions → Behind
+in_side site o t side c =
+    if is_end t.kind then offered false site o t (record c { left_out = None; sign = None })
     else passed (passed_by (word_of (keyword t)) t side c)
 
 -- Any token
 
 abbrev pub judged_by : Option LeftOut → Option Place → Site → Out → SourceToken → Conditions → Behind
-judged_by (Some side) sign site o t c = in_side site.is_quiet o t side c
-judged_by None (Some place) site o t c = behind_sign (word_of (keyword t)) place site.is_quiet o t c
-judged_by None None site o t c = offered (site.is_between && is_none_pending c.pending) site.is_quiet o t c
+judged_by (Some side) sign site o t c = in_side site o t side c
+judged_by None (Some place) site o t c = behind_sign (word_of (keyword t)) place site o t c
+judged_by None None site o t c = offered (site.is_between && is_none_pending c.pending) site o t c
 
 abbrev pub judged : Site → Out → SourceToken → Conditions → Behind
 judged site o t c = judged_by c.left_out c.sign site o t c

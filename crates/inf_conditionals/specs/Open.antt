@@ -1,9 +1,6 @@
 -- The conditionals that are open.
 use Rattle.std.specs.Prelude.{ℕ, ◌-◌, ◌+◌, List, [], ◌∷◌, drop, min, Bool, true, false, not, if◌then◌else◌, Option, Some, None}
 use Rattle.inf_scanner.specs.declared.tokens.Place.{Place}
-use Rattle.inf_settings.specs.Settings.{number_of as setting_number}
-use Rattle.inf_settings.specs.declared.setting.Setting.TheVariants.{ExpressionNodes}
-use Rattle.inf_settings.specs.declared.settings.Settings.{Settings}
 use Rattle.inf_conditionals.specs.Condition.{Condition}
 use Rattle.inf_conditionals.specs.Said.{Said}
 use Rattle.inf_sources.specs.declared.open_file.Conditional.{Conditional}
@@ -15,8 +12,7 @@ use Rattle.inf_conditionals.specs.declared.words.ConditionalWord.TheVariants as 
 -- The conditionals of the file that is read that were opened between its directives, and those that were opened inside the directive
 -- at hand, the latest first; the conditional directives that are being read,
 -- the inner ones first, and the conditions of those that have one; the side that is left out, if one is; a `#` that is held back; how
--- many names were declared before the directive at hand; how many tokens a condition may have, and how many one
--- had; and what is to be told of one.
+-- many names were declared before the directive at hand; how many tokens a condition had so far; and what is to be told of one.
 pub record Conditions : Type 0 where
   pub among : List Conditional
   pub inner : List Conditional
@@ -25,12 +21,11 @@ pub record Conditions : Type 0 where
   pub left_out : Option LeftOut
   pub sign : Option Place
   pub declared : ℕ
-  pub longest : ℕ
   pub most_tokens : ℕ
   pub said : Option Said
 
-abbrev pub no_conditions : Settings → Conditions
-no_conditions settings = record {
+abbrev pub no_conditions : Conditions
+no_conditions = record {
   among = [];
   inner = [];
   pending = [];
@@ -38,7 +33,6 @@ no_conditions settings = record {
   left_out = None;
   sign = None;
   declared = 0;
-  longest = setting_number ExpressionNodes settings;
   most_tokens = 0;
   said = None;
 }

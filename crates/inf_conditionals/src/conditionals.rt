@@ -17,8 +17,6 @@ use inf_lexer::Stack;
 use inf_output::Output;
 use inf_scanner::{Mark, Place, TokenKind};
 use inf_settings::bounds::Bounds;
-use inf_settings::setting::Setting;
-use inf_settings::settings::Settings;
 use inf_sources::open_file::Conditional;
 use inf_unit::kinds::{is_end, is_mark};
 use inf_unit::messages::Diagnostics;
@@ -45,8 +43,7 @@ pub struct Conditionals {
     sign: Option<Place>,
     /// How many names were declared before the directive at hand.
     declared: usize,
-    /// The most tokens that a condition may have, and that one had so far.
-    longest: usize,
+    /// The most tokens that a condition had so far.
     pub most_tokens: usize,
     /// What there is to tell of a condition.
     said: Option<Said>,
@@ -69,7 +66,6 @@ impl Model for Conditionals {
       left_out = c.left_out;
       sign = c.sign;
       declared = c.declared;
-      longest = c.longest;
       most_tokens = c.most_tokens;
       said = option_map said_of c.said;
     } };
@@ -85,8 +81,8 @@ impl Conditionals {
     ghost use Rattle.inf_conditionals.specs.Said.{told_by, with_right, with_said};
 
     /// None. It takes no memory until one is read.
-    pub fn new(alloc: Global, settings: &Settings) -> Conditionals
-        ensures { result ≡ no_conditions settings.now }
+    pub fn new(alloc: Global) -> Conditionals
+        ensures { result ≡ no_conditions }
     {
         Conditionals {
             alloc,
@@ -97,7 +93,6 @@ impl Conditionals {
             left_out: None,
             sign: None,
             declared: 0,
-            longest: settings.of(Setting::ExpressionNodes) as usize,
             most_tokens: 0,
             said: None,
             spare: None,
@@ -128,13 +123,13 @@ impl Conditionals {
             return Ok(KEPT);
         }
         if let Some(side) = self.left_out {
-            return self.take_in_side(side, site.is_quiet, out, token);
+            return self.take_in_side(side, site, out, token);
         }
         if let Some(place) = self.sign {
-            return self.take_behind_sign(place, site.is_quiet, out, token);
+            return self.take_behind_sign(place, site, out, token);
         }
         let is_front = site.is_between && self.pending.is_empty();
-        self.offer(is_front, site.is_quiet, out, token)
+        self.offer(is_front, site, out, token)
     }
 
     /// Tells what there is to tell of a condition. The actions of one with which nothing is wrong appear.
@@ -241,16 +236,16 @@ impl Conditionals {
     fn take_in_side<B: Bounds>(
         &mut self,
         side: LeftOut,
-        is_quiet: bool,
+        site: Site,
         out: &Output<B>,
         token: &SourceToken<'_>,
     ) -> Result<Filtered, AllocError>
-        ensures { IfOk result (λ j. record { now = self.new; judged = j } ≡ in_side is_quiet out.now (spelled token.now) side self.old) }
+        ensures { IfOk result (λ j. record { now = self.new; judged = j } ≡ in_side site out.now (spelled token.now) side self.old) }
     {
         if is_end(token.kind) {
             self.left_out = None;
             self.sign = None;
-            return self.offer(false, is_quiet, out, token);
+            return self.offer(false, site, out, token);
         }
         if let Some(word) = word_of(token.keyword()) {
             self.pass_word(word, token.place, side)?;
@@ -294,12 +289,12 @@ impl Conditionals {
     fn take_behind_sign<B: Bounds>(
         &mut self,
         place: Place,
-        is_quiet: bool,
+        site: Site,
         out: &Output<B>,
         token: &SourceToken<'_>,
     ) -> Result<Filtered, AllocError>
         ensures { IfOk result (λ j. record { now = self.new; judged = j } ≡
-            behind_sign (word_of (keyword (spelled token.now))) place is_quiet out.now (spelled token.now) self.old) }
+            behind_sign (word_of (keyword (spelled token.now))) place site out.now (spelled token.now) self.old) }
     {
         self.sign = None;
         if let Some(word) = word_of(token.keyword()) {
@@ -312,7 +307,7 @@ impl Conditionals {
         };
         self.pending.clear();
         self.conditions.clear();
-        let judged = self.offer(false, is_quiet, out, token)?;
+        let judged = self.offer(false, site, out, token)?;
         Ok(Filtered {
             sign: Some(Sign { place, handed }),
             ..judged
@@ -323,18 +318,18 @@ impl Conditionals {
     fn offer<B: Bounds>(
         &mut self,
         is_front: bool,
-        is_quiet: bool,
+        site: Site,
         out: &Output<B>,
         token: &SourceToken<'_>,
     ) -> Result<Filtered, AllocError>
-        ensures { IfOk result (λ j. record { now = self.new; judged = j } ≡ offered is_front is_quiet out.now (spelled token.now) self.old) }
+        ensures { IfOk result (λ j. record { now = self.new; judged = j } ≡ offered is_front site out.now (spelled token.now) self.old) }
     {
         if is_mark(token.kind, Mark::Hash) {
             self.hold(is_front, token.place)?;
             return Ok(NONE);
         }
         if let Some(pending) = self.pending.pop() {
-            return self.go_on(pending, is_quiet, out, token);
+            return self.go_on(pending, site, out, token);
         }
         if is_front {
             if let Some(word) = word_of(token.keyword()) {
@@ -359,12 +354,12 @@ impl Conditionals {
     fn go_on<B: Bounds>(
         &mut self,
         pending: Pending,
-        is_quiet: bool,
+        site: Site,
         out: &Output<B>,
         token: &SourceToken<'_>,
     ) -> Result<Filtered, AllocError>
         ensures { IfOk result (λ j. record { now = self.new; judged = j } ≡
-            awaited pending.awaits is_quiet out.now (spelled token.now) pending self.old) }
+            awaited pending.awaits site out.now (spelled token.now) pending self.old) }
     {
         match pending.awaits {
             Awaits::Word => self.name_directive(pending, token),
@@ -375,11 +370,9 @@ impl Conditionals {
                 Ok(NONE)
             }
             Awaits::End(effect) if is_mark(token.kind, Mark::Semicolon) => {
-                self.carry_out(effect, is_quiet, pending)
+                self.carry_out(effect, site.is_quiet, pending)
             }
-            Awaits::Condition(wanted) => {
-                self.go_on_asking(wanted, pending, is_quiet, out, token)
-            }
+            Awaits::Condition(wanted) => { self.go_on_asking(wanted, pending, site, out, token) }
             Awaits::Name(_) | Awaits::End(_) => Ok(self.give_up()),
         }
     }
@@ -448,12 +441,12 @@ impl Conditionals {
         &mut self,
         wanted: bool,
         directive: Pending,
-        is_quiet: bool,
+        site: Site,
         out: &Output<B>,
         token: &SourceToken<'_>,
     ) -> Result<Filtered, AllocError>
         ensures { IfOk result (λ j. record { now = self.new; judged = j } ≡
-            asked self.old.conditions wanted is_quiet out.now (spelled token.now) directive self.old) }
+            asked self.old.conditions wanted site out.now (spelled token.now) directive self.old) }
     {
         let Some(mut condition) = self.conditions.pop() else {
             return Ok(self.give_up());
@@ -462,10 +455,10 @@ impl Conditionals {
             return Ok(self.give_up());
         }
         if condition.is_whole() {
-            return self.decide(wanted, directive, is_quiet, out, condition);
+            return self.decide(wanted, directive, site.is_quiet, out, condition);
         }
-        self.count_tokens(is_quiet, &condition);
-        self.say(too_much(is_quiet, self.longest, token, &condition));
+        self.count_tokens(site.is_quiet, &condition);
+        self.say(too_much(site.is_quiet, site.longest, token, &condition));
         self.ask(directive.place, directive.is_inner, wanted, condition)?;
         Ok(TAKEN)
     }

@@ -37,6 +37,8 @@ pub struct Site {
     pub is_between: bool,
     /// Among tokens that are passed over behind a bad one.
     pub is_quiet: bool,
+    /// The most tokens that a condition may have there.
+    pub longest: usize,
 }
 
 /// Nothing is handed on.

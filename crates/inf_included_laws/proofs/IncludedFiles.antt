@@ -9,11 +9,14 @@ use Rattle.inf_sources.specs.Inclusions.{Inclusion, Opens, OpensNone, Waiting, i
 use Rattle.inf_sources.specs.declared.open_files.Included.{Included}
 use Rattle.inf_sources.specs.declared.open_files.Included.TheVariants as answer
 use Rattle.inf_unit.specs.Directives.{Request, End, Include, Nothing}
-use Rattle.inf_unit.specs.Tokens.{is_end, is_mark, keyword}
+use Rattle.inf_unit.specs.Tokens.{SourceToken, is_end, is_mark, keyword}
 use Rattle.inf_conditionals.specs.declared.filtered.Forwarded.{Forwarded}
 use Rattle.inf_conditionals.specs.declared.filtered.Forwarded.TheVariants as handed
 use Rattle.inf_conditionals.specs.declared.filtered.Filtered.{Filtered}
 use Rattle.inf_conditionals.specs.declared.filtered.Sign.{Sign}
+use Rattle.inf_conditionals.specs.declared.filtered.Site.{Site}
+use Rattle.inf_conditionals.specs.declared.words.ConditionalWord.{ConditionalWord}
+use Rattle.inf_output.specs.Output.{Out}
 use Rattle.inf_sources.specs.declared.open_file.Conditional.{Conditional}
 use Rattle.inf_conditionals.specs.declared.open.LeftOut.{LeftOut}
 use Rattle.inf_conditionals.specs.declared.pending.Pending.{Pending}
@@ -27,15 +30,15 @@ use Rattle.inf_reader.specs.Reading.{is_mode_ended}
 use Rattle.inf_session.specs.Choices.{Choices}
 use Rattle.inf_session.specs.Session.{State, answered, asked_nothing, carried_out, included_by, left, left_by, file_closed, has_ended, is_resting, none_included, piece_closed, rested, stepped, token_of, turn}
 use Rattle.inf_included_laws.specs.IncludedFiles.{Alone, AreFiles, AreOfAFile, Breaking, Cut, CutHashLast, CutHashThen, CutHashesLeft, Enters, Files, FilesKeepSides, FilesTellUnended, HashLast, HashThen, HashesLeft, Including, Leaves, Nested, Stays, Step, TurnsKeepFiles, all_unended, around_behind, around_broken, around_included, asked_passage, behind_files, end_handed, end_sign, first_step, handed_by, handed_end, handed_files, left_to, nested, nested_in, opens, passage, behind_passage, passed_files, released, sign_as, standing, staying, step_at, step_behind, steps, steps_at, steps_behind, tokens_behind, told_at, told_behind, told_by, told_files}
-use Rattle.inf_conditional_laws.specs.KeptSides.{Answers, Around, At, Follows, Handing, IsClear, IsPlain, IsSign, NoneInside, Parts, all_behind, all_handed_on, all_kept, all_tokens, all_told, are_kept, as_kept, behind_parts, declared_behind, declared_tokens, ended_behind, ended_in, ended_places, going_on, handed_as, handed_on, handed_sign, handed_token, judged_at, kept_sides, lone_places, missing_in, none_around, places, told_parts, unended}
+use Rattle.inf_side_laws.specs.KeptSides.{Answers, Around, At, Follows, Handing, IsClear, IsPlain, IsSign, NoneInside, Parts, all_behind, all_handed_on, all_kept, all_tokens, all_told, are_kept, as_kept, behind_parts, declared_behind, declared_tokens, ended_behind, ended_in, ended_places, going_on, handed_as, handed_on, handed_sign, handed_token, judged_at, kept_sides, lone_places, missing_in, none_around, places, told_parts, unended}
 use Rattle.inf_included_laws.specs.Unfinished.{AreHashes, Request as HasAsked, Bare, Closes, Fronting, FrontingWord, HasWord, Hashed, HaveBegun, IsMisfit, Misfit, Named, Turns, Unfinished, Unnamed, all_begun_tokens, as_unfit, begun_handed, begun_sign, behind_all_begun, behind_misfit, handed_misfit, misfit_tokens, told_all_begun, told_misfit}
 use Rattle.inf_laws.specs.KeptTurns.{given_by, given_in, turned}
 use Rattle.inf_conditional_laws.specs.MissingEnds.{with_all_at}
-use Rattle.inf_conditional_laws.specs.SideTurns.{at_turn, ends_there, shown}
-use Rattle.inf_conditional_laws.proofs.KeptSides.{AllStay, CalmLeft, Hands, InnerLeft, Last, OuterLeft, Reader, Reads, Stands, StandsAt, all_handed, all_taken, among_of, are_open, at, calm_at, conditionals, end_is_no_hash, end_kept_so, end_word, ended_told, hands_on, hash_freed, inner_not_kept, inner_of, kept_at, last_at, led, left_at, mid, not_kept, outer, plain_kept, sign_inner, sign_left, stack_of, stands_at, state, told_both, told_places, with_sign}
+use Rattle.inf_side_laws.specs.SideTurns.{at_turn, ends_there, shown}
+use Rattle.inf_side_laws.proofs.KeptSides.{AllStay, CalmLeft, Hands, InnerLeft, Last, OuterLeft, Reader, Reads, Stands, StandsAt, all_handed, all_taken, among_of, are_open, at, calm_at, conditionals, end_is_no_hash, end_kept_so, end_word, ended_told, hands_on, hash_freed, inner_not_kept, inner_of, kept_at, last_at, led, left_at, mid, not_kept, outer, plain_kept, sign_inner, sign_left, stack_of, stands_at, state, told_both, told_places, with_sign}
 use Rattle.inf_conditional_laws.proofs.MissingEnds.{told_at as told_each}
 use Rattle.inf_included_laws.proofs.Unfinished.{AllBegun, all_begun_led, cut_kept, end_cuts, front_end_kept, front_there, given_up_at, left_so, sign_cut, sign_cut_so, unfit_end, unfit_there}
-use Rattle.inf_conditional_laws.proofs.SideTurns.{all_shown, rested_conditions}
+use Rattle.inf_side_laws.proofs.SideTurns.{all_shown, rested_conditions}
 
 -- Steps one after the other
 
@@ -230,11 +233,11 @@ end_is_kept t c is none no_sign = go c.left_out c.sign refl refl no_sign
     go : (side : Option LeftOut) (sign : Option Place) → c.left_out ≡ side → c.sign ≡ sign → sign ≡ None →
         judged_by side sign t.site t.out t.token c ≡ kept cleared
     go (Some side) sign is_left is_sign e =
-        ap (λ (b : Bool). cond b (offered false t.site.is_quiet t.out t.token cleared)
+        ap (λ (b : Bool). cond b (offered false t.site t.out t.token cleared)
         (passed (passed_by (word_of (keyword t.token)) t.token side c))) is
-        ∙ end_kept_so false t.site.is_quiet t.out t.token cleared is none
+        ∙ end_kept_so false t.site t.out t.token cleared is none
     go None None is_left is_sign e =
-        end_kept_so (t.site.is_between && is_none_pending c.pending) t.site.is_quiet t.out t.token c is none
+        end_kept_so (t.site.is_between && is_none_pending c.pending) t.site t.out t.token c is none
         ∙ ap (λ l. kept (record c { left_out = l })) is_left
         ∙ ap (λ x. kept (record c { left_out = None; sign = x })) is_sign
     go None (Some place) is_left is_sign e = cc
@@ -481,20 +484,45 @@ led_on h place (x ∷ more) w held free given told frees follows rest =
     }
 
 -- where reading stands makes no difference to it
+behind_sign_same : (word : Option ConditionalWord) (place : Place) (site other : Site) (out : Out) (t : SourceToken) (c : Conditions) →
+    behind_sign word place site out t c ≡ behind_sign word place other out t c
+behind_sign_same None place site other out t c = refl
+behind_sign_same (Some word) place site other out t c = refl
+
+stands_same : (is_between : Bool) (x : Step) (place : Place) (c : Conditions) (inner among : List Conditional) (declared : ℕ) →
+    (let held = state c (Some place) inner among None declared in
+    judged (record x.at.site { is_between = is_between }) x.at.out x.at.token held ≡ judged_at x.at held)
+stands_same is_between x place c inner among declared =
+    behind_sign_same (word_of (keyword x.at.token)) place (record x.at.site { is_between = is_between }) x.at.site x.at.out x.at.token
+    (state c (Some place) inner among None declared)
+
 standing_led : (is_between : Bool) (more : List Step) (w : List (List Conditional)) (c : Conditions) (place : Place)
     (inner among : List Conditional) (declared : ℕ)
     (given : List Handing) (told : List Place)
     → StepsLed more (nested_in w (state c (Some place) inner among None declared)) given told → StepsLed (standing is_between more)
     (nested_in w (state c (Some place) inner among None declared)) given told
 standing_led is_between [] w c place inner among declared given told is = is
-standing_led is_between (x ∷ more) w c place inner among declared given told is = record { hands = is.hands; tells = is.tells }
+standing_led is_between (x ∷ more) w c place inner among declared given told is =
+    let same = stands_same is_between x place c inner among declared in
+    record {
+      hands =
+          ap (λ (b : Behind). handed_on b.judged x.at.token ++ handed_by more (behind_passage x (nested_in w (silent b.now)))) same
+          ∙ is.hands;
+      tells =
+          ap (λ (b : Behind). (lone_places b.judged.unmatched ++
+          (told_behind x.passage b.now ++ ended_places x.at.ended (passed_files x.passage (nested_in w b.now)).now.inner))
+          ++ told_by more (behind_passage x (nested_in w (silent b.now)))) same
+          ∙ is.tells;
+    }
 
 standing_same : (is_between : Bool) (more : List Step) (w : List (List Conditional)) (c : Conditions) (place : Place)
     (inner among : List Conditional) (declared : ℕ)
     → steps_behind (standing is_between more) (nested_in w (state c (Some place) inner among None declared)) ≡ steps_behind more
     (nested_in w (state c (Some place) inner among None declared))
 standing_same is_between [] w c place inner among declared = refl
-standing_same is_between (x ∷ more) w c place inner among declared = refl
+standing_same is_between (x ∷ more) w c place inner among declared =
+    ap (λ (b : Behind). steps_behind more (behind_passage x (nested_in w (silent b.now))))
+    (stands_same is_between x place c inner among declared)
 
 -- inside a directive, and inside a conditional one
 frees_kept : (place : Place) (c : Conditions) (inner among : List Conditional) (declared : ℕ) → c.pending ≡ [] → (next : At) →
@@ -540,9 +568,9 @@ end_frees place end c ps inner among declared read is_last =
         });
       };
     } in
-    ap (λ o. behind_sign o place end.site.is_quiet end.out end.token (state c (Some place) inner among None declared))
+    ap (λ o. behind_sign o place end.site end.out end.token (state c (Some place) inner among None declared))
     (end_word end.token is_last)
-    ∙ ap (signed c.pending) (end_kept_so false end.site.is_quiet end.out end.token here is_last refl)
+    ∙ ap (signed c.pending) (end_kept_so false end.site end.out end.token here is_last refl)
     ∙ ap (λ ps. signed ps (kept here)) read
 
 record HashEnds (s : Around) (o : Sign) (sign : At) (c : Conditions) : Type 0 where
@@ -609,11 +637,11 @@ hashes_pass is_inner (t ∷ signs) w c base sign inner among b m declared are ca
 
 end_offered : (end : At) (base : Conditions) (sign : Option Place) (inner among : List Conditional) (b : Bool) (m declared : ℕ) →
     is_end end.token.kind ≡ true
-    → judged_at end (state base sign inner among (left_at b m) declared) ≡ offered false end.site.is_quiet end.out end.token
+    → judged_at end (state base sign inner among (left_at b m) declared) ≡ offered false end.site end.out end.token
     (at base inner among None declared)
 end_offered end base sign inner among b m declared is_last =
     let here = state base sign inner among (left_at b m) declared in
-    ap (λ (x : Bool). cond x (offered false end.site.is_quiet end.out end.token (at base inner among None declared))
+    ap (λ (x : Bool). cond x (offered false end.site end.out end.token (at base inner among None declared))
     (passed (passed_by (word_of (keyword end.token)) end.token (record { is_inner = b; levels = m }) here))) is_last
 
 record LeftEnds (o : Option Sign) (h : Forwarded) (s : Around) (w : List (List Conditional)) (signs : List At) (c : Conditions) : Type 0
@@ -625,7 +653,7 @@ left_ends : (r : Reader) (last : Last) (w : List (List Conditional)) (c : Condit
     (h : Forwarded)
     (e : StandsAt r last c) → all_kept last.around ≡ false → NoneInside is_inner last.around → AreHashes is_inner signs
     → last.levels + length signs ≤ most_levels → (free : Conditions) → free.pending ≡ []
-    → ((declared : ℕ) (end : At) → is_end end.token.kind ≡ true → offered false end.site.is_quiet end.out end.token
+    → ((declared : ℕ) (end : At) → is_end end.token.kind ≡ true → offered false end.site end.out end.token
     (at e.base (inner_of e.stand) (among_of e.stand) None declared)
     ≡ record {
       now = at free (inner_of e.stand) (among_of e.stand) None declared;
@@ -873,7 +901,7 @@ files_led d (HashesLeft parts is_inner signs) s c b are =
     let h =
     left_ends Hands (stretch_last d s c.now parts) w c_here is_inner signs None handed.Kept e are.1.is_left are.1.none_inside are.1.are
     (omega (arith, few)) e.base e.holds
-    (λ declared end is_last. end_kept_so false end.site.is_quiet end.out end.token
+    (λ declared end is_last. end_kept_so false end.site end.out end.token
     (at e.base (inner_of e.stand) (among_of e.stand) None declared) is_last e.holds) in
     let to_here = behind_staying tokens c in
     let given = map as_kept (kept_sides d s parts) in
@@ -1248,8 +1276,8 @@ steps_hand_on limits sources o zero s = refl
 steps_hand_on limits sources o (suc n) s =
     let next = turn limits sources o s in
     let t = token_of s in
-    let b = judged (site_of s.reading) s.work.output t s.conditions in
-    map-append shown (given_by s) (given_in limits sources o n next)
+    let b = judged (site_of o.settings s.reading) s.work.output t s.conditions in
+    map-append shown (given_by o s) (given_in limits sources o n next)
     ∙ ap (λ hs. hs ++ map shown (given_in limits sources o n next)) (all_shown b.judged t)
     ∙ ap (λ hs. handed_on b.judged t ++ hs) (steps_hand_on limits sources o n next ∙ ap (handed_by (steps_at limits sources o n next))
     (turn_steps limits sources o s))
@@ -1272,7 +1300,7 @@ turns_keep_files limits d sources o n s f are_these clear are =
       handed_on = steps_hand_on limits sources o n s ∙ ap (λ xs. handed_by xs (nested s)) are_these ∙ all.handed_on;
       end_on = λ is_last.
           let t = token_of behind in
-          let b = judged (site_of behind.reading) behind.work.output t behind.conditions in
+          let b = judged (site_of o.settings behind.reading) behind.work.output t behind.conditions in
           all_shown b.judged t
           ∙ ap (λ (n : Nested). handed_on (judged_at end n.now).judged t) turned_so
           ∙ all.end_on end is_last;

@@ -24,10 +24,10 @@ use Rattle.inf_conditionals.specs.Open.{Conditions, most_levels}
 use Rattle.inf_conditionals.specs.Words.{word_of}
 use Rattle.inf_conditionals.specs.declared.open.LeftOut.{LeftOut}
 use Rattle.inf_conditionals.proofs.Misfits.{end_fits_nothing}
-use Rattle.inf_conditional_laws.specs.KeptSides.{Answers, AreParts, Around, At, First, Follows, IsFirst, IsSignedPlain, NoneInside, NoneInsideFirst, Parts, all_behind, all_handed_on, all_kept, all_tokens, all_told, are_kept, asking, begins, behind_name, behind_parts, closed, declared_behind, declared_first, declared_tokens, ended_behind, first_tokens, judged_at, kept_sides, missing_in, opening, placed_word, signed_tokens, told_parts, turned}
+use Rattle.inf_side_laws.specs.KeptSides.{Answers, AreParts, Around, At, First, Follows, IsFirst, IsSignedPlain, NoneInside, NoneInsideFirst, Parts, all_behind, all_handed_on, all_kept, all_tokens, all_told, are_kept, asking, begins, behind_name, behind_parts, closed, declared_behind, declared_first, declared_tokens, ended_behind, first_tokens, judged_at, kept_sides, missing_in, opening, placed_word, signed_tokens, told_parts, turned}
 use Rattle.inf_included_laws.specs.Unfinished.{Request, AreBegun, AreCutBy, AreHashes, Closes, Fronting, FrontingWord, GoOn, HasWord, HashesBefore, IsBegun, IsCutBy, Named, Turns, Unfinished, Unnamed, all_begun_tokens, behind_all_begun, behind_begun, begun_tokens, condition_so, told_all_begun, told_begun}
-use Rattle.inf_conditional_laws.proofs.AskingWords.{asking_fits}
-use Rattle.inf_conditional_laws.proofs.KeptSides.{AllStay, CalmLeft, Hands, Holds, InnerLeft, Last, Led, LeftLed, OuterLeft, Reader, Reads, Stands, StandsAt, TakesAll, among_of, at, awaits_it, begins_kept, begun_asking, begun_opening, behind_both, both_kept, calm_at, closes_left, conditionals, declared_behind_first, declared_both, directive, end_is_no_hash, end_word, ended_stands, ended_told, fewer, front_led, goes_by, hands_both, inner_not_kept, inner_of, kept_at, last_at, last_behind, led, left_at, left_of, length_both, levels_of, mid, mids_of, name_kept, none_open, not_kept, nothing_handed, outer_front, passes, read_condition, read_on, reading, reads_none, relaxed, same_first, sign_inner, sign_kept, sign_left, some_open, stack_of, stands_at, state, takes_none, tells_both, turns_left, with_condition, within, within_led}
+use Rattle.inf_side_laws.proofs.AskingWords.{asking_fits}
+use Rattle.inf_side_laws.proofs.KeptSides.{AllStay, CalmLeft, Hands, Holds, InnerLeft, Last, Led, LeftLed, OuterLeft, Reader, Reads, Stands, StandsAt, TakesAll, among_of, at, awaits_it, begins_kept, begun_asking, begun_opening, behind_both, both_kept, calm_at, closes_left, conditionals, declared_behind_first, declared_both, directive, end_is_no_hash, end_word, ended_stands, ended_told, fewer, front_led, goes_by, hands_both, inner_not_kept, inner_of, kept_at, last_at, last_behind, led, left_at, left_of, length_both, levels_of, mid, mids_of, name_kept, none_open, not_kept, nothing_handed, outer_front, passes, read_condition, read_on, reading, reads_none, relaxed, same_first, sign_inner, sign_kept, sign_left, some_open, stack_of, stands_at, state, takes_none, tells_both, turns_left, with_condition, within, within_led}
 
 -- what the innermost one waits for
 abbrev IsAwaited : Unfinished → Awaits → Type 0
@@ -713,7 +713,7 @@ no_name kind.End bytes if_declared o p c other = refl
 
 abbrev IsUnfit : Pending → List Pending → List Condition → Conditions → List Conditional → List Conditional → ℕ → Bool → At → Type 0
 IsUnfit p others ks base inner among declared front t =
-    offered front t.site.is_quiet t.out t.token (at (record base { pending = p ∷ others; conditions = ks }) inner among None declared) ≡
+    offered front t.site t.out t.token (at (record base { pending = p ∷ others; conditions = ks }) inner among None declared) ≡
     unfit_so (at (given_up_at base) inner among None declared)
 
 cut_name : (is_inner if_declared : Bool) (place : Place) (others : List Pending) (ks : List Condition) (base : Conditions)
@@ -750,7 +750,7 @@ cut_condition is_inner wanted place others k ks base inner among declared front 
     let here = at c inner among None declared in
     let a = awaits.Condition wanted in
     let p = directive is_inner place a in
-    let then = went_on wanted t.site.is_quiet t.out t.token (condition_took t.token k) p here in
+    let then = went_on wanted t.site t.out t.token (condition_took t.token k) p here in
     ap (λ (b : Bool). cond b (passed (held front t.token.place (reading is_inner place a (with_condition k c) inner among declared)))
     (cond (fits grammar known (atom_of t.token) k.stack) then (unfit here))) no_hash
     ∙ ap (λ (b : Bool). cond b then (unfit here)) other
@@ -795,15 +795,15 @@ cut_by d s (x ∷ outer) u p others ks base inner among declared front t waits c
 pub unfit_there : (d : Answers) (s : Around) (outer : List Unfinished) (u : Unfinished) (last : Last) (toks : List At) (places : List Place)
     (c : Conditions) (b : AllBegun d outer u s last toks places c) (declared : ℕ) (front : Bool) (t : At)
     → is_mark mark.Hash t.token.kind ≡ false → AreCutBy d s outer u t
-    → (let e = b.led.ends in let st = e.stand in offered front t.site.is_quiet t.out t.token
+    → (let e = b.led.ends in let st = e.stand in offered front t.site t.out t.token
     (at e.base (inner_of st) (among_of st) None declared) ≡ unfit_so
     (at (given_up_at e.base) (inner_of st) (among_of st) None declared))
 unfit_there d s outer u last toks places c b declared front t no_hash cut =
     let e = b.led.ends in
     let inner = inner_of e.stand in
     let among = among_of e.stand in
-    ap (λ ps. offered front t.site.is_quiet t.out t.token (at (record e.base { pending = ps }) inner among None declared)) e.holds.0
-    ∙ ap (λ cs. offered front t.site.is_quiet t.out t.token
+    ap (λ ps. offered front t.site t.out t.token (at (record e.base { pending = ps }) inner among None declared)) e.holds.0
+    ∙ ap (λ cs. offered front t.site t.out t.token
     (at (record e.base { pending = b.p ∷ b.others; conditions = cs }) inner among None declared)) e.holds.1
     ∙ cut_by d s outer u b.p b.others b.ks e.base inner among declared front t b.waits_for b.condition no_hash cut
 
@@ -868,7 +868,7 @@ unfit_end d s outer u last toks places c b t so is = ap (judged_at t) b.led.ends
         unfit_there d s outer u last toks places c b last.declared (t.site.is_between && is_none_pending b.led.ends.base.pending) t
         (end_is_no_hash t.token.kind is) (end_cuts d s outer u t so is)
     go (Some side) =
-        ap (λ (x : Bool). cond x (offered false t.site.is_quiet t.out t.token here)
+        ap (λ (x : Bool). cond x (offered false t.site t.out t.token here)
         (passed (passed_by (word_of (keyword t.token)) t.token side (at b.led.ends.base inner among (Some side) last.declared)))) is
         ∙ unfit_there d s outer u last toks places c b last.declared false t (end_is_no_hash t.token.kind is) (end_cuts d s outer u t so is)
 
@@ -886,7 +886,7 @@ kept_with sign now = record {
 pub front_there : (d : Answers) (s : Around) (outer : List Unfinished) (sign : At) (parts : Parts) (last : Last) (toks : List At)
     (places : List Place) (c : Conditions) (b : AllBegun d outer (Fronting sign parts) s last toks places c)
     (declared : ℕ) (front : Bool) (t : At) → is_end t.token.kind ≡ true
-    → (let e = b.led.ends in let st = e.stand in offered front t.site.is_quiet t.out t.token
+    → (let e = b.led.ends in let st = e.stand in offered front t.site t.out t.token
     (at e.base (inner_of st) (among_of st) None declared)
     ≡ kept_with sign (at (record e.base { pending = [] }) (inner_of st) (among_of st) None declared))
 front_there d s outer sign parts last toks places c b declared front t is =
@@ -895,7 +895,7 @@ front_there d s outer sign parts last toks places c b declared front t is =
     let among = among_of e.stand in
     let p = directive false sign.token.place awaits.Word in
     let cleared = at (record e.base { pending = [] }) inner among None declared in
-    ap (λ ps. offered front t.site.is_quiet t.out t.token (at (record e.base { pending = ps }) inner among None declared))
+    ap (λ ps. offered front t.site t.out t.token (at (record e.base { pending = ps }) inner among None declared))
     (e.holds.0 ∙ ap (λ x. x ∷ b.others) b.alone.0 ∙ ap (λ others. p ∷ others) b.alone.1)
     ∙ ap (λ (x : Bool). cond x (passed (held front t.token.place (at (record e.base { pending = p ∷ [] }) inner among None declared)))
     (behind_front (word_of (keyword t.token)) t.token p cleared)) (end_is_no_hash t.token.kind is)
@@ -921,7 +921,7 @@ front_end_kept d s outer sign parts last toks places c b t is = ap (judged_at t)
         (at (record base { pending = [] }) inner among None last.declared)
     go None = front_there d s outer sign parts last toks places c b last.declared (t.site.is_between && is_none_pending base.pending) t is
     go (Some side) =
-        ap (λ (x : Bool). cond x (offered false t.site.is_quiet t.out t.token (at base inner among None last.declared))
+        ap (λ (x : Bool). cond x (offered false t.site t.out t.token (at base inner among None last.declared))
         (passed (passed_by (word_of (keyword t.token)) t.token side (at base inner among (Some side) last.declared)))) is
         ∙ front_there d s outer sign parts last toks places c b last.declared false t is
 
@@ -945,5 +945,5 @@ sign_cut_so place t base p others inner among declared is =
     let here = at (given_up_at base) inner among None declared in
     let signed : Behind → Behind =
     λ b. record b { judged = record b.judged { sign = Some (record { place = place; handed = handed.Unfit }) } } in
-    ap (λ o. behind_sign o place t.site.is_quiet t.out t.token (state c (Some place) inner among None declared)) is.no_word
+    ap (λ o. behind_sign o place t.site t.out t.token (state c (Some place) inner among None declared)) is.no_word
     ∙ ap (λ (b : Bool). signed (cond b (passed (held false t.token.place here)) (kept here))) is.no_hash

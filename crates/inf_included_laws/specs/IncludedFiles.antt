@@ -17,11 +17,11 @@ use Rattle.inf_reader.specs.Handing.{hash}
 use Rattle.inf_reader.specs.Reading.{is_mode_ended}
 use Rattle.inf_session.specs.Choices.{Choices}
 use Rattle.inf_session.specs.Session.{State, file_closed, stepped, token_of, turn}
-use Rattle.inf_conditional_laws.specs.KeptSides.{Answers, AreParts, Around, At, Follows, Handing, IsClear, IsPlain, IsSign, NoneInside, Parts, all_behind, all_kept, all_tokens, as_kept, behind_parts, declared_tokens, ended_behind, ended_in, ended_places, going_on, handed_on, handed_sign, judged_at, kept_sides, lone_places, missing_in, none_around, places, told_parts, unended}
+use Rattle.inf_side_laws.specs.KeptSides.{Answers, AreParts, Around, At, Follows, Handing, IsClear, IsPlain, IsSign, NoneInside, Parts, all_behind, all_kept, all_tokens, as_kept, behind_parts, declared_tokens, ended_behind, ended_in, ended_places, going_on, handed_on, handed_sign, judged_at, kept_sides, lone_places, missing_in, none_around, places, told_parts, unended}
 use Rattle.inf_included_laws.specs.Unfinished.{AreHashes, HaveBegun, IsMisfit, Misfit, Unfinished, all_begun_tokens, as_unfit, begun_handed, begun_sign, behind_all_begun, behind_misfit, handed_misfit, misfit_tokens, told_all_begun, told_misfit}
 use Rattle.inf_laws.specs.KeptTurns.{given_by, given_in, turned}
 use Rattle.inf_conditional_laws.specs.MissingEnds.{with_all_at}
-use Rattle.inf_conditional_laws.specs.SideTurns.{at_turn, shown}
+use Rattle.inf_side_laws.specs.SideTurns.{at_turn, shown}
 
 -- Steps
 
@@ -385,7 +385,8 @@ steps_at limits sources o (suc n) s = step_at limits sources o s ∷ steps_at li
 pub record TurnsKeep (limits : Limits) (answers : Answers) (sources : Sources) (o : Choices) (n : ℕ) (s : State) (files : Files) : Type 0
   where
     pub handed_on : map shown (given_in limits sources o n s) ≡ handed_files answers none_around files
-    pub end_on : let t = token_of (turned limits sources o n s) in is_end t.kind ≡ true → map shown (given_by (turned limits sources o n s))
+    pub end_on : let t =
+        token_of (turned limits sources o n s) in is_end t.kind ≡ true → map shown (given_by o (turned limits sources o n s))
         ≡ handed_end files t
     pub at_last : let last = stepped limits o (turned limits sources o n s) in is_end (token_of (turned limits sources o n s)).kind ≡ true
         → (file_closed last).work.report ≡ with_all_at last.nesting.names (all_unended (behind_files answers none_around files))

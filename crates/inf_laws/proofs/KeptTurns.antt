@@ -57,21 +57,22 @@ turn_reading limits sources o s going =
 
 -- By what is handed on
 
-pub stepped_reading : (limits : Limits) (o : Choices) (s : State) → (stepped limits o s).reading ≡ all_given_to (given_by s) s.reading
+pub stepped_reading : (limits : Limits) (o : Choices) (s : State) → (stepped limits o s).reading ≡ all_given_to (given_by o s) s.reading
 stepped_reading limits o s =
     let t = token_of s in
-    let b = judged (site_of s.reading) s.work.output t s.conditions in
+    let b = judged (site_of o.settings s.reading) s.work.output t s.conditions in
     tokens_are_handed_on limits (context_of o s) t b.judged (said_told limits b.now.said (context_of o s) (stand_of s))
 
 all_reading : (limits : Limits) (sources : Sources) (o : Choices) (n : ℕ) (s : State) → StayInFile limits sources o n s
     → (stepped limits o (turned limits sources o n s)).reading ≡ all_given_to (given_in limits sources o (suc n) s) s.reading
-all_reading limits sources o zero s stay = stepped_reading limits o s ∙ ap (λ gs. all_given_to gs s.reading) (sym (append-nil (given_by s)))
+all_reading limits sources o zero s stay =
+    stepped_reading limits o s ∙ ap (λ gs. all_given_to gs s.reading) (sym (append-nil (given_by o s)))
 all_reading limits sources o (suc n) s stay =
     let next = turn limits sources o s in
     all_reading limits sources o n next stay.1
     ∙ ap (λ (r : Reading). all_given_to (given_in limits sources o (suc n) next) r)
     (turn_reading limits sources o s stay.0 ∙ stepped_reading limits o s)
-    ∙ sym (given_both (given_by s) (given_in limits sources o (suc n) next) s.reading)
+    ∙ sym (given_both (given_by o s) (given_in limits sources o (suc n) next) s.reading)
 
 pub turns_read_pieces : (limits : Limits) → TurnsReadPieces limits
 turns_read_pieces limits sources o n s fresh stay goes =

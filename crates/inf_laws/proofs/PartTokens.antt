@@ -148,31 +148,32 @@ named_fine (kind.Mark m) bytes if_declared o p c proper all = unfit_fine c all
 named_fine (kind.Bad b) bytes if_declared o p c proper all = unfit_fine c all
 named_fine kind.End bytes if_declared o p c proper all = unfit_fine c all
 
-went_fine : (wanted is_quiet : Bool) (o : Out) (t : SourceToken) (k : Condition) (p : Pending) (c : Conditions) → AreProper c.pending →
-    Fine (went_on wanted is_quiet o t k p c)
-went_fine wanted is_quiet o t k p c proper =
-    of_both Fine (is_whole k) (decided (verdict_of c.declared o k) wanted is_quiet k p c)
-    (taken (asking p.place p.is_inner wanted k (saying is_quiet (too_much c.longest t k) (tokens_counted is_quiet k c))))
+went_fine : (wanted : Bool) (site : Site) (o : Out) (t : SourceToken) (k : Condition) (p : Pending) (c : Conditions) → AreProper c.pending →
+    Fine (went_on wanted site o t k p c)
+went_fine wanted site o t k p c proper =
+    of_both Fine (is_whole k) (decided (verdict_of c.declared o k) wanted site.is_quiet k p c)
+    (taken (asking p.place p.is_inner wanted k (saying site.is_quiet (too_much site.longest t k) (tokens_counted site.is_quiet k c))))
     (λ _. let v : Verdict = verdict_of c.declared o k in
-    effected_fine (effect.Opens (cond wanted v.is_true (not v.is_true))) is_quiet p (saying is_quiet (told_by p.place k v.finding) c)
+    effected_fine (effect.Opens (cond wanted v.is_true (not v.is_true))) site.is_quiet p
+    (saying site.is_quiet (told_by p.place k v.finding) c)
     proper)
     (λ _. record { proper = (tt, proper); clear = inl refl })
 
-asked_fine : (conditions : List Condition) (wanted is_quiet : Bool) (o : Out) (t : SourceToken) (p : Pending) (c : Conditions) →
-    AreProper c.pending → AllKept c → Fine (asked conditions wanted is_quiet o t p c)
-asked_fine [] wanted is_quiet o t p c proper all = unfit_fine c all
-asked_fine (k ∷ conditions) wanted is_quiet o t p c proper all =
+asked_fine : (conditions : List Condition) (wanted : Bool) (site : Site) (o : Out) (t : SourceToken) (p : Pending) (c : Conditions) →
+    AreProper c.pending → AllKept c → Fine (asked conditions wanted site o t p c)
+asked_fine [] wanted site o t p c proper all = unfit_fine c all
+asked_fine (k ∷ conditions) wanted site o t p c proper all =
     let here = record c { conditions = conditions } in
-    of_both Fine (fits grammar known (atom_of t) k.stack) (went_on wanted is_quiet o t (condition_took t k) p here) (unfit here)
-    (λ _. went_fine wanted is_quiet o t (condition_took t k) p here proper) (λ _. unfit_fine here all)
+    of_both Fine (fits grammar known (atom_of t) k.stack) (went_on wanted site o t (condition_took t k) p here) (unfit here)
+    (λ _. went_fine wanted site o t (condition_took t k) p here proper) (λ _. unfit_fine here all)
 
-awaited_fine : (a : Awaits) (is_quiet : Bool) (o : Out) (t : SourceToken) (p : Pending) (c : Conditions) → IsLast a c.pending →
-    AreProper c.pending → AllKept c → Fine (awaited a is_quiet o t p c)
-awaited_fine awaits.Word is_quiet o t p c last proper all = front_fine (word_of (keyword t)) t p c last all
-awaited_fine (awaits.Name if_declared) is_quiet o t p c last proper all = named_fine t.kind t.bytes if_declared o p c proper all
-awaited_fine (awaits.Condition wanted) is_quiet o t p c last proper all = asked_fine c.conditions wanted is_quiet o t p c proper all
-awaited_fine (awaits.End e) is_quiet o t p c last proper all =
-    of_both Fine (is_mark mark.Semicolon t.kind) (effected e is_quiet p c) (unfit c) (λ _. effected_fine e is_quiet p c proper)
+awaited_fine : (a : Awaits) (site : Site) (o : Out) (t : SourceToken) (p : Pending) (c : Conditions) → IsLast a c.pending →
+    AreProper c.pending → AllKept c → Fine (awaited a site o t p c)
+awaited_fine awaits.Word site o t p c last proper all = front_fine (word_of (keyword t)) t p c last all
+awaited_fine (awaits.Name if_declared) site o t p c last proper all = named_fine t.kind t.bytes if_declared o p c proper all
+awaited_fine (awaits.Condition wanted) site o t p c last proper all = asked_fine c.conditions wanted site o t p c proper all
+awaited_fine (awaits.End e) site o t p c last proper all =
+    of_both Fine (is_mark mark.Semicolon t.kind) (effected e site.is_quiet p c) (unfit c) (λ _. effected_fine e site.is_quiet p c proper)
     (λ _. unfit_fine c all)
 
 -- A token of a kept side
@@ -186,38 +187,38 @@ word_fine : (w : Option ConditionalWord) (t : SourceToken) (c : Conditions) → 
 word_fine None t c e all = kept_fine c e all
 word_fine (Some w) t c e all = begun_fine w t t.place false c (none_proper c.pending e) all
 
-to_fine : (pending : List Pending) (is_front is_quiet : Bool) (o : Out) (t : SourceToken) (c : Conditions) → c.pending ≡ pending →
-    AreProper pending → AllKept c → Fine (offered_to pending is_front is_quiet o t c)
-to_fine [] is_front is_quiet o t c e proper all =
+to_fine : (pending : List Pending) (is_front : Bool) (site : Site) (o : Out) (t : SourceToken) (c : Conditions) → c.pending ≡ pending →
+    AreProper pending → AllKept c → Fine (offered_to pending is_front site o t c)
+to_fine [] is_front site o t c e proper all =
     of_both Fine is_front (at_front (word_of (keyword t)) t c) (kept c) (λ _. word_fine (word_of (keyword t)) t c e all)
     (λ _. kept_fine c e all)
-to_fine (p ∷ pending) is_front is_quiet o t c e proper all =
-    awaited_fine p.awaits is_quiet o t p (record c { pending = pending }) proper.0 proper.1 all
+to_fine (p ∷ pending) is_front site o t c e proper all =
+    awaited_fine p.awaits site o t p (record c { pending = pending }) proper.0 proper.1 all
 
-offered_fine : (is_front is_quiet : Bool) (o : Out) (t : SourceToken) (c : Conditions) → (is_front ≡ true → c.pending ≡ []) →
-    AreProper c.pending → AllKept c → Fine (offered is_front is_quiet o t c)
-offered_fine is_front is_quiet o t c front proper all =
-    of_both Fine (is_mark mark.Hash t.kind) (passed (held is_front t.place c)) (offered_to c.pending is_front is_quiet o t c)
+offered_fine : (is_front : Bool) (site : Site) (o : Out) (t : SourceToken) (c : Conditions) → (is_front ≡ true → c.pending ≡ []) →
+    AreProper c.pending → AllKept c → Fine (offered is_front site o t c)
+offered_fine is_front site o t c front proper all =
+    of_both Fine (is_mark mark.Hash t.kind) (passed (held is_front t.place c)) (offered_to c.pending is_front site o t c)
     (λ _. passed_fine (held is_front t.place c) (held_proper is_front t.place c front proper))
-    (λ _. to_fine c.pending is_front is_quiet o t c refl proper all)
+    (λ _. to_fine c.pending is_front site o t c refl proper all)
 
 -- with a `#` before it that was held back
 abbrev signed : Place → Forwarded → Behind → Behind
 signed place h b = record b { judged = record b.judged { sign = Some (record { place = place; handed = h }) } }
 
-signed_fine : (place : Place) (h : Forwarded) (is_quiet : Bool) (o : Out) (t : SourceToken) (c : Conditions) → c.pending ≡ [] → AllKept c →
-    Fine (signed place h (offered false is_quiet o t c))
-signed_fine place h is_quiet o t c e all =
+signed_fine : (place : Place) (h : Forwarded) (site : Site) (o : Out) (t : SourceToken) (c : Conditions) → c.pending ≡ [] → AllKept c →
+    Fine (signed place h (offered false site o t c))
+signed_fine place h site o t c e all =
     of_both (λ (b : Behind). Fine (signed place h b)) (is_mark mark.Hash t.kind) (passed (held false t.place c))
-    (offered_to c.pending false is_quiet o t c)
+    (offered_to c.pending false site o t c)
     (λ _. record { proper = none_proper c.pending e; clear = inr (e, all) })
-    (λ _. subst (λ ps. Fine (signed place h (offered_to ps false is_quiet o t c))) (sym e)
+    (λ _. subst (λ ps. Fine (signed place h (offered_to ps false site o t c))) (sym e)
     (record { proper = none_proper c.pending e; clear = inr (e, all) }))
 
-sign_fine : (w : Option ConditionalWord) (place : Place) (is_quiet : Bool) (o : Out) (t : SourceToken) (c : Conditions) →
-    AreProper c.pending → AllKept c → Fine (behind_sign w place is_quiet o t c)
-sign_fine (Some w) place is_quiet o t c proper all = begun_fine w t place true (record c { sign = None }) proper all
-sign_fine None place is_quiet o t c proper all = signed_fine place _ is_quiet o t (given_up (record c { sign = None })) refl all
+sign_fine : (w : Option ConditionalWord) (place : Place) (site : Site) (o : Out) (t : SourceToken) (c : Conditions) →
+    AreProper c.pending → AllKept c → Fine (behind_sign w place site o t c)
+sign_fine (Some w) place site o t c proper all = begun_fine w t place true (record c { sign = None }) proper all
+sign_fine None place site o t c proper all = signed_fine place _ site o t (given_up (record c { sign = None })) refl all
 
 -- A token of a side that is left out
 
@@ -229,12 +230,12 @@ passed_proper (Some w) t side c proper =
     (awaiting _ false (awaits.End effect.Nothing) (record (ended_by w c) { left_out = None; sign = None })) _
     (λ _. (tt, subst (λ ps. AreProper ps) (sym (ended_pending w c)) proper)) (λ _. proper)
 
-side_fine : (is_quiet : Bool) (o : Out) (t : SourceToken) (side : LeftOut) (c : Conditions) → AreProper c.pending →
-    Fine (in_side is_quiet o t side c)
-side_fine is_quiet o t side c proper =
+side_fine : (site : Site) (o : Out) (t : SourceToken) (side : LeftOut) (c : Conditions) → AreProper c.pending →
+    Fine (in_side site o t side c)
+side_fine site o t side c proper =
     let here = record c { left_out = None; sign = None } in
-    of_both Fine (is_end t.kind) (offered false is_quiet o t here) (passed (passed_by (word_of (keyword t)) t side c))
-    (λ _. offered_fine false is_quiet o t here (λ e. let never : false ≡ true = e in cc) proper refl)
+    of_both Fine (is_end t.kind) (offered false site o t here) (passed (passed_by (word_of (keyword t)) t side c))
+    (λ _. offered_fine false site o t here (λ e. let never : false ≡ true = e in cc) proper refl)
     (λ _. passed_fine (passed_by (word_of (keyword t)) t side c) (passed_proper (word_of (keyword t)) t side c proper))
 
 -- Any token
@@ -246,10 +247,10 @@ none_waits false pending e = cc
 
 by_fine : (left : Option LeftOut) (sign : Option Place) (site : Site) (o : Out) (t : SourceToken) (c : Conditions) → c.left_out ≡ left →
     AreProper c.pending → Fine (judged_by left sign site o t c)
-by_fine (Some side) sign site o t c e proper = side_fine site.is_quiet o t side c proper
-by_fine None (Some place) site o t c e proper = sign_fine (word_of (keyword t)) place site.is_quiet o t c proper e
+by_fine (Some side) sign site o t c e proper = side_fine site o t side c proper
+by_fine None (Some place) site o t c e proper = sign_fine (word_of (keyword t)) place site o t c proper e
 by_fine None None site o t c e proper =
-    offered_fine (site.is_between && is_none_pending c.pending) site.is_quiet o t c (none_waits site.is_between c.pending) proper e
+    offered_fine (site.is_between && is_none_pending c.pending) site o t c (none_waits site.is_between c.pending) proper e
 
 pub judged_fine : (site : Site) (o : Out) (t : SourceToken) (c : Conditions) → AreProper c.pending → Fine (judged site o t c)
 judged_fine site o t c proper = by_fine c.left_out c.sign site o t c refl proper

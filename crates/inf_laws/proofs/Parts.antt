@@ -25,7 +25,7 @@ use Rattle.inf_conditionals.specs.declared.filtered.Filtered.{Filtered}
 use Rattle.inf_conditionals.specs.declared.filtered.Sign.{Sign}
 use Rattle.inf_conditionals.specs.Ends.{side_kept}
 use Rattle.inf_conditionals.specs.Judging.{Behind, judged, may_part}
-use Rattle.inf_reader.specs.Handing.{hash, is_empty, reads, site_of}
+use Rattle.inf_reader.specs.Handing.{hash, is_between, is_empty, reads, site_of}
 use Rattle.inf_reader.specs.Reading.{Reading, between, is_mode_ended, passed, piece_rule}
 use Rattle.inf_reader.specs.declared.recovery.Recovery.{Recovery}
 use Rattle.inf_reader.specs.declared.recovery.Recovery.TheVariants as mode
@@ -166,12 +166,12 @@ token_comes (Some handed.Unfit) t before signed r goes = one_comes before signed
 token_comes (Some handed.Condition) t before signed r goes = Still (subst (λ gs. Goes (before ++ gs) r) (sym (append-nil signed)) goes)
 
 step_comes : (limits : Limits) (o : Choices) (before : List Given) (s : State) → Goes before s.reading →
-    Comes before (given_by s) (stepped limits o s).reading
+    Comes before (given_by o s) (stepped limits o s).reading
 step_comes limits o before s goes =
     let t = token_of s in
-    let b = judged (site_of s.reading) s.work.output t s.conditions in
+    let b = judged (site_of o.settings s.reading) s.work.output t s.conditions in
     let signed = given_sign b.judged.sign in
-    subst (λ (r : Reading). Comes before (given_by s) r)
+    subst (λ (r : Reading). Comes before (given_by o s) r)
     (sym (given_both signed (given_token b.judged.token t) s.reading) ∙ sym (stepped_reading limits o s))
     (token_comes b.judged.token t before signed (all_given_to signed s.reading) (sign_goes b.judged.sign before s.reading goes))
 
@@ -231,7 +231,7 @@ abbrev Proper : State → Type 0
 Proper s = AreProper s.conditions.pending
 
 step_fine : (limits : Limits) (o : Choices) (s : State) → Proper s → Proper (stepped limits o s)
-step_fine limits o s proper = (judged_fine (site_of s.reading) s.work.output (token_of s) s.conditions proper).proper
+step_fine limits o s proper = (judged_fine (site_of o.settings s.reading) s.work.output (token_of s) s.conditions proper).proper
 
 turn_proper : (limits : Limits) (sources : Sources) (o : Choices) (s : State) → Proper s → Proper (turn limits sources o s)
 turn_proper limits sources o s proper = subst (λ ps. AreProper ps) (sym (turn_pending limits sources o s)) (step_fine limits o s proper)
@@ -269,11 +269,11 @@ nothing_given j t e =
 abbrev IsClear : State → Type 0
 IsClear s = (s.conditions.pending ≡ []) × (s.conditions.left_out ≡ None)
 
-clear_behind : (limits : Limits) (o : Choices) (s : State) → Proper s → (given_by s ≡ [] → ⊥) → IsClear (stepped limits o s)
+clear_behind : (limits : Limits) (o : Choices) (s : State) → Proper s → (given_by o s ≡ [] → ⊥) → IsClear (stepped limits o s)
 clear_behind limits o s proper some =
     let t = token_of s in
-    let b = judged (site_of s.reading) s.work.output t s.conditions in
-    elim (judged_fine (site_of s.reading) s.work.output t s.conditions proper).clear [
+    let b = judged (site_of o.settings s.reading) s.work.output t s.conditions in
+    elim (judged_fine (site_of o.settings s.reading) s.work.output t s.conditions proper).clear [
       | inl none ↦ absurd (some (nothing_given b.judged t none))
       | inr clear ↦ clear
     ]
@@ -287,16 +287,16 @@ or_true false = refl
 ended_parts : (s : State) → is_mode_ended s.reading.mode ≡ true → is_parted s ≡ true
 ended_parts s e =
     let over = s.work.report.counts.is_over in
-    ap (λ b. (s.is_over || (over || b)) || ((site_of s.reading).is_between && may_part s.conditions)) e
-    ∙ ap (λ b. (s.is_over || b) || ((site_of s.reading).is_between && may_part s.conditions)) (or_true over)
-    ∙ ap (λ b. b || ((site_of s.reading).is_between && may_part s.conditions)) (or_true s.is_over)
+    ap (λ b. (s.is_over || (over || b)) || (is_between s.reading && may_part s.conditions)) e
+    ∙ ap (λ b. (s.is_over || b) || (is_between s.reading && may_part s.conditions)) (or_true over)
+    ∙ ap (λ b. b || (is_between s.reading && may_part s.conditions)) (or_true s.is_over)
 
 clear_parts : (s : State) → s.reading ≡ between mode.Reads → s.conditions.pending ≡ [] → s.conditions.left_out ≡ None → is_parted s ≡ true
 clear_parts s fresh none all =
     let parts : may_part s.conditions ≡ true =
     ap (λ ps. may_part (record s.conditions { pending = ps })) none
     ∙ ap (λ l. may_part (record s.conditions { pending = []; left_out = l })) all in
-    ap (λ (r : Reading). has_ended s || ((site_of r).is_between && may_part s.conditions)) fresh
+    ap (λ (r : Reading). has_ended s || (is_between r && may_part s.conditions)) fresh
     ∙ ap (λ b. has_ended s || b) parts
     ∙ or_true (has_ended s)
 
@@ -359,12 +359,12 @@ rests_goes given r (None_yet e fresh) = ap (λ (x : Reading). is_mode_ended x.mo
 rests_goes given r (Some_yet now on) = (or_parts (reads r.mode && is_empty r.stack) (is_mode_ended r.mode) on).1
 
 goes_behind : (limits : Limits) (sources : Sources) (o : Choices) (before : List Given) (s : State) → Proper s → Goes before s.reading →
-    is_parted (turn limits sources o s) ≡ false → Goes (before ++ given_by s) (turn limits sources o s).reading
+    is_parted (turn limits sources o s) ≡ false → Goes (before ++ given_by o s) (turn limits sources o s).reading
 goes_behind limits sources o before s proper goes on =
     elim (step_comes limits o before s goes) [
-      | Still on_now ↦ subst (λ (r : Reading). Goes (before ++ given_by s) r)
-          (sym (turn_reading limits sources o s (rests_goes (before ++ given_by s) (stepped limits o s).reading on_now))) on_now
-      | Rests now rest_now some ↦ absurd (no_end (sym (rests_parts limits sources o s (before ++ given_by s) now rest_now
+      | Still on_now ↦ subst (λ (r : Reading). Goes (before ++ given_by o s) r)
+          (sym (turn_reading limits sources o s (rests_goes (before ++ given_by o s) (stepped limits o s).reading on_now))) on_now
+      | Rests now rest_now some ↦ absurd (no_end (sym (rests_parts limits sources o s (before ++ given_by o s) now rest_now
           (clear_behind limits o s proper some)) ∙ on))
     ]
 
@@ -382,13 +382,13 @@ turns_stand : (limits : Limits) (sources : Sources) (o : Choices) (n : ℕ) (bef
     StayInPart limits sources o n s
     → LastOf (before ++ given_in limits sources o (suc n) s) (stepped limits o (turned limits sources o n s)).reading
 turns_stand limits sources o zero before s proper goes stay =
-    subst (λ gs. LastOf (before ++ gs) (stepped limits o s).reading) (sym (append-nil (given_by s)))
-    (last_stands before (given_by s) (stepped limits o s).reading (step_comes limits o before s goes))
+    subst (λ gs. LastOf (before ++ gs) (stepped limits o s).reading) (sym (append-nil (given_by o s)))
+    (last_stands before (given_by o s) (stepped limits o s).reading (step_comes limits o before s goes))
 turns_stand limits sources o (suc n) before s proper goes stay =
     let now = turn limits sources o s in
     subst (λ gs. LastOf gs (stepped limits o (turned limits sources o n now)).reading)
-    (append_assoc before (given_by s) (given_in limits sources o (suc n) now))
-    (turns_stand limits sources o n (before ++ given_by s) now (turn_proper limits sources o s proper)
+    (append_assoc before (given_by o s) (given_in limits sources o (suc n) now))
+    (turns_stand limits sources o n (before ++ given_by o s) now (turn_proper limits sources o s proper)
     (goes_behind limits sources o before s proper goes stay.0)
     stay.1)
 
@@ -398,7 +398,7 @@ turns_go : (limits : Limits) (sources : Sources) (o : Choices) (n : ℕ) (before
     → (given : List Given) × Goes given (turned limits sources o n s).reading
 turns_go limits sources o zero before s proper goes stay = (before, goes)
 turns_go limits sources o (suc n) before s proper goes stay =
-    turns_go limits sources o n (before ++ given_by s) (turn limits sources o s) (turn_proper limits sources o s proper)
+    turns_go limits sources o n (before ++ given_by o s) (turn limits sources o s) (turn_proper limits sources o s proper)
     (goes_behind limits sources o before s proper goes stay.0) stay.1
 
 start_proper : (limits : Limits) (sources : Sources) (o : Choices) (name : List ℕ) (m : ℕ) →
@@ -411,19 +411,19 @@ parts_are_pieces limits sources o name m n fresh stay =
     (None_yet refl fresh) stay
 
 rests_end : (limits : Limits) (sources : Sources) (o : Choices) (before : List Given) (s : State) → Proper s → Goes before s.reading →
-    (given_by s ≡ [] → ⊥) →
+    (given_by o s ≡ [] → ⊥) →
     rests (stepped limits o s).reading ≡ true → is_parted (turn limits sources o s) ≡ true
 rests_end limits sources o before s proper goes some rest_now =
     elim (step_comes limits o before s goes) [
       | Still on ↦ still on
-      | Rests now rest given ↦ rests_parts limits sources o s (before ++ given_by s) now rest_now (clear_behind limits o s proper some)
+      | Rests now rest given ↦ rests_parts limits sources o s (before ++ given_by o s) now rest_now (clear_behind limits o s proper some)
     ]
   where
-    still : Goes (before ++ given_by s) (stepped limits o s).reading → is_parted (turn limits sources o s) ≡ true
+    still : Goes (before ++ given_by o s) (stepped limits o s).reading → is_parted (turn limits sources o s) ≡ true
     still (Some_yet now on) = absurd (no_end (sym rest_now ∙ on))
     still (None_yet e fresh) = absurd (some (none_of before e))
       where
-        none_of : (xs : List Given) → xs ++ given_by s ≡ [] → given_by s ≡ []
+        none_of : (xs : List Given) → xs ++ given_by o s ≡ [] → given_by o s ≡ []
         none_of [] e = e
         none_of (x ∷ xs) e = cc
 

@@ -11,8 +11,8 @@ use Rattle.inf_session.specs.Session.{State, stepped, token_of, turn}
 use Rattle.inf_laws.specs.KeptTokens.{Given, GoesOn, Stands, given_of}
 
 -- of a turn
-abbrev pub given_by : State → List Given
-given_by s = let t = token_of s in given_of (judged (site_of s.reading) s.work.output t s.conditions).judged t
+abbrev pub given_by : Choices → State → List Given
+given_by o s = let t = token_of s in given_of (judged (site_of o.settings s.reading) s.work.output t s.conditions).judged t
 
 -- so many turns, and what they hand on
 abbrev pub turned : Limits → Sources → Choices → ℕ → State → State
@@ -21,7 +21,7 @@ turned limits sources o (suc n) s = turned limits sources o n (turn limits sourc
 
 abbrev pub given_in : Limits → Sources → Choices → ℕ → State → List Given
 given_in limits sources o zero s = []
-given_in limits sources o (suc n) s = given_by s ++ given_in limits sources o n (turn limits sources o s)
+given_in limits sources o (suc n) s = given_by o s ++ given_in limits sources o n (turn limits sources o s)
 
 -- no file ends in them
 abbrev pub StayInFile : Limits → Sources → Choices → ℕ → State → Type 0

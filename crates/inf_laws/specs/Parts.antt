@@ -35,6 +35,6 @@ PartsEndWithPieces limits =
     (sources : Sources) (o : Choices) (name : List ℕ) (m n : ℕ) → (turned limits sources o m (start sources o name)).reading ≡ between
     mode.Reads
     → StayInPart limits sources o n (turned limits sources o m (start sources o name))
-    → (given_by (turned limits sources o n (turned limits sources o m (start sources o name))) ≡ [] → ⊥) → rests
+    → (given_by o (turned limits sources o n (turned limits sources o m (start sources o name))) ≡ [] → ⊥) → rests
     (stepped limits o (turned limits sources o n (turned limits sources o m (start sources o name)))).reading ≡ true
     → is_parted (turn limits sources o (turned limits sources o n (turned limits sources o m (start sources o name)))) ≡ true

@@ -259,7 +259,7 @@ begins_of s o serial name was before after there begun k = record {
 -- a session at the front of the main source
 pub begun_is : {B : Type 0} (s : Sources) (o : Choices) (name : List ℕ) (old now : Openings) (x : Session B) →
     nesting s old now x.open_files ≡ main_opened o.set (most_quoted o) s name
-    → standing x.progress ≡ begun_with o x.open_files.nest.names → x.is_over ≡ false → x.conditionals ≡ no_conditions o.settings → x.quoted
+    → standing x.progress ≡ begun_with o x.open_files.nest.names → x.is_over ≡ false → x.conditionals ≡ no_conditions → x.quoted
     ≡ 0 → state s old now x [] ≡ start s o name
 begun_is s o name old now x files at going none unquoted =
     let main = main_opened o.set (most_quoted o) s name in
@@ -269,7 +269,7 @@ begun_is s o name old now x files at going none unquoted =
     ∙ ap (λ (p : ReaderState). made main x.conditionals p x.is_over x.quoted) stands
     ∙ ap (λ (b : Bool). made main x.conditionals front b x.quoted) going
     ∙ ap (λ (c : Conditions). made main c front false x.quoted) none
-    ∙ ap (λ (n : ℕ). made main (no_conditions o.settings) front false n) unquoted
+    ∙ ap (λ (n : ℕ). made main no_conditions front false n) unquoted
   where
     made : Nesting → Conditions → ReaderState → Bool → ℕ → State
     made n c p b q = record { nesting = n; conditions = c; reading = p.reading; work = p.work; told = []; is_over = b; quoted = q }

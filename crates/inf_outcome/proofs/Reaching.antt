@@ -125,12 +125,12 @@ stepped_takes : (limits : Limits) (o : Choices) (s : State) →
 stepped_takes limits o s =
     let c = s.nesting.cursor in
     let t = token_of s in
-    let b = judged (site_of s.reading) s.work.output t s.conditions in
+    let b = judged (site_of o.settings s.reading) s.work.output t s.conditions in
     elim (tokens_take_bytes c.set c.limit c.lines c.rest).one as
     (λ _. (is_mode_ended (stepped limits o s).reading.mode ≡ true) ⊎
     (length (stepped limits o s).nesting.cursor.rest < length s.nesting.cursor.rest)) [
       | inl end ↦ inl (end_ends limits (context_of o s) t.kind t.bytes t.place t.is_class s.work.output s.conditions
-          (said_told limits b.now.said (context_of o s) (stand_of s)) (site_of s.reading)
+          (said_told limits b.now.said (context_of o s) (stand_of s)) (site_of o.settings s.reading)
           b.now b.judged refl end)
       | inr less ↦ inr less
     ]

@@ -1,6 +1,9 @@
 -- What the machine of the grammar gets of a token, by what becomes of it among conditionals.
 use Rattle.std.specs.Prelude.{List, [], ◌∷◌, codes, Bool, true, false, ◌&&◌, Option, Some, None}
 use Rattle.inf_settings.specs.Bounds.{Limits}
+use Rattle.inf_settings.specs.Settings.{number_of}
+use Rattle.inf_settings.specs.declared.setting.Setting.TheVariants as setting
+use Rattle.inf_settings.specs.declared.settings.Settings.{Settings}
 use Rattle.inf_scanner.specs.declared.tokens.Mark.TheVariants as mark
 use Rattle.inf_scanner.specs.declared.tokens.Place.{Place}
 use Rattle.inf_scanner.specs.declared.tokens.TokenKind.TheVariants as kind
@@ -37,9 +40,13 @@ skips mode.SkipsRoutine = true
 skips mode.SkipsDirective = true
 skips _ = false
 
--- between the pieces, or among tokens that are passed over
-abbrev pub site_of : Reading → Site
-site_of r = record { is_between = reads r.mode && is_empty r.stack; is_quiet = skips r.mode }
+-- between the pieces of a source
+abbrev pub is_between : Reading → Bool
+is_between r = reads r.mode && is_empty r.stack
+
+-- between them, or among tokens that are passed over
+abbrev pub site_of : Settings → Reading → Site
+site_of settings r = record { is_between = is_between r; is_quiet = skips r.mode; longest = number_of setting.ExpressionNodes settings }
 
 -- What is handed on
 

@@ -21,6 +21,7 @@ use inf_names::hashing::NameHashing;
 use inf_report::messages::{Kind, Location};
 use inf_scanner::{Mark, TokenKind};
 use inf_settings::bounds::Bounds;
+use inf_settings::setting::Setting;
 use inf_settings::settings::Settings;
 use inf_syntax::Action;
 use inf_unit::kinds::is_end;
@@ -39,7 +40,7 @@ pub struct Progress<B: Bounds> {
 }
 
 impl<B: Bounds> Progress<B> {
-    ghost use Rattle.inf_reader.specs.Handing.{handed_as, judged_taken, site_of};
+    ghost use Rattle.inf_reader.specs.Handing.{handed_as, is_between, judged_taken, site_of};
     ghost use Rattle.inf_reader.specs.Reading.{bad, begun_stand, has_ended_at, judged, piece_begun, read_at, step};
     ghost use Rattle.inf_reader.specs.Standing.{reading, standing};
     ghost use Rattle.inf_compilation.specs.Actions.{piece_begun as work_begun};
@@ -84,17 +85,24 @@ impl<B: Bounds> Progress<B> {
         }
     }
 
+    /// Whether the next token comes between the pieces of a source.
+    pub fn is_between(&self) -> bool
+        ensures { result ≡ is_between (standing self.now).reading }
+    {
+        matches!(self.reader.mode, Recovery::Reads) && self.reader.machine.is_done()
+    }
+
     /// Where the next token comes to.
-    pub fn site(&self) -> Site
-        ensures { result ≡ site_of (standing self.now).reading }
+    pub fn site(&self, settings: &Settings) -> Site
+        ensures { result ≡ site_of settings.now (standing self.now).reading }
     {
         Site {
-            is_between: matches!(self.reader.mode, Recovery::Reads)
-                && self.reader.machine.is_done(),
+            is_between: self.is_between(),
             is_quiet: matches!(
                 self.reader.mode,
                 Recovery::SkipsRoutine | Recovery::SkipsDirective
             ),
+            longest: settings.of(Setting::ExpressionNodes) as usize,
         }
     }
 

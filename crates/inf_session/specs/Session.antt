@@ -28,7 +28,7 @@ use Rattle.inf_settings.specs.declared.settings.Settings.{Settings}
 use Rattle.inf_settings.specs.declared.setting.Setting.TheVariants.{LowStrings, Objects, PropertyTables, References}
 use Rattle.inf_unit.specs.Messages.{FileNames, flushed, location, none_reported, with_fatal, with_full}
 use Rattle.inf_unit.specs.Tokens.{SourceToken}
-use Rattle.inf_reader.specs.Handing.{judged_taken, said_told, site_of}
+use Rattle.inf_reader.specs.Handing.{is_between, judged_taken, said_told, site_of}
 use Rattle.inf_reader.specs.Reading.{Reading, ReaderState, begun_stand, has_ended_at, is_mode_ended}
 use Rattle.inf_reader.specs.declared.recovery.Recovery.TheVariants as mode
 use Rattle.inf_session.specs.Choices.{Choices, most_quoted}
@@ -72,7 +72,7 @@ start sources o name =
     let s = begun_with o main.names in
     record {
       nesting = main;
-      conditions = no_conditions o.settings;
+      conditions = no_conditions;
       reading = s.reading;
       work = s.work;
       told = [];
@@ -94,15 +94,14 @@ abbrev pub has_ended : State → Bool
 has_ended s = s.is_over || has_ended_at (stand_of s)
 
 -- a token that comes to a place of the reading: at the front of a piece a name may be that of a class
-abbrev pub token_at : Site → TokenKind → List ℕ → Place → Compilation → SourceToken
-token_at site kind bytes place w =
-    record { kind = kind; bytes = bytes; place = place; is_class = site.is_between && is_class kind bytes w }
+abbrev pub token_at : Bool → TokenKind → List ℕ → Place → Compilation → SourceToken
+token_at is_between kind bytes place w = record { kind = kind; bytes = bytes; place = place; is_class = is_between && is_class kind bytes w }
 
 -- the next token of the innermost file
 abbrev pub token_of : State → SourceToken
 token_of s =
     let r = read s.nesting.cursor in
-    token_at (site_of s.reading) r.kind r.kept.bytes (record { file = s.nesting.cursor.file; line = r.line }) s.work
+    token_at (is_between s.reading) r.kind r.kept.bytes (record { file = s.nesting.cursor.file; line = r.line }) s.work
 
 -- how many bytes stand between the quotes of a token that has such: of one that is too long as many as it may have
 abbrev pub quoted_of_kind : TokenKind → List ℕ → ℕ
@@ -129,7 +128,7 @@ quoted_behind site j t quoted =
 abbrev pub stepped : Limits → Choices → State → State
 stepped limits o s =
     let t = token_of s in
-    let b = judged (site_of s.reading) s.work.output t s.conditions in
+    let b = judged (site_of o.settings s.reading) s.work.output t s.conditions in
     let n = judged_taken limits (context_of o s) t b.judged (said_told limits b.now.said (context_of o s) (stand_of s)) in
     record {
       nesting = record s.nesting { cursor = behind s.nesting.cursor (read s.nesting.cursor) };
@@ -138,7 +137,7 @@ stepped limits o s =
       work = n.work;
       told = s.told;
       is_over = s.is_over;
-      quoted = quoted_behind (site_of s.reading) b.judged t s.quoted;
+      quoted = quoted_behind (site_of o.settings s.reading) b.judged t s.quoted;
     }
 
 -- At the end of a file the conditionals are told that are open in it.
@@ -206,7 +205,7 @@ carried_out sources o s =
 
 -- between the directives, and in no conditional one
 abbrev pub is_resting : State → Bool
-is_resting s = (site_of s.reading).is_between && is_none_pending s.conditions.pending
+is_resting s = is_between s.reading && is_none_pending s.conditions.pending
 
 -- Behind a directive the conditionals are told that are open in it.
 abbrev pub piece_closed : State → State
@@ -232,7 +231,7 @@ turn limits sources o s = told_out (followed sources o (stepped limits o s))
 
 -- A part ends between two directives; of a conditional one, behind the side that it leaves out.
 abbrev pub is_parted : State → Bool
-is_parted s = has_ended s || ((site_of s.reading).is_between && may_part s.conditions)
+is_parted s = has_ended s || (is_between s.reading && may_part s.conditions)
 
 -- at most n turns, up to the end of a part
 abbrev pub part : Limits → Sources → Choices → ℕ → State → State

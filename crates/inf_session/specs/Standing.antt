@@ -7,7 +7,7 @@ use Rattle.inf_world.specs.World.{bytes_now, object_count}
 use Rattle.inf_tables.specs.LowStrings.{low_size}
 use Rattle.inf_tables.specs.Tables.{references_with}
 use Rattle.inf_conditionals.specs.Judging.{is_none_pending, may_part}
-use Rattle.inf_reader.specs.Handing.{site_of}
+use Rattle.inf_reader.specs.Handing.{is_between}
 use Rattle.inf_files.specs.Files.{Openings, Sources}
 use Rattle.inf_sources.specs.Open.{nesting}
 use Rattle.inf_settings.specs.Settings.{number_of}
@@ -67,11 +67,11 @@ AreWithin _ _ settings = Unit {0}
 
 -- between two directives, and in no conditional one
 abbrev pub resting : {B : Type 0} → Session B → Bool
-resting s = (site_of (reading s.progress.reader)).is_between && is_none_pending s.conditionals.pending
+resting s = is_between (reading s.progress.reader) && is_none_pending s.conditionals.pending
 
 -- at the end of a part
 abbrev pub parted : {B : Type 0} → Session B → Bool
-parted s = ended s || ((site_of (reading s.progress.reader)).is_between && may_part s.conditionals)
+parted s = ended s || (is_between (reading s.progress.reader) && may_part s.conditionals)
 
 -- what a step came to that ended here: a fatal message; or nothing, where nothing was to be read any more; or a part
 abbrev pub came_to : {B : Type 0} → Bool → Session B → Step

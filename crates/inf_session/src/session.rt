@@ -81,7 +81,7 @@ impl<'a, B: Bounds> Session<'a, B> {
         ensures standing { IfOk result (λ session. standing session.progress ≡ begun_with (chosen setup.entry)
             session.open_files.nest.names) }
         ensures going { IfOk result (λ session. session.is_over ≡ false) }
-        ensures conditionals { IfOk result (λ session. session.conditionals ≡ no_conditions (chosen setup.entry).settings) }
+        ensures conditionals { IfOk result (λ session. session.conditionals ≡ no_conditions) }
         ensures quoted { IfOk result (λ session. session.quoted ≡ 0) }
         ensures setup { IfOk result (λ session. session.setup ≡ setup.entry) }
         ensures bounded { IfOk result (λ session. IsBounded session) }
@@ -94,7 +94,7 @@ impl<'a, B: Bounds> Session<'a, B> {
             alloc,
             setup,
             open_files,
-            conditionals: Conditionals::new(alloc, setup.settings),
+            conditionals: Conditionals::new(alloc),
             progress,
             is_over: false,
             quoted: 0,
@@ -252,7 +252,7 @@ impl<'a, B: Bounds> Session<'a, B> {
     fn has_parted(&self) -> bool
         ensures { result ≡ parted self.now }
     {
-        self.has_ended() || (self.progress.site().is_between && self.conditionals.may_part())
+        self.has_ended() || (self.progress.is_between() && self.conditionals.may_part())
     }
 
     /// What a step came to that ended here, before which all was read or not.
@@ -272,7 +272,7 @@ impl<'a, B: Bounds> Session<'a, B> {
     fn is_resting(&self) -> bool
         ensures { result ≡ resting self.now }
     {
-        self.progress.site().is_between && self.conditionals.is_resting()
+        self.progress.is_between() && self.conditionals.is_resting()
     }
 
     /// How much there is so far of what each setting bounds, in the order of the settings: the bytes of the longest quoted token, the
@@ -383,9 +383,9 @@ impl<'a, B: Bounds> Session<'a, B> {
             Err(LexFault::Memory) => return Err(Fault::Memory),
             Err(LexFault::Read) => return Err(unread(self.alloc, self.open_files.innermost())),
         };
-        let site = self.progress.site();
+        let site = self.progress.site(self.setup.settings);
         let spelling = self.open_files.spelling();
-        let spelled = token_at(site, token, spelling, &self.progress.work);
+        let spelled = token_at(site.is_between, token, spelling, &self.progress.work);
         let judged = self
             .conditionals
             .take(site, &self.progress.work.output, &spelled)?;
@@ -623,14 +623,14 @@ fn shown(text: &[u8]) -> &str
 
 /// A token with these bytes that comes to a place of the reading: at the front of a piece a name may be that of a class.
 fn token_at<'t, B: Bounds>(
-    site: Site,
+    is_between: bool,
     token: Token,
     bytes: &'t [u8],
     work: &Compilation<B>,
 ) -> SourceToken<'t>
     requires { is_short token.kind bytes.now ≡ true }
-    ensures { spelled result ≡ token_at site token.kind bytes.now token.place (work_of work.now) }
+    ensures { spelled result ≡ token_at is_between token.kind bytes.now token.place (work_of work.now) }
 {
-    let is_class = site.is_between && work.is_class(token.kind, bytes);
+    let is_class = is_between && work.is_class(token.kind, bytes);
     SourceToken::new(token.kind, bytes, token.place, is_class)
 }

@@ -15,7 +15,7 @@ use Rattle.inf_conditionals.specs.Condition.{condition_begun}
 use Rattle.inf_conditionals.specs.declared.words.ConditionalWord.{ConditionalWord}
 use Rattle.inf_conditionals.specs.declared.words.ConditionalWord.TheVariants as word
 use Rattle.inf_conditionals.specs.Words.{word_of}
-use Rattle.inf_conditional_laws.specs.KeptSides.{asking}
+use Rattle.inf_side_laws.specs.KeptSides.{asking}
 
 -- whether it is the word of such a directive
 abbrev asks : Bool → Option ConditionalWord → Bool

@@ -18,6 +18,7 @@ use Rattle.inf_unit.specs.Units.{outer_tokens}
 use Rattle.inf_conditionals.specs.Condition.{Condition, condition_begun, condition_took, is_whole, verdict_of}
 use Rattle.inf_conditionals.specs.Said.{told_by, too_much}
 use Rattle.inf_conditionals.specs.declared.condition.Verdict.{Verdict}
+use Rattle.inf_conditionals.specs.declared.filtered.Site.{Site}
 use Rattle.inf_unit.proofs.Cases.{of_both}
 use Rattle.inf_conditionals.specs.declared.filtered.Forwarded.{Forwarded}
 use Rattle.inf_conditionals.specs.declared.filtered.Forwarded.TheVariants as handed
@@ -35,11 +36,11 @@ use Rattle.inf_conditionals.specs.Judging.{Behind, at_front, asking as asking_on
 use Rattle.inf_conditionals.specs.Open.{Conditions, ended_by, is_second, latest_among, levels_behind, most_levels, silent}
 use Rattle.inf_conditionals.specs.Words.{word_of}
 use Rattle.inf_reader.specs.Handing.{hash}
-use Rattle.inf_conditional_laws.specs.KeptSides.{AddsNone, Answers, AreParts, AreTaken, Around, Asking, At, Before, Begins, Closing, First, Follows, Fronted, FrontedWord, GoesOn, Handing, IsAsked, IsFirst, IsName, IsPart, IsPlain, IsSemicolon, IsSign, IsSignedPlain, NoneInside, NoneInsideBehind, NoneInsideFirst, NoParts, OneSideIsKept, Open, Opening, Part, Parts, Passed, Plain, Signed, StayAs, Then, Turning, acted, all_behind, all_handed_on, all_kept, all_told, all_tokens, among, are_kept, as_kept, asking, begins, begins_at, behind_name, behind_part, behind_parts, closed, condition_behind, declared_behind, declared_first, declared_sign, declared_tokens, ended_behind, ended_in, ended_places, first_ends, first_side, first_sign, first_tokens, going_on, handed_on, judged_at, kept_of, kept_sides, lone_at, lone_places, missing_in, none_around, opened_more, opening, other_side, part_tokens, placed_word, places, seconds, sign_ends, signed_tokens, told_of, told_parts, turned, unended, whole_condition}
+use Rattle.inf_side_laws.specs.KeptSides.{AddsNone, Answers, AreParts, AreTaken, Around, Asking, At, Before, Begins, Closing, First, Follows, Fronted, FrontedWord, GoesOn, Handing, IsAsked, IsFirst, IsName, IsPart, IsPlain, IsSemicolon, IsSign, IsSignedPlain, NoneInside, NoneInsideBehind, NoneInsideFirst, NoParts, OneSideIsKept, Open, Opening, Part, Parts, Passed, Plain, Signed, StayAs, Then, Turning, acted, all_behind, all_handed_on, all_kept, all_told, all_tokens, among, are_kept, as_kept, asking, begins, begins_at, behind_name, behind_part, behind_parts, closed, condition_behind, declared_behind, declared_first, declared_sign, declared_tokens, ended_behind, ended_in, ended_places, first_ends, first_side, first_sign, first_tokens, going_on, handed_on, judged_at, kept_of, kept_sides, lone_at, lone_places, missing_in, none_around, opened_more, opening, other_side, part_tokens, placed_word, places, seconds, sign_ends, signed_tokens, told_of, told_parts, turned, unended, whole_condition}
 use Rattle.inf_conditional_laws.specs.LoneEnds.{is_lone}
 use Rattle.inf_conditional_laws.specs.MissingEnds.{with_all_at}
 use Rattle.inf_conditional_laws.specs.Sides.{ends_side, level_behind}
-use Rattle.inf_conditional_laws.proofs.AskingWords.{asking_fits}
+use Rattle.inf_side_laws.proofs.AskingWords.{asking_fits}
 use Rattle.inf_conditional_laws.proofs.MissingEnds.{place_of, told_at}
 use Rattle.inf_conditional_laws.proofs.Sides.{ends_as, inside as left_inside, sign_behind, token_is}
 
@@ -138,9 +139,9 @@ pub plain_kept : (t : At) (c : Conditions) (inner among : List Conditional) (dec
 plain_kept t c inner among declared none is =
     let here = at c inner among None declared in
     let front = is_front t c in
-    ap (λ (b : Bool). cond b (passed (held front t.token.place here)) (offered_to c.pending front t.site.is_quiet t.out t.token here))
+    ap (λ (b : Bool). cond b (passed (held front t.token.place here)) (offered_to c.pending front t.site t.out t.token here))
     is.no_hash
-    ∙ ap (λ ps. offered_to ps (t.site.is_between && is_none_pending ps) t.site.is_quiet t.out t.token here) none
+    ∙ ap (λ ps. offered_to ps (t.site.is_between && is_none_pending ps) t.site t.out t.token here) none
     ∙ go t.site.is_between refl
   where
     go : (b : Bool) → t.site.is_between ≡ b →
@@ -156,7 +157,7 @@ pub sign_kept : (t : At) (c : Conditions) (inner among : List Conditional) (decl
 sign_kept t c inner among declared front hash =
     let here = at c inner among None declared in
     ap (λ (b : Bool). cond b (passed (held (is_front t c) t.token.place here))
-    (offered_to c.pending (is_front t c) t.site.is_quiet t.out t.token here)) hash
+    (offered_to c.pending (is_front t c) t.site t.out t.token here)) hash
     ∙ ap (λ (b : Bool). passed (held b t.token.place here)) front
 
 pub sign_inner : (t : At) (c : Conditions) (inner among : List Conditional) (declared : ℕ) → is_front t c ≡ false →
@@ -165,7 +166,7 @@ pub sign_inner : (t : At) (c : Conditions) (inner among : List Conditional) (dec
 sign_inner t c inner among declared front hash =
     let here = at c inner among None declared in
     ap (λ (b : Bool). cond b (passed (held (is_front t c) t.token.place here))
-    (offered_to c.pending (is_front t c) t.site.is_quiet t.out t.token here)) hash
+    (offered_to c.pending (is_front t c) t.site t.out t.token here)) hash
     ∙ ap (λ (b : Bool). passed (held b t.token.place here)) front
 
 -- a word alone, behind a `#` between directives, and inside one
@@ -175,9 +176,9 @@ word_kept : (w : ConditionalWord) (t : At) (c : Conditions) (inner among : List 
 word_kept w t c inner among declared none between is =
     let here = at c inner among None declared in
     ap (λ (k : TokenKind). cond (is_mark mark.Hash k) (passed (held (is_front t c) t.token.place here))
-    (offered_to c.pending (is_front t c) t.site.is_quiet t.out t.token here))
+    (offered_to c.pending (is_front t c) t.site t.out t.token here))
     (is_name t.token w is)
-    ∙ ap (λ ps. offered_to ps (t.site.is_between && is_none_pending ps) t.site.is_quiet t.out t.token here) none
+    ∙ ap (λ ps. offered_to ps (t.site.is_between && is_none_pending ps) t.site t.out t.token here) none
     ∙ ap (λ (b : Bool). cond (b && true) (at_front (word_of (keyword t.token)) t.token here) (kept here)) between
     ∙ ap (λ o. at_front o t.token here) is
 
@@ -197,7 +198,7 @@ signed_inner : (w : ConditionalWord) (place : Place) (t : At) (c : Conditions) (
     word_of (keyword t.token) ≡ Some w
     → judged_at t (state c (Some place) inner among None declared) ≡ begun w t.token place true (at c inner among None declared)
 signed_inner w place t c inner among declared is =
-    ap (λ o. behind_sign o place t.site.is_quiet t.out t.token (state c (Some place) inner among None declared)) is
+    ap (λ o. behind_sign o place t.site t.out t.token (state c (Some place) inner among None declared)) is
 
 pub begun_opening : (is_inner if_declared : Bool) (t : SourceToken) (place : Place) (c : Conditions) →
     begun (opening if_declared) t place is_inner c ≡ passed (awaiting place is_inner (awaits.Name if_declared) c)
@@ -242,11 +243,11 @@ end_is_no_hash (kind.Bad x) e = cc
 pub end_word : (t : SourceToken) → is_end t.kind ≡ true → word_of (keyword t) ≡ None
 end_word t e = mark_word t.kind t.bytes (λ name. let never : true ≡ false = sym e ∙ ap is_end name in cc)
 
-pub end_kept_so : (front quiet : Bool) (o : Out) (t : SourceToken) (c : Conditions) → is_end t.kind ≡ true → c.pending ≡ [] →
-    offered front quiet o t c ≡ kept c
-end_kept_so front quiet o t c is none =
-    ap (λ (b : Bool). cond b (passed (held front t.place c)) (offered_to c.pending front quiet o t c)) (end_is_no_hash t.kind is)
-    ∙ ap (λ ps. offered_to ps front quiet o t c) none
+pub end_kept_so : (front : Bool) (site : Site) (o : Out) (t : SourceToken) (c : Conditions) → is_end t.kind ≡ true → c.pending ≡ [] →
+    offered front site o t c ≡ kept c
+end_kept_so front site o t c is none =
+    ap (λ (b : Bool). cond b (passed (held front t.place c)) (offered_to c.pending front site o t c)) (end_is_no_hash t.kind is)
+    ∙ ap (λ ps. offered_to ps front site o t c) none
     ∙ of_both (λ (b : Behind). b ≡ kept c) front (at_front (word_of (keyword t)) t c) (kept c)
     (λ _. ap (λ w. at_front w t c) (end_word t is))
     (λ _. refl)
@@ -261,12 +262,12 @@ end_stays t c is none no_sign = go c.left_out c.sign no_sign
     go (Some side) sign e =
         let cleared = record c { left_out = None; sign = None } in
         let same =
-        ap (λ (b : Bool). cond b (offered false t.site.is_quiet t.out t.token cleared)
+        ap (λ (b : Bool). cond b (offered false t.site t.out t.token cleared)
         (passed (passed_by (word_of (keyword t.token)) t.token side c))) is
-        ∙ end_kept_so false t.site.is_quiet t.out t.token cleared is none in
+        ∙ end_kept_so false t.site t.out t.token cleared is none in
         (ap (λ (b : Behind). b.now.among) same, ap (λ (b : Behind). b.now.inner) same)
     go None None e =
-        let same = end_kept_so (t.site.is_between && is_none_pending c.pending) t.site.is_quiet t.out t.token c is none in
+        let same = end_kept_so (t.site.is_between && is_none_pending c.pending) t.site t.out t.token c is none in
         (ap (λ (b : Behind). b.now.among) same, ap (λ (b : Behind). b.now.inner) same)
     go None (Some place) e = cc
 
@@ -338,7 +339,7 @@ word_ends w t sign c inner among inner_now among_now b declared is ends acted =
     let here = state c sign inner among (left_at b 0) declared in
     let place = unwrap_or sign t.token.place in
     let now = awaiting place false (awaits.End effect.Nothing) (record (ended_by w here) { left_out = None; sign = None }) in
-    ap (λ (x : Bool). cond x (offered false t.site.is_quiet t.out t.token (at c inner among None declared))
+    ap (λ (x : Bool). cond x (offered false t.site t.out t.token (at c inner among None declared))
     (passed (passed_by (word_of (keyword t.token)) t.token (side_at b) here))) (ap is_end (is_name t.token w is))
     ∙ ap (λ o. passed (passed_by o t.token (side_at b) here)) is
     ∙ ap (λ (x : Bool). passed (cond x now (record here { left_out = left_at b (levels_behind w 0); sign = None })))
@@ -834,7 +835,7 @@ inside_kept place t c inner among declared none is =
         });
       };
     } in
-    ap (λ o. behind_sign o place t.site.is_quiet t.out t.token (state c (Some place) inner among None declared)) is.no_word
+    ap (λ o. behind_sign o place t.site t.out t.token (state c (Some place) inner among None declared)) is.no_word
     ∙ ap (λ (b : Bool). signed c.pending (cond b (passed (held false t.token.place here)) (kept here))) is.no_hash
     ∙ ap (λ ps. signed ps (kept here)) none
 
@@ -1030,12 +1031,12 @@ begun_asking is_inner false t place c inner among declared is =
 next_taken : (is_inner wanted : Bool) (place : Place) (t : At) (k : Condition) (c : Conditions) (inner among : List Conditional)
     (declared : ℕ) → is_mark mark.Hash t.token.kind ≡ false → fits grammar known (atom_of t.token) k.stack ≡ true
     → judged_at t (reading is_inner place (awaits.Condition wanted) (with_condition k c) inner among declared)
-    ≡ went_on wanted t.site.is_quiet t.out t.token (condition_took t.token k) (directive is_inner place (awaits.Condition wanted))
+    ≡ went_on wanted t.site t.out t.token (condition_took t.token k) (directive is_inner place (awaits.Condition wanted))
     (at c inner among None declared)
 next_taken is_inner wanted place t k c inner among declared plain is_taken =
     let here = at c inner among None declared in
     let p = directive is_inner place (awaits.Condition wanted) in
-    let then = went_on wanted t.site.is_quiet t.out t.token (condition_took t.token k) p here in
+    let then = went_on wanted t.site t.out t.token (condition_took t.token k) p here in
     ap (λ (b : Bool). cond b (passed (held (t.site.is_between && false) t.token.place
     (reading is_inner place (awaits.Condition wanted) (with_condition k c) inner among declared)))
     (cond (fits grammar known (atom_of t.token) k.stack) then (unfit here))) plain
@@ -1047,7 +1048,7 @@ next_goes : (is_inner wanted : Bool) (place : Place) (t : At) (k : Condition) (c
     → is_whole (condition_took t.token k) ≡ false
     → judged_at t (reading is_inner place (awaits.Condition wanted) (with_condition k c) inner among declared)
     ≡ taken (asking_on place is_inner wanted (condition_took t.token k)
-    (saying t.site.is_quiet (too_much c.longest t.token (condition_took t.token k))
+    (saying t.site.is_quiet (too_much t.site.longest t.token (condition_took t.token k))
     (tokens_counted t.site.is_quiet (condition_took t.token k) (at c inner among None declared))))
 next_goes is_inner wanted place t k c inner among declared plain is_taken whole =
     let here = at c inner among None declared in
@@ -1056,7 +1057,8 @@ next_goes is_inner wanted place t k c inner among declared plain is_taken whole 
     let quiet = t.site.is_quiet in
     next_taken is_inner wanted place t k c inner among declared plain is_taken
     ∙ ap (λ (b : Bool). cond b (decided (verdict_of declared t.out next) wanted quiet next p here)
-    (taken (asking_on place is_inner wanted next (saying quiet (too_much c.longest t.token next) (tokens_counted quiet next here))))) whole
+    (taken (asking_on place is_inner wanted next (saying quiet (too_much t.site.longest t.token next) (tokens_counted quiet next here)))))
+    whole
 
 -- and the last
 next_ends : (is_inner wanted : Bool) (place : Place) (t : At) (k : Condition) (c : Conditions) (inner among : List Conditional)
@@ -1072,7 +1074,8 @@ next_ends is_inner wanted place t k c inner among declared plain is_taken whole 
     let quiet = t.site.is_quiet in
     next_taken is_inner wanted place t k c inner among declared plain is_taken
     ∙ ap (λ (b : Bool). cond b (decided (verdict_of declared t.out next) wanted quiet next p here)
-    (taken (asking_on place is_inner wanted next (saying quiet (too_much c.longest t.token next) (tokens_counted quiet next here))))) whole
+    (taken (asking_on place is_inner wanted next (saying quiet (too_much t.site.longest t.token next) (tokens_counted quiet next here)))))
+    whole
 
 -- Small facts
 
@@ -1827,7 +1830,7 @@ reads_one (awaits.Condition wanted) (k ∷ ks) is_inner place others t inside be
     let last = last_at (ended_in t.ended (record { inside = inside; between = between })) (declared_behind t declared) n in
     let here = reading is_inner place a (with_condition k base) inner among declared in
     let now = asking_on place is_inner wanted next
-    (saying quiet (too_much base.longest t.token next) (tokens_counted quiet next (at base inner among None declared))) in
+    (saying quiet (too_much t.site.longest t.token next) (tokens_counted quiet next (at base inner among None declared))) in
     let missing = missing_in t.ended (record { inside = inside; between = between }) in
     let same : here ≡ at c inner among None declared =
     ap (λ cs. at (record c { pending = directive is_inner place a ∷ others; conditions = cs }) inner among None declared) (sym hk)
@@ -2012,7 +2015,7 @@ pub hash_freed : (place : Place) (t : At) (c : Conditions) (ps : List Pending) (
 hash_freed place t c ps inner among declared read hash inside =
     let here = at (given_up_so c) inner among None declared in
     let signed : List Pending → Behind → Behind = λ ps b. with_sign (cond (is_none_pending ps) handed.Kept handed.Unfit) place b in
-    ap (λ o. behind_sign o place t.site.is_quiet t.out t.token (state c (Some place) inner among None declared)) (hash_word t.token hash)
+    ap (λ o. behind_sign o place t.site t.out t.token (state c (Some place) inner among None declared)) (hash_word t.token hash)
     ∙ ap (λ (b : Bool). signed c.pending (cond b (passed (held false t.token.place here)) (kept here))) hash
     ∙ ap (λ ps. signed ps (passed (held false t.token.place here))) read
     ∙ sym (ap (signed ps) (sign_inner t (given_up_so c) inner among declared (ap (λ b. b && true) inside) hash))

@@ -15,16 +15,16 @@ use Rattle.inf_conditionals.specs.Ends.{file_told}
 use Rattle.inf_conditionals.specs.Judging.{Behind, is_none_pending, judged, none_handed}
 use Rattle.inf_conditionals.specs.Open.{Conditions, is_second, latest, most_levels, silent}
 use Rattle.inf_conditionals.specs.Words.{word_of}
-use Rattle.inf_reader.specs.Handing.{judged_taken, said_told, site_of}
+use Rattle.inf_reader.specs.Handing.{is_between, judged_taken, said_told, site_of}
 use Rattle.inf_reader.specs.Reading.{Reading, is_mode_ended}
 use Rattle.inf_session.specs.Choices.{Choices}
 use Rattle.inf_session.specs.Session.{State, answered, asked_nothing, context_of, has_ended, carried_out, is_resting, left, piece_closed, rested, stand_of, stepped, token_of, turn}
-use Rattle.inf_conditional_laws.specs.KeptSides.{all_behind, all_handed_on, ended_behind, going_on, handed_as, handed_on, handed_sign, handed_token, judged_at}
+use Rattle.inf_side_laws.specs.KeptSides.{all_behind, all_handed_on, ended_behind, going_on, handed_as, handed_on, handed_sign, handed_token, judged_at}
 use Rattle.inf_laws.specs.KeptTokens.{given_as, given_of, given_sign, given_token}
 use Rattle.inf_laws.specs.KeptTurns.{given_by, given_in, turned}
-use Rattle.inf_conditional_laws.specs.SideTurns.{ReadingsStartClear, StayInOne, TurnsCutInnerSides, TurnsHandOn, TurnsKeepSides, TurnsTellMissingEnds, as_event, at_turn, at_turns, ends_there, is_inclusion, shown}
+use Rattle.inf_side_laws.specs.SideTurns.{ReadingsStartClear, StayInOne, TurnsCutInnerSides, TurnsHandOn, TurnsKeepSides, TurnsTellMissingEnds, as_event, at_turn, at_turns, ends_there, is_inclusion, shown}
 use Rattle.inf_conditional_laws.specs.Sides.{StayIn, level_behind}
-use Rattle.inf_conditional_laws.proofs.KeptSides.{one_side_is_kept}
+use Rattle.inf_side_laws.proofs.KeptSides.{one_side_is_kept}
 use Rattle.inf_laws.proofs.KeptTurns.{carried_out_reading, turn_reading}
 use Rattle.inf_conditional_laws.proofs.Sides.{inside, one_more, sign_behind, token_is}
 
@@ -89,9 +89,9 @@ turns_hand_on limits sources o zero s stay = refl
 turns_hand_on limits sources o (suc n) s stay =
     let next = turn limits sources o s in
     let t = token_of s in
-    let b = judged (site_of s.reading) s.work.output t s.conditions in
+    let b = judged (site_of o.settings s.reading) s.work.output t s.conditions in
     let tokens = at_turns limits sources o n next in
-    map-append shown (given_by s) (given_in limits sources o n next)
+    map-append shown (given_by o s) (given_in limits sources o n next)
     ∙ ap (λ hs. hs ++ map shown (given_in limits sources o n next)) (all_shown b.judged t)
     ∙ ap (λ hs. handed_on b.judged t ++ hs) (turns_hand_on limits sources o n next stay.1.1 ∙ ap (all_handed_on tokens)
     (turn_conditions limits sources o s stay.0 stay.1.0))
@@ -127,7 +127,7 @@ readings_start_clear sources o name =
 
 -- a turn in it
 record Still (limits : Limits) (sources : Sources) (o : Choices) (s : State) (side : LeftOut) : Type 0 where
-  none_given : given_by s ≡ []
+  none_given : given_by o s ≡ []
   reading : (turn limits sources o s).reading ≡ s.reading
   asked : (turn limits sources o s).work.asked ≡ Nothing
   left_out : (turn limits sources o s).conditions.left_out ≡ Some
@@ -160,13 +160,13 @@ none_ends s not_resting =
     go e false = refl
 
 still : (limits : Limits) (sources : Sources) (o : Choices) (s : State) (side : LeftOut) → s.conditions.left_out ≡ Some side →
-    (site_of s.reading).is_between ≡ false → is_mode_ended s.reading.mode ≡ false
+    is_between s.reading ≡ false → is_mode_ended s.reading.mode ≡ false
     → s.work.asked ≡ Nothing → side.levels + 1 ≤ most_levels → StayIn (is_second (latest s.conditions)) side.levels
     (as_event (at_turn limits sources o s) ∷ []) → Still limits sources o s side
 still limits sources o s side left_out inner going none few stay =
     let c = s.conditions in
     let t = token_of s in
-    let site = site_of s.reading in
+    let site = site_of o.settings s.reading in
     let out = s.work.output in
     let context = context_of o s in
     let b = judged site out t c in
@@ -183,7 +183,7 @@ still limits sources o s side left_out inner going none few stay =
     let h = carried_out sources o (stepped limits o s) in
     let h_read : h.reading ≡ s.reading = carried_out_reading sources o (stepped limits o s) goes_on ∙ read in
     let not_resting : is_resting h ≡ false =
-    ap (λ (r : Reading). (site_of r).is_between && is_none_pending h.conditions.pending) h_read
+    ap (λ (r : Reading). is_between r && is_none_pending h.conditions.pending) h_read
     ∙ ap (λ x. x && is_none_pending h.conditions.pending) inner in
     let conditions : (turn limits sources o s).conditions ≡ silent now =
     turn_conditions limits sources o s goes_on (ap is_inclusion asked_so)
@@ -205,7 +205,7 @@ turns_cut_inner_sides limits sources o (suc n) s side left_out inner going none 
     let one = still limits sources o s side left_out inner going none (omega (arith, few)) (stay.0, (stay.1.0, tt)) in
     let all =
     turns_cut_inner_sides limits sources o n next (record side { levels = level }) one.left_out
-    (ap (λ (r : Reading). (site_of r).is_between) one.reading ∙ inner)
+    (ap (λ (r : Reading). is_between r) one.reading ∙ inner)
     (ap (λ (r : Reading). is_mode_ended r.mode) one.reading ∙ going) one.asked
     (omega (arith, few, one_more (word_of (keyword (token_of s))) side.levels))
     (subst (λ b. StayIn b level (map as_event (at_turns limits sources o n next))) (sym one.second) stay.1.1) in

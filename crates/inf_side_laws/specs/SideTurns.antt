@@ -7,11 +7,11 @@ use Rattle.inf_unit.specs.Tokens.{is_end}
 use Rattle.inf_conditionals.specs.declared.filtered.Forwarded.TheVariants as handed
 use Rattle.inf_conditionals.specs.declared.open.LeftOut.{LeftOut}
 use Rattle.inf_conditionals.specs.Open.{is_second, latest, most_levels}
-use Rattle.inf_reader.specs.Handing.{site_of}
+use Rattle.inf_reader.specs.Handing.{is_between, site_of}
 use Rattle.inf_reader.specs.Reading.{is_mode_ended}
 use Rattle.inf_session.specs.Choices.{Choices}
 use Rattle.inf_session.specs.Session.{State, file_closed, has_ended, carried_out, is_resting, start, stepped, token_of, turn}
-use Rattle.inf_conditional_laws.specs.KeptSides.{Answers, At, Handing, IsClear, IsFile, Parts, all_handed_on, all_tokens, as_kept, behind_parts, kept_sides, none_around, unended}
+use Rattle.inf_side_laws.specs.KeptSides.{Answers, At, Handing, IsClear, IsFile, Parts, all_handed_on, all_tokens, as_kept, behind_parts, kept_sides, none_around, unended}
 use Rattle.inf_laws.specs.KeptTokens.{Given, Kept, Unfit}
 use Rattle.inf_laws.specs.KeptTurns.{given_in, turned}
 use Rattle.inf_conditional_laws.specs.MissingEnds.{with_all_at}
@@ -25,7 +25,7 @@ ends_there s = if has_ended s then None else if is_resting s then Some s.work.ou
 abbrev pub at_turn : Limits → Sources → Choices → State → At
 at_turn limits sources o s =
     record {
-      site = site_of s.reading;
+      site = site_of o.settings s.reading;
       out = s.work.output;
       token = token_of s;
       ended = ends_there
@@ -94,7 +94,7 @@ pub record StandsStill (limits : Limits) (sources : Sources) (o : Choices) (n : 
 
 abbrev pub TurnsCutInnerSides : Limits → Type 0
 TurnsCutInnerSides limits = (sources : Sources) (o : Choices) (n : ℕ) (s : State) (side : LeftOut) → s.conditions.left_out ≡ Some side →
-    (site_of s.reading).is_between ≡ false
+    is_between s.reading ≡ false
     → is_mode_ended s.reading.mode ≡ false → s.work.asked ≡ Nothing → side.levels + n ≤ most_levels
     → StayIn (is_second (latest s.conditions)) side.levels (map as_event (at_turns limits sources o n s))
     → StandsStill limits sources o n s

@@ -1,6 +1,6 @@
-use Rattle.inf_conditional_laws.proofs.KeptSides.{one_side_is_kept}
-use Rattle.inf_conditional_laws.proofs.SideTurns.{readings_start_clear, turns_hand_on, turns_keep_sides, turns_tell_missing_ends}
-use Rattle.inf_conditional_laws.proofs.laws.one_side_is_kept.Goals as goal
+use Rattle.inf_side_laws.proofs.KeptSides.{one_side_is_kept}
+use Rattle.inf_side_laws.proofs.SideTurns.{readings_start_clear, turns_hand_on, turns_keep_sides, turns_tell_missing_ends}
+use Rattle.inf_side_laws.proofs.laws.one_side_is_kept.Goals as goal
 
 pub returns : goal.returns
 returns c = record {

@@ -13,6 +13,7 @@ use Rattle.inf_reader.specs.Reading.{ReaderState, is_mode_ended}
 use Rattle.inf_reader.specs.Standing.{standing}
 use Rattle.inf_lexer.specs.Names.{Nest}
 use Rattle.inf_conditionals.specs.Judging.{judged}
+use Rattle.inf_conditionals.specs.declared.filtered.Site.{Site}
 use Rattle.inf_conditionals.specs.Said.{with_said}
 use Rattle.inf_unit.specs.Messages.{FileNames, Reported}
 use Rattle.inf_compilation.specs.Actions.{is_class}
@@ -89,7 +90,7 @@ returns-clause-longest g c = λ before.
     let longest = λ (t : SourceToken). quoted_behind site c.in_ok-judged.judged t c.args.self.now.quoted in
     subst (λ n. n ≤ most) (sym (c.quoted_behind-self.ensures ∙ ap longest c.token_at-spelled.ensures))
     (quoted_within site c.in_ok-judged.judged
-    (token_at site token.kind c.spelling-spelling.result.now token.place (work c.args.self.now.progress.work)) c.args.self.now.quoted most
+    (token_at site.is_between token.kind c.spelling-spelling.result.now token.place (work c.args.self.now.progress.work)) c.args.self.now.quoted most
     few before)
 
 pub returns-clause-stepped : goal.returns-clause-stepped
@@ -107,9 +108,9 @@ returns-clause-stepped g c = λ honest start nested told.
     let told_names : c.names.result.now.names ≡ names = ap (λ (s : Nest). s.names) (c.names.ensures ∙ c.in-Ok.ensures.same.0) in
     let taken_names : c.names-2.result.now.names ≡ names = ap (λ (s : Nest). s.names) (c.names-2.ensures ∙ c.in-Ok.ensures.same.0) in
     let site = c.site-site.ensures in
-    let spelled = token_at c.site-site.result token.kind bytes token.place before.work in
+    let spelled = token_at c.site-site.result.is_between token.kind bytes token.place before.work in
     let spelled_is = c.token_at-spelled.ensures in
-    let is = token_is before c.site-site.result token.kind bytes token.place site reads.kind reads.place
+    let is = token_is before c.site-site.result.is_between token.kind bytes token.place (ap (λ (x : Site). x.is_between) site) reads.kind reads.place
     (c.spelling-spelling.ensures ∙ reads.bytes) in
     let behind_it =
     c.in_ok-judged.ensures ∙ ap (λ (t : SourceToken). judged c.site-site.result before.work.output t before.conditions) spelled_is

@@ -1,0 +1,3 @@
+pub mod AskingWords
+pub mod KeptSides
+pub mod SideTurns

@@ -1,0 +1,2 @@
+pub mod KeptSides
+pub mod SideTurns
