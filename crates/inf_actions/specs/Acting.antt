@@ -38,8 +38,8 @@ is_crowded limits w = nat_lt (limits setting.Code) (length w.unit.items)
 abbrev pub is_tall : Context → Compilation → Bool
 is_tall context w = nat_lt (number_of setting.Objects context.settings) (last_leaf w.unit)
 
--- Something is noted of the unit at hand, by which its outermost expression may be too long. Of texts that are printed, and of arrows before
--- an object's name, so many are kept.
+-- Something is noted of the unit at hand, by which its outermost expression may be too long. Of texts that are printed, and of arrows
+-- before an object's name, so many are kept.
 abbrev pub noted_of : Context → Note → Compilation → Compilation
 noted_of context n w = let v = record w { unit = unit_noted n w.unit } in if makes_sure n then sized context v else v
 

@@ -124,8 +124,8 @@ fn is_tall<B: Bounds>(compilation: &Compilation<B>, context: &Context<'_>) -> bo
     compilation.unit.last() > context.settings.of(Setting::Objects) as usize
 }
 
-/// Something is noted of the unit at hand, by which its outermost expression may be too long. Of texts that are printed, and of arrows before
-/// an object's name, so many are kept.
+/// Something is noted of the unit at hand, by which its outermost expression may be too long. Of texts that are printed, and of arrows
+/// before an object's name, so many are kept.
 fn note<B: Bounds>(
     compilation: &mut Compilation<B>,
     context: &Context<'_>,

@@ -1,5 +1,6 @@
 -- Bytes that move to the front, one by one.
-use Rattle.std.proofs.Common.{◌≡◌, ℕ, ◌+◌, ◌-◌, ◌<◌, ◌≤◌, List, [], ◌∷◌, ◌++◌, length, get_or, take, drop, set, sym, ◌∙◌, ap, arith, append_assoc, length-append, length-take, length-drop, get_or-drop, take-append-drop, append-nil}
+use Rattle.std.proofs.Common.{◌≡◌, ℕ, ◌+◌, ◌-◌, ◌<◌, ◌≤◌, List, [], ◌∷◌, ◌++◌, length, get_or, take, drop, set, sym, ◌∙◌, ap, arith}
+use Rattle.std.proofs.Common.{append_assoc, length-append, length-take, length-drop, get_or-drop, take-append-drop, append-nil}
 use Rattle.std.proofs.lemmas.List.{take_more, drop_more, get_or-append_right, set-append_right, take_at, take_all}
 use Rattle.inf_area.specs.Moves.{moved}
 

@@ -1,5 +1,6 @@
 //! Areas whose bytes lie in pages.
-ghost use Rattle.std.specs.Prelude.{◌≡◌, ◌+◌, ◌*◌, ◌^◌, ◌<◌, ◌≤◌, ℕ, List, [], ◌∷◌, ◌++◌, length, take, drop, slice_index, slice_set, OnOk, OnErr};
+ghost use Rattle.std.specs.Prelude.{◌≡◌, ◌+◌, ◌*◌, ◌^◌, ◌<◌, ◌≤◌, ℕ, List, [], ◌∷◌, ◌++◌, length, take, drop, slice_index, slice_set, OnOk};
+ghost use Rattle.std.specs.Prelude.{OnErr};
 ghost use Rattle.inf_area.specs.Pages.{page_bytes, AreWhole};
 
 use crate::areas::Area;

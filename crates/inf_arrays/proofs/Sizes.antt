@@ -1,5 +1,6 @@
 -- Bytes of arrays, and numbers in them that are known later: of joined lists, of one with more entries, and as they are written.
-use Rattle.std.proofs.Common.{◌≡◌, ℕ, ◌+◌, ◌*◌, ◌-◌, ◌≤◌, ◌<◌, zero, suc, List, [], ◌∷◌, ◌++◌, length, replicate, refl, arith, ap, ◌∙◌, length-append, append_assoc, append-nil, sym}
+use Rattle.std.proofs.Common.{◌≡◌, ℕ, ◌+◌, ◌*◌, ◌-◌, ◌≤◌, ◌<◌, zero, suc, List, [], ◌∷◌, ◌++◌, length, replicate, refl, arith, ap, ◌∙◌}
+use Rattle.std.proofs.Common.{length-append, append_assoc, append-nil, sym}
 use Rattle.std.proofs.lemmas.List.{length-replicate}
 use Rattle.inf_area.specs.declared.targets.Value.{Value}
 use Rattle.inf_area.specs.declared.targets.Value.TheVariants as value

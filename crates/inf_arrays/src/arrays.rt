@@ -1,12 +1,15 @@
 //! Arrays, entry by entry.
-ghost use Rattle.std.specs.Prelude.{◌≡◌, ◌<◌, ◌≤◌, ◌+◌, ◌++◌, ◌∷◌, ◌^◌, [], None, Some, OnOk, OnErr, IfOk, IfErr, IfNone, IsSome, MatchResult, is_some, length, map, option_map, option_to_list, replicate, unwrap_or};
+ghost use Rattle.std.specs.Prelude.{◌≡◌, ◌<◌, ◌≤◌, ◌+◌, ◌++◌, ◌∷◌, ◌^◌, [], None, Some, OnOk, OnErr, IfOk, IfErr, IfNone, IsSome};
+ghost use Rattle.std.specs.Prelude.{MatchResult, is_some, length, map, option_map, option_to_list, replicate, unwrap_or};
 ghost use Rattle.inf_area.specs.Fixups.{with_fixups};
 ghost use Rattle.inf_area.specs.declared.targets.AreaName.TheVariants as area_name;
 ghost use Rattle.inf_area.specs.declared.targets.Value.TheVariants.{Known};
 ghost use Rattle.inf_cells.specs.Cells.{bytes_of, fixups_of, later_count};
 ghost use Rattle.inf_cells.specs.declared.cells.WriteFault.TheVariants as write_fault;
 ghost use Rattle.inf_arrays.specs.Adding.{added};
-ghost use Rattle.inf_arrays.specs.Arrays.{HasRoom, added_fault, all_of, array_cells, arrays_cells, arrays_laters, arrays_size, characters, characters_fault, closed_one, entries_fault, fault_by, no_arrays, opened, open_fault, values_in, with_entries, zeros_fault};
+ghost use Rattle.inf_arrays.specs.Arrays.{HasRoom, added_fault, all_of, array_cells, arrays_cells, arrays_laters, arrays_size, characters};
+ghost use Rattle.inf_arrays.specs.Arrays.{characters_fault, closed_one, entries_fault, fault_by, no_arrays, opened, open_fault, values_in};
+ghost use Rattle.inf_arrays.specs.Arrays.{with_entries, zeros_fault};
 ghost use Rattle.inf_arrays.specs.Kinds.{bytes_cells, count_cells, count_size, entries_cells, low_byte};
 ghost use Rattle.inf_arrays.specs.Listing.{listed};
 ghost use Rattle.inf_arrays.specs.declared.arrays.ArrayFault.TheVariants.{Memory};

@@ -1,12 +1,16 @@
 -- What is computed from what is kept is what the cells say.
-use Rattle.std.proofs.Common.{◌≡◌, ℕ, ◌+◌, ◌-◌, ◌≤◌, Bool, true, false, cond, List, [], ◌∷◌, ◌++◌, length, take, drop, Option, Some, None, is_some, refl, sym, ◌∙◌, ap, arith, append-nil, append_assoc, length-append, length-drop}
+use Rattle.std.proofs.Common.{◌≡◌, ℕ, ◌+◌, ◌-◌, ◌≤◌, Bool, true, false, cond, List, [], ◌∷◌, ◌++◌, length, take, drop, Option, Some, None}
+use Rattle.std.proofs.Common.{is_some, refl, sym, ◌∙◌, ap, arith, append-nil, append_assoc, length-append, length-drop}
 use Rattle.std.proofs.lemmas.List.{drop_at, drop-drop, take_at}
 use Rattle.inf_opcode.specs.declared.cells.Kept.{Kept}
 use Rattle.inf_opcode.specs.declared.cells.Special.{Special}
 use Rattle.inf_opcode.specs.declared.cells.Special.TheVariants.{Marks, Branches, Jumps, Refers}
 use Rattle.inf_opcode.specs.Cells.{Cell, Plain, Of, special_size, special_bytes, long_bytes, kept_from}
-use Rattle.inf_assembler.specs.Places.{Places, with_some, joined, is_short_to, size_at, long_place, place_from, closed_special, closed_bytes, closed_fixups, fixup_at, first_of, marks, unplaced, used_by, missing, marked_again, twice_behind}
-use Rattle.inf_assembler.specs.Closing.{AreInOrder, nowhere, special_saving, kept_place, kept_missing, kept_again, kept_twice, kept_fixups, placed_bytes, with_bytes, squeezed}
+use Rattle.inf_assembler.specs.Places.{Places, with_some, joined, is_short_to, size_at, long_place, place_from, closed_special}
+use Rattle.inf_assembler.specs.Places.{closed_bytes, closed_fixups, fixup_at, first_of, marks, unplaced, used_by, missing, marked_again}
+use Rattle.inf_assembler.specs.Places.{twice_behind}
+use Rattle.inf_assembler.specs.Closing.{AreInOrder, nowhere, special_saving, kept_place, kept_missing, kept_again, kept_twice, kept_fixups}
+use Rattle.inf_assembler.specs.Closing.{placed_bytes, with_bytes, squeezed}
 use Rattle.inf_opcode.proofs.Growing.{length-special}
 use Rattle.inf_assembler.proofs.Passes.{saving_nowhere, closed_size, size_le, kept_place-push}
 use Rattle.inf_assembler.proofs.Placing.{length-placed, take-placed_all, drop-placed}

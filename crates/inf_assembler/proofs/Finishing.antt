@@ -1,6 +1,7 @@
 -- What is computed at the end is what the routine's cells say.
 use Rattle.std.specs.Prelude.{Result, Ok, Err, OnOk}
-use Rattle.std.proofs.Common.{◌≡◌, ℕ, ◌+◌, List, [], ◌∷◌, ◌++◌, length, Option, Some, None, refl, sym, ◌∙◌, ap, arith, append_assoc, length-append}
+use Rattle.std.proofs.Common.{◌≡◌, ℕ, ◌+◌, List, [], ◌∷◌, ◌++◌, length, Option, Some, None, refl, sym, ◌∙◌, ap, arith, append_assoc}
+use Rattle.std.proofs.Common.{length-append}
 use mathlib.Core.Path.{fun_ext}
 use Rattle.inf_area.specs.Fixups.{Fixups}
 use Rattle.inf_opcode.specs.declared.cells.Kept.{Kept}
@@ -13,8 +14,10 @@ use Rattle.inf_assembler.specs.declared.routines.RoutineKind.{RoutineKind}
 use Rattle.inf_opcode.specs.Cells.{Cell, Plain, Of, special_size, long_bytes, fixup_count, kept_from}
 use Rattle.inf_assembler.specs.Places.{Places, with_some, size_at, fixup_at, closed_fixups, missing, twice_behind}
 use Rattle.inf_assembler.specs.Closing.{found, nowhere, kept_place, kept_missing, kept_twice, kept_fixups, squeezed, AreInOrder}
-use Rattle.inf_assembler.specs.Routines.{Contents, long_places, places, body_bytes, routine_fixups, full_fault, body_fault, twice_fault, missing_fault, fault_of}
-use Rattle.inf_assembler.proofs.Bridges.{order_kept, place_bridge, long_bridge, fixups_bridge, missing_bridge, twice_bridge, squeezed_bridge}
+use Rattle.inf_assembler.specs.Routines.{Contents, long_places, places, body_bytes, routine_fixups, full_fault, body_fault, twice_fault}
+use Rattle.inf_assembler.specs.Routines.{missing_fault, fault_of}
+use Rattle.inf_assembler.proofs.Bridges.{order_kept, place_bridge, long_bridge, fixups_bridge, missing_bridge, twice_bridge}
+use Rattle.inf_assembler.proofs.Bridges.{squeezed_bridge}
 
 pub none_of : {A : Type 0} (o : Option A) → ((x : A) → o ≡ Some x → ⊥) → o ≡ None
 none_of None h = refl

@@ -1,5 +1,6 @@
 -- What is kept, one thing after the other.
-use Rattle.std.proofs.Common.{◌≡◌, ℕ, ◌+◌, ◌-◌, ◌<◌, ◌≤◌, Bool, true, false, cond, List, [], ◌∷◌, ◌++◌, length, get_or, take, drop, Option, Some, None, is_some, refl, sym, ◌∙◌, ap, subst, arith}
+use Rattle.std.proofs.Common.{◌≡◌, ℕ, ◌+◌, ◌-◌, ◌<◌, ◌≤◌, Bool, true, false, cond, List, [], ◌∷◌, ◌++◌, length, get_or, take, drop, Option}
+use Rattle.std.proofs.Common.{Some, None, is_some, refl, sym, ◌∙◌, ap, subst, arith}
 use Rattle.std.proofs.lemmas.List.{drop_more, take_more}
 use Rattle.inf_area.specs.declared.targets.Target.{Target}
 use Rattle.inf_opcode.specs.declared.cells.Kept.{Kept}
@@ -9,8 +10,10 @@ use Rattle.inf_opcode.specs.declared.instructions.Destination.{Destination}
 use Rattle.inf_opcode.specs.declared.instructions.Destination.TheVariants.{To, ReturnFalse, ReturnTrue}
 use Rattle.inf_opcode.specs.declared.instructions.Label.{Label}
 use Rattle.inf_opcode.specs.Cells.{special_size}
-use Rattle.inf_assembler.specs.Places.{Places, with_some, is_short_to, size_at, branch_bytes, branch_offset, closed_special, first_of, marks, fixup_at}
-use Rattle.inf_assembler.specs.Closing.{AreInOrder, nowhere, special_saving, kept_place, kept_again, kept_twice, placed_bytes, with_bytes, squeezed, saving, kept_fixups}
+use Rattle.inf_assembler.specs.Places.{Places, with_some, is_short_to, size_at, branch_bytes, branch_offset, closed_special, first_of}
+use Rattle.inf_assembler.specs.Places.{marks, fixup_at}
+use Rattle.inf_assembler.specs.Closing.{AreInOrder, nowhere, special_saving, kept_place, kept_again, kept_twice, placed_bytes, with_bytes}
+use Rattle.inf_assembler.specs.Closing.{squeezed, saving, kept_fixups}
 
 -- what stands first, and what is behind it
 pub order_step : (from i end : ℕ) (kept : List Kept) (d : Kept) → i < length kept → AreInOrder from (drop i kept) end

@@ -1,5 +1,6 @@
 -- What is computed from what a routine keeps, one thing kept after the other.
-use Rattle.std.specs.Prelude.{ℕ, ◌+◌, ◌-◌, ◌≤◌, ◌==◌, List, [], ◌∷◌, ◌++◌, length, take, drop, slice_get, Option, Some, None, is_some, if◌then◌else◌}
+use Rattle.std.specs.Prelude.{ℕ, ◌+◌, ◌-◌, ◌≤◌, ◌==◌, List, [], ◌∷◌, ◌++◌, length, take, drop, slice_get, Option, Some, None, is_some}
+use Rattle.std.specs.Prelude.{if◌then◌else◌}
 use Rattle.inf_area.specs.declared.fixups.Fixup.{Fixup}
 use Rattle.inf_opcode.specs.declared.instructions.Label.{Label}
 use Rattle.inf_opcode.specs.declared.cells.Kept.{Kept}

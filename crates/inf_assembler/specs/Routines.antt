@@ -1,5 +1,6 @@
 -- Open routines, and what becomes of them (Z-Machine Standard 1.1, section 5).
-use Rattle.std.specs.Prelude.{◌≡◌, ℕ, ◌+◌, Bool, true, false, nat_lt, List, [], ◌∷◌, ◌++◌, length, take, drop, slice_index, Option, Some, None, if◌then◌else◌}
+use Rattle.std.specs.Prelude.{◌≡◌, ℕ, ◌+◌, Bool, true, false, nat_lt, List, [], ◌∷◌, ◌++◌, length, take, drop, slice_index, Option, Some}
+use Rattle.std.specs.Prelude.{None, if◌then◌else◌}
 use Rattle.inf_area.specs.declared.fixups.Fixup.{Fixup}
 use Rattle.inf_area.specs.Fixups.{Fixups, with_fixups}
 use Rattle.inf_opcode.specs.declared.cells.Kept.{Kept}

@@ -1,5 +1,6 @@
 //! Routines: opened, written item by item, and closed.
-ghost use Rattle.std.specs.Prelude.{◌≡◌, ◌+◌, ◌^◌, ◌<◌, ◌≤◌, ℕ, List, [], ◌∷◌, ◌++◌, length, take, nat_lt, Some, None, Option, true, false, ◌⊎◌, if◌then◌else◌, IfOk, OnOk, OnErr, MatchResult, MatchOption};
+ghost use Rattle.std.specs.Prelude.{◌≡◌, ◌+◌, ◌^◌, ◌<◌, ◌≤◌, ℕ, List, [], ◌∷◌, ◌++◌, length, take, nat_lt, Some, None, Option, true, false};
+ghost use Rattle.std.specs.Prelude.{◌⊎◌, if◌then◌else◌, IfOk, OnOk, OnErr, MatchResult, MatchOption};
 ghost use Rattle.inf_area.specs.declared.fixups.Fixup.{Fixup};
 ghost use Rattle.inf_area.specs.Fixups.{Fixups, with_fixups};
 ghost use Rattle.inf_opcode.specs.Cells.{Of};
@@ -127,7 +128,14 @@ impl Model for Mark {
 
     ghost Value = { Moment };
 
-    ghost view = { λ mark. record { len = mark.len; kept = mark.kept; labels = mark.labels; fixups = mark.fixups; is_final = mark.is_final } };
+    ghost view = { λ mark. record {
+      len = mark.len;
+      kept = mark.kept;
+      labels = mark.labels;
+      fixups = mark.fixups;
+      is_final =
+          mark.is_final;
+    } };
 
     ghost inverse = { λ moment. record {
       len = moment.len;
@@ -187,7 +195,9 @@ impl Routine {
     ghost use Rattle.inf_assembler.specs.declared.routines.Limit.TheVariants.{Labels, Code};
     ghost use Rattle.inf_assembler.specs.declared.routines.CloseFault.TheVariants as close_fault;
     ghost use Rattle.inf_assembler.specs.Closing.{found, kept_fixups};
-    ghost use Rattle.inf_assembler.specs.Routines.{State, Contents, Stands, IsOpen, Holds, Moment, Were, contents_of, with_cells, full_with, full_by, refusal, moment_of, fault_of, Closes, Finished, closing_bytes, is_full, end_fault, fresh};
+    ghost use Rattle.inf_assembler.specs.Routines.{State, Contents, Stands, IsOpen, Holds, Moment, Were, contents_of, with_cells};
+    ghost use Rattle.inf_assembler.specs.Routines.{full_with, full_by, refusal, moment_of, fault_of, Closes, Finished, closing_bytes};
+    ghost use Rattle.inf_assembler.specs.Routines.{is_full, end_fault, fresh};
 
     /// Opens a routine of `locals` local variables, at most 15, at the end of the area
     /// (Z-Machine Standard 1.1, section 5.2): writes their number.

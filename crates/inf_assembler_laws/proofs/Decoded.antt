@@ -1,5 +1,6 @@
 -- Instructions and routines are read as what they were made of.
-use Rattle.std.proofs.Common.{◌≡◌, ℕ, suc, ◌+◌, ◌<◌, ◌≤◌, Bool, true, false, cond, List, [], ◌∷◌, ◌++◌, length, map, Option, Some, None, is_some, ◌⊎◌, inl, inr, refl, sym, ◌∙◌, ap, subst, arith, append_assoc, length-append}
+use Rattle.std.proofs.Common.{◌≡◌, ℕ, suc, ◌+◌, ◌<◌, ◌≤◌, Bool, true, false, cond, List, [], ◌∷◌, ◌++◌, length, map, Option, Some, None}
+use Rattle.std.proofs.Common.{is_some, ◌⊎◌, inl, inr, refl, sym, ◌∙◌, ap, subst, arith, append_assoc, length-append}
 use Rattle.std.specs.List.{flat_map}
 use Rattle.std.specs.Option.{option_map}
 use Rattle.inf_opcode.specs.declared.cells.Special.TheVariants.{Marks, Branches, Jumps, Refers}
@@ -13,17 +14,20 @@ use Rattle.inf_opcode.specs.declared.opcodes.OperandCount.TheVariants.{Zero, One
 use Rattle.inf_opcode.specs.Cells.{Cell, Plain, Of, plain}
 use Rattle.inf_opcode.specs.Names.{opcodes}
 use Rattle.inf_opcode.specs.Opcodes.{row_of, has_place, has_room}
-use Rattle.inf_opcode.specs.Instructions.{Parts, IsProper, bare, is_long, heading, heading_by, types_bytes, operand_cells, store_cells, branch_cells, front_cells, instruction_cells}
+use Rattle.inf_opcode.specs.Instructions.{Parts, IsProper, bare, is_long, heading, heading_by, types_bytes, operand_cells, store_cells}
+use Rattle.inf_opcode.specs.Instructions.{branch_cells, front_cells, instruction_cells}
 use Rattle.inf_assembler.specs.Places.{Places, is_near, is_short_to, offset_to, long_place, place_from, closed_bytes}
 use Rattle.inf_assembler.specs.declared.routines.RoutineKind.{RoutineKind}
 use Rattle.inf_assembler.specs.declared.routines.RoutineKind.TheVariants.{Plain as Own, Embedded}
 use Rattle.inf_assembler.specs.Routines.{closing_byte}
 use Rattle.inf_assembler_laws.specs.Laws.{returning}
 use Rattle.inf_assembler_laws.specs.Items.{Item, Marked, Written, items_cells, AreProper, instructions}
-use Rattle.inf_assembler_laws.specs.Decoding.{◌>>=◌, opcode_at, Given, Aimed, Seen, Opening, operands_at, store_at, branch_at, text_at, instruction_at, instructions_at, given, aimed, seen}
+use Rattle.inf_assembler_laws.specs.Decoding.{◌>>=◌, opcode_at, Given, Aimed, Seen, Opening, operands_at, store_at, branch_at, text_at}
+use Rattle.inf_assembler_laws.specs.Decoding.{instruction_at, instructions_at, given, aimed, seen}
 use Rattle.inf_assembler_laws.proofs.Offsets.{short_size, near_of, near_long, offset_clear, short_clear}
 use Rattle.inf_assembler_laws.proofs.Openings.{opening_at-heading}
-use Rattle.inf_assembler_laws.proofs.Parts.{split, closed-plain, closed-store, some_same, all_suit, operands_read, store_bytes, store_read, Clear, branch_read}
+use Rattle.inf_assembler_laws.proofs.Parts.{split, closed-plain, closed-store, some_same, all_suit, operands_read, store_bytes, store_read}
+use Rattle.inf_assembler_laws.proofs.Parts.{Clear, branch_read}
 use Rattle.inf_assembler_laws.proofs.Placed.{cells_size, long_size, long_size-append, cells_size-append, AreUnmarked, beside}
 use Rattle.inf_assembler_laws.proofs.Reading.{both_parts, text_at-bytes}
 use Rattle.inf_assembler_laws.proofs.Rows.{opcode_at-row, row_fits}

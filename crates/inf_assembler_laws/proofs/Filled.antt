@@ -1,5 +1,6 @@
 -- Filling the fixups of a routine gives the routine with its numbers.
-use Rattle.std.proofs.Common.{◌≡◌, ℕ, ◌+◌, ◌-◌, ◌/◌, ◌%◌, cond, List, [], ◌∷◌, ◌++◌, length, Some, refl, sym, ◌∙◌, ap, arith, append_assoc, length-append}
+use Rattle.std.proofs.Common.{◌≡◌, ℕ, ◌+◌, ◌-◌, ◌/◌, ◌%◌, cond, List, [], ◌∷◌, ◌++◌, length, Some, refl, sym, ◌∙◌, ap, arith, append_assoc}
+use Rattle.std.proofs.Common.{length-append}
 use Rattle.std.proofs.Math.ListN.{set}
 use Rattle.std.proofs.Math.Seq.{set-append_seam}
 use Rattle.std.proofs.lemmas.List.{set-append_right}
@@ -11,7 +12,8 @@ use Rattle.inf_area.specs.Words.{word, with_word}
 use Rattle.inf_opcode.specs.declared.cells.Special.{Special}
 use Rattle.inf_opcode.specs.declared.cells.Special.TheVariants.{Marks, Branches, Jumps, Refers}
 use Rattle.inf_opcode.specs.Cells.{Cell, Plain, Of, special_size}
-use Rattle.inf_assembler.specs.Places.{Places, with_some, joined, marks, size_at, long_place, place_from, closed_special, closed_bytes, closed_fixups, fixup_at}
+use Rattle.inf_assembler.specs.Places.{Places, with_some, joined, marks, size_at, long_place, place_from, closed_special, closed_bytes}
+use Rattle.inf_assembler.specs.Places.{closed_fixups, fixup_at}
 use Rattle.inf_assembler.proofs.Finishing.{with_some_of}
 use Rattle.inf_assembler.proofs.Passes.{closed_size}
 use Rattle.inf_assembler_laws.specs.Filling.{known_special, known_cells, filled}

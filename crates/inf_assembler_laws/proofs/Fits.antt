@@ -1,5 +1,6 @@
 -- Offsets that are written fit their fields.
-use Rattle.std.proofs.Common.{◌≡◌, ℕ, ◌+◌, ◌<◌, ◌≤◌, Bool, true, false, cond, List, [], ◌∷◌, ◌++◌, Option, Some, None, ◌⊎◌, inl, inr, refl, sym, ◌∙◌, ap, subst, arith, append_assoc}
+use Rattle.std.proofs.Common.{◌≡◌, ℕ, ◌+◌, ◌<◌, ◌≤◌, Bool, true, false, cond, List, [], ◌∷◌, ◌++◌, Option, Some, None, ◌⊎◌, inl, inr, refl}
+use Rattle.std.proofs.Common.{sym, ◌∙◌, ap, subst, arith, append_assoc}
 use Rattle.inf_area.specs.Words.{word}
 use Rattle.inf_opcode.specs.declared.cells.Special.{Special}
 use Rattle.inf_opcode.specs.declared.cells.Special.TheVariants.{Marks, Branches, Jumps, Refers}
@@ -7,7 +8,8 @@ use Rattle.inf_opcode.specs.declared.instructions.Label.{Label}
 use Rattle.inf_opcode.specs.declared.instructions.Destination.{Destination}
 use Rattle.inf_opcode.specs.declared.instructions.Destination.TheVariants.{To, ReturnFalse, ReturnTrue}
 use Rattle.inf_opcode.specs.Cells.{Cell, Plain, Of, special_size}
-use Rattle.inf_assembler.specs.Places.{Places, is_near, is_short_to, size_at, offset_to, branch_offset, branch_bytes, long_place, place_from, closed_special, closed_bytes}
+use Rattle.inf_assembler.specs.Places.{Places, is_near, is_short_to, size_at, offset_to, branch_offset, branch_bytes, long_place}
+use Rattle.inf_assembler.specs.Places.{place_from, closed_special, closed_bytes}
 use Rattle.inf_assembler.proofs.Finishing.{with_some_of}
 use Rattle.inf_assembler_laws.specs.Fields.{Field, field_at, fields, IsBelow, AreWithin}
 use Rattle.inf_assembler_laws.proofs.Offsets.{short_size, near_of, near_long, short_clear, branch_below, jump_below}

@@ -1,5 +1,6 @@
 -- What the opening of an instruction is read as, by the count of its opcode.
-use Rattle.std.proofs.Common.{◌≡◌, ◌≢◌, ℕ, ◌+◌, ◌*◌, ◌/◌, ◌%◌, ◌<◌, ◌≤◌, Bool, true, false, ltb, leb, eqb, not, cond, List, [], ◌∷◌, ◌++◌, length, map, Option, Some, refl, ◌∙◌, ap, arith}
+use Rattle.std.proofs.Common.{◌≡◌, ◌≢◌, ℕ, ◌+◌, ◌*◌, ◌/◌, ◌%◌, ◌<◌, ◌≤◌, Bool, true, false, ltb, leb, eqb, not, cond, List, [], ◌∷◌, ◌++◌}
+use Rattle.std.proofs.Common.{length, map, Option, Some, refl, ◌∙◌, ap, arith}
 use Rattle.std.proofs.lemmas.Bool.Decides.{nat_tests}
 use Rattle.inf_opcode.specs.declared.opcodes.Opcode.{Opcode}
 use Rattle.inf_opcode.specs.declared.opcodes.OperandCount.{OperandCount}
@@ -9,7 +10,8 @@ use Rattle.inf_opcode.specs.declared.instructions.Operand.TheVariants.{Large, Sm
 use Rattle.inf_opcode.specs.Opcodes.{row_of, has_place, has_room}
 use Rattle.inf_opcode.specs.Instructions.{type_code, types_bytes, variable_bit, is_byte, is_variable, is_long, heading_by}
 use Rattle.inf_assembler_laws.specs.Decoding.{opcode_at, Opening, typed, untyped, opening_by, opening_at}
-use Rattle.inf_assembler_laws.proofs.Reading.{form_of-long, form_of-one, form_of-zero, form_of-two, form_of-several, both_parts, untyped-found}
+use Rattle.inf_assembler_laws.proofs.Reading.{form_of-long, form_of-one, form_of-zero, form_of-two, form_of-several, both_parts}
+use Rattle.inf_assembler_laws.proofs.Reading.{untyped-found}
 
 -- the opening of these operands
 abbrev pub opening : Opcode → List Operand → List ℕ → Option Opening

@@ -1,5 +1,6 @@
 -- The bytes of closed cells, part by part.
-use Rattle.std.proofs.Common.{◌≡◌, ℕ, ◌+◌, ◌-◌, ◌*◌, ◌/◌, ◌%◌, ◌<◌, ◌≤◌, Bool, true, false, leb, eqb, cond, List, [], ◌∷◌, ◌++◌, length, map, Option, Some, None, is_some, refl, sym, ◌∙◌, ap, arith, append-nil, append_assoc, length-append}
+use Rattle.std.proofs.Common.{◌≡◌, ℕ, ◌+◌, ◌-◌, ◌*◌, ◌/◌, ◌%◌, ◌<◌, ◌≤◌, Bool, true, false, leb, eqb, cond, List, [], ◌∷◌, ◌++◌, length}
+use Rattle.std.proofs.Common.{map, Option, Some, None, is_some, refl, sym, ◌∙◌, ap, arith, append-nil, append_assoc, length-append}
 use Rattle.std.proofs.lemmas.Bool.Decides.{nat_tests}
 use Rattle.std.specs.List.{flat_map}
 use Rattle.inf_area.specs.Words.{word}
@@ -11,10 +12,12 @@ use Rattle.inf_opcode.specs.declared.instructions.Destination.{Destination}
 use Rattle.inf_opcode.specs.declared.instructions.Destination.TheVariants.{To, ReturnFalse, ReturnTrue}
 use Rattle.inf_opcode.specs.Cells.{Cell, Plain, Of, plain, special_size}
 use Rattle.inf_opcode.specs.Instructions.{type_code, operand_cells, store_cells, has_no_offset, fits_jump}
-use Rattle.inf_assembler.specs.Places.{Places, with_some, joined, is_short_to, size_at, offset_to, branch_offset, branch_bytes, closed_special, closed_bytes}
+use Rattle.inf_assembler.specs.Places.{Places, with_some, joined, is_short_to, size_at, offset_to, branch_offset, branch_bytes}
+use Rattle.inf_assembler.specs.Places.{closed_special, closed_bytes}
 use Rattle.inf_assembler.proofs.Finishing.{with_some_of}
 use Rattle.inf_assembler.proofs.Passes.{closed_size}
-use Rattle.inf_assembler_laws.specs.Decoding.{◌>>=◌, Given, Word, Place, GoesTo, place_by, place_in, aim_at, word_given, operand_at, operands_at, store_at, branch_at, given, aim_of, aimed}
+use Rattle.inf_assembler_laws.specs.Decoding.{◌>>=◌, Given, Word, Place, GoesTo, place_by, place_in, aim_at, word_given, operand_at}
+use Rattle.inf_assembler_laws.specs.Decoding.{operands_at, store_at, branch_at, given, aim_of, aimed}
 use Rattle.inf_assembler_laws.proofs.Offsets.{near_of, jump_place, branch_place, branch_below, aim_from}
 use Rattle.inf_assembler_laws.proofs.Placed.{cells_size, long_size, long_size-of}
 

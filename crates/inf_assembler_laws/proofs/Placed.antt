@@ -1,5 +1,6 @@
 -- Where labels stand in cells, part by part.
-use Rattle.std.proofs.Common.{◌≡◌, ℕ, ◌+◌, ◌≤◌, Bool, true, false, cond, List, [], ◌∷◌, ◌++◌, length, Option, Some, None, ◌⊎◌, inl, inr, refl, sym, ◌∙◌, ap, arith, length-append}
+use Rattle.std.proofs.Common.{◌≡◌, ℕ, ◌+◌, ◌≤◌, Bool, true, false, cond, List, [], ◌∷◌, ◌++◌, length, Option, Some, None, ◌⊎◌, inl, inr}
+use Rattle.std.proofs.Common.{refl, sym, ◌∙◌, ap, arith, length-append}
 use Rattle.inf_opcode.specs.declared.cells.Special.{Special}
 use Rattle.inf_opcode.specs.declared.cells.Special.TheVariants.{Marks, Branches, Jumps, Refers}
 use Rattle.inf_opcode.specs.Cells.{Cell, Plain, Of, special_size, special_bytes, long_bytes}

@@ -1,5 +1,6 @@
 -- What the bytes of an instruction are read as.
-use Rattle.std.proofs.Common.{◌≡◌, ◌≢◌, ℕ, zero, suc, ◌+◌, ◌*◌, ◌/◌, ◌%◌, ◌<◌, ◌≤◌, Bool, true, false, ltb, leb, ◌&&◌, cond, List, [], ◌∷◌, ◌++◌, length, map, Option, Some, None, refl, ◌∙◌, ap, arith}
+use Rattle.std.proofs.Common.{◌≡◌, ◌≢◌, ℕ, zero, suc, ◌+◌, ◌*◌, ◌/◌, ◌%◌, ◌<◌, ◌≤◌, Bool, true, false, ltb, leb, ◌&&◌, cond, List, [], ◌∷◌}
+use Rattle.std.proofs.Common.{◌++◌, length, map, Option, Some, None, refl, ◌∙◌, ap, arith}
 use Rattle.std.specs.Prelude.{slice_get}
 use Rattle.std.specs.Option.{option_map_or}
 use Rattle.std.proofs.lemmas.Bool.Decides.{nat_tests}
@@ -8,7 +9,8 @@ use Rattle.inf_opcode.specs.declared.instructions.Operand.{Operand}
 use Rattle.inf_opcode.specs.declared.instructions.Operand.TheVariants.{Large, Small, Variable, Later, Offset}
 use Rattle.inf_opcode.specs.Opcodes.{row_of}
 use Rattle.inf_opcode.specs.Instructions.{type_code, type_slot, types_byte, types_bytes, is_text, fits_text}
-use Rattle.inf_assembler_laws.specs.Decoding.{◌>>=◌, long, short_one, short_zero, variable_two, variable_several, form_of, types_in, given_types, types_at, Opening, untyped, words_at, text_at}
+use Rattle.inf_assembler_laws.specs.Decoding.{◌>>=◌, long, short_one, short_zero, variable_two, variable_several, form_of, types_in}
+use Rattle.inf_assembler_laws.specs.Decoding.{given_types, types_at, Opening, untyped, words_at, text_at}
 
 -- The form is told by the first byte.
 pub form_of-long : (first : ℕ) → first < 128 → form_of first ≡ long

@@ -1,5 +1,6 @@
 //! What the definitions of routines give together.
-ghost use Rattle.inf_assembler_laws.specs.Laws.{NamesAreFound, RoutinesAreReadBack, ReturnsAreReadBack, PlacesAreNoLater, OffsetsFit, FixupsTakeNumbers};
+ghost use Rattle.inf_assembler_laws.specs.Laws.{NamesAreFound, RoutinesAreReadBack, ReturnsAreReadBack, PlacesAreNoLater, OffsetsFit};
+ghost use Rattle.inf_assembler_laws.specs.Laws.{FixupsTakeNumbers};
 
 /// Each opcode is found by its name.
 pub fn names()

@@ -18,7 +18,8 @@ use Rattle.inf_compilation.specs.Context.{Context}
 use Rattle.inf_unit.specs.Tokens.{SourceToken, is_mark}
 use Rattle.inf_unit.specs.Units.{first_place, kind_at, name_at, order}
 use Rattle.inf_world.specs.declared.faults.AddFault.{AddFault}
-use Rattle.inf_world.specs.World.{further_value_fault, given_property_fault, individual_fault, set_attribute_fault, with_further_value, with_given_property, with_individual, with_lost_property, with_set_attribute}
+use Rattle.inf_world.specs.World.{further_value_fault, given_property_fault, individual_fault, set_attribute_fault, with_further_value}
+use Rattle.inf_world.specs.World.{with_given_property, with_individual, with_lost_property, with_set_attribute}
 use Rattle.inf_compilation.specs.Actions.{Compilation}
 use Rattle.inf_declarations.specs.Declarations.{with_world}
 use Rattle.inf_bodies.specs.Objects.{class_of, entry_told, found_at, joined_fault, joined_some, noted, refused_finding}

@@ -1,5 +1,6 @@
 -- Objects and classes: their headers. Designer's Manual, fourth edition, sections 3.1 to 3.8.
-use Rattle.std.specs.Prelude.{ℕ, ◌+◌, ◌-◌, ◌%◌, ◌==◌, nat_lt, List, [], ◌∷◌, ◌++◌, length, codes, Bool, false, if◌then◌else◌, Option, Some, None, unwrap_or, Result, Ok, Err}
+use Rattle.std.specs.Prelude.{ℕ, ◌+◌, ◌-◌, ◌%◌, ◌==◌, nat_lt, List, [], ◌∷◌, ◌++◌, length, codes, Bool, false, if◌then◌else◌, Option, Some}
+use Rattle.std.specs.Prelude.{None, unwrap_or, Result, Ok, Err}
 use Rattle.std.specs.Str.{str_eq_ignore_ascii_case}
 use Rattle.inf_settings.specs.Bounds.{Limits}
 use Rattle.inf_characters.specs.Reading.{text_of}
@@ -37,7 +38,8 @@ use Rattle.inf_world.specs.declared.faults.Setting.TheVariants as world_setting
 use Rattle.inf_world.specs.declared.kinds.Parent.{Parent}
 use Rattle.inf_world.specs.declared.kinds.Parent.TheVariants as parent
 use Rattle.inf_world.specs.Objects.{parent_of}
-use Rattle.inf_world.specs.World.{class_header_fault, class_of_fault, lost_header_fault, object_header_fault, with_class_header, with_class_of, with_lost_header, with_object_header}
+use Rattle.inf_world.specs.World.{class_header_fault, class_of_fault, lost_header_fault, object_header_fault, with_class_header}
+use Rattle.inf_world.specs.World.{with_class_of, with_lost_header, with_object_header}
 use Rattle.inf_compilation.specs.Actions.{Compilation, unit_ended}
 use Rattle.inf_declarations.specs.Declarations.{declared_ended, plainly_known, with_world}
 use Rattle.inf_compilation.specs.Findings.{found_alone}

@@ -1,5 +1,6 @@
 -- The values of properties: words of the dictionary, expressions, and routines. Designer's Manual, fourth edition, sections 3.2 to 3.5.
-use Rattle.std.specs.Prelude.{ℕ, ◌+◌, ◌-◌, ◌==◌, List, [], ◌∷◌, length, slice_get, Bool, true, false, not, ◌&&◌, if◌then◌else◌, Option, Some, None, is_some}
+use Rattle.std.specs.Prelude.{ℕ, ◌+◌, ◌-◌, ◌==◌, List, [], ◌∷◌, length, slice_get, Bool, true, false, not, ◌&&◌, if◌then◌else◌, Option}
+use Rattle.std.specs.Prelude.{Some, None, is_some}
 use Rattle.inf_settings.specs.Bounds.{Limits}
 use Rattle.inf_area.specs.declared.targets.AreaName.TheVariants as area
 use Rattle.inf_area.specs.declared.targets.Target.TheVariants as target

@@ -2,7 +2,12 @@
 ghost use Rattle.inf_compilation.specs.Context.{handed};
 ghost use Rattle.std.specs.Prelude.{IfOk, OnOk, option_map, ◌≡◌};
 ghost use Rattle.inf_names.specs.Spellings.{as_name};
-ghost use Rattle.inf_bodies.specs.Bodies.{attribute_finding, attribute_of, attribute_read, attribute_set, attribute_set_some, class_finding, class_read, further, further_added, further_finding, further_found, further_placed, given, given_finding, given_with, individual_declared, individual_given, individual_named, is_given, is_words, last_at, number_finding, place_finding, placed, placed_finding, property_finding, property_given, property_gives, property_in, property_lost, property_of, property_read};
+ghost use Rattle.inf_bodies.specs.Bodies.{attribute_finding, attribute_of, attribute_read, attribute_set, attribute_set_some};
+ghost use Rattle.inf_bodies.specs.Bodies.{class_finding, class_read, further, further_added, further_finding, further_found};
+ghost use Rattle.inf_bodies.specs.Bodies.{further_placed, given, given_finding, given_with, individual_declared, individual_given};
+ghost use Rattle.inf_bodies.specs.Bodies.{individual_named, is_given, is_words, last_at, number_finding, place_finding, placed};
+ghost use Rattle.inf_bodies.specs.Bodies.{placed_finding, property_finding, property_given, property_gives, property_in, property_lost};
+ghost use Rattle.inf_bodies.specs.Bodies.{property_of, property_read};
 ghost use Rattle.inf_compilation.specs.Actions.{body_ended, world_ended};
 ghost use Rattle.inf_compilation.specs.Works.{work};
 

@@ -1,6 +1,7 @@
 //! What the header of an object has: its name, its arrows, its text and its parent.
 ghost use Rattle.std.specs.Prelude.{◌≡◌};
-ghost use Rattle.inf_bodies.specs.Objects.{arrow_at, below, header_in, header_of, header_step, header_with, is_nearby, named_at, word_place};
+ghost use Rattle.inf_bodies.specs.Objects.{arrow_at, below, header_in, header_of, header_step, header_with, is_nearby, named_at};
+ghost use Rattle.inf_bodies.specs.Objects.{word_place};
 
 use inf_scanner::TokenKind;
 use inf_text::Text;

@@ -4,7 +4,13 @@ ghost use Rattle.std.specs.Prelude.{IfOk, OnOk, option_map, ◌≡◌};
 ghost use Rattle.inf_characters.specs.Reading.{text_of as read_in};
 ghost use Rattle.inf_names.specs.Spellings.{as_name};
 ghost use Rattle.inf_unit.specs.Texts.{fit_characters};
-ghost use Rattle.inf_bodies.specs.Objects.{above_finding, bracketed, class_begun, class_declared, class_header, class_lost, class_of, class_of_word, class_opened, class_refused, class_with, entry_told, found_at, header_in, header_text, hung_finding, in_brackets, joined, joined_fault, joined_some, lost_begun, named_known, named_parent_finding, noted, object_begun, object_declared, object_ended, object_header, object_in, object_known, object_lost, object_named, object_new, object_of, object_opened, object_refused, object_with, own_name, packed_name, parent_finding, parent_fit, parent_in, refused_finding, setting_of, short_name, shown_name, word_place};
+ghost use Rattle.inf_bodies.specs.Objects.{above_finding, bracketed, class_begun, class_declared, class_header, class_lost, class_of};
+ghost use Rattle.inf_bodies.specs.Objects.{class_of_word, class_opened, class_refused, class_with, entry_told, found_at, header_in};
+ghost use Rattle.inf_bodies.specs.Objects.{header_text, hung_finding, in_brackets, joined, joined_fault, joined_some, lost_begun};
+ghost use Rattle.inf_bodies.specs.Objects.{named_known, named_parent_finding, noted, object_begun, object_declared, object_ended};
+ghost use Rattle.inf_bodies.specs.Objects.{object_header, object_in, object_known, object_lost, object_named, object_new, object_of};
+ghost use Rattle.inf_bodies.specs.Objects.{object_opened, object_refused, object_with, own_name, packed_name, parent_finding, parent_fit};
+ghost use Rattle.inf_bodies.specs.Objects.{parent_in, refused_finding, setting_of, short_name, shown_name, word_place};
 ghost use Rattle.inf_world.specs.World.{class_of_fault};
 ghost use Rattle.inf_unit.specs.Units.{name_at};
 ghost use Rattle.inf_compilation.specs.Works.{work};
@@ -387,7 +393,8 @@ pub fn class_header<B: Bounds>(
     first: Place,
     name: &Name,
 ) -> Result<(), AllocError>
-    ensures { OnOk result (work compilation.new ≡ class_header B.most (handed context.now) first (as_name name.now) (work compilation.old)) }
+    ensures { OnOk result (work compilation.new ≡ class_header B.most (handed context.now) first (as_name name.now)
+        (work compilation.old)) }
 {
     let order = compilation.unit.tokens.name_order();
     let declared = plainly_known(compilation, name, order);
@@ -424,7 +431,8 @@ fn open_class<B: Bounds>(
     name: &Name,
     found: Option<Finding>,
 ) -> Result<(), AllocError>
-    ensures { OnOk result (work compilation.new ≡ class_opened B.most (handed context.now) found (as_name name.now) (work compilation.old)) }
+    ensures { OnOk result (work compilation.new ≡ class_opened B.most (handed context.now) found (as_name name.now)
+        (work compilation.old)) }
 {
     match found {
         Some(_) => lose_class(name, &mut compilation.output),

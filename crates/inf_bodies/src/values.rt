@@ -2,7 +2,11 @@
 ghost use Rattle.inf_compilation.specs.Context.{handed};
 ghost use Rattle.std.specs.Prelude.{IfOk, OnOk, option_map, ◌≡◌};
 ghost use Rattle.inf_names.specs.LocalList.{headed as as_headed};
-ghost use Rattle.inf_bodies.specs.Values.{bracket_in, bracket_step, char_text, embedded, embedded_begun, embedded_findings, embedded_opened, embedded_read, expression_finding, expression_placed, found_embedded, leaf_text, many_by, name_place, next_routine, only_leaf, place_before, routine_placed, settled_finding, settled_placed, takes_words, text_finding, text_placed, text_value, value_finding, value_placed, value_read, value_with, value_with_finding, word_leaf, word_text, word_used, wrong_if};
+ghost use Rattle.inf_bodies.specs.Values.{bracket_in, bracket_step, char_text, embedded, embedded_begun, embedded_findings};
+ghost use Rattle.inf_bodies.specs.Values.{embedded_opened, embedded_read, expression_finding, expression_placed, found_embedded, leaf_text};
+ghost use Rattle.inf_bodies.specs.Values.{many_by, name_place, next_routine, only_leaf, place_before, routine_placed, settled_finding};
+ghost use Rattle.inf_bodies.specs.Values.{settled_placed, takes_words, text_finding, text_placed, text_value, value_finding, value_placed};
+ghost use Rattle.inf_bodies.specs.Values.{value_read, value_with, value_with_finding, word_leaf, word_text, word_used, wrong_if};
 ghost use Rattle.inf_bodies.specs.Bodies.{place_finding};
 ghost use Rattle.inf_compilation.specs.Meant.{found_as};
 ghost use Rattle.inf_compilation.specs.Works.{work};
@@ -382,7 +386,8 @@ fn embed<B: Bounds>(
     name: Option<usize>,
     headed: Headed,
 ) -> Result<(), AllocError>
-    ensures { OnOk result (work compilation.new ≡ embedded B.most (handed context.now) first name (as_headed headed) (work compilation.old)) }
+    ensures { OnOk result (work compilation.new ≡ embedded B.most (handed context.now) first name (as_headed headed)
+        (work compilation.old)) }
 {
     let found = found_embedded(compilation, name, &headed);
     begin_embedded(compilation, context, first, name, headed, &found)

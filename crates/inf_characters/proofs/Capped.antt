@@ -1,5 +1,6 @@
 -- A number up to a limit gives the character that the number gives.
-use Rattle.std.proofs.Common.{◌≡◌, ◌<◌, ◌≤◌, ◌+◌, ◌*◌, ℕ, zero, suc, min, Bool, true, false, ◌&&◌, cond, Option, None, Some, List, [], ◌∷◌, refl, ap, sym, ◌∙◌, arith, inl, inr, eqb, leb, ltb}
+use Rattle.std.proofs.Common.{◌≡◌, ◌<◌, ◌≤◌, ◌+◌, ◌*◌, ℕ, zero, suc, min, Bool, true, false, ◌&&◌, cond, Option, None, Some, List, [], ◌∷◌}
+use Rattle.std.proofs.Common.{refl, ap, sym, ◌∙◌, arith, inl, inr, eqb, leb, ltb}
 use Rattle.std.specs.List.{position_from, list_all}
 use Rattle.std.specs.Option.{option_map}
 use Rattle.std.specs.Prelude.{◌⊎◌, nat_lt}

@@ -1,9 +1,11 @@
 -- A piece is read from its own bytes: those behind it are not looked at, but for where it ends.
-use Rattle.std.proofs.Common.{◌≡◌, ◌<◌, ◌≤◌, ◌+◌, ◌*◌, ℕ, zero, suc, Bool, true, false, not, ◌||◌, cond, eqb, ltb, Option, None, Some, Result, Ok, Err, List, [], ◌∷◌, ◌++◌, length, take, drop, refl, sym, ap, ◌∙◌, arith}
+use Rattle.std.proofs.Common.{◌≡◌, ◌<◌, ◌≤◌, ◌+◌, ◌*◌, ℕ, zero, suc, Bool, true, false, not, ◌||◌, cond, eqb, ltb, Option, None, Some}
+use Rattle.std.proofs.Common.{Result, Ok, Err, List, [], ◌∷◌, ◌++◌, length, take, drop, refl, sym, ap, ◌∙◌, arith}
 use Rattle.std.specs.List.{prefix_len}
 use Rattle.std.proofs.lemmas.List.{take-append-le}
 use Rattle.inf_characters.specs.Characters.{is_code, is_white, zscii_of_unicode}
-use Rattle.inf_characters.specs.Reading.{accent_piece, character_piece, closes, code_piece, digit_of, escape_piece, number_from, one, piece_at, spaces, spelled, unicode_piece, variable_piece, white_len}
+use Rattle.inf_characters.specs.Reading.{accent_piece, character_piece, closes, code_piece, digit_of, escape_piece, number_from, one}
+use Rattle.inf_characters.specs.Reading.{piece_at, spaces, spelled, unicode_piece, variable_piece, white_len}
 use Rattle.inf_characters.specs.declared.characters.CharSet.{CharSet}
 use Rattle.inf_characters.specs.declared.reading.Mode.{Mode}
 use Rattle.inf_characters.specs.declared.reading.Mode.TheVariants as mode

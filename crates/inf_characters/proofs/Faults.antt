@@ -1,7 +1,10 @@
 -- Reading itself never lacks memory.
-use Rattle.std.proofs.Common.{◌≡◌, ◌+◌, ◌*◌, ℕ, Bool, true, false, not, ◌||◌, cond, eqb, ltb, Option, None, Some, Result, Ok, Err, List, [], ◌∷◌, drop, refl, sym, ap, ◌∙◌}
+use Rattle.std.proofs.Common.{◌≡◌, ◌+◌, ◌*◌, ℕ, Bool, true, false, not, ◌||◌, cond, eqb, ltb, Option, None, Some, Result, Ok, Err, List, []}
+use Rattle.std.proofs.Common.{◌∷◌, drop, refl, sym, ap, ◌∙◌}
 use Rattle.inf_characters.specs.Characters.{is_code, is_white, zscii_of, zscii_of_unicode}
-use Rattle.inf_characters.specs.Reading.{Reads, accent_piece, and_then, character_piece, closes, code_piece, digit_of, escape_piece, is_new_line_mark, meaning, number_from, one, piece_at, spelled, text_from, text_of, unicode_piece, variable_piece, with_front}
+use Rattle.inf_characters.specs.Reading.{Reads, accent_piece, and_then, character_piece, closes, code_piece, digit_of, escape_piece}
+use Rattle.inf_characters.specs.Reading.{is_new_line_mark, meaning, number_from, one, piece_at, spelled, text_from, text_of, unicode_piece}
+use Rattle.inf_characters.specs.Reading.{variable_piece, with_front}
 use Rattle.inf_characters.specs.declared.characters.CharSet.{CharSet}
 use Rattle.inf_characters.specs.declared.reading.Mode.{Mode}
 use Rattle.inf_characters.specs.declared.reading.Mode.TheVariants as mode

@@ -1,5 +1,6 @@
 -- Bytes that are characters or white space by themselves are a text.
-use Rattle.std.proofs.Common.{◌≡◌, ℕ, zero, suc, Bool, true, false, not, cond, Option, Some, None, is_some, Ok, Err, Result, List, [], ◌∷◌, ◌&&◌, ◌==◌, nat_le, replicate, refl, arith}
+use Rattle.std.proofs.Common.{◌≡◌, ℕ, zero, suc, Bool, true, false, not, cond, Option, Some, None, is_some, Ok, Err, Result, List, [], ◌∷◌}
+use Rattle.std.proofs.Common.{◌&&◌, ◌==◌, nat_le, replicate, refl, arith}
 use Rattle.std.specs.List.{list_all}
 use Rattle.std.specs.Result.{is_ok}
 use Rattle.std.proofs.lemmas.Bool.{and_parts, both_ways, le-leb, leb-true}

@@ -2,7 +2,8 @@
 ghost use Rattle.std.specs.Prelude.{◌≡◌, ◌<◌, ◌≤◌, ◌+◌, IfOk, IsTrue, length};
 ghost use Rattle.inf_characters.specs.Items.{IsItem};
 ghost use Rattle.inf_characters.specs.Numbers.{IsPieceOf};
-ghost use Rattle.inf_characters.specs.Reading.{accent_piece, closes, code_piece, escape_piece, number_from, one, pair_from, spelled, stroke, unicode_piece, variable_piece};
+ghost use Rattle.inf_characters.specs.Reading.{accent_piece, closes, code_piece, escape_piece, number_from, one, pair_from, spelled};
+ghost use Rattle.inf_characters.specs.Reading.{stroke, unicode_piece, variable_piece};
 
 use crate::characters::{FIRST_ACCENTED, Zscii, unicode_char};
 use crate::numbers::{digit_of, number_at};
@@ -19,7 +20,8 @@ const CLOSING_BRACE: u8 = b'}';
 
 /// What stands behind `@` for each of the codes 155 to 223 (Designer's Manual, table 2).
 const SPELLINGS: &[u8; 138] =
-    b":a:o:u:A:O:Uss>><<:e:i:y:E:I'a'e'i'o'u'y'A'E'I'O'U'Y`a`e`i`o`u`A`E`I`O`U^a^e^i^o^u^A^E^I^O^UoaoA\\o\\O~a~n~o~A~N~OaeAEcccCthetThEtLLoeOE!!??";
+    b":a:o:u:A:O:Uss>><<:e:i:y:E:I'a'e'i'o'u'y'A'E'I'O'U'Y`a`e`i`o`u`A`E`I`O`U^a^e^i^o^u^A^E^I^O^U\
+        oaoA\\o\\O~a~n~o~A~N~OaeAEcccCthetThEtLLoeOE!!??";
 
 /// The piece that `@` begins; the bytes stand behind it.
 #[tactic(auto, unfolding(crate::specs::Reading::escape_piece))]

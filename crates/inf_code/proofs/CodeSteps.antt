@@ -1,14 +1,17 @@
 -- Code, step by step: its finished routines stay while one is open, and this one stands behind them when it is closed.
 use Rattle.std.specs.Prelude.{Result, Ok, Err, OnOk, OnErr, ◌≤◌}
-use Rattle.std.proofs.Common.{◌≡◌, ℕ, ◌+◌, List, [], ◌∷◌, ◌++◌, length, take, drop, Option, Some, None, refl, sym, ◌∙◌, ap, subst, arith, append_assoc, length-append, length-take}
+use Rattle.std.proofs.Common.{◌≡◌, ℕ, ◌+◌, List, [], ◌∷◌, ◌++◌, length, take, drop, Option, Some, None, refl, sym, ◌∙◌, ap, subst, arith}
+use Rattle.std.proofs.Common.{append_assoc, length-append, length-take}
 use Rattle.std.proofs.lemmas.List.{take_at, take-take, take_all, length-take-le, length-drop, drop-append-le}
 use Rattle.inf_area.specs.Fixups.{Fixups}
 use Rattle.inf_cells.specs.declared.scale.Scale.{Scale}
 use Rattle.inf_opcode.specs.Cells.{long_bytes}
 use Rattle.inf_assembler.specs.declared.routines.Closed.{Closed}
 use Rattle.inf_assembler.specs.declared.routines.RoutineKind.{RoutineKind}
-use Rattle.inf_assembler.specs.Routines.{State, Contents, Stands, IsOpen, Holds, Closes, contents_of, fresh, closing, routine_fixups, body_bytes}
-use Rattle.inf_code.specs.Code.{IsCode, StandsFor, cells_from, first_routine, padded, place_behind, routine_cells, source_bytes, source_cells, whole_bytes, routine_bounds, zeros_behind}
+use Rattle.inf_assembler.specs.Routines.{State, Contents, Stands, IsOpen, Holds, Closes, contents_of, fresh, closing, routine_fixups}
+use Rattle.inf_assembler.specs.Routines.{body_bytes}
+use Rattle.inf_code.specs.Code.{IsCode, StandsFor, cells_from, first_routine, padded, place_behind, routine_cells, source_bytes}
+use Rattle.inf_code.specs.Code.{source_cells, whole_bytes, routine_bounds, zeros_behind}
 use Rattle.inf_code.specs.declared.code.CodeLimits.{CodeLimits}
 use Rattle.inf_code.proofs.CodeLemmas.{itself, size-stands_for, stands_for-closed}
 

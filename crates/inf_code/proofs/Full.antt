@@ -1,6 +1,7 @@
 -- Which limit is passed: the first that the assembler finds of its area is the first of the routines.
 use Rattle.std.specs.Prelude.{nat_lt}
-use Rattle.std.proofs.Common.{◌≡◌, ℕ, ◌+◌, Bool, true, false, cond, List, [], ◌∷◌, length, take, Option, Some, None, refl, sym, ◌∙◌, ap, arith, length-append}
+use Rattle.std.proofs.Common.{◌≡◌, ℕ, ◌+◌, Bool, true, false, cond, List, [], ◌∷◌, length, take, Option, Some, None, refl, sym, ◌∙◌, ap}
+use Rattle.std.proofs.Common.{arith, length-append}
 use Rattle.inf_area.specs.declared.fixups.Fixup.{Fixup}
 use Rattle.inf_area.specs.declared.targets.AreaName.TheVariants as name
 use Rattle.inf_cells.specs.declared.cells.Cell.{Cell as CodeCell}
@@ -15,9 +16,11 @@ use Rattle.inf_assembler.specs.declared.routines.Limits.{Limits}
 use Rattle.inf_assembler.specs.declared.routines.RoutineKind.{RoutineKind}
 use Rattle.inf_assembler.specs.declared.routines.Limit.{Limit}
 use Rattle.inf_assembler.specs.declared.routines.Limit.TheVariants as setting
-use Rattle.inf_assembler.specs.Routines.{State, Contents, body_bytes, body_fault, contents_of, fault_of, full_with, is_full, long_places, missing_fault, twice_fault}
+use Rattle.inf_assembler.specs.Routines.{State, Contents, body_bytes, body_fault, contents_of, fault_of, full_with, is_full, long_places}
+use Rattle.inf_assembler.specs.Routines.{missing_fault, twice_fault}
 use Rattle.inf_code.specs.declared.code.CodeLimits.{CodeLimits}
-use Rattle.inf_code.specs.Code.{IsCode, IsSpare, StandsFor, bytes_with, references_before, references_with, full_cells, fault_behind, first_fault, most_references, place_behind, routine_bounds, unlimited, source_bytes, source_cells}
+use Rattle.inf_code.specs.Code.{IsCode, IsSpare, StandsFor, bytes_with, references_before, references_with, full_cells, fault_behind}
+use Rattle.inf_code.specs.Code.{first_fault, most_references, place_behind, routine_bounds, unlimited, source_bytes, source_cells}
 use Rattle.inf_code.proofs.CodeSteps.{size_finished}
 
 -- each fixup is a reference that is known later

@@ -1,5 +1,6 @@
 -- The code of a story: finished routines, as bytes and the numbers that are known later, and the routine that is open.
-use Rattle.std.specs.Prelude.{◌≡◌, ℕ, ◌+◌, ◌-◌, ◌≤◌, ◌<◌, ◌^◌, Bool, true, false, not, ◌&&◌, nat_lt, if◌then◌else◌, List, [], ◌∷◌, ◌++◌, length, map, take, drop, Option, Some, None}
+use Rattle.std.specs.Prelude.{◌≡◌, ℕ, ◌+◌, ◌-◌, ◌≤◌, ◌<◌, ◌^◌, Bool, true, false, not, ◌&&◌, nat_lt, if◌then◌else◌, List, [], ◌∷◌, ◌++◌}
+use Rattle.std.specs.Prelude.{length, map, take, drop, Option, Some, None}
 use Rattle.inf_area.specs.declared.fixups.Fixup.{Fixup}
 use Rattle.inf_area.specs.declared.targets.AreaName.TheVariants as name
 use Rattle.inf_area.specs.declared.targets.Target.{Target}
@@ -21,7 +22,8 @@ use Rattle.inf_assembler.specs.declared.routines.RoutineKind.{RoutineKind}
 use Rattle.inf_assembler.specs.declared.routines.Limit.{Limit}
 use Rattle.inf_assembler.specs.declared.routines.Limit.TheVariants as setting
 use Rattle.inf_assembler.specs.Places.{missing, twice_behind}
-use Rattle.inf_assembler.specs.Routines.{State, Contents, IsOpen, contents_of, fresh, with_cells, body_bytes, closing, routine_fixups, is_full, long_places, missing_fault, twice_fault, body_fault}
+use Rattle.inf_assembler.specs.Routines.{State, Contents, IsOpen, contents_of, fresh, with_cells, body_bytes, closing, routine_fixups}
+use Rattle.inf_assembler.specs.Routines.{is_full, long_places, missing_fault, twice_fault, body_fault}
 use Rattle.inf_settings.specs.Bounds.{Limits as SettingLimits}
 use Rattle.inf_settings.specs.declared.setting.Setting.TheVariants as bound
 use Rattle.inf_code.specs.declared.code.CodeLimits.{CodeLimits}

@@ -1,5 +1,6 @@
 //! The code of a story: its finished routines, and the one that is open.
-ghost use Rattle.std.specs.Prelude.{◌≡◌, ◌≤◌, ◌⊎◌, ◌++◌, ◌+◌, [], None, Some, IfOk, MatchResult, OnOk, OnErr, false, if◌then◌else◌, length, nat_lt, take, true};
+ghost use Rattle.std.specs.Prelude.{◌≡◌, ◌≤◌, ◌⊎◌, ◌++◌, ◌+◌, [], None, Some, IfOk, MatchResult, OnOk, OnErr, false, if◌then◌else◌, length};
+ghost use Rattle.std.specs.Prelude.{nat_lt, take, true};
 ghost use Rattle.inf_area.specs.Fixups.{with_fixups};
 ghost use Rattle.inf_cells.specs.Cells.{bytes_of, fixups_of};
 ghost use Rattle.inf_opcode.specs.Instructions.{IsProper};
@@ -8,7 +9,10 @@ ghost use Rattle.inf_assembler.specs.declared.routines.Limit.{Limit};
 ghost use Rattle.inf_assembler.specs.declared.routines.Limit.TheVariants as code_setting;
 ghost use Rattle.inf_assembler.specs.declared.routines.CloseFault.TheVariants as close_fault;
 ghost use Rattle.inf_assembler.specs.Routines.{IsOpen, contents_of, refusal};
-ghost use Rattle.inf_code.specs.Code.{IsSpare, begun, bytes_of_code, code_cells, code_count, code_left, code_limits, fault_behind, fault_closed, reference_count, references_left, references_open, full_begun, full_behind_bytes, full_first, full_label, full_opened, full_with, labels, labels_left, place_behind, routine_bounds, with_closed, with_item, with_label, with_none_open, with_opened, zeros_behind};
+ghost use Rattle.inf_code.specs.Code.{IsSpare, begun, bytes_of_code, code_cells, code_count, code_left, code_limits, fault_behind};
+ghost use Rattle.inf_code.specs.Code.{fault_closed, reference_count, references_left, references_open, full_begun, full_behind_bytes};
+ghost use Rattle.inf_code.specs.Code.{full_first, full_label, full_opened, full_with, labels, labels_left, place_behind, routine_bounds};
+ghost use Rattle.inf_code.specs.Code.{with_closed, with_item, with_label, with_none_open, with_opened, zeros_behind};
 ghost use Rattle.inf_settings.specs.declared.setting.Setting.TheVariants as setting;
 
 use inf_area::{AddFault, Area, AreaName, Fixup, PagedArea, Refs, Target};

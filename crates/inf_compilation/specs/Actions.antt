@@ -1,5 +1,6 @@
 -- What the actions of the grammar do. While a unit is read they gather what it has, and at its end it acts, as a whole.
-use Rattle.std.specs.Prelude.{ℕ, ◌+◌, ◌-◌, ◌==◌, max, List, [], ◌∷◌, length, map, nat_lt, Bool, true, false, ◌&&◌, if◌then◌else◌, Option, Some, None, is_some, unwrap_or}
+use Rattle.std.specs.Prelude.{ℕ, ◌+◌, ◌-◌, ◌==◌, max, List, [], ◌∷◌, length, map, nat_lt, Bool, true, false, ◌&&◌, if◌then◌else◌, Option}
+use Rattle.std.specs.Prelude.{Some, None, is_some, unwrap_or}
 use Rattle.inf_settings.specs.Bounds.{Limits}
 use Rattle.inf_characters.specs.declared.characters.CharSet.{CharSet}
 use Rattle.inf_scanner.specs.declared.tokens.Mark.{Mark}
@@ -39,11 +40,13 @@ use Rattle.inf_names.specs.Spellings.{Name}
 use Rattle.inf_names.specs.Locals.{Local, Headed}
 use Rattle.inf_compilation.specs.Context.{Context}
 use Rattle.inf_unit.specs.Directives.{Request, Nothing}
-use Rattle.inf_unit.specs.Messages.{FileNames, Diagnostic, Reported, location, nothing_reported, with_error, with_fatal, with_fault, with_full, with_warning}
+use Rattle.inf_unit.specs.Messages.{FileNames, Diagnostic, Reported, location, nothing_reported, with_error, with_fatal, with_fault}
+use Rattle.inf_unit.specs.Messages.{with_full, with_warning}
 use Rattle.inf_compilation.specs.Context.{Context, longest}
 use Rattle.inf_unit.specs.Names.{no_symbols}
 use Rattle.inf_unit.specs.Tokens.{SourceToken, number_of}
-use Rattle.inf_unit.specs.Units.{Unit, bytes_at, first_place, kind_at, long_at, name_order, names_in, no_unit, outer_tokens, over, quoted_in, taken as unit_taken}
+use Rattle.inf_unit.specs.Units.{Unit, bytes_at, first_place, kind_at, long_at, name_order, names_in, no_unit, outer_tokens, over}
+use Rattle.inf_unit.specs.Units.{quoted_in, taken as unit_taken}
 use Rattle.inf_output.specs.Strings.{no_strings}
 use Rattle.inf_tables.specs.Tables.{no_tables}
 use Rattle.inf_output.specs.Output.{Code, Out, begun, closed, declared, full, opened, referred}

@@ -5,7 +5,8 @@ use Rattle.inf_expressions.specs.declared.findings.Finding.{Finding}
 use Rattle.inf_expressions.specs.Findings.{least_of_both}
 use Rattle.inf_names.specs.declared.symbols.DeclareFault.{DeclareFault}
 use Rattle.inf_names.specs.declared.symbols.DeclareFault.TheVariants as declaring
-use Rattle.inf_report.specs.Messages.{ConstantOutOfRange, Declared, End, LabelTwice, Message, MisplacedDefault, NotConstant, NothingToLeave, SystemName, Told, TooMany, TooManyArguments, UsedBefore, WrongKind, WrongOpcode, WrongVerb}
+use Rattle.inf_report.specs.Messages.{ConstantOutOfRange, Declared, End, LabelTwice, Message, MisplacedDefault, NotConstant, NothingToLeave}
+use Rattle.inf_report.specs.Messages.{SystemName, Told, TooMany, TooManyArguments, UsedBefore, WrongKind, WrongOpcode, WrongVerb}
 use Rattle.inf_report.specs.declared.messages.FixedLimit.{FixedLimit}
 use Rattle.inf_report.specs.declared.messages.FixedLimit.TheVariants as countable
 use Rattle.inf_names.specs.Spellings.{Name}

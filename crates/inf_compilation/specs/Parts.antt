@@ -14,7 +14,8 @@ use Rattle.inf_unit.specs.Units.{first_place, last_place, order, own_place, prep
 use Rattle.inf_unit.specs.declared.items.Item.{Item}
 use Rattle.inf_unit.specs.declared.items.Item.TheVariants as item
 use Rattle.inf_constructs.specs.Cases.{case_code}
-use Rattle.inf_constructs.specs.Constructs.{Laying, all_ended, are_own, begun, between, cases_begun, changed, condition_label, ended, entered, is_late, looped_over, next_case, stepped}
+use Rattle.inf_constructs.specs.Constructs.{Laying, all_ended, are_own, begun, between, cases_begun, changed, condition_label, ended}
+use Rattle.inf_constructs.specs.Constructs.{entered, is_late, looped_over, next_case, stepped}
 use Rattle.inf_statements.specs.Effects.{Site, misplaced_default, only_if, site_finding, statement_finding, statement_laid, wanted_by}
 use Rattle.inf_constructs.specs.Roots.{tree_in}
 use Rattle.inf_statements.specs.Statements.{alone, statement_in, switched, tested}
@@ -22,7 +23,8 @@ use Rattle.inf_constructs.specs.declared.constructs.Construct.{Construct}
 use Rattle.inf_constructs.specs.declared.constructs.Kind.{Kind}
 use Rattle.inf_statements.specs.declared.statements.Statement.{Statement}
 use Rattle.inf_statements.specs.declared.statements.Statement.TheVariants as statement
-use Rattle.inf_compilation.specs.Actions.{Compilation, finding_at, is_deep, named, nested, operands_of, passed, settled_of, trees_at, unit_ended}
+use Rattle.inf_compilation.specs.Actions.{Compilation, finding_at, is_deep, named, nested, operands_of, passed, settled_of, trees_at}
+use Rattle.inf_compilation.specs.Actions.{unit_ended}
 use Rattle.inf_compilation.specs.Findings.{found_alone, nothing_found}
 use Rattle.inf_compilation.specs.declared.parts.Part.{Part}
 use Rattle.inf_compilation.specs.declared.parts.Part.TheVariants as part

@@ -144,7 +144,8 @@ pub struct Listing {
 
 impl<B: Bounds> Compilation<B> {
     ghost use Rattle.inf_unit.specs.Directives.{Nothing, asked, asks};
-    ghost use Rattle.inf_compilation.specs.Actions.{begun_at, is_class, is_deep, labels_counted, nested, no_work, opening_checked, passed, piece_begun, sized, token_checked, took, unit_ended};
+    ghost use Rattle.inf_compilation.specs.Actions.{begun_at, is_class, is_deep, labels_counted, nested, no_work, opening_checked, passed};
+    ghost use Rattle.inf_compilation.specs.Actions.{piece_begun, sized, token_checked, took, unit_ended};
     ghost use Rattle.inf_compilation.specs.Meant.{found_as};
     ghost use Rattle.inf_compilation.specs.Parts.{closed_ahead, construct_closed};
     ghost use Rattle.inf_compilation.specs.Works.{work};

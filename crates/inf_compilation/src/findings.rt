@@ -4,7 +4,8 @@ ghost use Rattle.inf_report.specs.Meant.{meant, named};
 ghost use Rattle.inf_names.specs.LocalList.{headed as as_headed, repeated as repeated_of};
 ghost use Rattle.inf_names.specs.Spellings.{as_name};
 ghost use Rattle.inf_unit.specs.Diagnostics.{blamed};
-ghost use Rattle.inf_compilation.specs.Findings.{again_by, again_finding, again_local, again_message, again_told, blame_of, found_alone, header_findings, many_finding, message_of, nothing_found, told_as};
+ghost use Rattle.inf_compilation.specs.Findings.{again_by, again_finding, again_local, again_message, again_told, blame_of, found_alone};
+ghost use Rattle.inf_compilation.specs.Findings.{header_findings, many_finding, message_of, nothing_found, told_as};
 ghost use Rattle.inf_compilation.specs.Meant.{again_as, found_as};
 
 use inf_expressions::{Finding, NOT_CONSTANT, OUT_OF_RANGE, WRONG_KIND, least_of_both};

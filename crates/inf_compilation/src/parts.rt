@@ -69,7 +69,9 @@ fn is_default(items: &[Item]) -> bool
 impl<B: Bounds> Compilation<B> {
     ghost use Rattle.inf_constructs.specs.Constructs.{are_own};
     ghost use Rattle.inf_compilation.specs.Actions.{finding_at, named, operands_of, settled_of, trees_at};
-    ghost use Rattle.inf_compilation.specs.Parts.{actions_named, case_prepared, construct_opened, found_in, order_of, own_case_prepared, own_finding, part_begun, part_carried, part_effect, part_ended, place_of, statement_at, statement_laid_in};
+    ghost use Rattle.inf_compilation.specs.Parts.{actions_named, case_prepared, construct_opened, found_in, order_of, own_case_prepared};
+    ghost use Rattle.inf_compilation.specs.Parts.{own_finding, part_begun, part_carried, part_effect, part_ended, place_of, statement_at};
+    ghost use Rattle.inf_compilation.specs.Parts.{statement_laid_in};
     ghost use Rattle.inf_compilation.specs.Works.{work};
 
     /// What the leaves of the unit's expressions stand for, where their names are only looked up.

@@ -82,7 +82,8 @@ fn tell_unused(
 }
 
 impl<B: Bounds> Compilation<B> {
-    ghost use Rattle.inf_compilation.specs.Actions.{close, code_closed, header_end, header_named, header_with, is_to_be_replaced, opened_with, routine_declared};
+    ghost use Rattle.inf_compilation.specs.Actions.{close, code_closed, header_end, header_named, header_with, is_to_be_replaced};
+    ghost use Rattle.inf_compilation.specs.Actions.{opened_with, routine_declared};
     ghost use Rattle.inf_compilation.specs.Works.{work};
 
     /// The header of a routine ends, before a token at a place.

@@ -6,7 +6,8 @@ ghost use Rattle.inf_outcome.specs.Comes.{Begins, Heard, IsUnread, OpenedBy, Ope
 ghost use Rattle.inf_session.specs.Delivered.{EndsClean, TakesFront};
 ghost use Rattle.inf_session.specs.Ending.{missing};
 ghost use Rattle.inf_session.specs.Faults.{IfRead, IfStory, UnlessStory};
-ghost use Rattle.inf_compile.specs.Compiling.{Compiles, DeliversPart, HasCause, OnlyStory, TakesPart, TakesStory, chosen_by, named_by, story_in};
+ghost use Rattle.inf_compile.specs.Compiling.{Compiles, DeliversPart, HasCause, OnlyStory, TakesPart, TakesStory, chosen_by, named_by};
+ghost use Rattle.inf_compile.specs.Compiling.{story_in};
 
 use inf_files::files::Files;
 use inf_names::hashing::NameHashing;

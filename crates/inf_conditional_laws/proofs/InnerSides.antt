@@ -1,5 +1,6 @@
 -- Sides that are left out inside a directive.
-use Rattle.std.proofs.Common.{◌≡◌, ℕ, ◌+◌, ◌≤◌, ◌==◌, List, [], ◌∷◌, length, cond, not, ◌&&◌, Bool, true, false, Option, Some, None, unwrap_or, refl, sym, ap, subst, ◌∙◌, arith}
+use Rattle.std.proofs.Common.{◌≡◌, ℕ, ◌+◌, ◌≤◌, ◌==◌, List, [], ◌∷◌, length, cond, not, ◌&&◌, Bool, true, false, Option, Some, None}
+use Rattle.std.proofs.Common.{unwrap_or, refl, sym, ap, subst, ◌∙◌, arith}
 use Rattle.inf_output.specs.Output.{Out}
 use Rattle.inf_scanner.specs.declared.tokens.Mark.TheVariants as mark
 use Rattle.inf_scanner.specs.declared.tokens.Place.{Place}
@@ -14,12 +15,16 @@ use Rattle.inf_conditionals.specs.declared.pending.Effect.TheVariants as effect
 use Rattle.inf_conditionals.specs.declared.pending.Pending.{Pending}
 use Rattle.inf_conditionals.specs.declared.words.ConditionalWord.{ConditionalWord}
 use Rattle.inf_conditionals.specs.declared.words.ConditionalWord.TheVariants as word
-use Rattle.inf_conditionals.specs.Judging.{Behind, awaiting, begun_by, behind_sign, effected, held, is_kept, is_none_pending, judged, judged_by, unmatched, none_handed, offered, offered_to, passed, passed_by, unfit}
-use Rattle.inf_conditionals.specs.Open.{Conditions, closed_by, ended_by, is_none_open, is_second, latest, levels_behind, most_levels, turned, turned_by}
+use Rattle.inf_conditionals.specs.Judging.{Behind, awaiting, begun_by, behind_sign, effected, held, is_kept, is_none_pending, judged}
+use Rattle.inf_conditionals.specs.Judging.{judged_by, unmatched, none_handed, offered, offered_to, passed, passed_by, unfit}
+use Rattle.inf_conditionals.specs.Open.{Conditions, closed_by, ended_by, is_none_open, is_second, latest, levels_behind, most_levels}
+use Rattle.inf_conditionals.specs.Open.{turned, turned_by}
 use Rattle.inf_conditionals.specs.Words.{awaits_of, word_of}
-use Rattle.inf_conditional_laws.specs.InnerSides.{InnerFirstSides, InnerSidesAgree, InnerSidesAreCut, NoneEnds, NoneHandedOn, SecondSides, SemicolonsEndThem, WordsEndSides, ending, signed}
+use Rattle.inf_conditional_laws.specs.InnerSides.{InnerFirstSides, InnerSidesAgree, InnerSidesAreCut, NoneEnds, NoneHandedOn, SecondSides}
+use Rattle.inf_conditional_laws.specs.InnerSides.{SemicolonsEndThem, WordsEndSides, ending, signed}
 use Rattle.inf_conditional_laws.specs.LoneEnds.{sides, sides_behind}
-use Rattle.inf_conditional_laws.specs.Sides.{AllCut, Event, Piece, StayIn, Token, behind, behind_all, directive, ends_side, level_after, level_behind}
+use Rattle.inf_conditional_laws.specs.Sides.{AllCut, Event, Piece, StayIn, Token, behind, behind_all, directive, ends_side, level_after}
+use Rattle.inf_conditional_laws.specs.Sides.{level_behind}
 use Rattle.inf_conditional_laws.proofs.LoneEnds.{closed_sides, ended_is, second_is, turned_sides}
 use Rattle.inf_conditional_laws.proofs.Sides.{ends_as, inside, one_more, sign_behind, token_is}
 

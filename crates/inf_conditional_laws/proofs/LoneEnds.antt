@@ -1,5 +1,6 @@
 -- Directives that have no conditional to turn or to end.
-use Rattle.std.proofs.Common.{◌≡◌, ℕ, List, [], ◌∷◌, ◌++◌, cond, not, ◌&&◌, Bool, true, false, Option, Some, None, unwrap_or, refl, sym, ap, ◌∙◌}
+use Rattle.std.proofs.Common.{◌≡◌, ℕ, List, [], ◌∷◌, ◌++◌, cond, not, ◌&&◌, Bool, true, false, Option, Some, None, unwrap_or, refl, sym, ap}
+use Rattle.std.proofs.Common.{◌∙◌}
 use Rattle.inf_settings.specs.Bounds.{Limits}
 use Rattle.inf_output.specs.Output.{Out}
 use Rattle.inf_scanner.specs.declared.tokens.Mark.TheVariants as mark
@@ -21,11 +22,15 @@ use Rattle.inf_conditionals.specs.declared.pending.Effect.TheVariants as effect
 use Rattle.inf_conditionals.specs.declared.pending.Pending.{Pending}
 use Rattle.inf_conditionals.specs.declared.words.ConditionalWord.{ConditionalWord}
 use Rattle.inf_conditionals.specs.declared.words.ConditionalWord.TheVariants as word
-use Rattle.inf_conditionals.specs.Judging.{Behind, asked, asked_first, asking, at_front, awaited, begun, behind_front, behind_sign, decided, effected, given_up, held, is_none_pending, judged, judged_by, kept, unmatched, named, offered, offered_to, passed, passed_by, saying, taken, tokens_counted, unfit, went_on}
-use Rattle.inf_conditionals.specs.Open.{Conditions, closed, closed_by, is_none_open, is_second, latest, latest_among, opened, turned, turned_by}
+use Rattle.inf_conditionals.specs.Judging.{Behind, asked, asked_first, asking, at_front, awaited, begun, behind_front, behind_sign, decided}
+use Rattle.inf_conditionals.specs.Judging.{effected, given_up, held, is_none_pending, judged, judged_by, kept, unmatched, named, offered}
+use Rattle.inf_conditionals.specs.Judging.{offered_to, passed, passed_by, saying, taken, tokens_counted, unfit, went_on}
+use Rattle.inf_conditionals.specs.Open.{Conditions, closed, closed_by, is_none_open, is_second, latest, latest_among, opened, turned}
+use Rattle.inf_conditionals.specs.Open.{turned_by}
 use Rattle.inf_conditionals.specs.Words.{awaits_of, word_of}
 use Rattle.inf_reader.specs.Handing.{judged_taken}
-use Rattle.inf_conditional_laws.specs.LoneEnds.{Acts, IsEndOf, IsLone, LonesAreJudged, LonesAreTold, OnlyLonesAre, SidesFollow, all_sides_behind, is_lone, lone_behind, second_sides, sides, sides_behind}
+use Rattle.inf_conditional_laws.specs.LoneEnds.{Acts, IsEndOf, IsLone, LonesAreJudged, LonesAreTold, OnlyLonesAre, SidesFollow}
+use Rattle.inf_conditional_laws.specs.LoneEnds.{all_sides_behind, is_lone, lone_behind, second_sides, sides, sides_behind}
 use Rattle.inf_conditional_laws.specs.MissingEnds.{Change, Closes, Opens, StandInside, Turns, all_changed}
 use Rattle.inf_unit.proofs.Cases.{of_both}
 

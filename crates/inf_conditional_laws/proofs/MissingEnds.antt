@@ -1,12 +1,14 @@
 -- Conditionals that are not closed.
-use Rattle.std.proofs.Common.{◌≡◌, ℕ, zero, suc, ◌+◌, List, [], ◌∷◌, ◌++◌, map, drop, reverse, cond, Bool, true, false, refl, sym, ap, ◌∙◌, append_assoc}
+use Rattle.std.proofs.Common.{◌≡◌, ℕ, zero, suc, ◌+◌, List, [], ◌∷◌, ◌++◌, map, drop, reverse, cond, Bool, true, false, refl, sym, ap, ◌∙◌}
+use Rattle.std.proofs.Common.{append_assoc}
 use Rattle.std.proofs.lemmas.List.{append-nil, map-append, reverse-append, reverse-reverse}
 use Rattle.inf_scanner.specs.declared.tokens.Place.{Place}
 use Rattle.inf_unit.specs.Messages.{FileNames, Reported}
 use Rattle.inf_sources.specs.declared.open_file.Conditional.{Conditional}
 use Rattle.inf_conditionals.specs.Ends.{file_told, piece_told, with_all_lone, with_lone}
 use Rattle.inf_conditionals.specs.Open.{Conditions, closed, closed_by, opened, turned, turned_by, turned_first}
-use Rattle.inf_conditional_laws.specs.MissingEnds.{Change, Closes, MissingEndsAreTold, Opens, StandInside, Turns, all_changed, is_closed, never_closed, with_all_at}
+use Rattle.inf_conditional_laws.specs.MissingEnds.{Change, Closes, MissingEndsAreTold, Opens, StandInside, Turns, all_changed, is_closed}
+use Rattle.inf_conditional_laws.specs.MissingEnds.{never_closed, with_all_at}
 
 -- Places that are put before others and taken away
 

@@ -1,5 +1,6 @@
 -- Sides that are left out: they are cut, where they end, and which ones they are.
-use Rattle.std.proofs.Common.{◌≡◌, ℕ, ◌+◌, ◌-◌, ◌≤◌, ◌==◌, List, [], ◌∷◌, length, cond, not, ◌&&◌, Bool, true, false, Option, Some, None, unwrap_or, refl, sym, ap, subst, ◌∙◌, arith}
+use Rattle.std.proofs.Common.{◌≡◌, ℕ, ◌+◌, ◌-◌, ◌≤◌, ◌==◌, List, [], ◌∷◌, length, cond, not, ◌&&◌, Bool, true, false, Option, Some, None}
+use Rattle.std.proofs.Common.{unwrap_or, refl, sym, ap, subst, ◌∙◌, arith}
 use Rattle.inf_output.specs.Output.{Out}
 use Rattle.inf_scanner.specs.declared.tokens.Mark.TheVariants as mark
 use Rattle.inf_scanner.specs.declared.tokens.Place.{Place}
@@ -16,10 +17,13 @@ use Rattle.inf_conditionals.specs.declared.pending.Effect.TheVariants as effect
 use Rattle.inf_conditionals.specs.declared.pending.Pending.{Pending}
 use Rattle.inf_conditionals.specs.declared.words.ConditionalWord.{ConditionalWord}
 use Rattle.inf_conditionals.specs.declared.words.ConditionalWord.TheVariants as word
-use Rattle.inf_conditionals.specs.Judging.{Behind, asked, asking, at_front, awaited, awaiting, begun_by, decided, effected, held, is_kept, is_none_pending, judged, judged_by, kept, offered, offered_to, passed, passed_by, saying, taken, tokens_counted, unfit, went_on}
+use Rattle.inf_conditionals.specs.Judging.{Behind, asked, asking, at_front, awaited, awaiting, begun_by, decided, effected, held, is_kept}
+use Rattle.inf_conditionals.specs.Judging.{is_none_pending, judged, judged_by, kept, offered, offered_to, passed, passed_by, saying, taken}
+use Rattle.inf_conditionals.specs.Judging.{tokens_counted, unfit, went_on}
 use Rattle.inf_conditionals.specs.Open.{Conditions, ended_by, ends_at, is_second, latest, levels_behind, most_levels}
 use Rattle.inf_conditionals.specs.Words.{awaits_of, word_of}
-use Rattle.inf_conditional_laws.specs.Sides.{AllCut, Event, FirstSides, Piece, SidesAgree, SidesAreCut, SidesEnd, StayIn, Token, ValuesDecide, behind, behind_all, directive, ends_side, is_last, level_after, level_behind}
+use Rattle.inf_conditional_laws.specs.Sides.{AllCut, Event, FirstSides, Piece, SidesAgree, SidesAreCut, SidesEnd, StayIn, Token}
+use Rattle.inf_conditional_laws.specs.Sides.{ValuesDecide, behind, behind_all, directive, ends_side, is_last, level_after, level_behind}
 
 -- Words
 

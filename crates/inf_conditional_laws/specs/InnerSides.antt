@@ -18,7 +18,8 @@ use Rattle.inf_conditionals.specs.Judging.{Behind, is_none_pending, judged, none
 use Rattle.inf_conditionals.specs.Open.{Conditions, is_none_open, is_second, latest, most_levels}
 use Rattle.inf_conditionals.specs.Words.{word_of}
 use Rattle.inf_conditional_laws.specs.LoneEnds.{IsEndOf, is_lone, sides, sides_behind}
-use Rattle.inf_conditional_laws.specs.Sides.{AllCut, Event, Piece, StayIn, StaysLeftOut, Token, became, behind, behind_all, directive, ends_side, level_after}
+use Rattle.inf_conditional_laws.specs.Sides.{AllCut, Event, Piece, StayIn, StaysLeftOut, Token, became, behind, behind_all, directive}
+use Rattle.inf_conditional_laws.specs.Sides.{ends_side, level_after}
 
 -- How far a side goes
 

@@ -1,7 +1,8 @@
 -- What becomes of a token. Between directives a conditional directive stands as any other does, with a `#` before it or not; inside
 -- a directive it has a `#`, and may stand at any token. Its own tokens are not kept; those of a condition are read by the grammar. One
 -- that does not fit is the bad token of the directive around it. In a side that is left out only the words of conditionals are looked at.
-use Rattle.std.specs.Prelude.{ℕ, max, ◌&&◌, ◌||◌, ◌==◌, List, [], ◌∷◌, Bool, true, false, not, if◌then◌else◌, Option, Some, None, is_none, unwrap_or}
+use Rattle.std.specs.Prelude.{ℕ, max, ◌&&◌, ◌||◌, ◌==◌, List, [], ◌∷◌, Bool, true, false, not, if◌then◌else◌, Option, Some, None, is_none}
+use Rattle.std.specs.Prelude.{unwrap_or}
 use Rattle.inf_scanner.specs.declared.tokens.Mark.TheVariants as mark
 use Rattle.inf_scanner.specs.declared.tokens.Place.{Place}
 use Rattle.inf_scanner.specs.declared.tokens.TokenKind.{TokenKind}
@@ -26,7 +27,8 @@ use Rattle.inf_conditionals.specs.declared.words.ConditionalWord.{ConditionalWor
 use Rattle.inf_conditionals.specs.Condition.{Condition, condition_begun, condition_took, is_whole, verdict_of}
 use Rattle.inf_conditionals.specs.Said.{Said, too_much, told_by}
 use Rattle.inf_conditionals.specs.Words.{awaits_of, word_of}
-use Rattle.inf_conditionals.specs.Open.{Conditions, closed, ended_by, ends_at, is_none_open, is_second, latest, levels_behind, opened, turned}
+use Rattle.inf_conditionals.specs.Open.{Conditions, closed, ended_by, ends_at, is_none_open, is_second, latest, levels_behind, opened}
+use Rattle.inf_conditionals.specs.Open.{turned}
 
 -- the conditionals behind a token, and what becomes of it
 pub record Behind : Type 0 where

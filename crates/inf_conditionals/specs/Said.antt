@@ -7,7 +7,8 @@ use Rattle.inf_scanner.specs.declared.tokens.Mark.TheVariants as mark
 use Rattle.inf_scanner.specs.declared.tokens.Place.{Place}
 use Rattle.inf_settings.specs.declared.setting.Setting.TheVariants.{ExpressionNodes}
 use Rattle.inf_expressions.specs.declared.findings.Finding.{Finding}
-use Rattle.inf_report.specs.Messages.{ConstantOutOfRange, DeepNesting, End, Exceeded, Message, NotConstant, Told, TooManyArguments, WrongKind}
+use Rattle.inf_report.specs.Messages.{ConstantOutOfRange, DeepNesting, End, Exceeded, Message, NotConstant, Told, TooManyArguments}
+use Rattle.inf_report.specs.Messages.{WrongKind}
 use Rattle.inf_unit.specs.Messages.{Diagnostic, FileNames, Reported, location, with_error, with_fatal}
 use Rattle.inf_unit.specs.Tokens.{SourceToken, is_mark, told}
 use Rattle.inf_unit.specs.Units.{long_at}

@@ -1,6 +1,7 @@
 //! The condition of a conditional directive.
 ghost use Rattle.std.specs.Prelude.{◌≡◌, IfOk, OnOk, map, true};
-ghost use Rattle.inf_conditionals.specs.Condition.{all_acted, condition_begun, condition_took, finding_by, is_true_by, is_whole, number_of, tree_in, verdict_of};
+ghost use Rattle.inf_conditionals.specs.Condition.{all_acted, condition_begun, condition_took, finding_by, is_true_by, is_whole, number_of};
+ghost use Rattle.inf_conditionals.specs.Condition.{tree_in, verdict_of};
 ghost use Rattle.inf_conditionals.specs.Meant.{condition};
 ghost use Rattle.inf_expressions.specs.Forests.{trees_in};
 ghost use Rattle.inf_grammar.specs.Language.{grammar, known};

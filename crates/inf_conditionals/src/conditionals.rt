@@ -73,7 +73,9 @@ impl Model for Conditionals {
 
 impl Conditionals {
     ghost use Rattle.inf_conditionals.specs.Ends.{file_ended, file_told, piece_ended, piece_told, with_among};
-    ghost use Rattle.inf_conditionals.specs.Judging.{asked, asked_first, asking, awaited, awaiting, begun, behind_front, behind_sign, decided, effected, held, in_side, is_behind_side, is_none_pending, judged, kept, may_part, offered, saying, tokens_counted, unfit, word_passed};
+    ghost use Rattle.inf_conditionals.specs.Judging.{asked, asked_first, asking, awaited, awaiting, begun, behind_front, behind_sign};
+    ghost use Rattle.inf_conditionals.specs.Judging.{decided, effected, held, in_side, is_behind_side, is_none_pending, judged, kept};
+    ghost use Rattle.inf_conditionals.specs.Judging.{may_part, offered, saying, tokens_counted, unfit, word_passed};
     ghost use Rattle.inf_output.specs.Output.{Out};
     ghost use Rattle.inf_conditionals.specs.Condition.{verdict_of};
     ghost use Rattle.inf_conditionals.specs.Meant.{condition as condition_of, said_of};

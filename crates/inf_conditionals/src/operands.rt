@@ -1,7 +1,8 @@
 //! What the names of a condition stand for.
 ghost use Rattle.std.specs.Prelude.{◌≡◌, ◌≤◌, IfOk, IfSome, OnOk, length, option_map};
 ghost use Rattle.inf_unit.specs.NameTokens.{named};
-ghost use Rattle.inf_conditionals.specs.Operands.{action_added, actions_added, appeared_by, bytes_of, found_operand, function_of, leaf_operand, name_operand, operand_behind, operand_of, operands_of};
+ghost use Rattle.inf_conditionals.specs.Operands.{action_added, actions_added, appeared_by, bytes_of, found_operand, function_of};
+ghost use Rattle.inf_conditionals.specs.Operands.{leaf_operand, name_operand, operand_behind, operand_of, operands_of};
 
 use inf_area::Target;
 use inf_expressions::{Function, Operand};

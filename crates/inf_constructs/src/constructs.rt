@@ -5,7 +5,12 @@ ghost use Rattle.inf_expressions.specs.Nodes.{tree_at};
 ghost use Rattle.inf_expressions.specs.Questions.{children_of};
 ghost use Rattle.inf_output.specs.Output.{items_of};
 ghost use Rattle.inf_templates.specs.Tasks.{at};
-ghost use Rattle.inf_constructs.specs.Constructs.{all_ended, are_cases, are_own, begun, between, break_of, case_closed, case_entered, cases_begun, changed, closed, condition_label, continue_of, default_entered, depth, depth_by, ended, ending, entered, entered_by, front, is_late, is_late_in, joint, kind_behind, left_to, left_to_by, looped, looped_by, looped_on, looped_over, next_case, next_case_in, opened, otherwise, outermost, over_all, over_children, stepped, tested_over, values_entered, with_case, with_labels};
+ghost use Rattle.inf_constructs.specs.Constructs.{all_ended, are_cases, are_own, begun, between, break_of, case_closed, case_entered};
+ghost use Rattle.inf_constructs.specs.Constructs.{cases_begun, changed, closed, condition_label, continue_of, default_entered, depth};
+ghost use Rattle.inf_constructs.specs.Constructs.{depth_by, ended, ending, entered, entered_by, front, is_late, is_late_in, joint};
+ghost use Rattle.inf_constructs.specs.Constructs.{kind_behind, left_to, left_to_by, looped, looped_by, looped_on, looped_over, next_case};
+ghost use Rattle.inf_constructs.specs.Constructs.{next_case_in, opened, otherwise, outermost, over_all, over_children, stepped};
+ghost use Rattle.inf_constructs.specs.Constructs.{tested_over, values_entered, with_case, with_labels};
 
 use inf_area::{SystemConstant, Target};
 use inf_expressions::{Forest, Nodes, Root, children_of};

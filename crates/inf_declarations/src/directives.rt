@@ -8,7 +8,10 @@ ghost use Rattle.inf_names.specs.Spellings.{as_name};
 ghost use Rattle.inf_output.specs.Output.{referred};
 ghost use Rattle.inf_unit.specs.Messages.{location, with_words};
 ghost use Rattle.inf_unit.specs.Units.{quoted_in};
-ghost use Rattle.inf_compilation.specs.Actions.{as_constant, constant, constant_ended, constant_finding, constant_findings, constant_meaning, constant_of, constant_with, declared_meaning, is_declared, is_first_declared, leaf_meaning, named_leaf, new_stub, replace, stub, stub_locals, stubbed, used_name, words_of};
+ghost use Rattle.inf_compilation.specs.Actions.{as_constant, constant, constant_ended, constant_finding, constant_findings};
+ghost use Rattle.inf_compilation.specs.Actions.{constant_meaning, constant_of, constant_with, declared_meaning, is_declared};
+ghost use Rattle.inf_compilation.specs.Actions.{is_first_declared, leaf_meaning, named_leaf, new_stub, replace, stub, stub_locals, stubbed};
+ghost use Rattle.inf_compilation.specs.Actions.{used_name, words_of};
 ghost use Rattle.inf_statements.specs.Operands.{leaf_added};
 ghost use Rattle.inf_unit.specs.Directives.{Include, asked, weight_of};
 ghost use Rattle.inf_declarations.specs.Defaults.{default};
@@ -93,7 +96,8 @@ fn new_stub<B: Bounds>(
     first: Place,
     names: &[Name],
 ) -> Result<(), AllocError>
-    ensures { OnOk result (work compilation.new ≡ new_stub B.most (handed context.now) first (map as_name names.now) (work compilation.old)) }
+    ensures { OnOk result (work compilation.new ≡ new_stub B.most (handed context.now) first (map as_name names.now)
+        (work compilation.old)) }
 {
     let Some(name) = names.first() else {
         compilation.pass(true);

@@ -2,7 +2,8 @@
 ghost use Rattle.inf_compilation.specs.Context.{handed};
 ghost use Rattle.std.specs.Prelude.{OnOk, map, ◌≡◌};
 ghost use Rattle.inf_names.specs.Spellings.{as_name};
-ghost use Rattle.inf_declarations.specs.Declarations.{global_added, global_ended, global_variable, global_with, has_most_globals, new_global, nothing_of, valued};
+ghost use Rattle.inf_declarations.specs.Declarations.{global_added, global_ended, global_variable, global_with, has_most_globals};
+ghost use Rattle.inf_declarations.specs.Declarations.{new_global, nothing_of, valued};
 ghost use Rattle.inf_compilation.specs.Works.{work};
 
 use crate::declarations::{Declared, end_declaration, nothing_of, value, valued};

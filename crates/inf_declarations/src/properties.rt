@@ -2,7 +2,9 @@
 ghost use Rattle.inf_compilation.specs.Context.{handed};
 ghost use Rattle.std.specs.Prelude.{IfOk, OnOk, map, ◌≡◌};
 ghost use Rattle.inf_names.specs.Spellings.{as_name};
-ghost use Rattle.inf_declarations.specs.Declarations.{has_most_properties, is_additive, is_additive_word, is_alias, name_known, new_property, nothing_of, property, property_added, property_ended, property_named, property_names, property_number, property_order, property_with, valued};
+ghost use Rattle.inf_declarations.specs.Declarations.{has_most_properties, is_additive, is_additive_word, is_alias, name_known};
+ghost use Rattle.inf_declarations.specs.Declarations.{new_property, nothing_of, property, property_added, property_ended, property_named};
+ghost use Rattle.inf_declarations.specs.Declarations.{property_names, property_number, property_order, property_with, valued};
 ghost use Rattle.inf_compilation.specs.Works.{work};
 
 use crate::declarations::{Declared, alias, end_declaration, is_alias, nothing_of, value, valued};
@@ -70,7 +72,8 @@ pub fn property<B: Bounds>(
     first: Place,
     names: &[Name],
 ) -> Result<(), AllocError>
-    ensures { OnOk result (work compilation.new ≡ property B.most (handed context.now) first (map as_name names.now) (work compilation.old)) }
+    ensures { OnOk result (work compilation.new ≡ property B.most (handed context.now) first (map as_name names.now)
+        (work compilation.old)) }
 {
     property_named(
         compilation,

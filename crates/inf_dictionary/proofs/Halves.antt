@@ -1,5 +1,6 @@
 -- A word is found by halves where it stands, and none is found that is not there.
-use Rattle.std.proofs.Common.{◌≡◌, ◌∷◌, ◌≤◌, ◌<◌, ◌+◌, ◌∙◌, ℕ, zero, suc, List, [], Bool, true, false, cond, refl, arith, ap, inl, inr, Ordering, length, slice_index_or, Less, Equal, Greater, Option, Some, None}
+use Rattle.std.proofs.Common.{◌≡◌, ◌∷◌, ◌≤◌, ◌<◌, ◌+◌, ◌∙◌, ℕ, zero, suc, List, [], Bool, true, false, cond, refl, arith, ap, inl, inr}
+use Rattle.std.proofs.Common.{Ordering, length, slice_index_or, Less, Equal, Greater, Option, Some, None}
 use Rattle.std.specs.Prelude.{if◌then◌else◌}
 use Rattle.std.specs.Ordering.{is_eq, match_ordering, ordering_reverse}
 use Rattle.std.specs.Cmp.{IsTotalOrder}

@@ -1,5 +1,6 @@
 -- In rising texts those below one stand in front, so their number is where it is found by halves.
-use Rattle.std.proofs.Common.{◌≡◌, ◌∷◌, ◌≤◌, ◌<◌, ◌∙◌, ℕ, zero, suc, List, [], true, false, refl, sym, subst, arith, ap, inl, inr, Ordering, length, slice_index_or, Less, Equal, Greater}
+use Rattle.std.proofs.Common.{◌≡◌, ◌∷◌, ◌≤◌, ◌<◌, ◌∙◌, ℕ, zero, suc, List, [], true, false, refl, sym, subst, arith, ap, inl, inr, Ordering}
+use Rattle.std.proofs.Common.{length, slice_index_or, Less, Equal, Greater}
 use Rattle.std.specs.Ordering.{nat_cmp, is_lt, ordering_reverse}
 use Rattle.std.specs.Cmp.{IsTotalOrder}
 use Rattle.std.specs.Cmp.Lexicographic.{slice_cmp}

@@ -1,5 +1,6 @@
 -- Words whose texts have six bytes: one more, and where they stand in what is written.
-use Rattle.std.proofs.Common.{◌≡◌, ◌∷◌, ◌++◌, ◌+◌, ◌*◌, ◌<◌, ℕ, zero, suc, List, [], ap, ◌∙◌, arith, length, take, drop, slice_index_or, Ordering, Less, Equal, Greater, length-append, append_assoc, ◌/◌, ◌%◌}
+use Rattle.std.proofs.Common.{◌≡◌, ◌∷◌, ◌++◌, ◌+◌, ◌*◌, ◌<◌, ℕ, zero, suc, List, [], ap, ◌∙◌, arith, length, take, drop, slice_index_or}
+use Rattle.std.proofs.Common.{Ordering, Less, Equal, Greater, length-append, append_assoc, ◌/◌, ◌%◌}
 use Rattle.std.proofs.lemmas.List.{take_at}
 use Rattle.std.specs.Ordering.{nat_cmp, match_ordering}
 use Rattle.std.specs.Cmp.Lexicographic.{slice_cmp}

@@ -50,7 +50,8 @@ impl<B: Bounds> Model for Dictionary<B> {
 
     ghost view = { λ d. record { list = d.words.entries } };
 
-    ghost invariant = { λ d. (length d.words.entries ≤ d.limit) × AreRising (texts_of d.words.entries) × AreWhole (texts_of d.words.entries) };
+    ghost invariant = { λ d. (length d.words.entries ≤ d.limit) × AreRising (texts_of d.words.entries) × AreWhole
+        (texts_of d.words.entries) };
 }
 
 /// Appends the bytes of a word's entry.

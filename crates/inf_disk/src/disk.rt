@@ -1,4 +1,5 @@
-ghost use Rattle.std.specs.Prelude.{◌≡◌, ◌+◌, ◌<◌, ◌≤◌, [], ◌∷◌, ◌++◌, None, Some, Ok, true, IsErr, IsSome, IsErrOf, IfOk, OnOk, OnErr, is_ok, length, min, if◌then◌else◌};
+ghost use Rattle.std.specs.Prelude.{◌≡◌, ◌+◌, ◌<◌, ◌≤◌, [], ◌∷◌, ◌++◌, None, Some, Ok, true, IsErr, IsSome, IsErrOf, IfOk, OnOk, OnErr};
+ghost use Rattle.std.specs.Prelude.{is_ok, length, min, if◌then◌else◌};
 ghost use Rattle.std.specs.Fs.{new_options, with_write, with_create, with_truncate};
 ghost use Rattle.std.specs.Io.KnownBytes.{ReadConsumes, WriteAppends};
 ghost use Rattle.inf_files.specs.Files.{Rose, last_count};

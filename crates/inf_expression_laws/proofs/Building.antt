@@ -11,7 +11,8 @@ use Rattle.inf_unit.specs.declared.steps.Step.TheVariants as step
 use Rattle.inf_unit.specs.Steps.{step_of}
 use Rattle.inf_expression_laws.specs.Precedence.{leaf_count, leaf_count_of_all, list_of}
 use Rattle.inf_expression_laws.specs.Gathered.{first_of}
-use Rattle.inf_expression_laws.proofs.Built.{Builds, State, all_sources, behind, built, in_front_of, list_joined, one_more, over_one, over_two, pushed, stepped, tested}
+use Rattle.inf_expression_laws.proofs.Built.{Builds, State, all_sources, behind, built, in_front_of, list_joined, one_more, over_one}
+use Rattle.inf_expression_laws.proofs.Built.{over_two, pushed, stepped, tested}
 
 -- What the events of a list, which was just opened, build
 abbrev pub Lists : (List (Event Action) → List (Event Action)) → ℕ → ℕ → ℕ → List Source → Type 0

@@ -1,5 +1,6 @@
 -- The tokens of an expression are read: what is gathered is the expression that they are.
-use Rattle.std.proofs.Common.{◌≡◌, ℕ, ◌+◌, ◌≤◌, ◌<◌, List, [], ◌∷◌, ◌++◌, length, true, false, Option, Some, None, refl, sym, ◌∙◌, ap, subst, append_assoc, append-nil, arith}
+use Rattle.std.proofs.Common.{◌≡◌, ℕ, ◌+◌, ◌≤◌, ◌<◌, List, [], ◌∷◌, ◌++◌, length, true, false, Option, Some, None, refl, sym, ◌∙◌, ap}
+use Rattle.std.proofs.Common.{subst, append_assoc, append-nil, arith}
 use Rattle.std.specs.Prelude.{option_map, slice_get}
 use Rattle.std.proofs.lemmas.List.{length-append}
 use Rattle.std.proofs.lemmas.Bool.{cond-false}
@@ -26,9 +27,11 @@ use Rattle.inf_expression_laws.proofs.ActionSteps.{acted_step}
 use Rattle.inf_expression_laws.proofs.Items.{Item, Whole}
 use Rattle.inf_expression_laws.proofs.Leaves.{At, action_stands, leaf_stands, opened_stands}
 use Rattle.inf_expression_laws.proofs.Standing.{Frame, gained, Known, Stands, moved, read, start, weakened, whole}
-use Rattle.inf_expression_laws.proofs.Steps.{assign_stands, bracketed_stands, call_stands, closed_stands, closing_stands, comma_stands, front_stands, list_stands, more_stands, one_stands, suffix_stands, test_stands, two_stands}
+use Rattle.inf_expression_laws.proofs.Steps.{assign_stands, bracketed_stands, call_stands, closed_stands, closing_stands, comma_stands}
+use Rattle.inf_expression_laws.proofs.Steps.{front_stands, list_stands, more_stands, one_stands, suffix_stands, test_stands, two_stands}
 use Rattle.inf_expression_laws.proofs.Typed as typed
-use Rattle.inf_expression_laws.proofs.Typed.{Change, form_passes, Passes, below, between_changes, front_changes, joined, row_passes, step_changes, suffix_changes, test_changes, two_changes}
+use Rattle.inf_expression_laws.proofs.Typed.{Change, form_passes, Passes, below, between_changes, front_changes, joined, row_passes}
+use Rattle.inf_expression_laws.proofs.Typed.{step_changes, suffix_changes, test_changes, two_changes}
 
 -- Where reading stands
 record Read (f : Frame) (items : List Item) (seen : List ℕ) (u : Unit) (tokens : List SourceToken) : Type 0 where

@@ -1,5 +1,6 @@
 -- Leaves and opening brackets: what the last token of a unit is.
-use Rattle.std.proofs.Common.{◌≡◌, ℕ, zero, suc, ◌+◌, ◌-◌, ◌≤◌, ◌<◌, List, [], ◌∷◌, ◌++◌, length, Bool, true, false, ◌&&◌, ◌==◌, Some, refl, sym, ◌∙◌, ap, append_assoc, arith}
+use Rattle.std.proofs.Common.{◌≡◌, ℕ, zero, suc, ◌+◌, ◌-◌, ◌≤◌, ◌<◌, List, [], ◌∷◌, ◌++◌, length, Bool, true, false, ◌&&◌, ◌==◌, Some, refl}
+use Rattle.std.proofs.Common.{sym, ◌∙◌, ap, append_assoc, arith}
 use Rattle.std.specs.Prelude.{option_map, slice_get}
 use Rattle.std.proofs.lemmas.List.{length-append}
 use Rattle.std.proofs.lemmas.Bool.{both_ways, cond-true, cond-false, eq-eqb, eqb-false, eqb-true, ne_eqb}
@@ -16,7 +17,8 @@ use Rattle.inf_expressions.specs.Sources.{Leaf}
 use Rattle.inf_gathering.specs.declared.gathering.Leaf.TheVariants as leaf
 use Rattle.inf_gathering.specs.Gatherings.{with_bracket, with_leaf}
 use Rattle.inf_unit.specs.Tokens.{SourceToken}
-use Rattle.inf_unit.specs.Units.{Unit, is_alone, is_first, is_sign, is_some_mark, kind_at, last_leaf, leaf_of, marked_from, order, told_leaf, with_last}
+use Rattle.inf_unit.specs.Units.{Unit, is_alone, is_first, is_sign, is_some_mark, kind_at, last_leaf, leaf_of, marked_from, order}
+use Rattle.inf_unit.specs.Units.{told_leaf, with_last}
 use Rattle.inf_expression_laws.specs.Precedence.{operand, action, opening_sign, operands, primaries}
 use Rattle.inf_expression_laws.specs.Gathered.{kind_in, leaf_read}
 use Rattle.inf_expression_laws.proofs.Items.{Item, Sign, Whole, Opened}

@@ -1,5 +1,6 @@
 -- The rows of operators: what leads through each of them.
-use Rattle.std.proofs.Common.{◌≡◌, ℕ, suc, ◌≤◌, List, [], ◌∷◌, ◌++◌, codes, Bool, true, false, ◌&&◌, bit_and, Some, refl, sym, ◌∙◌, ap, subst, arith}
+use Rattle.std.proofs.Common.{◌≡◌, ℕ, suc, ◌≤◌, List, [], ◌∷◌, ◌++◌, codes, Bool, true, false, ◌&&◌, bit_and, Some, refl, sym, ◌∙◌, ap}
+use Rattle.std.proofs.Common.{subst, arith}
 use Rattle.std.specs.Prelude.{get_or}
 use Rattle.std.proofs.lemmas.Option.{same_Some}
 use Rattle.inf_machine.specs.declared.symbols.Symbol.{Symbol}
@@ -10,7 +11,9 @@ use Rattle.inf_scanner.specs.declared.tokens.Mark.TheVariants as mark
 use Rattle.inf_syntax.specs.declared.actions.Action.{Action}
 use Rattle.inf_syntax.specs.declared.actions.Action.TheVariants as does
 use Rattle.inf_syntax.specs.Atoms.{of_mark, of_word}
-use Rattle.inf_syntax.specs.Parts.{ !part, address_tail, array_tail, assign, assign_tail, bit, call_1, call_2, expression, expression_tail, inc, logic, logic_tail, neg, negated, post, post_tail, prim, step_tail, sum, sum_tail, term, term_tail, test_tail, tested_1}
+use Rattle.inf_syntax.specs.Parts.{ !part, address_tail, array_tail, assign, assign_tail, bit, call_1, call_2, expression, expression_tail}
+use Rattle.inf_syntax.specs.Parts.{inc, logic, logic_tail, neg, negated, post, post_tail, prim, step_tail, sum, sum_tail, term, term_tail}
+use Rattle.inf_syntax.specs.Parts.{test_tail, tested_1}
 use Rattle.inf_expressions.specs.declared.operators.Binary.{Binary}
 use Rattle.inf_expressions.specs.declared.operators.Binary.TheVariants as binary
 use Rattle.inf_expressions.specs.declared.operators.Operation.TheVariants as operation
@@ -24,7 +27,9 @@ use Rattle.inf_expressions.specs.Sources.{Suffix, Two}
 use Rattle.inf_unit.specs.Steps.{step_of}
 use Rattle.inf_grammar.specs.Language.{grammar}
 use Rattle.inf_expression_laws.specs.Precedence as written
-use Rattle.inf_expression_laws.specs.Precedence.{Written, Listed, closing_sign, comma_sign, commas, leaf_count, list_of, opening_sign, operands, or_sign, sign_behind, sign_between, sign_in_front, sign_of_test, sums, assignments}
+use Rattle.inf_expression_laws.specs.Precedence.{Written, Listed, closing_sign, comma_sign, commas, leaf_count, list_of, opening_sign}
+use Rattle.inf_expression_laws.specs.Precedence.{operands, or_sign, sign_behind, sign_between, sign_in_front, sign_of_test, sums}
+use Rattle.inf_expression_laws.specs.Precedence.{assignments}
 use Rattle.inf_expression_laws.proofs.Built.{State, behind, over_one, over_two, stepped, tested as tested_by, in_front_of}
 
 -- Symbols that an expression of a level begins, and those that may go on with it at its level

@@ -1,5 +1,6 @@
 -- What stands behind the tokens of an expression that were read, and what was gathered of them.
-use Rattle.std.proofs.Common.{◌≡◌, ℕ, zero, suc, ◌+◌, ◌-◌, ◌≤◌, ◌<◌, List, [], ◌∷◌, ◌++◌, length, true, Option, Some, refl, ◌∙◌, ap, subst, append_assoc, arith}
+use Rattle.std.proofs.Common.{◌≡◌, ℕ, zero, suc, ◌+◌, ◌-◌, ◌≤◌, ◌<◌, List, [], ◌∷◌, ◌++◌, length, true, Option, Some, refl, ◌∙◌, ap, subst}
+use Rattle.std.proofs.Common.{append_assoc, arith}
 use Rattle.std.specs.Prelude.{drop}
 use Rattle.std.proofs.lemmas.List.{length-append}
 use Rattle.inf_machine.specs.Grammar.{has}
@@ -11,7 +12,9 @@ use Rattle.inf_expressions.specs.Sources.{Source, Leaf, Brackets, Prefix, Suffix
 use Rattle.inf_gathering.specs.Gatherings.{Gathering, with_bracket, with_list}
 use Rattle.inf_unit.specs.Tokens.{SourceToken}
 use Rattle.inf_unit.specs.Units.{kind_at}
-use Rattle.inf_expression_laws.specs.Precedence.{Written, operand, action, brackets, tighter, in_front, behind, between, assigned, tested, called, alone, Listed, one, more, commas, leaf_count, leaf_count_of_all, list_of, opening_sign}
+use Rattle.inf_expression_laws.specs.Precedence.{Written, operand, action, brackets, tighter, in_front, behind, between, assigned, tested}
+use Rattle.inf_expression_laws.specs.Precedence.{called, alone, Listed, one, more, commas, leaf_count, leaf_count_of_all, list_of}
+use Rattle.inf_expression_laws.specs.Precedence.{opening_sign}
 use Rattle.inf_expression_laws.specs.Gathered.{first_of, is_open, joints, leaves_of, symbols_of, with_source}
 use Rattle.inf_expression_laws.proofs.Items as it
 use Rattle.inf_expression_laws.proofs.Items.{Item, Sign, Whole, Opened, Closing, NoneYet, Parts, Any, Within}

@@ -1,5 +1,6 @@
 -- What each action of an expression makes of what stands behind its tokens.
-use Rattle.std.proofs.Common.{◌≡◌, ℕ, suc, ◌+◌, ◌-◌, ◌<◌, List, [], ◌∷◌, ◌++◌, length, Bool, true, false, ◌==◌, Some, refl, sym, ◌∙◌, ap, subst, append_assoc, arith}
+use Rattle.std.proofs.Common.{◌≡◌, ℕ, suc, ◌+◌, ◌-◌, ◌<◌, List, [], ◌∷◌, ◌++◌, length, Bool, true, false, ◌==◌, Some, refl, sym, ◌∙◌, ap}
+use Rattle.std.proofs.Common.{subst, append_assoc, arith}
 use Rattle.std.proofs.lemmas.List.{length-append}
 use Rattle.std.proofs.lemmas.Bool.{cond-false, ne_eqb, both_ways}
 use Rattle.inf_machine.specs.Grammar.{has}
@@ -11,11 +12,18 @@ use Rattle.inf_expressions.specs.declared.operators.Unary.{Unary}
 use Rattle.inf_expressions.specs.declared.symbols.Symbol.{Symbol}
 use Rattle.inf_expressions.specs.declared.symbols.Symbol.TheVariants as symbol
 use Rattle.inf_expressions.specs.Sources.{Source, Brackets, Prefix, Suffix, Two, Call, Alone}
-use Rattle.inf_gathering.specs.Gatherings.{Gathering, comma, counted, with_call, with_closed_bracket, with_comma, with_list, with_part, with_prefix, with_suffix, with_test, with_two}
-use Rattle.inf_expression_laws.specs.Precedence.{Written, in_front, behind, between, assigned, tested, called, alone, brackets, one, more, assignments, closing_sign, comma_sign, commas, connections, leaf_count, list_of, members, opening_sign, or_sign, primaries, sign_behind, sign_between, sign_in_front, sign_of_test, sums, tests}
+use Rattle.inf_gathering.specs.Gatherings.{Gathering, comma, counted, with_call, with_closed_bracket, with_comma, with_list, with_part}
+use Rattle.inf_gathering.specs.Gatherings.{with_prefix, with_suffix, with_test, with_two}
+use Rattle.inf_expression_laws.specs.Precedence.{Written, in_front, behind, between, assigned, tested, called, alone, brackets, one, more}
+use Rattle.inf_expression_laws.specs.Precedence.{assignments, closing_sign, comma_sign, commas, connections, leaf_count, list_of, members}
+use Rattle.inf_expression_laws.specs.Precedence.{opening_sign, or_sign, primaries, sign_behind, sign_between, sign_in_front, sign_of_test}
+use Rattle.inf_expression_laws.specs.Precedence.{sums, tests}
 use Rattle.inf_expression_laws.specs.Gathered.{first_of, is_open, joints, leaves_of, symbols_behind, symbols_of}
 use Rattle.inf_expression_laws.proofs.Items.{Item, Sign, Whole, Opened, Closing, NoneYet, Parts, Any}
-use Rattle.inf_expression_laws.proofs.Standing.{Frame, gained, all_gained, with_parts, Stands, read, whole, opened, closing, none_yet, parts, some, nothing, begins, gained_leaves, all_gained_leaves, all_gained_append, all_gained_rest, all_gained_firsts, all_gained_list, list_joints, listed_moved, moved, parts_have_tokens}
+use Rattle.inf_expression_laws.proofs.Standing.{Frame, gained, all_gained, with_parts, Stands, read, whole, opened, closing, none_yet}
+use Rattle.inf_expression_laws.proofs.Standing.{parts, some, nothing, begins, gained_leaves, all_gained_leaves, all_gained_append}
+use Rattle.inf_expression_laws.proofs.Standing.{all_gained_rest, all_gained_firsts, all_gained_list, list_joints, listed_moved, moved}
+use Rattle.inf_expression_laws.proofs.Standing.{parts_have_tokens}
 
 -- Lists one behind the other
 three : (xs ys : List ℕ) (z : ℕ) (zs : List ℕ) → xs ++ (ys ++ z ∷ zs) ≡ ((xs ++ ys) ++ z ∷ []) ++ zs

@@ -1,5 +1,6 @@
 -- Every expression by the levels of its operators is a text of the grammar, and the events of the text build it.
-use Rattle.std.proofs.Common.{◌≡◌, ℕ, zero, suc, ◌≤◌, ◌<◌, List, [], ◌∷◌, ◌++◌, length, true, false, bit_and, Some, refl, sym, ◌∙◌, ap, subst, append_assoc, append-nil, arith, inl, inr}
+use Rattle.std.proofs.Common.{◌≡◌, ℕ, zero, suc, ◌≤◌, ◌<◌, List, [], ◌∷◌, ◌++◌, length, true, false, bit_and, Some, refl, sym, ◌∙◌, ap}
+use Rattle.std.proofs.Common.{subst, append_assoc, append-nil, arith, inl, inr}
 use Rattle.std.proofs.lemmas.Bool.{or_cases}
 use Rattle.inf_machine.specs.declared.symbols.Symbol.{Symbol}
 use Rattle.inf_machine.specs.declared.symbols.Symbol.TheVariants.{Token, Rule, Act}
@@ -10,20 +11,27 @@ use Rattle.inf_syntax.specs.declared.actions.Action.{Action}
 use Rattle.inf_syntax.specs.declared.actions.Action.TheVariants as does
 use Rattle.inf_syntax.specs.Atoms.{char, joined as joined_sets, number, of_mark, text, word_literal}
 use Rattle.inf_syntax.specs.Classes.{operand as operand_names}
-use Rattle.inf_syntax.specs.Parts.{ !bracketed, !call, !negate, !part, 'close_parenthesis', address_tail, after_prim, after_unary, array_tail, assign, assign_tail, call_1, call_2, expression, expression_tail, logic, logic_tail, neg, post, post_tail, prim, step_prefix, step_tail, sum, sum_tail, term_tail, test_tail, tested_1}
+use Rattle.inf_syntax.specs.Parts.{ !bracketed, !call, !negate, !part, 'close_parenthesis', address_tail, after_prim, after_unary}
+use Rattle.inf_syntax.specs.Parts.{array_tail, assign, assign_tail, call_1, call_2, expression, expression_tail, logic, logic_tail, neg}
+use Rattle.inf_syntax.specs.Parts.{post, post_tail, prim, step_prefix, step_tail, sum, sum_tail, term_tail, test_tail, tested_1}
 use Rattle.inf_expressions.specs.declared.operators.Binary.TheVariants as binary
 use Rattle.inf_expressions.specs.Sources.{Source}
 use Rattle.inf_unit.specs.declared.steps.Step.TheVariants as step
 use Rattle.inf_unit.specs.Steps.{step_of}
 use Rattle.inf_grammar.specs.Language.{grammar}
 use Rattle.inf_expression_laws.specs.Precedence as written
-use Rattle.inf_expression_laws.specs.Precedence.{Written, Listed, closing_sign, comma_sign, commas, leaf_count, leaf_count_of_all, list_of, opening_sign, operands, or_sign, sums, assignments}
+use Rattle.inf_expression_laws.specs.Precedence.{Written, Listed, closing_sign, comma_sign, commas, leaf_count, leaf_count_of_all, list_of}
+use Rattle.inf_expression_laws.specs.Precedence.{opening_sign, operands, or_sign, sums, assignments}
 use Rattle.inf_expression_laws.specs.Laws.{ExpressionsAreTexts, TextsAreOneExpression}
 use Rattle.inf_expression_laws.proofs.Standing.{begins, loosened}
 use Rattle.inf_expression_laws.proofs.OneText.{same_events}
-use Rattle.inf_expression_laws.proofs.Building.{Lists, action_builds, alone_builds, brackets_build, call_builds, front_builds, leaf_builds, more_lists, one_lists, suffix_builds, test_builds, two_builds}
+use Rattle.inf_expression_laws.proofs.Building.{Lists, action_builds, alone_builds, brackets_build, call_builds, front_builds, leaf_builds}
+use Rattle.inf_expression_laws.proofs.Building.{more_lists, one_lists, suffix_builds, test_builds, two_builds}
 use Rattle.inf_expression_laws.proofs.Built.{Builds, State, built}
-use Rattle.inf_expression_laws.proofs.OperatorRows.{NotCalled, apart, begin, behind_entry, between_entry, free, in_front_entry, loop, no_address_tail, no_array_tail, no_assign_tail, no_call_1, no_call_2, no_expression_tail, no_logic_tail, no_post_tail, no_step_tail, no_sum_tail, no_term_tail, no_test_tail, no_tested_1, test_entry}
+use Rattle.inf_expression_laws.proofs.OperatorRows.{NotCalled, apart, begin, behind_entry, between_entry, free, in_front_entry, loop}
+use Rattle.inf_expression_laws.proofs.OperatorRows.{no_address_tail, no_array_tail, no_assign_tail, no_call_1, no_call_2}
+use Rattle.inf_expression_laws.proofs.OperatorRows.{no_expression_tail, no_logic_tail, no_post_tail, no_step_tail, no_sum_tail}
+use Rattle.inf_expression_laws.proofs.OperatorRows.{no_term_tail, no_test_tail, no_tested_1, test_entry}
 
 -- A stack in which what stands at the bottom is put in place of other symbols
 

@@ -1,5 +1,6 @@
 -- The symbols of an expression that is written come to its tree.
-use Rattle.std.proofs.Common.{◌≡◌, ℕ, suc, ◌-◌, ◌≤◌, List, [], ◌∷◌, ◌++◌, length, reverse, Bool, true, false, ◌||◌, ◌==◌, Some, refl, sym, ◌∙◌, ap, append_assoc, append-nil, arith}
+use Rattle.std.proofs.Common.{◌≡◌, ℕ, suc, ◌-◌, ◌≤◌, List, [], ◌∷◌, ◌++◌, length, reverse, Bool, true, false, ◌||◌, ◌==◌, Some, refl, sym}
+use Rattle.std.proofs.Common.{◌∙◌, ap, append_assoc, append-nil, arith}
 use Rattle.std.proofs.lemmas.Bool.Decides.{nat_tests}
 use Rattle.inf_expressions.specs.declared.operators.Binary.{Binary}
 use Rattle.inf_expressions.specs.declared.operators.Binary.TheVariants as binary
@@ -10,7 +11,8 @@ use Rattle.inf_expressions.specs.declared.units.Wanted.{Wanted}
 use Rattle.inf_expressions.specs.declared.units.Wanted.TheVariants as wanted
 use Rattle.inf_expressions.specs.Sources.{Source, Leaf, Brackets, Prefix, Suffix, Two, Then, Call, Alone, found_in, meant, opened}
 use Rattle.inf_expressions.specs.Units.{Gathered, acted, call_joined, gathered, listed, nothing_gathered, roots_finding, with_two_of}
-use Rattle.inf_expression_laws.specs.Precedence.{Written, operand, action, brackets, tighter, in_front, behind, between, assigned, tested, called, alone, Listed, one, more, list_of, sign_between}
+use Rattle.inf_expression_laws.specs.Precedence.{Written, operand, action, brackets, tighter, in_front, behind, between, assigned, tested}
+use Rattle.inf_expression_laws.specs.Precedence.{called, alone, Listed, one, more, list_of, sign_between}
 use Rattle.inf_expression_laws.specs.Gathered.{joints, symbols_behind, symbols_of}
 use Rattle.inf_expression_laws.specs.Laws.{SymbolsComeToTheirTree, joins_commas}
 use Rattle.inf_expression_laws.proofs.Standing.{list_joints}

@@ -1,5 +1,6 @@
 -- What each row of an expression does to what stands behind its tokens: a table of its rules, checked against the grammar by evaluation.
-use Rattle.std.proofs.Common.{◌≡◌, ℕ, suc, List, [], ◌∷◌, ◌++◌, Bool, true, false, ◌&&◌, ◌==◌, Option, Some, None, refl, sym, ◌∙◌, ap, subst, append_assoc, inl, inr, if◌then◌else◌}
+use Rattle.std.proofs.Common.{◌≡◌, ℕ, suc, List, [], ◌∷◌, ◌++◌, Bool, true, false, ◌&&◌, ◌==◌, Option, Some, None, refl, sym, ◌∙◌, ap}
+use Rattle.std.proofs.Common.{subst, append_assoc, inl, inr, if◌then◌else◌}
 use Rattle.std.proofs.lemmas.Bool.{agree_below, agree_below_at, and_parts, cases_lt}
 use Rattle.std.proofs.lemmas.Option.{same_Some}
 use Rattle.inf_machine.specs.declared.symbols.Symbol.{Symbol}
@@ -12,7 +13,12 @@ use Rattle.inf_syntax.specs.declared.actions.Action.{Action}
 use Rattle.inf_syntax.specs.declared.actions.Action.TheVariants as action
 use Rattle.inf_syntax.specs.Atoms.{of_mark}
 use Rattle.inf_syntax.specs.Classes.{operand}
-use Rattle.inf_syntax.specs.Parts.{address_operator, address_tail, after_prim, after_unary, array_operator, array_tail, assign, assign_tail, assign_tail_1, bare_prim, bit, bracketed, call, call_1, call_2, entry, expression, expression_tail, inc, inner_operator, logic, logic_operator, logic_tail, member_operator, neg, negated, operator, other_assign, other_operator, other_prim, outer_operator, plain_prim, post, post_tail, prefixed, prim, step_operator, step_prefix, step_tail, sum, sum_operator, sum_tail, term, term_operator, term_tail, test, test_tail, test_tail_1, tested, tested_1}
+use Rattle.inf_syntax.specs.Parts.{address_operator, address_tail, after_prim, after_unary, array_operator, array_tail, assign, assign_tail}
+use Rattle.inf_syntax.specs.Parts.{assign_tail_1, bare_prim, bit, bracketed, call, call_1, call_2, entry, expression, expression_tail, inc}
+use Rattle.inf_syntax.specs.Parts.{inner_operator, logic, logic_operator, logic_tail, member_operator, neg, negated, operator, other_assign}
+use Rattle.inf_syntax.specs.Parts.{other_operator, other_prim, outer_operator, plain_prim, post, post_tail, prefixed, prim, step_operator}
+use Rattle.inf_syntax.specs.Parts.{step_prefix, step_tail, sum, sum_operator, sum_tail, term, term_operator, term_tail, test, test_tail}
+use Rattle.inf_syntax.specs.Parts.{test_tail_1, tested, tested_1}
 use Rattle.inf_expressions.specs.declared.operators.Binary.{Binary}
 use Rattle.inf_expressions.specs.declared.operators.Binary.TheVariants as binary
 use Rattle.inf_unit.specs.declared.steps.Step.{Step}
@@ -20,10 +26,15 @@ use Rattle.inf_unit.specs.declared.steps.Step.TheVariants as step
 use Rattle.inf_unit.specs.Steps.{step_of}
 use Rattle.inf_grammar.specs.Language.{grammar}
 use Rattle.inf_grammar.specs.Evaluated.{rows_past}
-use Rattle.inf_expression_laws.specs.Precedence.{addresses, assignments, closing_sign, comma_sign, commas, complements, connections, denials, entries, members, negations, opening_sign, operands, or_sign, primaries, products, sign_behind, sign_between, sign_in_front, sign_of_test, steps_behind, steps_in_front, sums, tests}
+use Rattle.inf_expression_laws.specs.Precedence.{addresses, assignments, closing_sign, comma_sign, commas, complements, connections}
+use Rattle.inf_expression_laws.specs.Precedence.{denials, entries, members, negations, opening_sign, operands, or_sign, primaries, products}
+use Rattle.inf_expression_laws.specs.Precedence.{sign_behind, sign_between, sign_in_front, sign_of_test, steps_behind, steps_in_front, sums}
+use Rattle.inf_expression_laws.specs.Precedence.{tests}
 use Rattle.inf_expression_laws.specs.Laws.{Form, forms}
 use Rattle.inf_expression_laws.proofs.ActionSteps.{is_sure, only_sure}
-use Rattle.inf_expression_laws.proofs.Items.{Item, Sign, Whole, Opened, Closing, NoneYet, Parts, Any, Within, all_fit, all_fit_sound, all_popped, all_popped_sound, and_then, fits_same, item, within_append, within_same, within_trans}
+use Rattle.inf_expression_laws.proofs.Items.{Item, Sign, Whole, Opened, Closing, NoneYet, Parts, Any, Within, all_fit, all_fit_sound}
+use Rattle.inf_expression_laws.proofs.Items.{all_popped, all_popped_sound, and_then, fits_same, item, within_append, within_same}
+use Rattle.inf_expression_laws.proofs.Items.{within_trans}
 
 -- What is taken from the top, and what is put there
 pub record Change : Type 0 where

@@ -3,7 +3,10 @@ use Rattle.std.specs.Prelude.{◌≡◌, ℕ, ◌≤◌, ◌<◌, List, [], ◌�
 use Rattle.inf_machine.specs.declared.symbols.Symbol.{Symbol}
 use Rattle.inf_machine.specs.Grammar.{Event, IsOneOf, IsText}
 use Rattle.inf_syntax.specs.declared.actions.Action.{Action}
-use Rattle.inf_syntax.specs.Parts.{ !bracket, !bracketed, !comma, !name, !negate, !outer_sure, !text, 'close_parenthesis', 'comma', 'minus', 'open_parenthesis', BEGINNAME, CASENAME, NOTALIAS, OPERAND, TEXT, after_prim, after_unary, assign, bare_prim, bracketed, entry, expression, expression_tail, inner_operator, logic, neg, operator, other_assign, other_operator, outer_operator, plain_prim, post, prefixed, prim, step_prefix}
+use Rattle.inf_syntax.specs.Parts.{ !bracket, !bracketed, !comma, !name, !negate, !outer_sure, !text, 'close_parenthesis', 'comma', 'minus'}
+use Rattle.inf_syntax.specs.Parts.{'open_parenthesis', BEGINNAME, CASENAME, NOTALIAS, OPERAND, TEXT, after_prim, after_unary, assign}
+use Rattle.inf_syntax.specs.Parts.{bare_prim, bracketed, entry, expression, expression_tail, inner_operator, logic, neg, operator}
+use Rattle.inf_syntax.specs.Parts.{other_assign, other_operator, outer_operator, plain_prim, post, prefixed, prim, step_prefix}
 use Rattle.inf_expressions.specs.declared.operators.Operand.{Operand}
 use Rattle.inf_expressions.specs.declared.units.Wanted.{Wanted}
 use Rattle.inf_expressions.specs.declared.units.Wanted.TheVariants as wanted

@@ -171,7 +171,8 @@ mutual
         Written level order place (atoms ++ sign ∷ []) (Suffix op a)
     between : {level order place : ℕ} (signs sign : ℕ) (left right : List ℕ) {op : Binary} {a b : Source} →
         sign_between op ≡ Some (level, signs) →
-        Written level order place left a → has signs sign ≡ true → Written (suc level) (suc (order + length left)) (place + leaf_count a) right b →
+        Written level order place left a → has signs sign ≡ true →
+        Written (suc level) (suc (order + length left)) (place + leaf_count a) right b →
         Written level order place (left ++ sign ∷ right) (Two op a b)
     assigned : {order place : ℕ} (sign : ℕ) (left right : List ℕ) {a b : Source} → Written connections order place left a →
         has (of_mark mark.Assign) sign ≡ true → Written assignments (suc (order + length left)) (place + leaf_count a) right b →

@@ -5,7 +5,8 @@ use Rattle.inf_expressions.specs.declared.operators.Unary.{Unary}
 use Rattle.inf_expressions.specs.declared.operators.Binary.{Binary}
 use Rattle.inf_expressions.specs.declared.symbols.Symbol.{Symbol}
 use Rattle.inf_expressions.specs.declared.symbols.Symbol.TheVariants as symbol
-use Rattle.inf_expressions.specs.Sources.{Source, Leaf, Brackets, Prefix, Suffix, Two, Then, Call, Alone, closed, opened, postfix, postfixes}
+use Rattle.inf_expressions.specs.Sources.{Source, Leaf, Brackets, Prefix, Suffix, Two, Then, Call, Alone, closed, opened, postfix}
+use Rattle.inf_expressions.specs.Sources.{postfixes}
 
 abbrev pub run : {S : Type 0} → (Symbol → S → S) → List Symbol → S → S
 run act [] state = state

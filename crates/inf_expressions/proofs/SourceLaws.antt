@@ -1,5 +1,6 @@
 -- What symbols come to: the trees of the expressions whose symbols they are, and these expressions themselves.
-use Rattle.std.proofs.Common.{◌≡◌, ℕ, zero, suc, List, [], ◌∷◌, ◌++◌, ◌-◌, ◌==◌, false, map, None, refl, sym, ◌∙◌, ap, append_assoc, append-nil, arith}
+use Rattle.std.proofs.Common.{◌≡◌, ℕ, zero, suc, List, [], ◌∷◌, ◌++◌, ◌-◌, ◌==◌, false, map, None, refl, sym, ◌∙◌, ap, append_assoc}
+use Rattle.std.proofs.Common.{append-nil, arith}
 use Rattle.std.proofs.lemmas.Bool.Decides.{nat_tests}
 use Rattle.std.proofs.lemmas.List.{reverse-append, reverse-reverse}
 use Rattle.std.specs.Prelude.{reverse}
@@ -8,8 +9,10 @@ use Rattle.inf_expressions.specs.declared.operators.Binary.TheVariants as binary
 use Rattle.inf_expressions.specs.declared.symbols.Symbol.{Symbol}
 use Rattle.inf_expressions.specs.declared.symbols.Symbol.TheVariants as symbol
 use Rattle.inf_expressions.specs.declared.units.Wanted.{Wanted}
-use Rattle.inf_expressions.specs.Units.{Gathered, acted, call_joined, gathered, judged, listed, nothing_gathered, roots_finding, trees_of, with_two_of}
-use Rattle.inf_expressions.specs.Sources.{Source, Leaf, Brackets, Prefix, Suffix, Two, Then, Call, Alone, found_in, found_in_all, meant, opened, postfixes}
+use Rattle.inf_expressions.specs.Units.{Gathered, acted, call_joined, gathered, judged, listed, nothing_gathered, roots_finding, trees_of}
+use Rattle.inf_expressions.specs.Units.{with_two_of}
+use Rattle.inf_expressions.specs.Sources.{Source, Leaf, Brackets, Prefix, Suffix, Two, Then, Call, Alone, found_in, found_in_all, meant}
+use Rattle.inf_expressions.specs.Sources.{opened, postfixes}
 use Rattle.inf_expressions.proofs.Reading.{Reads, all, joints, reading_all, run}
 
 -- Into trees and what is found.

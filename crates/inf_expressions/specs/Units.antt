@@ -14,7 +14,8 @@ use Rattle.inf_expressions.specs.declared.symbols.Symbol.TheVariants as symbol
 use Rattle.inf_expressions.specs.declared.units.Wanted.{Wanted}
 use Rattle.inf_expressions.specs.declared.units.Wanted.TheVariants as wanted
 use Rattle.inf_expressions.specs.Origins.{of_leaf}
-use Rattle.inf_expressions.specs.Rooted.{Rooted, rooted_code, bracketed_latest, seen, seen_latest, seen_two, with_leaf, with_two, with_unary}
+use Rattle.inf_expressions.specs.Rooted.{Rooted, rooted_code, bracketed_latest, seen, seen_latest, seen_two, with_leaf, with_two}
+use Rattle.inf_expressions.specs.Rooted.{with_unary}
 use Rattle.inf_expressions.specs.Judging.{call_finding, leaf_finding, root_finding, two_finding, unary_finding}
 
 -- the trees so far, the latest first, and the least of what was found

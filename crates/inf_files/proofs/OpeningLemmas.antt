@@ -1,5 +1,7 @@
 -- Files in memory and the openings that they state.
-use Rattle.std.proofs.Common.{◌≡◌, ℕ, zero, suc, ◌-◌, ◌<◌, ◌≤◌, List, [], ◌∷◌, ◌++◌, length, map, take, drop, get_or, Bool, true, false, cond, Option, Some, None, String, Vec, Global, Bor, unwrap_or, arith, add-zero, append_assoc, ap, refl, sym, ◌∙◌}
+use Rattle.std.proofs.Common.{◌≡◌, ℕ, zero, suc, ◌-◌, ◌<◌, ◌≤◌, List, [], ◌∷◌, ◌++◌, length, map, take, drop, get_or, Bool, true, false}
+use Rattle.std.proofs.Common.{cond, Option, Some, None, String, Vec, Global, Bor, unwrap_or, arith, add-zero, append_assoc, ap, refl, sym}
+use Rattle.std.proofs.Common.{◌∙◌}
 use Rattle.std.specs.Prelude.{slice_set}
 use Rattle.std.specs.Option.{option_map, option_copied, is_some}
 use Rattle.std.specs.Map.{lookup}
@@ -7,7 +9,8 @@ use Rattle.std.specs.Ordering.{is_eq, nat_cmp}
 use Rattle.std.specs.Cmp.Lexicographic.{slice_cmp}
 use Rattle.std.specs.BTreeMap.{BTreeMap, get_by_text}
 use Rattle.std.specs.String.{string_bytes}
-use Rattle.std.proofs.lemmas.List.{map-append, length-map, map-set, length-append, length-set, length-take, length-drop, take-append-drop, nil_from_length}
+use Rattle.std.proofs.lemmas.List.{map-append, length-map, map-set, length-append, length-set, length-take, length-drop, take-append-drop}
+use Rattle.std.proofs.lemmas.List.{nil_from_length}
 use Rattle.std.proofs.lemmas.List.Elements.{All-append, All-set}
 use Rattle.std.proofs.lemmas.Option.{slice_get-map, slice_get-get_or}
 use Rattle.std.proofs.Math.Dec.{eqb-suc-zero}

@@ -1,5 +1,6 @@
 -- What a reader of files states: which sources there are, which were opened, and what came of each.
-use Rattle.std.specs.Prelude.{◌≡◌, ℕ, ◌<◌, ◌⊎◌, List, [], ◌∷◌, ◌++◌, length, take, Bool, true, false, Option, Some, None, Result, Ok, Err, IsSome, slice_get, slice_set}
+use Rattle.std.specs.Prelude.{◌≡◌, ℕ, ◌<◌, ◌⊎◌, List, [], ◌∷◌, ◌++◌, length, take, Bool, true, false, Option, Some, None, Result, Ok, Err}
+use Rattle.std.specs.Prelude.{IsSome, slice_get, slice_set}
 use Rattle.inf_files.specs.declared.files.OpenFault.{OpenFault}
 use Rattle.inf_files.specs.declared.files.OpenFault.TheVariants as fault
 use Rattle.inf_files.specs.declared.files.ReadFault.{ReadFault}

@@ -1,6 +1,8 @@
 //! What a unit gathers of its expressions.
 ghost use Rattle.std.specs.Prelude.{◌≡◌, OnOk, [], drop, map, reverse};
-ghost use Rattle.inf_gathering.specs.Gatherings.{action_leaf, beginning, comma, counted, latest, nothing_gathered, one_more, with_actions, with_bracket, with_call, with_closed_bracket, with_comma, with_leaf, with_list, with_part, with_prefix, with_rule, with_suffix, with_test, with_two};
+ghost use Rattle.inf_gathering.specs.Gatherings.{action_leaf, beginning, comma, counted, latest, nothing_gathered, one_more, with_actions};
+ghost use Rattle.inf_gathering.specs.Gatherings.{with_bracket, with_call, with_closed_bracket, with_comma, with_leaf, with_list, with_part};
+ghost use Rattle.inf_gathering.specs.Gatherings.{with_prefix, with_rule, with_suffix, with_test, with_two};
 
 use inf_expressions::{Binary, Symbol, Unary};
 use inf_scanner::DictionaryWord;

@@ -1,5 +1,6 @@
 -- What the program's tables say: by evaluation.
-use Rattle.std.proofs.Common.{◌≡◌, ℕ, ◌<◌, ◌≤◌, List, [], ◌∷◌, Bool, true, false, zero, suc, map, reverse, get_or, length, refl, sym, ◌∙◌, ap, arith, ◌&&◌, if◌then◌else◌}
+use Rattle.std.proofs.Common.{◌≡◌, ℕ, ◌<◌, ◌≤◌, List, [], ◌∷◌, Bool, true, false, zero, suc, map, reverse, get_or, length, refl, sym, ◌∙◌}
+use Rattle.std.proofs.Common.{ap, arith, ◌&&◌, if◌then◌else◌}
 use Rattle.inf_machine.specs.declared.symbols.Symbol.{Symbol}
 use Rattle.inf_grammar.specs.declared.rules.Set.{Set}
 use Rattle.inf_grammar.specs.declared.rules.Span.{Span}

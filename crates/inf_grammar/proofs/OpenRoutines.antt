@@ -1,6 +1,8 @@
 -- What is left of a piece has the end of a routine exactly where the routine's bracket is open.
-use Rattle.std.proofs.Common.{◌≡◌, ℕ, zero, suc, ◌^◌, ◌≤◌, List, [], ◌∷◌, ◌++◌, Bool, true, false, not, ◌&&◌, ◌||◌, ◌==◌, nat_le, codes, Option, Some, None, is_some, bit_and, refl, sym, ◌∙◌, ap, subst, arith, inl, inr, if◌then◌else◌}
-use Rattle.std.proofs.lemmas.Bool.{agree_below, agree_below_at, and_parts, and_from, or_cases, cases_lt, not-true, both_ways, eqb-true, eqb-false, false_from_ne_true}
+use Rattle.std.proofs.Common.{◌≡◌, ℕ, zero, suc, ◌^◌, ◌≤◌, List, [], ◌∷◌, ◌++◌, Bool, true, false, not, ◌&&◌, ◌||◌, ◌==◌, nat_le, codes}
+use Rattle.std.proofs.Common.{Option, Some, None, is_some, bit_and, refl, sym, ◌∙◌, ap, subst, arith, inl, inr, if◌then◌else◌}
+use Rattle.std.proofs.lemmas.Bool.{agree_below, agree_below_at, and_parts, and_from, or_cases, cases_lt, not-true, both_ways, eqb-true}
+use Rattle.std.proofs.lemmas.Bool.{eqb-false, false_from_ne_true}
 use Rattle.std.proofs.lemmas.List.{append-nil}
 use Rattle.std.proofs.lemmas.Nat.Bits.{bit_at-pow_other}
 use Rattle.inf_machine.specs.declared.symbols.Symbol.{Symbol}
@@ -16,7 +18,8 @@ use Rattle.inf_machine.proofs.TokenLaws.{bad_tokens_begin_nothing}
 use Rattle.inf_syntax.specs.declared.actions.Action.{Action}
 use Rattle.inf_scanner.specs.declared.tokens.Mark.TheVariants as mark
 use Rattle.inf_syntax.specs.Atoms.{mark_atom, of_word}
-use Rattle.inf_grammar.specs.Brackets.{open_behind, open_behind_all, begin_array, is_bracket_open, OpenRoutinesAreBracketed, LeftRoutinesAreBracketed}
+use Rattle.inf_grammar.specs.Brackets.{open_behind, open_behind_all, begin_array, is_bracket_open, OpenRoutinesAreBracketed}
+use Rattle.inf_grammar.specs.Brackets.{LeftRoutinesAreBracketed}
 use Rattle.inf_grammar.specs.Evaluated.{language_is_decided, rows_past}
 use Rattle.inf_grammar.specs.Language.{grammar, known}
 use Rattle.inf_syntax.specs.Rows.{row}

@@ -1,5 +1,6 @@
 -- The grammar as the program has it: flat tables of numbers.
-use Rattle.std.specs.Prelude.{ℕ, ◌+◌, ◌*◌, ◌/◌, ◌%◌, ◌^◌, List, [], ◌∷◌, ◌++◌, Bool, map, reverse, length, take, drop, if◌then◌else◌, nat_le, ◌-◌, ◌&&◌}
+use Rattle.std.specs.Prelude.{ℕ, ◌+◌, ◌*◌, ◌/◌, ◌%◌, ◌^◌, List, [], ◌∷◌, ◌++◌, Bool, map, reverse, length, take, drop, if◌then◌else◌}
+use Rattle.std.specs.Prelude.{nat_le, ◌-◌, ◌&&◌}
 use Rattle.inf_machine.specs.declared.symbols.Symbol.{Symbol}
 use Rattle.inf_grammar.specs.declared.rules.Set.{Set}
 use Rattle.inf_grammar.specs.declared.rules.Span.{Span}

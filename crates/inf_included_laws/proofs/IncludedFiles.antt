@@ -1,5 +1,6 @@
 -- Files that include one another keep what each of them keeps.
-use Rattle.std.proofs.Common.{◌≡◌, ℕ, zero, suc, ◌+◌, ◌≤◌, length, List, [], ◌∷◌, ◌++◌, map, reverse, cond, ◌&&◌, Bool, true, false, Option, Some, None, refl, sym, ap, subst, ◌∙◌, append_assoc, arith}
+use Rattle.std.proofs.Common.{◌≡◌, ℕ, zero, suc, ◌+◌, ◌≤◌, length, List, [], ◌∷◌, ◌++◌, map, reverse, cond, ◌&&◌, Bool, true, false, Option}
+use Rattle.std.proofs.Common.{Some, None, refl, sym, ap, subst, ◌∙◌, append_assoc, arith}
 use Rattle.std.proofs.lemmas.List.{append-nil, map-append}
 use Rattle.inf_settings.specs.Bounds.{Limits}
 use Rattle.inf_scanner.specs.declared.tokens.Mark.TheVariants as mark
@@ -21,23 +22,44 @@ use Rattle.inf_sources.specs.declared.open_file.Conditional.{Conditional}
 use Rattle.inf_conditionals.specs.declared.open.LeftOut.{LeftOut}
 use Rattle.inf_conditionals.specs.declared.pending.Pending.{Pending}
 use Rattle.inf_conditionals.specs.Ends.{file_ended, with_all_lone, with_among}
-use Rattle.inf_conditionals.specs.Judging.{Behind, behind_sign, judged, judged_by, is_none_pending, kept, none_handed, offered, passed, passed_by}
+use Rattle.inf_conditionals.specs.Judging.{Behind, behind_sign, judged, judged_by, is_none_pending, kept, none_handed, offered, passed}
+use Rattle.inf_conditionals.specs.Judging.{passed_by}
 use Rattle.inf_conditionals.specs.Open.{Conditions, most_levels, silent}
 use Rattle.inf_conditionals.specs.Words.{word_of}
 use Rattle.inf_unit.proofs.Cases.{of_both}
 use Rattle.inf_reader.specs.Handing.{hash, site_of}
 use Rattle.inf_reader.specs.Reading.{is_mode_ended}
 use Rattle.inf_session.specs.Choices.{Choices}
-use Rattle.inf_session.specs.Session.{State, answered, asked_nothing, carried_out, included_by, left, left_by, file_closed, has_ended, is_resting, none_included, piece_closed, rested, stepped, token_of, turn}
-use Rattle.inf_included_laws.specs.IncludedFiles.{Alone, AreFiles, AreOfAFile, Breaking, Cut, CutHashLast, CutHashThen, CutHashesLeft, Enters, Files, FilesKeepSides, FilesTellUnended, HashLast, HashThen, HashesLeft, Including, Leaves, Nested, Stays, Step, TurnsKeepFiles, all_unended, around_behind, around_broken, around_included, asked_passage, behind_files, end_handed, end_sign, first_step, handed_by, handed_end, handed_files, left_to, nested, nested_in, opens, passage, behind_passage, passed_files, released, sign_as, standing, staying, step_at, step_behind, steps, steps_at, steps_behind, tokens_behind, told_at, told_behind, told_by, told_files}
-use Rattle.inf_side_laws.specs.KeptSides.{Answers, Around, At, Follows, Handing, IsClear, IsPlain, IsSign, NoneInside, Parts, all_behind, all_handed_on, all_kept, all_tokens, all_told, are_kept, as_kept, behind_parts, declared_behind, declared_tokens, ended_behind, ended_in, ended_places, going_on, handed_as, handed_on, handed_sign, handed_token, judged_at, kept_sides, lone_places, missing_in, none_around, places, told_parts, unended}
-use Rattle.inf_included_laws.specs.Unfinished.{AreHashes, Request as HasAsked, Bare, Closes, Fronting, FrontingWord, HasWord, Hashed, HaveBegun, IsMisfit, Misfit, Named, Turns, Unfinished, Unnamed, all_begun_tokens, as_unfit, begun_handed, begun_sign, behind_all_begun, behind_misfit, handed_misfit, misfit_tokens, told_all_begun, told_misfit}
+use Rattle.inf_session.specs.Session.{State, answered, asked_nothing, carried_out, included_by, left, left_by, file_closed, has_ended}
+use Rattle.inf_session.specs.Session.{is_resting, none_included, piece_closed, rested, stepped, token_of, turn}
+use Rattle.inf_included_laws.specs.IncludedFiles.{Alone, AreFiles, AreOfAFile, Breaking, Cut, CutHashLast, CutHashThen, CutHashesLeft}
+use Rattle.inf_included_laws.specs.IncludedFiles.{Enters, Files, FilesKeepSides, FilesTellUnended, HashLast, HashThen, HashesLeft}
+use Rattle.inf_included_laws.specs.IncludedFiles.{Including, Leaves, Nested, Stays, Step, TurnsKeepFiles, all_unended, around_behind}
+use Rattle.inf_included_laws.specs.IncludedFiles.{around_broken, around_included, asked_passage, behind_files, end_handed, end_sign}
+use Rattle.inf_included_laws.specs.IncludedFiles.{first_step, handed_by, handed_end, handed_files, left_to, nested, nested_in, opens}
+use Rattle.inf_included_laws.specs.IncludedFiles.{passage, behind_passage, passed_files, released, sign_as, standing, staying, step_at}
+use Rattle.inf_included_laws.specs.IncludedFiles.{step_behind, steps, steps_at, steps_behind, tokens_behind, told_at, told_behind, told_by}
+use Rattle.inf_included_laws.specs.IncludedFiles.{told_files}
+use Rattle.inf_side_laws.specs.KeptSides.{Answers, Around, At, Follows, Handing, IsClear, IsPlain, IsSign, NoneInside, Parts, all_behind}
+use Rattle.inf_side_laws.specs.KeptSides.{all_handed_on, all_kept, all_tokens, all_told, are_kept, as_kept, behind_parts, declared_behind}
+use Rattle.inf_side_laws.specs.KeptSides.{declared_tokens, ended_behind, ended_in, ended_places, going_on, handed_as, handed_on}
+use Rattle.inf_side_laws.specs.KeptSides.{handed_sign, handed_token, judged_at, kept_sides, lone_places, missing_in, none_around, places}
+use Rattle.inf_side_laws.specs.KeptSides.{told_parts, unended}
+use Rattle.inf_included_laws.specs.Unfinished.{AreHashes, Request as HasAsked, Bare, Closes, Fronting, FrontingWord, HasWord, Hashed}
+use Rattle.inf_included_laws.specs.Unfinished.{HaveBegun, IsMisfit, Misfit, Named, Turns, Unfinished, Unnamed, all_begun_tokens, as_unfit}
+use Rattle.inf_included_laws.specs.Unfinished.{begun_handed, begun_sign, behind_all_begun, behind_misfit, handed_misfit, misfit_tokens}
+use Rattle.inf_included_laws.specs.Unfinished.{told_all_begun, told_misfit}
 use Rattle.inf_laws.specs.KeptTurns.{given_by, given_in, turned}
 use Rattle.inf_conditional_laws.specs.MissingEnds.{with_all_at}
 use Rattle.inf_side_laws.specs.SideTurns.{at_turn, ends_there, shown}
-use Rattle.inf_side_laws.proofs.KeptSides.{AllStay, CalmLeft, Hands, InnerLeft, Last, OuterLeft, Reader, Reads, Stands, StandsAt, all_handed, all_taken, among_of, are_open, at, calm_at, conditionals, end_is_no_hash, end_kept_so, end_word, ended_told, hands_on, hash_freed, inner_not_kept, inner_of, kept_at, last_at, led, left_at, mid, not_kept, outer, plain_kept, sign_inner, sign_left, stack_of, stands_at, state, told_both, told_places, with_sign}
+use Rattle.inf_side_laws.proofs.KeptSides.{AllStay, CalmLeft, Hands, InnerLeft, Last, OuterLeft, Reader, Reads, Stands, StandsAt}
+use Rattle.inf_side_laws.proofs.KeptSides.{all_handed, all_taken, among_of, are_open, at, calm_at, conditionals, end_is_no_hash}
+use Rattle.inf_side_laws.proofs.KeptSides.{end_kept_so, end_word, ended_told, hands_on, hash_freed, inner_not_kept, inner_of, kept_at}
+use Rattle.inf_side_laws.proofs.KeptSides.{last_at, led, left_at, mid, not_kept, outer, plain_kept, sign_inner, sign_left, stack_of}
+use Rattle.inf_side_laws.proofs.KeptSides.{stands_at, state, told_both, told_places, with_sign}
 use Rattle.inf_conditional_laws.proofs.MissingEnds.{told_at as told_each}
-use Rattle.inf_included_laws.proofs.Unfinished.{AllBegun, all_begun_led, cut_kept, end_cuts, front_end_kept, front_there, given_up_at, left_so, sign_cut, sign_cut_so, unfit_end, unfit_there}
+use Rattle.inf_included_laws.proofs.Unfinished.{AllBegun, all_begun_led, cut_kept, end_cuts, front_end_kept, front_there, given_up_at}
+use Rattle.inf_included_laws.proofs.Unfinished.{left_so, sign_cut, sign_cut_so, unfit_end, unfit_there}
 use Rattle.inf_side_laws.proofs.SideTurns.{all_shown, rested_conditions}
 
 -- Steps one after the other

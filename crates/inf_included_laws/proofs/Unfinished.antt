@@ -1,5 +1,6 @@
 -- Conditional directives that are not whole.
-use Rattle.std.proofs.Common.{◌≡◌, ℕ, ◌+◌, ◌≤◌, List, [], ◌∷◌, ◌++◌, drop, length, cond, ◌&&◌, Bool, true, false, Option, Some, None, unwrap_or, refl, sym, ap, subst, ◌∙◌, arith}
+use Rattle.std.proofs.Common.{◌≡◌, ℕ, ◌+◌, ◌≤◌, List, [], ◌∷◌, ◌++◌, drop, length, cond, ◌&&◌, Bool, true, false, Option, Some, None}
+use Rattle.std.proofs.Common.{unwrap_or, refl, sym, ap, subst, ◌∙◌, arith}
 use Rattle.std.proofs.Math.Bool.{and-false}
 use Rattle.inf_output.specs.Output.{Out}
 use Rattle.inf_scanner.specs.declared.tokens.Mark.TheVariants as mark
@@ -19,15 +20,30 @@ use Rattle.inf_conditionals.specs.declared.pending.Effect.TheVariants as effect
 use Rattle.inf_conditionals.specs.declared.pending.Pending.{Pending}
 use Rattle.inf_conditionals.specs.declared.words.ConditionalWord.{ConditionalWord}
 use Rattle.inf_conditionals.specs.declared.words.ConditionalWord.TheVariants as word
-use Rattle.inf_conditionals.specs.Judging.{Behind, behind_front, behind_sign, begun, is_none_pending, effected, is_kept, kept, held, named, none_handed, awaiting, offered, passed, passed_by, unfit, went_on}
+use Rattle.inf_conditionals.specs.Judging.{Behind, behind_front, behind_sign, begun, is_none_pending, effected, is_kept, kept, held, named}
+use Rattle.inf_conditionals.specs.Judging.{none_handed, awaiting, offered, passed, passed_by, unfit, went_on}
 use Rattle.inf_conditionals.specs.Open.{Conditions, most_levels}
 use Rattle.inf_conditionals.specs.Words.{word_of}
 use Rattle.inf_conditionals.specs.declared.open.LeftOut.{LeftOut}
 use Rattle.inf_conditionals.proofs.Misfits.{end_fits_nothing}
-use Rattle.inf_side_laws.specs.KeptSides.{Answers, AreParts, Around, At, First, Follows, IsFirst, IsSignedPlain, NoneInside, NoneInsideFirst, Parts, all_behind, all_handed_on, all_kept, all_tokens, all_told, are_kept, asking, begins, behind_name, behind_parts, closed, declared_behind, declared_first, declared_tokens, ended_behind, first_tokens, judged_at, kept_sides, missing_in, opening, placed_word, signed_tokens, told_parts, turned}
-use Rattle.inf_included_laws.specs.Unfinished.{Request, AreBegun, AreCutBy, AreHashes, Closes, Fronting, FrontingWord, GoOn, HasWord, HashesBefore, IsBegun, IsCutBy, Named, Turns, Unfinished, Unnamed, all_begun_tokens, behind_all_begun, behind_begun, begun_tokens, condition_so, told_all_begun, told_begun}
+use Rattle.inf_side_laws.specs.KeptSides.{Answers, AreParts, Around, At, First, Follows, IsFirst, IsSignedPlain, NoneInside}
+use Rattle.inf_side_laws.specs.KeptSides.{NoneInsideFirst, Parts, all_behind, all_handed_on, all_kept, all_tokens, all_told, are_kept}
+use Rattle.inf_side_laws.specs.KeptSides.{asking, begins, behind_name, behind_parts, closed, declared_behind, declared_first}
+use Rattle.inf_side_laws.specs.KeptSides.{declared_tokens, ended_behind, first_tokens, judged_at, kept_sides, missing_in, opening}
+use Rattle.inf_side_laws.specs.KeptSides.{placed_word, signed_tokens, told_parts, turned}
+use Rattle.inf_included_laws.specs.Unfinished.{Request, AreBegun, AreCutBy, AreHashes, Closes, Fronting, FrontingWord, GoOn, HasWord}
+use Rattle.inf_included_laws.specs.Unfinished.{HashesBefore, IsBegun, IsCutBy, Named, Turns, Unfinished, Unnamed, all_begun_tokens}
+use Rattle.inf_included_laws.specs.Unfinished.{behind_all_begun, behind_begun, begun_tokens, condition_so, told_all_begun, told_begun}
 use Rattle.inf_side_laws.proofs.AskingWords.{asking_fits}
-use Rattle.inf_side_laws.proofs.KeptSides.{AllStay, CalmLeft, Hands, Holds, InnerLeft, Last, Led, LeftLed, OuterLeft, Reader, Reads, Stands, StandsAt, TakesAll, among_of, at, awaits_it, begins_kept, begun_asking, begun_opening, behind_both, both_kept, calm_at, closes_left, conditionals, declared_behind_first, declared_both, directive, end_is_no_hash, end_word, ended_stands, ended_told, fewer, front_led, goes_by, hands_both, inner_not_kept, inner_of, kept_at, last_at, last_behind, led, left_at, left_of, length_both, levels_of, mid, mids_of, name_kept, none_open, not_kept, nothing_handed, outer_front, passes, read_condition, read_on, reading, reads_none, relaxed, same_first, sign_inner, sign_kept, sign_left, some_open, stack_of, stands_at, state, takes_none, tells_both, turns_left, with_condition, within, within_led}
+use Rattle.inf_side_laws.proofs.KeptSides.{AllStay, CalmLeft, Hands, Holds, InnerLeft, Last, Led, LeftLed, OuterLeft, Reader, Reads, Stands}
+use Rattle.inf_side_laws.proofs.KeptSides.{StandsAt, TakesAll, among_of, at, awaits_it, begins_kept, begun_asking, begun_opening}
+use Rattle.inf_side_laws.proofs.KeptSides.{behind_both, both_kept, calm_at, closes_left, conditionals, declared_behind_first, declared_both}
+use Rattle.inf_side_laws.proofs.KeptSides.{directive, end_is_no_hash, end_word, ended_stands, ended_told, fewer, front_led, goes_by}
+use Rattle.inf_side_laws.proofs.KeptSides.{hands_both, inner_not_kept, inner_of, kept_at, last_at, last_behind, led, left_at, left_of}
+use Rattle.inf_side_laws.proofs.KeptSides.{length_both, levels_of, mid, mids_of, name_kept, none_open, not_kept, nothing_handed}
+use Rattle.inf_side_laws.proofs.KeptSides.{outer_front, passes, read_condition, read_on, reading, reads_none, relaxed, same_first}
+use Rattle.inf_side_laws.proofs.KeptSides.{sign_inner, sign_kept, sign_left, some_open, stack_of, stands_at, state, takes_none, tells_both}
+use Rattle.inf_side_laws.proofs.KeptSides.{turns_left, with_condition, within, within_led}
 
 -- what the innermost one waits for
 abbrev IsAwaited : Unfinished → Awaits → Type 0

@@ -1,5 +1,6 @@
 -- Which tokens are kept of files that include one another: of each file those that its own conditionals keep.
-use Rattle.std.specs.Prelude.{◌≡◌, ◌≤◌, ◌+◌, ℕ, zero, suc, List, [], ◌∷◌, ◌++◌, map, reverse, length, Bool, true, false, if◌then◌else◌, Option, Some, None}
+use Rattle.std.specs.Prelude.{◌≡◌, ◌≤◌, ◌+◌, ℕ, zero, suc, List, [], ◌∷◌, ◌++◌, map, reverse, length, Bool, true, false, if◌then◌else◌}
+use Rattle.std.specs.Prelude.{Option, Some, None}
 use Rattle.inf_settings.specs.Bounds.{Limits}
 use Rattle.inf_files.specs.Files.{Sources}
 use Rattle.inf_scanner.specs.declared.tokens.Place.{Place}
@@ -17,8 +18,13 @@ use Rattle.inf_reader.specs.Handing.{hash}
 use Rattle.inf_reader.specs.Reading.{is_mode_ended}
 use Rattle.inf_session.specs.Choices.{Choices}
 use Rattle.inf_session.specs.Session.{State, file_closed, stepped, token_of, turn}
-use Rattle.inf_side_laws.specs.KeptSides.{Answers, AreParts, Around, At, Follows, Handing, IsClear, IsPlain, IsSign, NoneInside, Parts, all_behind, all_kept, all_tokens, as_kept, behind_parts, declared_tokens, ended_behind, ended_in, ended_places, going_on, handed_on, handed_sign, judged_at, kept_sides, lone_places, missing_in, none_around, places, told_parts, unended}
-use Rattle.inf_included_laws.specs.Unfinished.{AreHashes, HaveBegun, IsMisfit, Misfit, Unfinished, all_begun_tokens, as_unfit, begun_handed, begun_sign, behind_all_begun, behind_misfit, handed_misfit, misfit_tokens, told_all_begun, told_misfit}
+use Rattle.inf_side_laws.specs.KeptSides.{Answers, AreParts, Around, At, Follows, Handing, IsClear, IsPlain, IsSign, NoneInside, Parts}
+use Rattle.inf_side_laws.specs.KeptSides.{all_behind, all_kept, all_tokens, as_kept, behind_parts, declared_tokens, ended_behind, ended_in}
+use Rattle.inf_side_laws.specs.KeptSides.{ended_places, going_on, handed_on, handed_sign, judged_at, kept_sides, lone_places, missing_in}
+use Rattle.inf_side_laws.specs.KeptSides.{none_around, places, told_parts, unended}
+use Rattle.inf_included_laws.specs.Unfinished.{AreHashes, HaveBegun, IsMisfit, Misfit, Unfinished, all_begun_tokens, as_unfit, begun_handed}
+use Rattle.inf_included_laws.specs.Unfinished.{begun_sign, behind_all_begun, behind_misfit, handed_misfit, misfit_tokens, told_all_begun}
+use Rattle.inf_included_laws.specs.Unfinished.{told_misfit}
 use Rattle.inf_laws.specs.KeptTurns.{given_by, given_in, turned}
 use Rattle.inf_conditional_laws.specs.MissingEnds.{with_all_at}
 use Rattle.inf_side_laws.specs.SideTurns.{at_turn, shown}

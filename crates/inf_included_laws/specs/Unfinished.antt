@@ -14,7 +14,11 @@ use Rattle.inf_conditionals.specs.declared.filtered.Sign.{Sign}
 use Rattle.inf_conditionals.specs.declared.words.ConditionalWord.TheVariants as word
 use Rattle.inf_conditionals.specs.Open.{most_levels}
 use Rattle.inf_reader.specs.Handing.{hash}
-use Rattle.inf_side_laws.specs.KeptSides.{AddsNone, Answers, AreParts, Around, At, Begins, First, Follows, Handing, IsFirst, IsSign, IsSignedPlain, NoneInside, NoneInsideFirst, Parts, all_kept, all_tokens, as_kept, asking, before_parts, behind_name, behind_parts, closed, condition_behind, declared_behind, declared_first, declared_tokens, ended_in, first_tokens, kept_sides, missing_in, opening, placed_word, told_parts, turned}
+use Rattle.inf_side_laws.specs.KeptSides.{AddsNone, Answers, AreParts, Around, At, Begins, First, Follows, Handing, IsFirst, IsSign}
+use Rattle.inf_side_laws.specs.KeptSides.{IsSignedPlain, NoneInside, NoneInsideFirst, Parts, all_kept, all_tokens, as_kept, asking}
+use Rattle.inf_side_laws.specs.KeptSides.{before_parts, behind_name, behind_parts, closed, condition_behind, declared_behind}
+use Rattle.inf_side_laws.specs.KeptSides.{declared_first, declared_tokens, ended_in, first_tokens, kept_sides, missing_in, opening}
+use Rattle.inf_side_laws.specs.KeptSides.{placed_word, told_parts, turned}
 
 -- What is there of one
 

@@ -1,5 +1,7 @@
 -- The first error of a unit.
-use Rattle.std.proofs.Common.{◌≡◌, ◌⊎◌, inl, inr, ℕ, suc, zero, ◌+◌, ◌<◌, ◌≤◌, nat_eq, List, [], ◌∷◌, ◌++◌, append_assoc, append-nil, length, length-append, cond, not, ◌&&◌, ltb, Bool, true, false, Option, None, Some, refl, sym, ap, subst, ◌∙◌, arith}
+use Rattle.std.proofs.Common.{◌≡◌, ◌⊎◌, inl, inr, ℕ, suc, zero, ◌+◌, ◌<◌, ◌≤◌, nat_eq, List, [], ◌∷◌, ◌++◌, append_assoc, append-nil}
+use Rattle.std.proofs.Common.{length, length-append, cond, not, ◌&&◌, ltb, Bool, true, false, Option, None, Some, refl, sym, ap, subst, ◌∙◌}
+use Rattle.std.proofs.Common.{arith}
 use Rattle.std.specs.Prelude.{Contains, find, is_some, option_map, slice_index_or}
 use Rattle.std.specs.Str.{bytes_eq, str_eq_ignore_ascii_case}
 use Rattle.std.proofs.lemmas.Bool.{and_parts, cond_both, eqb-true, false_from_ne_true, le-ltb, lt-ltb, ltb-false, ltb-true, or_cases}
@@ -17,7 +19,9 @@ use Rattle.inf_unit.specs.Tokens.{SourceToken}
 use Rattle.inf_compilation.specs.Findings.{Again, again_by, again_local, again_told, header_findings as found_in_header, told_as}
 use Rattle.inf_expressions.specs.declared.findings.Finding.{Finding as Found}
 use Rattle.inf_expressions.specs.Findings.{is_before}
-use Rattle.inf_laws.specs.Findings.{Finding, HeadersTellTheFirst, IsBefore, IsLeast, IsLeastOf, IsTold, LeastsAreFound, UnitsTellTheLeast, declared_before, different, first_named, many_locals, repeated_local, repeated_locals, repeated_one, taken_as, taken_name, system_routine, too_many_locals}
+use Rattle.inf_laws.specs.Findings.{Finding, HeadersTellTheFirst, IsBefore, IsLeast, IsLeastOf, IsTold, LeastsAreFound, UnitsTellTheLeast}
+use Rattle.inf_laws.specs.Findings.{declared_before, different, first_named, many_locals, repeated_local, repeated_locals, repeated_one}
+use Rattle.inf_laws.specs.Findings.{taken_as, taken_name, system_routine, too_many_locals}
 use Rattle.inf_laws.proofs.Choices.{either, either-none}
 use Rattle.inf_laws.proofs.SameNames.{same_names}
 

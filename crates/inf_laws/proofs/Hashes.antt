@@ -1,5 +1,6 @@
 -- No piece ends with a hash.
-use Rattle.std.proofs.Common.{◌≡◌, ℕ, zero, suc, List, [], ◌∷◌, ◌++◌, ◌&&◌, not, Bool, true, false, Option, Some, None, refl, sym, ap, subst, ◌∙◌, append-nil}
+use Rattle.std.proofs.Common.{◌≡◌, ℕ, zero, suc, List, [], ◌∷◌, ◌++◌, ◌&&◌, not, Bool, true, false, Option, Some, None, refl, sym, ap}
+use Rattle.std.proofs.Common.{subst, ◌∙◌, append-nil}
 use Rattle.std.proofs.lemmas.Bool.{and_parts}
 use Rattle.inf_machine.specs.declared.symbols.Symbol.{Symbol}
 use Rattle.inf_machine.specs.declared.symbols.Symbol.TheVariants.{Token, Rule, Act}

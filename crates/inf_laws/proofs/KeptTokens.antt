@@ -1,5 +1,6 @@
 -- Reading by the tokens that are handed on.
-use Rattle.std.proofs.Common.{◌≡◌, List, [], ◌∷◌, ◌++◌, map, cond, Bool, true, false, Option, Some, None, is_some, refl, sym, ap, subst, ◌∙◌, append_assoc}
+use Rattle.std.proofs.Common.{◌≡◌, List, [], ◌∷◌, ◌++◌, map, cond, Bool, true, false, Option, Some, None, is_some, refl, sym, ap, subst}
+use Rattle.std.proofs.Common.{◌∙◌, append_assoc}
 use Rattle.std.proofs.lemmas.List.{append-nil, map-append}
 use Rattle.inf_settings.specs.Bounds.{Limits}
 use Rattle.inf_scanner.specs.declared.tokens.Place.{Place}
@@ -24,11 +25,14 @@ use Rattle.inf_compilation.specs.Context.{Context}
 use Rattle.inf_compilation.specs.Actions.{Compilation, piece_begun as work_begun}
 use Rattle.inf_reader.specs.Handing.{handed_as, hash, lone_told, sign_taken, token_taken, unfit_in, unit_ended}
 use Rattle.inf_reader.specs.Pieces.{BeginsPiece, IsPiece}
-use Rattle.inf_reader.specs.Reading.{Reading, ReaderState, bad, between, judged, passed, piece_begun, piece_rule, read_at, skip_of, step_in, took}
+use Rattle.inf_reader.specs.Reading.{Reading, ReaderState, bad, between, judged, passed, piece_begun, piece_rule, read_at, skip_of, step_in}
+use Rattle.inf_reader.specs.Reading.{took}
 use Rattle.inf_reader.specs.declared.recovery.Recovery.{Recovery}
 use Rattle.inf_reader.specs.declared.recovery.Recovery.TheVariants as mode
 use Rattle.inf_laws.specs.BadTokens.{skip_behind}
-use Rattle.inf_laws.specs.KeptTokens.{BehindABadToken, BehindAPiece, BehindTheEnd, Given, GoesBehind, InAPiece, IsBad, Kept, KeptTokensAreRead, Stands, TokensAreHandedOn, Unfit, all_given_to, bad_by, given_as, given_sign, given_to, given_token, judged_by, kept_by, read_by, rests, skipped, token_in, took_by, unfit_by}
+use Rattle.inf_laws.specs.KeptTokens.{BehindABadToken, BehindAPiece, BehindTheEnd, Given, GoesBehind, InAPiece, IsBad, Kept}
+use Rattle.inf_laws.specs.KeptTokens.{KeptTokensAreRead, Stands, TokensAreHandedOn, Unfit, all_given_to, bad_by, given_as, given_sign}
+use Rattle.inf_laws.specs.KeptTokens.{given_to, given_token, judged_by, kept_by, read_by, rests, skipped, token_in, took_by, unfit_by}
 use Rattle.inf_laws.proofs.BadTokens.{bracketed}
 
 -- What is read is told by the tokens alone

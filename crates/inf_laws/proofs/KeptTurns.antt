@@ -12,7 +12,8 @@ use Rattle.inf_conditionals.specs.Judging.{judged}
 use Rattle.inf_reader.specs.Handing.{said_told, site_of}
 use Rattle.inf_reader.specs.Reading.{Reading, is_mode_ended}
 use Rattle.inf_session.specs.Choices.{Choices}
-use Rattle.inf_session.specs.Session.{State, answered, asked_nothing, context_of, has_ended, carried_out, included_by, is_resting, left, none_included, piece_closed, rested, stand_of, stepped, token_of, turn}
+use Rattle.inf_session.specs.Session.{State, answered, asked_nothing, context_of, has_ended, carried_out, included_by, is_resting, left}
+use Rattle.inf_session.specs.Session.{none_included, piece_closed, rested, stand_of, stepped, token_of, turn}
 use Rattle.inf_laws.specs.KeptTokens.{Stands, all_given_to}
 use Rattle.inf_laws.specs.KeptTurns.{StayInFile, TurnsReadPieces, given_by, given_in, turned}
 use Rattle.inf_laws.proofs.KeptTokens.{given_both, kept_tokens_are_read, tokens_are_handed_on}

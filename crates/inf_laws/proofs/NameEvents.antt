@@ -1,5 +1,6 @@
 -- What is known of names after declarations and uses.
-use Rattle.std.proofs.Common.{◌≡◌, ◌+◌, ◌<◌, ◌≤◌, ℕ, List, [], ◌∷◌, ◌++◌, append_assoc, append-nil, arith, length, filter, cond, not, ◌||◌, Bool, true, false, Option, None, Some, refl, sym, ap, subst, ◌∙◌}
+use Rattle.std.proofs.Common.{◌≡◌, ◌+◌, ◌<◌, ◌≤◌, ℕ, List, [], ◌∷◌, ◌++◌, append_assoc, append-nil, arith, length, filter, cond, not, ◌||◌}
+use Rattle.std.proofs.Common.{Bool, true, false, Option, None, Some, refl, sym, ap, subst, ◌∙◌}
 use Rattle.std.specs.Prelude.{find, is_some}
 use Rattle.std.specs.List.{list_any}
 use Rattle.std.specs.Str.{bytes_eq}
@@ -9,7 +10,8 @@ use Rattle.inf_settings.specs.Bounds.{Limits}
 use Rattle.inf_settings.specs.declared.setting.Setting.TheVariants as setting
 use Rattle.inf_scanner.specs.declared.tokens.Place.{Place}
 use Rattle.inf_names.specs.SystemNames.{meaning_if, name_of, system_meaning, system_names}
-use Rattle.inf_names.specs.Symbols.{IsDeclared, IsUsed, Named, Standing, Table, declare_fault, declare_fault_by, folded, found_as, found_in, is_full, no_names, put, refer_fault, refer_fault_by, standing_of, with_declared, with_used_by}
+use Rattle.inf_names.specs.Symbols.{IsDeclared, IsUsed, Named, Standing, Table, declare_fault, declare_fault_by, folded, found_as, found_in}
+use Rattle.inf_names.specs.Symbols.{is_full, no_names, put, refer_fault, refer_fault_by, standing_of, with_declared, with_used_by}
 use Rattle.inf_names.specs.declared.meanings.Meaning.{Meaning}
 use Rattle.inf_names.specs.declared.symbols.DeclareFault.{DeclareFault}
 use Rattle.inf_names.specs.declared.symbols.Found.{Found}
@@ -22,7 +24,9 @@ use Rattle.inf_unit.specs.Messages.{FileNames, Reported, location, with_error}
 use Rattle.inf_unit.specs.Names.{with_all_undeclared, with_undeclared}
 use Rattle.inf_names.specs.declared.symbols.DeclareFault.TheVariants as declaring
 use Rattle.inf_output.specs.Output.{declared_by, referred_by}
-use Rattle.inf_laws.specs.NameEvents.{Declares, Event, is_full_fault, FirstDeclarationsCount, FewHaveRoom, HaveRoom, OperandsUse, UndeclaredAreTold, UnitsDeclare, Use, Uses, declares, first_declaration, is_too_many, stands_for, undeclared_use, undeclared_uses, uses, with_event, with_events, with_uses_told}
+use Rattle.inf_laws.specs.NameEvents.{Declares, Event, is_full_fault, FirstDeclarationsCount, FewHaveRoom, HaveRoom, OperandsUse}
+use Rattle.inf_laws.specs.NameEvents.{UndeclaredAreTold, UnitsDeclare, Use, Uses, declares, first_declaration, is_too_many, stands_for}
+use Rattle.inf_laws.specs.NameEvents.{undeclared_use, undeclared_uses, uses, with_event, with_events, with_uses_told}
 use Rattle.inf_laws.proofs.Choices.{cond-again, cond-swap, either, or-assoc, or-false, or-known}
 use Rattle.inf_laws.proofs.SameNames.{bytes_eq-sym, key_same, same_key}
 

@@ -1,5 +1,6 @@
 -- Behind a token that conditionals hand on no conditional directive is being read, and no side is left out.
-use Rattle.std.proofs.Common.{◌≡◌, ℕ, List, [], ◌∷◌, ◌&&◌, ◌||◌, ◌⊎◌, inl, inr, cond, not, Bool, true, false, Option, Some, None, refl, sym, subst}
+use Rattle.std.proofs.Common.{◌≡◌, ℕ, List, [], ◌∷◌, ◌&&◌, ◌||◌, ◌⊎◌, inl, inr, cond, not, Bool, true, false, Option, Some, None, refl, sym}
+use Rattle.std.proofs.Common.{subst}
 use Rattle.inf_scanner.specs.declared.tokens.Mark.TheVariants as mark
 use Rattle.inf_scanner.specs.declared.tokens.Place.{Place}
 use Rattle.inf_scanner.specs.declared.tokens.TokenKind.{TokenKind}
@@ -28,7 +29,10 @@ use Rattle.inf_conditionals.specs.declared.pending.Effect.TheVariants as effect
 use Rattle.inf_conditionals.specs.declared.pending.Pending.{Pending}
 use Rattle.inf_conditionals.specs.declared.words.ConditionalWord.{ConditionalWord}
 use Rattle.inf_conditionals.specs.declared.words.ConditionalWord.TheVariants as word
-use Rattle.inf_conditionals.specs.Judging.{Behind, asked, asking, at_front, awaited, awaiting, begun, behind_front, behind_sign, decided, effected, effected_by, given_up, held, in_side, is_none_pending, judged, judged_by, kept, unmatched, named, offered, offered_to, passed, passed_by, saying, taken, tokens_counted, unfit, went_on}
+use Rattle.inf_conditionals.specs.Judging.{Behind, asked, asking, at_front, awaited, awaiting, begun, behind_front, behind_sign, decided}
+use Rattle.inf_conditionals.specs.Judging.{effected, effected_by, given_up, held, in_side, is_none_pending, judged, judged_by, kept}
+use Rattle.inf_conditionals.specs.Judging.{unmatched, named, offered, offered_to, passed, passed_by, saying, taken, tokens_counted, unfit}
+use Rattle.inf_conditionals.specs.Judging.{went_on}
 
 -- whether something is handed on
 abbrev pub gives : Option Forwarded → Bool

@@ -1,5 +1,6 @@
 -- The parts of a reading are the pieces of its context.
-use Rattle.std.proofs.Common.{◌≡◌, ◌⊎◌, inl, inr, ℕ, zero, suc, List, [], ◌∷◌, ◌++◌, ◌&&◌, ◌||◌, map, cond, Bool, true, false, Option, Some, None, refl, sym, ap, subst, ◌∙◌, append_assoc}
+use Rattle.std.proofs.Common.{◌≡◌, ◌⊎◌, inl, inr, ℕ, zero, suc, List, [], ◌∷◌, ◌++◌, ◌&&◌, ◌||◌, map, cond, Bool, true, false, Option, Some}
+use Rattle.std.proofs.Common.{None, refl, sym, ap, subst, ◌∙◌, append_assoc}
 use Rattle.std.proofs.lemmas.List.{append-nil, map-append}
 use Rattle.inf_settings.specs.Bounds.{Limits}
 use Rattle.inf_files.specs.Files.{Sources}
@@ -30,8 +31,10 @@ use Rattle.inf_reader.specs.Reading.{Reading, between, is_mode_ended, passed, pi
 use Rattle.inf_reader.specs.declared.recovery.Recovery.{Recovery}
 use Rattle.inf_reader.specs.declared.recovery.Recovery.TheVariants as mode
 use Rattle.inf_session.specs.Choices.{Choices}
-use Rattle.inf_session.specs.Session.{State, answered, asked_nothing, file_closed, has_ended, carried_out, included_by, is_parted, is_resting, left, left_by, none_included, piece_closed, rested, start, stepped, token_of, turn}
-use Rattle.inf_laws.specs.KeptTokens.{Given, Kept, Stands, Unfit, all_given_to, given_as, given_of, given_sign, given_to, given_token, rests, skipped, token_in}
+use Rattle.inf_session.specs.Session.{State, answered, asked_nothing, file_closed, has_ended, carried_out, included_by, is_parted}
+use Rattle.inf_session.specs.Session.{is_resting, left, left_by, none_included, piece_closed, rested, start, stepped, token_of, turn}
+use Rattle.inf_laws.specs.KeptTokens.{Given, Kept, Stands, Unfit, all_given_to, given_as, given_of, given_sign, given_to, given_token}
+use Rattle.inf_laws.specs.KeptTokens.{rests, skipped, token_in}
 use Rattle.inf_laws.specs.KeptTurns.{given_by, given_in, turned}
 use Rattle.inf_laws.specs.Parts.{PartsArePieces, PartsEndWithPieces, StayInPart}
 use Rattle.inf_laws.proofs.Hashes.{no_piece_ends_with_a_hash}

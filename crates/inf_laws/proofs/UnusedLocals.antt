@@ -1,5 +1,6 @@
 -- The warnings about the locals of a routine.
-use Rattle.std.proofs.Common.{◌≡◌, ℕ, List, [], ◌∷◌, ◌++◌, length, map, filter, cond, not, ◌||◌, ◌&&◌, ltb, Bool, true, false, Option, None, Some, refl, sym, ap, ◌∙◌}
+use Rattle.std.proofs.Common.{◌≡◌, ℕ, List, [], ◌∷◌, ◌++◌, length, map, filter, cond, not, ◌||◌, ◌&&◌, ltb, Bool, true, false, Option, None}
+use Rattle.std.proofs.Common.{Some, refl, sym, ap, ◌∙◌}
 use Rattle.std.specs.List.{list_any, list_all}
 use Rattle.std.specs.Str.{bytes_eq, str_eq_ignore_ascii_case}
 use Rattle.std.proofs.lemmas.Bool.{and_from, and_parts, cond_both, not-true, or_from, or_parts}
@@ -11,7 +12,8 @@ use Rattle.inf_names.specs.Locals.{Local, Headed, local_of, most_locals, no_loca
 use Rattle.inf_unit.specs.Messages.{Reported, location, with_warning}
 use Rattle.inf_compilation.specs.Context.{Context}
 use Rattle.inf_compilation.specs.Actions.{with_all_unused}
-use Rattle.inf_laws.specs.UnusedLocals.{AreDifferent, AreNew, AreUnnamed, HeadersMakeNew, UnusedAreWarned, is_local, is_named_by, is_named_in, with_units, with_warnings}
+use Rattle.inf_laws.specs.UnusedLocals.{AreDifferent, AreNew, AreUnnamed, HeadersMakeNew, UnusedAreWarned, is_local, is_named_by}
+use Rattle.inf_laws.specs.UnusedLocals.{is_named_in, with_units, with_warnings}
 use Rattle.inf_laws.proofs.Choices.{or-swap}
 use Rattle.inf_laws.proofs.SameNames.{bytes_eq-sym, same_names}
 

@@ -1,5 +1,6 @@
 -- What is known of names, said of the declarations and uses of a source in their order.
-use Rattle.std.specs.Prelude.{◌≡◌, ◌≤◌, ℕ, List, [], ◌∷◌, ◌++◌, length, Bool, true, false, ◌||◌, if◌then◌else◌, Option, Some, None, is_some, ⊤}
+use Rattle.std.specs.Prelude.{◌≡◌, ◌≤◌, ℕ, List, [], ◌∷◌, ◌++◌, length, Bool, true, false, ◌||◌, if◌then◌else◌, Option, Some, None, is_some}
+use Rattle.std.specs.Prelude.{⊤}
 use Rattle.std.specs.List.{list_any}
 use Rattle.std.specs.Str.{str_eq_ignore_ascii_case}
 use Rattle.inf_settings.specs.Bounds.{Limits}

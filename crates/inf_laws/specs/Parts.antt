@@ -12,7 +12,8 @@ use Rattle.inf_laws.specs.KeptTurns.{given_by, given_in, turned}
 -- none of so many turns ends a part
 abbrev pub StayInPart : Limits → Sources → Choices → ℕ → State → Type 0
 StayInPart limits sources o zero s = Unit {0}
-StayInPart limits sources o (suc n) s = (is_parted (turn limits sources o s) ≡ false) × StayInPart limits sources o n (turn limits sources o s)
+StayInPart limits sources o (suc n) s =
+    (is_parted (turn limits sources o s) ≡ false) × StayInPart limits sources o n (turn limits sources o s)
 
 -- what is handed on within a part, and how it is read then: nothing, or tokens that stand as those of one piece
 abbrev pub IsOfOnePiece : Limits → Sources → Choices → ℕ → State → Type 0

@@ -1,10 +1,13 @@
 -- The names under which a file is looked for, one after the other.
-use Rattle.std.proofs.Common.{◌≡◌, ◌≤◌, ◌<◌, ◌⊎◌, inl, inr, ℕ, zero, suc, ◌+◌, Bool, true, false, cond, nat_le, List, [], ◌∷◌, ◌++◌, length, length-append, drop, map, get_or, Option, Some, None, is_some, Result, Ok, Err, Bor, IsTrue, IfOk, ◌==◌, refl, sym, ap, subst, ◌∙◌, arith, add-one, drop-cons}
+use Rattle.std.proofs.Common.{◌≡◌, ◌≤◌, ◌<◌, ◌⊎◌, inl, inr, ℕ, zero, suc, ◌+◌, Bool, true, false, cond, nat_le, List, [], ◌∷◌, ◌++◌, length}
+use Rattle.std.proofs.Common.{length-append, drop, map, get_or, Option, Some, None, is_some, Result, Ok, Err, Bor, IsTrue, IfOk, ◌==◌, refl}
+use Rattle.std.proofs.Common.{sym, ap, subst, ◌∙◌, arith, add-one, drop-cons}
 use Rattle.std.specs.Prelude.{slice_get, IsSome}
 use Rattle.std.specs.List.{list_any}
 use Rattle.std.proofs.lemmas.Bool.{cond-false, ne_eqb, or_left, or_right, or_cases, le-leb}
 use Rattle.inf_files.specs.Files.{Closes, Opening, Sources, Openings, Rose, opened}
-use Rattle.inf_lexer.specs.Entering.{ClosedAgain, Enters, IsEntered, Leaves, first_there, has_one_too_many, is_absent, with_opened, with_closed}
+use Rattle.inf_lexer.specs.Entering.{ClosedAgain, Enters, IsEntered, Leaves, first_there, has_one_too_many, is_absent, with_opened}
+use Rattle.inf_lexer.specs.Entering.{with_closed}
 use Rattle.inf_lexer.specs.Names.{Nest, behind_sign, candidates, has_sign, name_beside, name_in, names_in, number_of}
 use Rattle.inf_lexer.specs.Readers.{Reader}
 use Rattle.inf_lexer.specs.declared.enter_faults.EnterFault.{EnterFault}

@@ -1,5 +1,6 @@
 -- What a lexer hears of a source, step by step.
-use Rattle.std.proofs.Common.{◌≡◌, ℕ, List, [], ◌++◌, Bool, true, false, cond, IsTrue, refl, sym, ap, subst, ◌∙◌, arith, append_assoc, length-append}
+use Rattle.std.proofs.Common.{◌≡◌, ℕ, List, [], ◌++◌, Bool, true, false, cond, IsTrue, refl, sym, ap, subst, ◌∙◌, arith, append_assoc}
+use Rattle.std.proofs.Common.{length-append}
 use Rattle.inf_files.specs.Files.{Sources, Openings}
 use Rattle.inf_lexer.specs.Unread.{View, ReadsOn, Heard, Along, CanFollow, Ends, StillGives, behind_view, to_come, unread}
 use Rattle.inf_lexer.proofs.Giving.{gave_nothing, gave_more}

@@ -1,5 +1,6 @@
 -- What comes of entering a file, with a reader that keeps to its sources.
-use Rattle.std.specs.Prelude.{◌≡◌, ℕ, ◌+◌, min, ◌<◌, ◌≤◌, ◌⊎◌, List, [], ◌∷◌, ◌++◌, length, nat_le, Option, Some, None, is_some, slice_get, Result, Ok, Err, Bool, true, false, IsTrue, if◌then◌else◌}
+use Rattle.std.specs.Prelude.{◌≡◌, ℕ, ◌+◌, min, ◌<◌, ◌≤◌, ◌⊎◌, List, [], ◌∷◌, ◌++◌, length, nat_le, Option, Some, None, is_some, slice_get}
+use Rattle.std.specs.Prelude.{Result, Ok, Err, Bool, true, false, IsTrue, if◌then◌else◌}
 use Rattle.std.specs.List.{list_any}
 use Rattle.inf_files.specs.Files.{Sources, Openings, last_count, opened}
 use Rattle.inf_lexer.specs.Names.{Nest, entered, number_of}

@@ -1,5 +1,6 @@
 -- What a reader of files has not given yet of its innermost source.
-use Rattle.std.specs.Prelude.{◌≡◌, ℕ, ◌+◌, ◌-◌, List, [], ◌++◌, length, drop, get_or, unwrap_or, slice_get, Bool, true, false, IsTrue, if◌then◌else◌}
+use Rattle.std.specs.Prelude.{◌≡◌, ℕ, ◌+◌, ◌-◌, List, [], ◌++◌, length, drop, get_or, unwrap_or, slice_get, Bool, true, false, IsTrue}
+use Rattle.std.specs.Prelude.{if◌then◌else◌}
 use Rattle.inf_files.specs.Files.{Sources, Opening, Openings, opened}
 
 -- the place of the innermost source among the openings

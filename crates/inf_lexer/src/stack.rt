@@ -1,5 +1,6 @@
 //! The files that are open, one inside the other.
-ghost use Rattle.std.specs.Prelude.{◌≡◌, ◌+◌, ◌<◌, ◌≤◌, ◌⊎◌, ◌∷◌, [], true, false, length, map, min, if◌then◌else◌, slice_get, nat_le, is_ok, IsTrue, IsErrOf, IfOk, OnErr, Err};
+ghost use Rattle.std.specs.Prelude.{◌≡◌, ◌+◌, ◌<◌, ◌≤◌, ◌⊎◌, ◌∷◌, [], true, false, length, map, min, if◌then◌else◌, slice_get, nat_le};
+ghost use Rattle.std.specs.Prelude.{is_ok, IsTrue, IsErrOf, IfOk, OnErr, Err};
 ghost use Rattle.std.specs.Option.{option_copied};
 ghost use Rattle.std.specs.String.{string_bytes};
 ghost use Rattle.inf_files.specs.Files.{Rose, Closes, last_count};

@@ -1,5 +1,6 @@
 -- The place of a text among texts in rising order is the number of those below it.
-use Rattle.std.proofs.Common.{◌≡◌, ◌∷◌, ◌+◌, ◌≤◌, ◌∙◌, Bool, if◌then◌else◌, ℕ, zero, suc, List, [], true, false, refl, sym, ap, arith, Ordering, length, slice_index_or, Less, Equal, Greater}
+use Rattle.std.proofs.Common.{◌≡◌, ◌∷◌, ◌+◌, ◌≤◌, ◌∙◌, Bool, if◌then◌else◌, ℕ, zero, suc, List, [], true, false, refl, sym, ap, arith}
+use Rattle.std.proofs.Common.{Ordering, length, slice_index_or, Less, Equal, Greater}
 use Rattle.std.specs.Ordering.{nat_cmp, is_lt, ordering_reverse}
 use Rattle.std.specs.Cmp.{IsTotalOrder}
 use Rattle.std.specs.Cmp.Lexicographic.{slice_cmp}

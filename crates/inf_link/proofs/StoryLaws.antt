@@ -1,5 +1,6 @@
 -- What a story tells of itself, and where its areas stand.
-use Rattle.std.proofs.Common.{◌≡◌, ◌∙◌, ℕ, ◌+◌, ◌/◌, ◌%◌, List, [], ◌∷◌, ◌++◌, Bool, true, false, if◌then◌else◌, length, take, drop, sum, refl, ap, sym, subst, arith, append_assoc, length-append, replicate}
+use Rattle.std.proofs.Common.{◌≡◌, ◌∙◌, ℕ, ◌+◌, ◌/◌, ◌%◌, List, [], ◌∷◌, ◌++◌, Bool, true, false, if◌then◌else◌, length, take, drop, sum}
+use Rattle.std.proofs.Common.{refl, ap, sym, subst, arith, append_assoc, length-append, replicate}
 use Rattle.std.proofs.lemmas.List.{length-replicate, take_at, drop_at}
 use Rattle.inf_area.specs.declared.targets.AreaName.{AreaName}
 use Rattle.inf_area.specs.declared.targets.AreaName.TheVariants as name

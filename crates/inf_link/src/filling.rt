@@ -56,7 +56,8 @@ impl<A: Area> Areas<A> {
         bases: &Areas<usize>,
     )
         requires sorted { IsSorted (slice_cmp nat_cmp) targets.now.words.items }
-        ensures { contents A.bytes self.new ≡ filled (number_of (lookup targets.now) scale bases.now) fixups.now (contents A.bytes self.old) }
+        ensures { contents A.bytes self.new ≡ filled (number_of (lookup targets.now) scale bases.now) fixups.now
+            (contents A.bytes self.old) }
     {
         for fixup in fixups {
             let number = targets.number(scale, bases, fixup.target);

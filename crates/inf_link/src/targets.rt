@@ -3,7 +3,8 @@ ghost use Rattle.std.specs.Prelude.{◌≡◌, ◌%◌, ◌<◌, ◌≤◌, IfSo
 ghost use Rattle.std.specs.Ordering.{nat_cmp};
 ghost use Rattle.std.specs.Cmp.Lexicographic.{slice_cmp};
 ghost use Rattle.std.specs.List.Sorted.{IsSorted};
-ghost use Rattle.inf_link.specs.Targets.{direct_number, divisor, is_below, lookup, number_of, part_of, place_number, rank_of, system_number};
+ghost use Rattle.inf_link.specs.Targets.{direct_number, divisor, is_below, lookup, number_of, part_of, place_number, rank_of};
+ghost use Rattle.inf_link.specs.Targets.{system_number};
 
 use crate::areas::Areas;
 use inf_area::{AreaName, SystemConstant, Target, Value};

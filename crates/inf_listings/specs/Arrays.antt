@@ -1,10 +1,12 @@
 -- The directive `Array`: its header, and entry by entry what stands in it. Designer's Manual, fourth edition, section 2.4.
-use Rattle.std.specs.Prelude.{ℕ, ◌+◌, ◌==◌, List, [], ◌∷◌, length, map, codes, Bool, true, false, not, ◌&&◌, ◌||◌, if◌then◌else◌, Option, Some, None}
+use Rattle.std.specs.Prelude.{ℕ, ◌+◌, ◌==◌, List, [], ◌∷◌, length, map, codes, Bool, true, false, not, ◌&&◌, ◌||◌, if◌then◌else◌, Option}
+use Rattle.std.specs.Prelude.{Some, None}
 use Rattle.std.specs.Str.{str_eq_ignore_ascii_case}
 use Rattle.inf_settings.specs.Bounds.{Limits, unbounded}
 use Rattle.inf_area.specs.declared.targets.Value.{Value}
 use Rattle.inf_area.specs.declared.targets.Value.TheVariants as value
-use Rattle.inf_arrays.specs.Arrays.{Adding, One, Zeros, Characters, AllArrays, added_fault, all_of, arrays_size, no_arrays, open_fault, opened, values_in, with_entries}
+use Rattle.inf_arrays.specs.Arrays.{Adding, One, Zeros, Characters, AllArrays, added_fault, all_of, arrays_size, no_arrays, open_fault}
+use Rattle.inf_arrays.specs.Arrays.{opened, values_in, with_entries}
 use Rattle.inf_arrays.specs.declared.arrays.ArrayFault.{ArrayFault}
 use Rattle.inf_arrays.specs.declared.arrays.ArrayFault.TheVariants as fault
 use Rattle.inf_arrays.specs.declared.kinds.ArrayKind.{ArrayKind}

@@ -5,7 +5,11 @@ ghost use Rattle.inf_arrays.specs.Adding.{added as adding_of};
 ghost use Rattle.inf_arrays.specs.Arrays.{Characters, added_fault};
 ghost use Rattle.inf_names.specs.Spellings.{as_name};
 ghost use Rattle.inf_statements.specs.Printing.{text_at};
-ghost use Rattle.inf_listings.specs.Arrays.{added, added_finding, adding, apart, array_declared, array_header, array_kind, array_named, array_opened, array_refused, bare_leaf, bare_text, code_of, codes_of, entry_added, entry_ended, entry_finding, entry_judged, entry_with, header_with, is_alone, is_variable, items_finding, kind_in, kind_named, listed, looked_value, lost_added, own_finding, refused, story_added, text_added, text_finding, value_added, variables_from};
+ghost use Rattle.inf_listings.specs.Arrays.{added, added_finding, adding, apart, array_declared, array_header, array_kind, array_named};
+ghost use Rattle.inf_listings.specs.Arrays.{array_opened, array_refused, bare_leaf, bare_text, code_of, codes_of, entry_added, entry_ended};
+ghost use Rattle.inf_listings.specs.Arrays.{entry_finding, entry_judged, entry_with, header_with, is_alone, is_variable, items_finding};
+ghost use Rattle.inf_listings.specs.Arrays.{kind_in, kind_named, listed, looked_value, lost_added, own_finding, refused, story_added};
+ghost use Rattle.inf_listings.specs.Arrays.{text_added, text_finding, value_added, variables_from};
 ghost use Rattle.inf_compilation.specs.Actions.{operands_of};
 ghost use Rattle.inf_compilation.specs.Works.{work};
 
@@ -238,7 +242,8 @@ fn array_header<B: Bounds>(
     first: Place,
     name: &Name,
 ) -> Result<(), AllocError>
-    ensures { OnOk result (work compilation.new ≡ array_header B.most (handed context.now) first (as_name name.now) (work compilation.old)) }
+    ensures { OnOk result (work compilation.new ≡ array_header B.most (handed context.now) first (as_name name.now)
+        (work compilation.old)) }
 {
     let order = compilation.unit.tokens.name_order();
     let declared = plainly_known(compilation, name, order);

@@ -1,11 +1,13 @@
 -- Where one token decides, the machine takes what the grammar takes.
-use Rattle.std.proofs.Common.{◌≡◌, ℕ, ◌+◌, ◌<◌, ◌≤◌, List, [], ◌∷◌, ◌++◌, Bool, true, false, ◌&&◌, ◌||◌, ◌==◌, refl, sym, ◌∙◌, ap, arith, bit_and, if◌then◌else◌, nat_lt}
+use Rattle.std.proofs.Common.{◌≡◌, ℕ, ◌+◌, ◌<◌, ◌≤◌, List, [], ◌∷◌, ◌++◌, Bool, true, false, ◌&&◌, ◌||◌, ◌==◌, refl, sym, ◌∙◌, ap, arith}
+use Rattle.std.proofs.Common.{bit_and, if◌then◌else◌, nat_lt}
 use Rattle.std.proofs.lemmas.Bool.{eqb-true, ltb-true, and_parts, false_from_ne_true, both_ways}
 use Rattle.inf_machine.specs.declared.symbols.Symbol.{Symbol}
 use Rattle.inf_machine.specs.declared.symbols.Symbol.TheVariants.{Token, Rule, Act}
 use Rattle.inf_machine.specs.Grammar.{Grammar, Row, has, IsOneOf, first, later}
 use Rattle.inf_machine.specs.Machine.{Known, fits, can_end, work}
-use Rattle.inf_machine.specs.Decided.{is_within, beginning, all_beginnings, are_apart, empty_rows, is_followed, steps_through, is_preferred, is_sound, are_sound, is_decided}
+use Rattle.inf_machine.specs.Decided.{is_within, beginning, all_beginnings, are_apart, empty_rows, is_followed, steps_through, is_preferred}
+use Rattle.inf_machine.specs.Decided.{is_sound, are_sound, is_decided}
 use Rattle.inf_machine.proofs.Sets.{has_zero, has_and, has_within}
 use Rattle.inf_machine.proofs.Rows.{fits_is_begun}
 

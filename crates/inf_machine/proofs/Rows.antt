@@ -1,6 +1,8 @@
 -- What begins some symbols, and which row of a rule an atom chooses.
-use Rattle.std.proofs.Common.{◌≡◌, ℕ, ◌≤◌, List, [], ◌∷◌, ◌++◌, Bool, true, false, ◌&&◌, ◌||◌, ◌==◌, refl, sym, ◌∙◌, ap, arith, bit_or, bit_and, if◌then◌else◌, inl, inr}
-use Rattle.std.proofs.lemmas.Bool.{eqb-true, or_left, or_right, or_cases, or_parts, and_parts, cond-true, cond-false, false_from_ne_true, both_ways}
+use Rattle.std.proofs.Common.{◌≡◌, ℕ, ◌≤◌, List, [], ◌∷◌, ◌++◌, Bool, true, false, ◌&&◌, ◌||◌, ◌==◌, refl, sym, ◌∙◌, ap, arith, bit_or}
+use Rattle.std.proofs.Common.{bit_and, if◌then◌else◌, inl, inr}
+use Rattle.std.proofs.lemmas.Bool.{eqb-true, or_left, or_right, or_cases, or_parts, and_parts, cond-true, cond-false, false_from_ne_true}
+use Rattle.std.proofs.lemmas.Bool.{both_ways}
 use Rattle.inf_machine.specs.declared.symbols.Symbol.{Symbol}
 use Rattle.inf_machine.specs.declared.symbols.Symbol.TheVariants.{Token, Rule, Act}
 use Rattle.inf_machine.specs.Grammar.{Grammar, Row, has, IsOneOf, first, later}

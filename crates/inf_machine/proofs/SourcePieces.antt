@@ -1,5 +1,6 @@
 -- Every source has its pieces.
-use Rattle.std.proofs.Common.{◌≡◌, ℕ, zero, suc, ◌≤◌, List, [], ◌∷◌, ◌++◌, Bool, true, false, ◌&&◌, Option, Some, None, is_some, length, take, drop, refl, sym, ◌∙◌, ap, subst, arith, append_assoc, append-nil, if◌then◌else◌, inl, inr, ◌⊎◌}
+use Rattle.std.proofs.Common.{◌≡◌, ℕ, zero, suc, ◌≤◌, List, [], ◌∷◌, ◌++◌, Bool, true, false, ◌&&◌, Option, Some, None, is_some, length}
+use Rattle.std.proofs.Common.{take, drop, refl, sym, ◌∙◌, ap, subst, arith, append_assoc, append-nil, if◌then◌else◌, inl, inr, ◌⊎◌}
 use Rattle.std.proofs.lemmas.Bool.{and_parts, cond-true, cond-false, both_ways}
 use Rattle.std.proofs.lemmas.List.{length-drop}
 use Rattle.inf_machine.specs.declared.symbols.Symbol.{Symbol}
@@ -7,7 +8,8 @@ use Rattle.inf_machine.specs.declared.symbols.Symbol.TheVariants.{Token, Rule, A
 use Rattle.inf_machine.specs.Grammar.{Grammar, Row, IsOneOf, first, later, Begins, Event}
 use Rattle.inf_machine.specs.Machine.{Known, fits, can_end, chosen, stepped, work, taken, events_of, read, Read, behind}
 use Rattle.inf_machine.specs.Laws.{IsDecided}
-use Rattle.inf_machine.specs.Pieces.{Piece, Whole, Bad, Cut, IsPiece, IsOpen, ArePieces, ended, whole, bad, cut, last_symbol, all_rows, closes, SourcesArePieces}
+use Rattle.inf_machine.specs.Pieces.{Piece, Whole, Bad, Cut, IsPiece, IsOpen, ArePieces, ended, whole, bad, cut, last_symbol, all_rows}
+use Rattle.inf_machine.specs.Pieces.{closes, SourcesArePieces}
 use Rattle.inf_machine.proofs.Rows.{some_is_empty}
 use Rattle.inf_machine.proofs.Deciding.{decided_parts}
 use Rattle.inf_machine.proofs.Taking.{choice, chosen_fits}

@@ -1,5 +1,6 @@
 -- Where one token decides, the machine takes what the grammar takes, and with the same events.
-use Rattle.std.proofs.Common.{◌≡◌, ℕ, zero, suc, ◌<◌, ◌≤◌, List, [], ◌∷◌, ◌++◌, Bool, true, false, ◌&&◌, ◌||◌, refl, sym, ◌∙◌, ap, subst, arith, bit_or, if◌then◌else◌, inl, inr}
+use Rattle.std.proofs.Common.{◌≡◌, ℕ, zero, suc, ◌<◌, ◌≤◌, List, [], ◌∷◌, ◌++◌, Bool, true, false, ◌&&◌, ◌||◌, refl, sym, ◌∙◌, ap, subst}
+use Rattle.std.proofs.Common.{arith, bit_or, if◌then◌else◌, inl, inr}
 use Rattle.std.proofs.lemmas.Bool.{or_left, or_right, or_cases, and_parts, and_from, cond-true, cond-false, false_from_ne_true, both_ways}
 use Rattle.inf_machine.specs.declared.symbols.Symbol.{Symbol}
 use Rattle.inf_machine.specs.declared.symbols.Symbol.TheVariants.{Token, Rule, Act}
@@ -8,8 +9,10 @@ use Rattle.inf_machine.specs.Machine.{Known, fits, can_end, empty_row, chosen, a
 use Rattle.inf_machine.specs.Decided.{is_within, beginning, is_followed, empty_rows}
 use Rattle.inf_machine.specs.Laws.{IsDecided, IsSpaced}
 use Rattle.inf_machine.proofs.Sets.{has_or, has_within}
-use Rattle.inf_machine.proofs.Rows.{fits_is_begun, fits_append, begun_is_chosen, begins_all, none_chooses_other, some_is_begun, empty_counts, empty_is_chosen, some_is_empty}
-use Rattle.inf_machine.proofs.Deciding.{Decided, decided_parts, Sound, sound_parts, unless_of_begun, unless_of_other, unless_of_both, work_within, work_past}
+use Rattle.inf_machine.proofs.Rows.{fits_is_begun, fits_append, begun_is_chosen, begins_all, none_chooses_other, some_is_begun}
+use Rattle.inf_machine.proofs.Rows.{empty_counts, empty_is_chosen, some_is_empty}
+use Rattle.inf_machine.proofs.Deciding.{Decided, decided_parts, Sound, sound_parts, unless_of_begun, unless_of_other, unless_of_both}
+use Rattle.inf_machine.proofs.Deciding.{work_within, work_past}
 
 module _ {A : Type 0} where
   -- The row that an atom chooses

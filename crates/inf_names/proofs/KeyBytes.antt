@@ -1,5 +1,6 @@
 -- Forty bytes of a key, and the name that they begin with.
-use Rattle.std.proofs.Common.{◌≡◌, ℕ, ◌+◌, ◌-◌, ◌≤◌, zero, suc, Bool, true, false, List, [], ◌∷◌, ◌++◌, length, map, take, drop, refl, sym, ◌∙◌, ap, arith, drop_of_length-le}
+use Rattle.std.proofs.Common.{◌≡◌, ℕ, ◌+◌, ◌-◌, ◌≤◌, zero, suc, Bool, true, false, List, [], ◌∷◌, ◌++◌, length, map, take, drop, refl, sym}
+use Rattle.std.proofs.Common.{◌∙◌, ap, arith, drop_of_length-le}
 use Rattle.std.specs.Prelude.{◌↔◌, IsTrue, replicate}
 use Rattle.std.specs.Char.{to_ascii_lowercase}
 use Rattle.std.specs.Str.{bytes_eq}
@@ -26,7 +27,8 @@ one n a b front rest =
     piece n a ∙ ap (λ xs. xs ++ drop (n + 8) a) front ∙ ap (λ xs. take 8 (drop n b) ++ xs) rest ∙ sym (piece n b)
 
 pub all_same : (a b : List ℕ) → length a ≡ 40 → length b ≡ 40 → take 8 (drop 0 a) ≡ take 8 (drop 0 b) →
-    take 8 (drop 8 a) ≡ take 8 (drop 8 b) → take 8 (drop 16 a) ≡ take 8 (drop 16 b) → take 8 (drop 24 a) ≡ take 8 (drop 24 b) → take 8 (drop 32 a) ≡ take 8 (drop 32 b) → a ≡ b
+    take 8 (drop 8 a) ≡ take 8 (drop 8 b) → take 8 (drop 16 a) ≡ take 8 (drop 16 b) → take 8 (drop 24 a) ≡ take 8 (drop 24 b) → take 8
+    (drop 32 a) ≡ take 8 (drop 32 b) → a ≡ b
 all_same a b la lb p q r s t =
     let short_a : length a ≤ 40 = omega (arith, la) in
     let short_b : length b ≤ 40 = omega (arith, lb) in

@@ -1,5 +1,6 @@
 -- What the code does with its map is what the definitions do with the list of names.
-use Rattle.std.proofs.Common.{◌≡◌, ◌≤◌, ℕ, ◌+◌, Bool, true, false, cond, not, ltb, List, [], ◌∷◌, length, map, Option, None, Some, refl, sym, ◌∙◌, ap, arith, zero, suc}
+use Rattle.std.proofs.Common.{◌≡◌, ◌≤◌, ℕ, ◌+◌, Bool, true, false, cond, not, ltb, List, [], ◌∷◌, length, map, Option, None, Some, refl}
+use Rattle.std.proofs.Common.{sym, ◌∙◌, ap, arith, zero, suc}
 use Rattle.std.specs.Prelude.{is_some, nat_le, position, slice_get, option_map, if◌then◌else◌}
 use Rattle.std.proofs.lemmas.Bool.Decides.{nat_tests}
 use Rattle.std.specs.Borrow.{Bor}
@@ -10,7 +11,8 @@ use Rattle.std.specs.Str.{bytes_eq}
 use Rattle.arrayvec.specs.declared.array_vec.ArrayVec.{ArrayVec}
 use Rattle.indexmap.specs.IndexMap.{insert_entry}
 use Rattle.inf_names.specs.Entries.{as_named, standing}
-use Rattle.inf_names.specs.Symbols.{Named, Standing, IsDeclared, IsUsed, Table, declarations, declare_fault_by, found_as, folded, index_of, number_among, number_by, put, refer_fault_by, standing_at, standing_of, with_used_by}
+use Rattle.inf_names.specs.Symbols.{Named, Standing, IsDeclared, IsUsed, Table, declarations, declare_fault_by, found_as, folded, index_of}
+use Rattle.inf_names.specs.Symbols.{number_among, number_by, put, refer_fault_by, standing_at, standing_of, with_used_by}
 use Rattle.inf_names.specs.declared.meanings.Meaning.{Meaning}
 use Rattle.inf_names.specs.declared.symbols.Entry.{Entry}
 

@@ -121,7 +121,9 @@ fn spelled(name: &[u8]) -> ArrayVec<u8, LONGEST_NAME>
 }
 
 impl<P: Copy, B: Bounds> Symbols<P, B> {
-    ghost use Rattle.inf_names.specs.Symbols.{declare_fault, declare_refusal, declared_before, found_as, found_in, folded as key_of, is_full, meaning_in, no_names, number_among, number_of, refer_fault, refer_refusal, standing_at, standing_of, use_in, with_declared, with_used};
+    ghost use Rattle.inf_names.specs.Symbols.{declare_fault, declare_refusal, declared_before, found_as, found_in, folded as key_of};
+    ghost use Rattle.inf_names.specs.Symbols.{is_full, meaning_in, no_names, number_among, number_of, refer_fault, refer_refusal};
+    ghost use Rattle.inf_names.specs.Symbols.{standing_at, standing_of, use_in, with_declared, with_used};
     ghost use Rattle.inf_names.specs.Entries.{standing};
 
     /// No names, of which there may be so many as the type tells. With debugging the language has the name `DEBUG` from the start. It takes

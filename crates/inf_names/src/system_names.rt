@@ -1,7 +1,8 @@
 //! The names that the language has from the start.
 ghost use Rattle.std.specs.Prelude.{◌≡◌, get_or};
 ghost use Rattle.std.specs.Char.{to_ascii_lowercase};
-ghost use Rattle.inf_names.specs.SystemNames.{ends_of, has_ends, has_name, is_known, may_be_known, meaning_of, name_of, named, system_meaning, system_names};
+ghost use Rattle.inf_names.specs.SystemNames.{ends_of, has_ends, has_name, is_known, may_be_known, meaning_of, name_of, named};
+ghost use Rattle.inf_names.specs.SystemNames.{system_meaning, system_names};
 
 use crate::meanings::{Function, Meaning};
 

@@ -7,7 +7,8 @@ use Rattle.inf_properties.specs.declared.values.Property.{Property}
 use Rattle.inf_properties.specs.declared.sizes.Owner.{Owner}
 use Rattle.inf_properties.specs.declared.sizes.Owner.TheVariants as owner
 use Rattle.inf_properties.specs.declared.sizes.Size.{Size}
-use Rattle.inf_properties.specs.Sizes.{bytes_of, common_bytes, fixups_of, individual_bytes, individuals_of, later_count, size_of, table_bytes, total, with_table}
+use Rattle.inf_properties.specs.Sizes.{bytes_of, common_bytes, fixups_of, individual_bytes, individuals_of, later_count, size_of}
+use Rattle.inf_properties.specs.Sizes.{table_bytes, total, with_table}
 use Rattle.inf_objects.specs.declared.objects.Object.{Object}
 use Rattle.inf_objects.specs.declared.sizes.Measure.{Measure}
 use Rattle.inf_objects.specs.Measures.{CountedBy, kind_part, measure_by, measured, no_part, part_of, parts_of}

@@ -1,9 +1,11 @@
 -- Links made from the last object on are those of the tree.
-use Rattle.std.proofs.Common.{◌≡◌, ◌≤◌, ◌<◌, ◌+◌, ◌-◌, ◌∷◌, ◌++◌, ◌==◌, [], ℕ, zero, suc, List, Bool, true, false, length, replicate, get_or, refl, sym, ap, subst, ◌∙◌, arith, inl, inr}
+use Rattle.std.proofs.Common.{◌≡◌, ◌≤◌, ◌<◌, ◌+◌, ◌-◌, ◌∷◌, ◌++◌, ◌==◌, [], ℕ, zero, suc, List, Bool, true, false, length, replicate}
+use Rattle.std.proofs.Common.{get_or, refl, sym, ap, subst, ◌∙◌, arith, inl, inr}
 use Rattle.std.specs.Prelude.{slice_set, ◌⊎◌, if◌then◌else◌}
 use Rattle.std.proofs.lemmas.Bool.{eqb-true, eqb-false, eq-eqb, ne_eqb, cases_eq}
 use Rattle.inf_objects.specs.declared.tree.Link.{Link}
-use Rattle.inf_objects.specs.Tree.{AreWithin, children_from, each_from, first_of, link_at, linked, links_of, next_below, no_link, sibling_from, with_child, with_sibling}
+use Rattle.inf_objects.specs.Tree.{AreWithin, children_from, each_from, first_of, link_at, linked, links_of, next_below, no_link}
+use Rattle.inf_objects.specs.Tree.{sibling_from, with_child, with_sibling}
 
 -- links hung from the last object on, the first of which stands at a place
 abbrev pub made : ℕ → List ℕ → List Link → List Link

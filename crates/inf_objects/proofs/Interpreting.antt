@@ -1,7 +1,10 @@
 -- An interpreter reads back what is written of an object.
-use Rattle.std.proofs.Common.{◌≡◌, ◌≤◌, ◌<◌, ◌+◌, ◌*◌, ◌/◌, ◌%◌, ◌∷◌, ◌++◌, ◌==◌, ◌&&◌, [], ℕ, zero, suc, List, Bool, true, false, Option, Some, None, inl, inr, length, length-append, map, take, drop, append_assoc, append-nil, refl, sym, ap, subst, ◌∙◌, arith}
+use Rattle.std.proofs.Common.{◌≡◌, ◌≤◌, ◌<◌, ◌+◌, ◌*◌, ◌/◌, ◌%◌, ◌∷◌, ◌++◌, ◌==◌, ◌&&◌, [], ℕ, zero, suc, List, Bool, true, false, Option}
+use Rattle.std.proofs.Common.{Some, None, inl, inr, length, length-append, map, take, drop, append_assoc, append-nil, refl, sym, ap, subst}
+use Rattle.std.proofs.Common.{◌∙◌, arith}
 use Rattle.std.specs.Prelude.{is_some, nat_le, nat_lt, option_to_list, ◌⊎◌, if◌then◌else◌}
-use Rattle.std.proofs.lemmas.Bool.{and_from, and_parts, cases_lt, eqb-true, eqb-false, eq-eqb, ne_eqb, le-leb, lt-leb, lt-ltb, le-ltb, leb-true}
+use Rattle.std.proofs.lemmas.Bool.{and_from, and_parts, cases_lt, eqb-true, eqb-false, eq-eqb, ne_eqb, le-leb, lt-leb, lt-ltb, le-ltb}
+use Rattle.std.proofs.lemmas.Bool.{leb-true}
 use Rattle.std.proofs.lemmas.List.Folds.{list_all-append}
 use Rattle.inf_area.specs.declared.targets.AreaName.TheVariants as area_name
 use Rattle.inf_area.specs.declared.targets.Target.{Target}
@@ -18,8 +21,10 @@ use Rattle.inf_properties.specs.Properties.{found}
 use Rattle.inf_properties.specs.Sizes.{are_short, is_short}
 use Rattle.inf_properties.proofs.Having.{found-append, found_one, or_found}
 use Rattle.inf_objects.specs.declared.objects.Object.{Object}
-use Rattle.inf_objects.specs.Reading.{AreFallingBelow, Row, filled, first_byte, long_count, number_in, row_of, rows_read, table_read, told, words_of}
-use Rattle.inf_objects.specs.Tables.{address_rows, all_falling, byte_cells, class_rows, class_values, falling, has_individual, name_cells, row_cells, rows_by, rows_cells, rows_of, shown, size_cells, table_cells}
+use Rattle.inf_objects.specs.Reading.{AreFallingBelow, Row, filled, first_byte, long_count, number_in, row_of, rows_read, table_read, told}
+use Rattle.inf_objects.specs.Reading.{words_of}
+use Rattle.inf_objects.specs.Tables.{address_rows, all_falling, byte_cells, class_rows, class_values, falling, has_individual, name_cells}
+use Rattle.inf_objects.specs.Tables.{row_cells, rows_by, rows_cells, rows_of, shown, size_cells, table_cells}
 use Rattle.inf_objects.proofs.Rows.{length-class_values}
 
 take_front : (n : ℕ) (xs ys : List ℕ) → length xs ≡ n → take n (xs ++ ys) ≡ xs

@@ -1,5 +1,6 @@
 -- What stands in a property table, number by number.
-use Rattle.std.proofs.Common.{◌≡◌, ◌<◌, ◌+◌, ◌∷◌, ◌++◌, ◌==◌, [], ℕ, zero, suc, List, Bool, true, false, Option, Some, None, length, append_assoc, append-nil, refl, sym, ap, subst, ◌∙◌, arith}
+use Rattle.std.proofs.Common.{◌≡◌, ◌<◌, ◌+◌, ◌∷◌, ◌++◌, ◌==◌, [], ℕ, zero, suc, List, Bool, true, false, Option, Some, None, length}
+use Rattle.std.proofs.Common.{append_assoc, append-nil, refl, sym, ap, subst, ◌∙◌, arith}
 use Rattle.std.specs.Prelude.{is_some, option_to_list, if◌then◌else◌}
 use Rattle.std.proofs.lemmas.Bool.{eqb-true, eqb-false, ne_eqb}
 use Rattle.inf_area.specs.declared.targets.AreaName.TheVariants as area_name
@@ -11,7 +12,8 @@ use Rattle.inf_properties.specs.declared.sizes.Owner.TheVariants as owner
 use Rattle.inf_properties.specs.Properties.{AreFree, found, has}
 use Rattle.inf_properties.proofs.Having.{found-append, or_found}
 use Rattle.inf_objects.specs.declared.objects.Object.{Object}
-use Rattle.inf_objects.specs.Tables.{address_rows, class_rows, class_values, falling, has_individual, row_cells, rows_by, rows_cells, rows_for, rows_of, size_cells}
+use Rattle.inf_objects.specs.Tables.{address_rows, class_rows, class_values, falling, has_individual, row_cells, rows_by, rows_cells}
+use Rattle.inf_objects.specs.Tables.{rows_for, rows_of, size_cells}
 
 pub length-class_values : (ns : List ℕ) → length (class_values ns) ≡ length ns
 length-class_values [] = refl

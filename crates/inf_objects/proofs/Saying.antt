@@ -1,5 +1,6 @@
 -- What a body says of attributes, one after another.
-use Rattle.std.proofs.Common.{◌≡◌, ◌<◌, ◌∷◌, [], ℕ, zero, suc, List, Bool, Option, Some, None, fold, length, length-set, replicate, refl, sym, ap, ◌∙◌, arith}
+use Rattle.std.proofs.Common.{◌≡◌, ◌<◌, ◌∷◌, [], ℕ, zero, suc, List, Bool, Option, Some, None, fold, length, length-set, replicate, refl}
+use Rattle.std.proofs.Common.{sym, ap, ◌∙◌, arith}
 use Rattle.std.specs.Prelude.{slice_set}
 use Rattle.inf_objects.specs.Attributes.{attributes_by, nothing_said, said_or}
 

@@ -1,5 +1,6 @@
 -- How much is written of objects.
-use Rattle.std.proofs.Common.{◌≡◌, ◌≤◌, ◌<◌, ◌+◌, ◌*◌, ◌%◌, ◌∷◌, ◌++◌, ◌==◌, [], ℕ, List, Bool, true, false, inl, inr, length, refl, sym, ap, ◌∙◌, arith}
+use Rattle.std.proofs.Common.{◌≡◌, ◌≤◌, ◌<◌, ◌+◌, ◌*◌, ◌%◌, ◌∷◌, ◌++◌, ◌==◌, [], ℕ, List, Bool, true, false, inl, inr, length, refl, sym}
+use Rattle.std.proofs.Common.{ap, ◌∙◌, arith}
 use Rattle.std.specs.Prelude.{nat_le, sum_by, if◌then◌else◌}
 use Rattle.std.proofs.lemmas.Bool.{le-leb, lt-leb, lt-ltb, le-ltb, cases_lt, cases_eq, eq-eqb, ne_eqb}
 use Rattle.std.proofs.lemmas.List.Sums.{sum_by-cons}
@@ -20,7 +21,9 @@ use Rattle.inf_objects.specs.declared.objects.Object.{Object}
 use Rattle.inf_objects.specs.Measures.{kind_part, measure_by, measured, no_part, part_of, parts_of}
 use Rattle.inf_objects.specs.declared.sizes.Part.{Part}
 use Rattle.inf_objects.specs.Objects.{list_bytes}
-use Rattle.inf_objects.specs.Tables.{address_rows, all_falling, byte_cells, class_rows, class_values, falling, has_individual, individual_row_cells, individual_rows_cells, individual_table_by, individual_table_cells, is_individual, name_cells, row_cells, rows_by, rows_cells, shown, size_cells, table_cells}
+use Rattle.inf_objects.specs.Tables.{address_rows, all_falling, byte_cells, class_rows, class_values, falling, has_individual}
+use Rattle.inf_objects.specs.Tables.{individual_row_cells, individual_rows_cells, individual_table_by, individual_table_cells}
+use Rattle.inf_objects.specs.Tables.{is_individual, name_cells, row_cells, rows_by, rows_cells, shown, size_cells, table_cells}
 use Rattle.inf_objects.proofs.Falling.{below, below_in, below_out, sum_rows}
 use Rattle.inf_objects.proofs.Rows.{length-class_values, nothing_falls}
 

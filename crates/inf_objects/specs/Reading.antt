@@ -1,5 +1,6 @@
 -- What an interpreter reads of a property table (Z-Machine Standard 1.1, section 12.4).
-use Rattle.std.specs.Prelude.{ℕ, zero, suc, ◌+◌, ◌*◌, ◌/◌, ◌%◌, ◌<◌, List, [], ◌∷◌, ◌++◌, ◌==◌, drop, length, map, nat_lt, take, if◌then◌else◌}
+use Rattle.std.specs.Prelude.{ℕ, zero, suc, ◌+◌, ◌*◌, ◌/◌, ◌%◌, ◌<◌, List, [], ◌∷◌, ◌++◌, ◌==◌, drop, length, map, nat_lt, take}
+use Rattle.std.specs.Prelude.{if◌then◌else◌}
 use Rattle.inf_area.specs.declared.targets.Target.{Target}
 use Rattle.inf_area.specs.declared.targets.Value.{Value}
 use Rattle.inf_area.specs.declared.targets.Value.TheVariants as value

@@ -1,6 +1,7 @@
 //! What was read of an object or a class.
 ghost use Rattle.std.specs.Prelude.{◌≡◌, ◌+◌, ◌<◌, ◌≤◌, ◌^◌, IfOk, OnOk, OnErr, MatchResult, None, Some, length};
-ghost use Rattle.inf_objects.specs.Objects.{begun, ended, head_bytes, is_passed, join_fault, list_bytes, nothing_read, object_bytes, object_fixups, with_named_class, with_said};
+ghost use Rattle.inf_objects.specs.Objects.{begun, ended, head_bytes, is_passed, join_fault, list_bytes, nothing_read, object_bytes};
+ghost use Rattle.inf_objects.specs.Objects.{object_fixups, with_named_class, with_said};
 ghost use Rattle.inf_properties.specs.Open.{class_refused};
 
 use crate::attributes::{attributes_by, join};

@@ -1,5 +1,6 @@
 //! What an author and an interpreter may rely on.
-ghost use Rattle.std.specs.Prelude.{◌≡◌, ◌+◌, ◌-◌, ◌*◌, ◌<◌, ◌≤◌, ◌==◌, ℕ, List, Bool, ◌++◌, count_by, fold, length, map, slice_index_or, slice_set, Some, if◌then◌else◌};
+ghost use Rattle.std.specs.Prelude.{◌≡◌, ◌+◌, ◌-◌, ◌*◌, ◌<◌, ◌≤◌, ◌==◌, ℕ, List, Bool, ◌++◌, count_by, fold, length, map, slice_index_or};
+ghost use Rattle.std.specs.Prelude.{slice_set, Some, if◌then◌else◌};
 ghost use Rattle.inf_area.specs.declared.targets.Target.{Target};
 ghost use Rattle.inf_properties.specs.Properties.{found};
 ghost use Rattle.inf_objects.specs.Attributes.{attributes_by, nothing_said};

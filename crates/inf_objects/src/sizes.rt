@@ -3,7 +3,8 @@ ghost use Rattle.std.specs.Prelude.{◌≡◌, ℕ, ◌+◌, ◌<◌, ◌≤◌,
 ghost use Rattle.inf_cells.specs.Cells.{bytes_of, later_count};
 ghost use Rattle.inf_properties.specs.Sizes.{are_short, bytes_of as property_bytes};
 ghost use Rattle.inf_properties.specs.declared.sizes.Owner.TheVariants as owner;
-ghost use Rattle.inf_objects.specs.Measures.{CountedBy, bare_part, individual_table_part, kind_part, measured, no_part, parts_of, table_part};
+ghost use Rattle.inf_objects.specs.Measures.{CountedBy, bare_part, individual_table_part, kind_part, measured, no_part, parts_of};
+ghost use Rattle.inf_objects.specs.Measures.{table_part};
 ghost use Rattle.inf_objects.specs.Objects.{object_bytes};
 ghost use Rattle.inf_objects.specs.Tables.{has_individual, individual_table_cells, table_cells};
 

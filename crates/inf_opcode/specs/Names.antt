@@ -2,7 +2,19 @@
 use Rattle.std.specs.Prelude.{ℕ, Bool, List, [], ◌∷◌, Option, find, codes}
 use Rattle.std.specs.Str.{str_eq_ignore_ascii_case}
 use Rattle.inf_opcode.specs.declared.opcodes.Opcode.{Opcode}
-use Rattle.inf_opcode.specs.declared.opcodes.Opcode.TheVariants.{Je, Jl, Jg, DecChk, IncChk, Jin, Test, Or, And, TestAttr, SetAttr, ClearAttr, Store, InsertObj, Loadw, Loadb, GetProp, GetPropAddr, GetNextProp, Add, Sub, Mul, Div, Mod, Call2s, Call2n, SetColour, Throw, Jz, GetSibling, GetChild, GetParent, GetPropLen, Inc, Dec, PrintAddr, Call1s, RemoveObj, PrintObj, Ret, Jump, PrintPaddr, Load, Call1n, Rtrue, Rfalse, Print, PrintRet, Nop, Restart, RetPopped, Catch, Quit, NewLine, Verify, Piracy, CallVs, Storew, Storeb, PutProp, Aread, PrintChar, PrintNum, Random, Push, Pull, SplitWindow, SetWindow, CallVs2, EraseWindow, EraseLine, SetCursor, GetCursor, SetTextStyle, BufferMode, OutputStream, InputStream, SoundEffect, ReadChar, ScanTable, Not, CallVn, CallVn2, Tokenise, EncodeText, CopyTable, PrintTable, CheckArgCount, Save, Restore, LogShift, ArtShift, SetFont, SaveUndo, RestoreUndo, PrintUnicode, CheckUnicode, SetTrueColour}
+use Rattle.inf_opcode.specs.declared.opcodes.Opcode.TheVariants.{Je, Jl, Jg, DecChk, IncChk, Jin, Test, Or, And, TestAttr, SetAttr}
+use Rattle.inf_opcode.specs.declared.opcodes.Opcode.TheVariants.{ClearAttr, Store, InsertObj, Loadw, Loadb, GetProp, GetPropAddr}
+use Rattle.inf_opcode.specs.declared.opcodes.Opcode.TheVariants.{GetNextProp, Add, Sub, Mul, Div, Mod, Call2s, Call2n, SetColour, Throw, Jz}
+use Rattle.inf_opcode.specs.declared.opcodes.Opcode.TheVariants.{GetSibling, GetChild, GetParent, GetPropLen, Inc, Dec, PrintAddr, Call1s}
+use Rattle.inf_opcode.specs.declared.opcodes.Opcode.TheVariants.{RemoveObj, PrintObj, Ret, Jump, PrintPaddr, Load, Call1n, Rtrue, Rfalse}
+use Rattle.inf_opcode.specs.declared.opcodes.Opcode.TheVariants.{Print, PrintRet, Nop, Restart, RetPopped, Catch, Quit, NewLine, Verify}
+use Rattle.inf_opcode.specs.declared.opcodes.Opcode.TheVariants.{Piracy, CallVs, Storew, Storeb, PutProp, Aread, PrintChar, PrintNum}
+use Rattle.inf_opcode.specs.declared.opcodes.Opcode.TheVariants.{Random, Push, Pull, SplitWindow, SetWindow, CallVs2, EraseWindow}
+use Rattle.inf_opcode.specs.declared.opcodes.Opcode.TheVariants.{EraseLine, SetCursor, GetCursor, SetTextStyle, BufferMode, OutputStream}
+use Rattle.inf_opcode.specs.declared.opcodes.Opcode.TheVariants.{InputStream, SoundEffect, ReadChar, ScanTable, Not, CallVn, CallVn2}
+use Rattle.inf_opcode.specs.declared.opcodes.Opcode.TheVariants.{Tokenise, EncodeText, CopyTable, PrintTable, CheckArgCount, Save, Restore}
+use Rattle.inf_opcode.specs.declared.opcodes.Opcode.TheVariants.{LogShift, ArtShift, SetFont, SaveUndo, RestoreUndo, PrintUnicode}
+use Rattle.inf_opcode.specs.declared.opcodes.Opcode.TheVariants.{CheckUnicode, SetTrueColour}
 
 abbrev pub name_of : Opcode → List ℕ
 name_of Je = codes "je"

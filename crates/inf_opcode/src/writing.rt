@@ -6,7 +6,8 @@ ghost use Rattle.inf_opcode.specs.declared.instructions.Operand.{Operand};
 ghost use Rattle.inf_opcode.specs.Cells.{sense_bit, long_bytes, label_count, fixup_count, kept_from};
 ghost use Rattle.inf_opcode.specs.Grown.{Grew, Longer};
 ghost use Rattle.inf_opcode.specs.Opcodes.{is_encodable};
-ghost use Rattle.inf_opcode.specs.Instructions.{type_slot, types_byte, types_bytes, variable_bit, is_long, heading, operand_cells, store_cells, branch_cells, front_cells, instruction_cells};
+ghost use Rattle.inf_opcode.specs.Instructions.{type_slot, types_byte, types_bytes, variable_bit, is_long, heading, operand_cells};
+ghost use Rattle.inf_opcode.specs.Instructions.{store_cells, branch_cells, front_cells, instruction_cells};
 ghost use Rattle.inf_opcode.specs.Counts.{counts_of};
 ghost use Rattle.inf_opcode.specs.PartsOf.{parts_of};
 

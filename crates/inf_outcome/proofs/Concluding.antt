@@ -1,5 +1,7 @@
 -- What is written up to the end of a compilation, or up to where it was given up.
-use Rattle.std.proofs.Common.{◌≡◌, ◌⊎◌, ℕ, zero, ◌+◌, ◌-◌, ◌<◌, ◌≤◌, List, [], ◌∷◌, ◌++◌, length, length-append, map, min, reverse, get_or, unwrap_or, cond, drop, Bool, true, false, Option, Some, None, arith, Result, Ok, Err, IfOk, IfErr, OnErr, inl, inr, refl, sym, ap, subst, ◌∙◌, append_assoc}
+use Rattle.std.proofs.Common.{◌≡◌, ◌⊎◌, ℕ, zero, ◌+◌, ◌-◌, ◌<◌, ◌≤◌, List, [], ◌∷◌, ◌++◌, length, length-append, map, min, reverse, get_or}
+use Rattle.std.proofs.Common.{unwrap_or, cond, drop, Bool, true, false, Option, Some, None, arith, Result, Ok, Err, IfOk, IfErr, OnErr, inl}
+use Rattle.std.proofs.Common.{inr, refl, sym, ap, subst, ◌∙◌, append_assoc}
 use Rattle.inf_settings.specs.Bounds.{limits_of, Limits}
 use Rattle.inf_files.specs.Files.{Opening, Openings, Sources, last_count, opened}
 use Rattle.inf_files.specs.declared.files.Files.{Ghosts as Files}
@@ -10,7 +12,8 @@ use Rattle.inf_lexer.specs.Unread.{View, innermost, innermost_place, unread as u
 use Rattle.inf_sources.specs.Calls.{IsUnreadable, Kept, Went, given_all, given_to}
 use Rattle.inf_sources.specs.Cursors.{Cursor, Unfinished}
 use Rattle.inf_sources.specs.Inclusions.{Nesting, cursors, cursors_of, main_opened}
-use Rattle.inf_sources.specs.Open.{AllGiven, AreNested, AreTracked, Each, Fits, IsCounted, IsFrontOf, IsGiven, IsNested, Open, closed_to, cursor_of, files_of, lexers, lexers_of, nesting, opened_since, rest_of, waiting_at}
+use Rattle.inf_sources.specs.Open.{AllGiven, AreNested, AreTracked, Each, Fits, IsCounted, IsFrontOf, IsGiven, IsNested, Open, closed_to}
+use Rattle.inf_sources.specs.Open.{cursor_of, files_of, lexers, lexers_of, nesting, opened_since, rest_of, waiting_at}
 use Rattle.inf_sources.specs.declared.open_file.OpenFile.{OpenFile}
 use Rattle.inf_sources.proofs.Places.{files_are, innermost_of, last_of}
 use Rattle.inf_conditionals.specs.Open.{Conditions, no_conditions}
@@ -29,7 +32,8 @@ use Rattle.inf_session.specs.declared.faults.Fault.TheVariants as fault
 use Rattle.inf_session.specs.declared.session.Session.{Session}
 use Rattle.inf_session.proofs.Leadings.{end_begins, front_more, front_then, same_end, stops_more, takes_none, takes_then}
 use Rattle.inf_session.proofs.Standings.{if_read_more}
-use Rattle.inf_outcome.specs.Comes.{AreAt, AreNear, Begins, Comes, Concludes, Heard, IsUnread, OpenedBy, OpenedSome, Stops, StopsReading, WereOpened, numbers_of}
+use Rattle.inf_outcome.specs.Comes.{AreAt, AreNear, Begins, Comes, Concludes, Heard, IsUnread, OpenedBy, OpenedSome, Stops, StopsReading}
+use Rattle.inf_outcome.specs.Comes.{WereOpened, numbers_of}
 use Rattle.inf_outcome.specs.Outcome.{IsCompiled, IsOutcomeOf, ending_of}
 
 -- fronts of what follows the same
@@ -321,7 +325,8 @@ stops_reading_of failed s t old now new f told all nested given h =
       at = subst (λ (xs : List Opening). AreAt n (length xs) t.nesting.names xs (innermost_place now ∷ at.rest) (numbers_of t.nesting))
           (sym all) stands;
       openings = ap (λ (xs : List Opening). map (λ (q : Opening). q.name) (drop n xs)) all ∙ h.openings;
-      cause = subst (λ (o : Opening). failed ⊎ (16777216 < length o.given)) (sym here) (subst (λ (k : ℕ). failed ⊎ (16777216 < k)) (sym counted.count) h.cause);
+      cause = subst (λ (o : Opening). failed ⊎ (16777216 < length o.given)) (sym here)
+          (subst (λ (k : ℕ). failed ⊎ (16777216 < k)) (sym counted.count) h.cause);
       not_ended = subst (λ (o : Opening). Unfinished t.nesting.cursor (length o.given - 16777216) (unread_of s o)) (sym here)
           (subst (λ (k : ℕ). Unfinished t.nesting.cursor (k - 16777216) (unread_now s now)) (sym counted.count) h.not_ended);
       goes_on = ap (λ (o : Opening). o.is_read_out) here ∙ counted.goes_on h.goes_on;

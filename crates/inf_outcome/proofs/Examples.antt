@@ -27,7 +27,8 @@ use Rattle.inf_objects.specs.Attributes.{attribute_cells, flag_byte, no_attribut
 use Rattle.inf_objects.specs.Tables.{all_falling}
 use Rattle.inf_tables.specs.Tables.{more, no_tables}
 use Rattle.inf_world.specs.Areas.{first_names}
-use Rattle.inf_outcome.specs.Examples.{ConditionalsChoose, ConditionsChoose, EmptySource, FilesAreIncluded, HelloIsAStory, NamesAreUndeclared, NoSource, SixteenAreOpen, TextIsMissing}
+use Rattle.inf_outcome.specs.Examples.{ConditionalsChoose, ConditionsChoose, EmptySource, FilesAreIncluded, HelloIsAStory}
+use Rattle.inf_outcome.specs.Examples.{NamesAreUndeclared, NoSource, SixteenAreOpen, TextIsMissing}
 use Rattle.inf_grammar.specs.Language as language
 use Rattle.inf_names.specs.SystemNames as system
 use Rattle.inf_syntax.specs.Atoms as atoms
@@ -50,13 +51,15 @@ empty_source serial = record { final = _; is_read = record { turns = 10; leads =
 
 pub text_is_missing : TextIsMissing
 unfolding digits more units.order units.next_place output.laid output.instruction output.behind meaning.call_of parts.calling
-    statements.statement_in effects.statement_laid effects.statement_finding work_parts.part_effect language.grammar language.known atoms.keyword_of words.keywords
+    statements.statement_in effects.statement_laid effects.statement_finding work_parts.part_effect language.grammar language.known
+    atoms.keyword_of words.keywords
     system.system_names
 text_is_missing serial = record { final = _; is_read = record { turns = 20; leads = refl; ends = refl }; is_ending = refl }
 
 pub names_are_undeclared : NamesAreUndeclared
 unfolding digits more units.order units.next_place output.laid output.instruction output.behind meaning.call_of parts.calling
-    statements.statement_in effects.statement_laid effects.statement_finding work_parts.part_effect language.grammar language.known atoms.keyword_of words.keywords
+    statements.statement_in effects.statement_laid effects.statement_finding work_parts.part_effect language.grammar language.known
+    atoms.keyword_of words.keywords
     system.system_names
 names_are_undeclared serial = record { final = _; is_read = record { turns = 40; leads = refl; ends = refl }; is_ending = refl }
 
@@ -106,7 +109,8 @@ hello_size =
 pub hello_is_a_story : HelloIsAStory
 unfolding digits more text_of piece_at escape_piece spelled spellings zscii_of zscii_of_unicode accented packed longest character_zs
     punctuation units.order units.next_place output.laid output.instruction output.behind meaning.call_of parts.calling
-    statements.statement_in effects.statement_laid effects.statement_finding work_parts.part_effect language.grammar language.known atoms.keyword_of words.keywords
+    statements.statement_in effects.statement_laid effects.statement_finding work_parts.part_effect language.grammar language.known
+    atoms.keyword_of words.keywords
     system.system_names too_long tables.three_spaces tables.abbreviations first_names no_attributes attribute_cells flag_byte all_falling
 hello_is_a_story serial six =
     let says = story_tells (fields serial) 8 (value.Later (target.Place area.Code 8) ∷ []) hello_code [] no_tables six in

@@ -1,7 +1,8 @@
 -- Reading ends, whatever the sources are: a turn ends it, takes something of the innermost file, leaves that file, or enters another one;
 -- and
 -- no more than sixteen are open.
-use Rattle.std.proofs.Common.{◌≡◌, ◌⊎◌, inl, inr, ℕ, zero, suc, ◌+◌, ◌<◌, ◌≤◌, ◌||◌, List, [], ◌∷◌, length, Bool, true, false, not, nat_le, cond, Option, Some, None, refl, sym, ap, subst, ◌∙◌, arith}
+use Rattle.std.proofs.Common.{◌≡◌, ◌⊎◌, inl, inr, ℕ, zero, suc, ◌+◌, ◌<◌, ◌≤◌, ◌||◌, List, [], ◌∷◌, length, Bool, true, false, not, nat_le}
+use Rattle.std.proofs.Common.{cond, Option, Some, None, refl, sym, ap, subst, ◌∙◌, arith}
 use Rattle.std.proofs.lemmas.Bool.{leb-false}
 use Rattle.inf_settings.specs.Bounds.{limits_of, Limits}
 use Rattle.inf_scanner.proofs.TokenLaws.{tokens_take_bytes}
@@ -20,7 +21,9 @@ use Rattle.inf_reader.specs.Handing.{said_told, site_of}
 use Rattle.inf_reader.specs.Reading.{is_mode_ended}
 use Rattle.inf_session.specs.Choices.{Choices}
 use Rattle.inf_session.specs.Ending.{Outcome, missing}
-use Rattle.inf_session.specs.Session.{State, answered, asked_nothing, file_closed, followed, has_ended, carried_out, context_of, included_by, is_resting, left, left_by, none_included, piece_closed, rested, run, stand_of, start, stepped, token_of, turn}
+use Rattle.inf_session.specs.Session.{State, answered, asked_nothing, file_closed, followed, has_ended, carried_out, context_of}
+use Rattle.inf_session.specs.Session.{included_by, is_resting, left, left_by, none_included, piece_closed, rested, run, stand_of, start}
+use Rattle.inf_session.specs.Session.{stepped, token_of, turn}
 use Rattle.inf_session.proofs.Leadings.{run_going, run_sum}
 use Rattle.inf_session.proofs.Stepping.{end_ends}
 use Rattle.inf_outcome.specs.Outcome.{IsOutcomeOf, ending_of}

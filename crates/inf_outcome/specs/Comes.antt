@@ -1,5 +1,6 @@
 -- What a compilation writes, answers and opens.
-use Rattle.std.specs.Prelude.{◌≡◌, ℕ, ◌+◌, ◌-◌, ◌<◌, ◌≤◌, ◌⊎◌, List, [], ◌∷◌, get_or, slice_get, unwrap_or, length, map, drop, false, Option, Some, None, min}
+use Rattle.std.specs.Prelude.{◌≡◌, ℕ, ◌+◌, ◌-◌, ◌<◌, ◌≤◌, ◌⊎◌, List, [], ◌∷◌, get_or, slice_get, unwrap_or, length, map, drop, false}
+use Rattle.std.specs.Prelude.{Option, Some, None, min}
 use Rattle.inf_settings.specs.Bounds.{limits_of, Limits}
 use Rattle.inf_files.specs.Files.{Opening, Openings, Rose, Sources, last_count, opened}
 use Rattle.inf_files.specs.declared.files.Files.{Ghosts as Files}

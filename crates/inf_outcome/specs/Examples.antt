@@ -46,7 +46,8 @@ TextIsMissing =
 abbrev pub NamesAreUndeclared : Type 0
 NamesAreUndeclared =
     Refuses (only (codes "[ Main; a(); b(C); A(); ];\n"))
-    (codes "t.inf(1): Error: \"a\" was never declared\nt.inf(1): Error: \"b\" was never declared\nt.inf(1): Error: \"C\" was never declared\nErrors: 3, warnings: 0 (no output)\n")
+    (codes "t.inf(1): Error: \"a\" was never declared\nt.inf(1): Error: \"b\" was never declared\n"
+    ++ codes "t.inf(1): Error: \"C\" was never declared\nErrors: 3, warnings: 0 (no output)\n")
 
 -- the outer file goes on behind the inner one, which is read at each inclusion
 abbrev pub FilesAreIncluded : Type 0
@@ -57,15 +58,20 @@ FilesAreIncluded =
 -- a name of an included file is known, one that is declared later is not, and a conditional ends with its file
 abbrev pub ConditionalsChoose : Type 0
 ConditionalsChoose =
-    Refuses (with_source (codes "c.h") (codes "Constant K;") (only (codes "Include \"c.h\";\nIfdef K; Message \"yes\"; Ifnot; Message \"no\"; Endif;\n[ Main; #Ifdef L; new_line; #Endif; ];\nConstant L;\nIfdef M;")))
+    Refuses (with_source (codes "c.h") (codes "Constant K;")
+    (only (codes "Include \"c.h\";\nIfdef K; Message \"yes\"; Ifnot; Message \"no\"; Endif;\n"
+    ++ codes "[ Main; #Ifdef L; new_line; #Endif; ];\nConstant L;\nIfdef M;")))
     (codes "yes\nt.inf(5): Error: Conditional without its other end\nErrors: 1, warnings: 0 (no output)\n")
 
 -- A condition is a known number of names that were declared by the directives before it; with an error it is false. No local hides a
 -- name in it, and a token that does not fit it is the bad one of the directive around it.
 abbrev pub ConditionsChoose : Type 0
 ConditionsChoose =
-    Refuses (only (codes "Constant K = 3;\nIftrue K * 2 == 6; Message \"a\"; Ifnot; Message \"no\"; Endif;\nIffalse 1 / 0; Message \"b\"; Endif;\n[ Main K; #Iftrue K == 3; K; #Endif;\n#Iffalse L; #Endif;\n#Iftrue 1); ];\nConstant L;"))
-    (codes "a\nt.inf(3): Error: Constant out of range\nb\nt.inf(5): Error: Not a constant known here\nt.inf(6): Error: Syntax error at \")\"\nErrors: 3, warnings: 0 (no output)\n")
+    Refuses (only (codes "Constant K = 3;\nIftrue K * 2 == 6; Message \"a\"; Ifnot; Message \"no\"; Endif;\n"
+    ++ codes "Iffalse 1 / 0; Message \"b\"; Endif;\n[ Main K; #Iftrue K == 3; K; #Endif;\n"
+    ++ codes "#Iffalse L; #Endif;\n#Iftrue 1); ];\nConstant L;"))
+    (codes "a\nt.inf(3): Error: Constant out of range\nb\nt.inf(5): Error: Not a constant known here\n"
+    ++ codes "t.inf(6): Error: Syntax error at \")\"\nErrors: 3, warnings: 0 (no output)\n")
 
 -- a text so many times
 abbrev pub times : ℕ → List ℕ → List ℕ

@@ -1,5 +1,6 @@
 //! What the definitions give together.
-ghost use Rattle.inf_outcome.specs.Examples.{ConditionalsChoose, ConditionsChoose, EmptySource, FilesAreIncluded, HelloIsAStory, NamesAreUndeclared, NoSource, SixteenAreOpen, TextIsMissing};
+ghost use Rattle.inf_outcome.specs.Examples.{ConditionalsChoose, ConditionsChoose, EmptySource, FilesAreIncluded, HelloIsAStory};
+ghost use Rattle.inf_outcome.specs.Examples.{NamesAreUndeclared, NoSource, SixteenAreOpen, TextIsMissing};
 ghost use Rattle.inf_outcome.specs.OutcomeLaws.{OutcomesAreUnique, OutcomesExist};
 
 /// The same sources, choices, serial number and name have one outcome.

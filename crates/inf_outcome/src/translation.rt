@@ -88,9 +88,11 @@ fn translate_under<F: Files, M: Sink, B: Bounds>(
     ensures comes { IsTrue (F.is_honest files.old) →
         IfOk result (λ compiled. Comes (F.sources files.old) (chosen setup.entry) serial.now main.entry.name.now
         (F.openings files.old) (F.openings files.new) (M.taken messages.old) (M.taken messages.new) compiled) }
-    ensures begins { IsTrue (F.is_honest files.old) → OnErr result (Begins (F.sources files.old) (chosen setup.entry) serial.now main.entry.name.now
+    ensures begins { IsTrue (F.is_honest files.old) →
+        OnErr result (Begins (F.sources files.old) (chosen setup.entry) serial.now main.entry.name.now
         (M.taken messages.old) (M.taken messages.new)) }
-    ensures opened { IsTrue (F.is_honest files.old) → OnErr result (OpenedPart (F.sources files.old) (chosen setup.entry) main.entry.name.now
+    ensures opened { IsTrue (F.is_honest files.old) →
+        OnErr result (OpenedPart (F.sources files.old) (chosen setup.entry) main.entry.name.now
         (F.openings files.old) (F.openings files.new)) }
     ensures heard { IsTrue (F.is_honest files.old) →
         IfErr result (λ fault. IfRead fault (λ told. Heard (Rose (F.faults files.old) (F.faults files.new))

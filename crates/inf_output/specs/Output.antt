@@ -1,5 +1,6 @@
 -- Code, as what it adds to an output, and the words by which pieces of code are put together.
-use Rattle.std.specs.Prelude.{◌≡◌, ℕ, ◌+◌, ◌-◌, ◌≤◌, min, Bool, true, false, nat_lt, if◌then◌else◌, List, [], ◌∷◌, ◌++◌, length, map, Option, Some, None}
+use Rattle.std.specs.Prelude.{◌≡◌, ℕ, ◌+◌, ◌-◌, ◌≤◌, min, Bool, true, false, nat_lt, if◌then◌else◌, List, [], ◌∷◌, ◌++◌, length, map}
+use Rattle.std.specs.Prelude.{Option, Some, None}
 use Rattle.inf_settings.specs.Bounds.{Limits}
 use Rattle.inf_scanner.specs.declared.tokens.Place.{Place}
 use Rattle.inf_area.specs.declared.targets.AreaName.TheVariants as area
@@ -22,7 +23,8 @@ use Rattle.inf_assembler.specs.declared.routines.CloseFault.TheVariants as close
 use Rattle.inf_assembler.specs.declared.routines.RoutineKind.{RoutineKind}
 use Rattle.inf_assembler.specs.declared.routines.Limit.{Limit as CodeLimit}
 use Rattle.inf_assembler.specs.declared.routines.Limit.TheVariants as code_setting
-use Rattle.inf_code.specs.Code.{Routines, begun as code_begun, code_left, fault_closed, full_begun, full_label, full_opened, full_with, labels_left, references_left, with_item, with_closed, with_label as with_mark, with_none_open, with_opened}
+use Rattle.inf_code.specs.Code.{Routines, begun as code_begun, code_left, fault_closed, full_begun, full_label, full_opened, full_with}
+use Rattle.inf_code.specs.Code.{labels_left, references_left, with_item, with_closed, with_label as with_mark, with_none_open, with_opened}
 use Rattle.inf_names.specs.declared.meanings.Meaning.{Meaning}
 use Rattle.inf_names.specs.declared.meanings.Meaning.TheVariants as meaning
 use Rattle.inf_names.specs.declared.symbols.Found.{Found}

@@ -1,6 +1,7 @@
 //! Actions, as a source names them.
 ghost use Rattle.std.specs.Prelude.{◌≡◌, ◌≤◌, ◌+◌, ◌++◌, IfOk, OnOk, length};
-ghost use Rattle.inf_output.specs.Actions.{action_number, action_of, appeared, fake_number, faked, first_seen, key_of, next_seen, number_in, numbered, place_in, routine_name, routine_of, routine_referred, routine_used};
+ghost use Rattle.inf_output.specs.Actions.{action_number, action_of, appeared, fake_number, faked, first_seen, key_of, next_seen};
+ghost use Rattle.inf_output.specs.Actions.{number_in, numbered, place_in, routine_name, routine_of, routine_referred, routine_used};
 
 use crate::output::Output;
 use arrayvec::ArrayVec;

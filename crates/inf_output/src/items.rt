@@ -23,7 +23,14 @@ impl Model for KeptInstruction {
 
     ghost Value = { Parts };
 
-    ghost view = { λ k. record { opcode = k.opcode; operands = k.operands.items; store = k.store; branch = k.branch; text = k.text.items } };
+    ghost view = { λ k. record {
+      opcode = k.opcode;
+      operands = k.operands.items;
+      store = k.store;
+      branch = k.branch;
+      text =
+          k.text.items;
+    } };
 
     ghost invariant = { λ k. IsProper (record {
       opcode = k.opcode;

@@ -7,7 +7,11 @@ ghost use Rattle.inf_code.specs.Code.{fault_closed};
 ghost use Rattle.inf_names.specs.Symbols.{declare_fault};
 ghost use Rattle.inf_names.specs.declared.meanings.Meaning.{Meaning as Standing};
 ghost use Rattle.inf_output.specs.declared.items.Item.TheVariants as item;
-ghost use Rattle.inf_output.specs.Output.{Takes, TakesVariable, apart, begun, behind, closed, code_closed, counted, declared, first_table, found_simple, full, full_of, full_past, in_routine, instruction, items_of, jumped, laid, laid_all, less, low_string_at, marked, naming, next_label, opened, or_full, passed, passed_limit, passed_table, past_of, referred, referred_as, routine, simple_by, standing_simple, string_at, symbols_passed, table_passed, taken, together, used, whole, with_low_text, with_text, with_word};
+ghost use Rattle.inf_output.specs.Output.{Takes, TakesVariable, apart, begun, behind, closed, code_closed, counted, declared, first_table};
+ghost use Rattle.inf_output.specs.Output.{found_simple, full, full_of, full_past, in_routine, instruction, items_of, jumped, laid};
+ghost use Rattle.inf_output.specs.Output.{laid_all, less, low_string_at, marked, naming, next_label, opened, or_full, passed, passed_limit};
+ghost use Rattle.inf_output.specs.Output.{passed_table, past_of, referred, referred_as, routine, simple_by, standing_simple, string_at};
+ghost use Rattle.inf_output.specs.Output.{symbols_passed, table_passed, taken, together, used, whole, with_low_text, with_text, with_word};
 
 use crate::items::{Item, Items, proper_operands};
 use crate::operands::{Simple, add_written};

@@ -1,5 +1,6 @@
 -- Sums over what an object has, when its body gives more.
-use Rattle.std.proofs.Common.{◌≡◌, ◌≤◌, ◌+◌, ◌-◌, ◌*◌, ◌∷◌, ◌++◌, ◌==◌, [], ℕ, List, Bool, true, false, Option, Some, None, length, length-append, refl, sym, ap, subst, ◌∙◌, arith}
+use Rattle.std.proofs.Common.{◌≡◌, ◌≤◌, ◌+◌, ◌-◌, ◌*◌, ◌∷◌, ◌++◌, ◌==◌, [], ℕ, List, Bool, true, false, Option, Some, None, length}
+use Rattle.std.proofs.Common.{length-append, refl, sym, ap, subst, ◌∙◌, arith}
 use Rattle.std.specs.Prelude.{nat_le, nat_lt, sum_by, if◌then◌else◌}
 use Rattle.std.proofs.lemmas.Bool.{eqb-true, eqb-false, ne_eqb, leb-true}
 use Rattle.std.proofs.lemmas.List.Sums.{sum_by-append, sum_by-cons, sum_by_push}
@@ -10,7 +11,8 @@ use Rattle.inf_properties.specs.declared.sizes.Owner.{Owner}
 use Rattle.inf_properties.specs.declared.sizes.Owner.TheVariants as owner
 use Rattle.inf_properties.specs.declared.sizes.Size.{Size}
 use Rattle.inf_properties.specs.Properties.{AreNew, found, has, inherited, joined, joined_values, lacked, with_joined}
-use Rattle.inf_properties.specs.Sizes.{bytes_of, fixups_of, individuals_of, joined_count, joined_later, joined_size, later_count, size_by, size_of, size_option, total}
+use Rattle.inf_properties.specs.Sizes.{bytes_of, fixups_of, individuals_of, joined_count, joined_later, joined_size, later_count, size_by}
+use Rattle.inf_properties.specs.Sizes.{size_of, size_option, total}
 use Rattle.inf_properties.proofs.Finding.{absent_head}
 use Rattle.inf_properties.proofs.Inheriting.{absent_later, has-push_other, has-push_same, SameNumbers, SameNumbers-push}
 

@@ -1,5 +1,6 @@
 //! The properties of a body that is being read.
-ghost use Rattle.std.specs.Prelude.{◌≡◌, ◌<◌, ◌≤◌, ◌^◌, ◌++◌, ◌∷◌, [], true, false, length, IfOk, IfSome, IfNone, IsSome, OnOk, OnErr, MatchResult, None, option_to_list};
+ghost use Rattle.std.specs.Prelude.{◌≡◌, ◌<◌, ◌≤◌, ◌^◌, ◌++◌, ◌∷◌, [], true, false, length, IfOk, IfSome, IfNone, IsSome, OnOk, OnErr};
+ghost use Rattle.std.specs.Prelude.{MatchResult, None, option_to_list};
 ghost use Rattle.inf_properties.specs.declared.open.GiveFault.TheVariants.{Memory};
 ghost use Rattle.inf_properties.specs.Places.{AreAt};
 ghost use Rattle.inf_properties.specs.Properties.{has, joined_values};
@@ -194,7 +195,8 @@ fn full_fault(size: Size, room: Room) -> Option<GiveFault>
 }
 
 impl OpenProperties {
-    ghost use Rattle.inf_properties.specs.Open.{all, class_fault, class_refused, give_fault, given_first, opened, is_last_short, refusal, value_fault, with_class, with_given, with_value};
+    ghost use Rattle.inf_properties.specs.Open.{all, class_fault, class_refused, give_fault, given_first, opened, is_last_short, refusal};
+    ghost use Rattle.inf_properties.specs.Open.{value_fault, with_class, with_given, with_value};
     ghost use Rattle.inf_properties.specs.Properties.{found, has, inherited, is_reserved, joined, values_in, values_of};
     ghost use Rattle.inf_properties.specs.Sizes.{is_short, total, with_table};
 

@@ -113,7 +113,8 @@ impl<B: Bounds> Progress<B> {
         token: &SourceToken<'_>,
         judged: Filtered,
     ) -> Result<(), AllocError>
-        ensures { OnOk result (standing self.new ≡ judged_taken B.most (handed context.now) (spelled token.now) judged (standing self.old)) }
+        ensures { OnOk result (standing self.new ≡ judged_taken B.most (handed context.now) (spelled token.now) judged
+            (standing self.old)) }
     {
         if let Some(sign) = judged.sign {
             self.hand(context, &hash(sign.place), sign.handed)?;
@@ -138,7 +139,8 @@ impl<B: Bounds> Progress<B> {
         token: &SourceToken<'_>,
         forwarded: Forwarded,
     ) -> Result<(), AllocError>
-        ensures { OnOk result (standing self.new ≡ handed_as B.most forwarded (handed context.now) (spelled token.now) (standing self.old)) }
+        ensures { OnOk result (standing self.new ≡ handed_as B.most forwarded (handed context.now) (spelled token.now)
+            (standing self.old)) }
     {
         match (forwarded, self.reader.mode) {
             (Forwarded::Unfit, Recovery::Reads) => self.bad(context, token),

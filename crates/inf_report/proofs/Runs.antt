@@ -1,5 +1,6 @@
 -- Text that is shown run by run.
-use Rattle.std.proofs.Common.{◌≡◌, ℕ, suc, ◌+◌, ◌≤◌, ◌++◌, Bool, true, false, not, cond, List, [], ◌∷◌, append_assoc, append-nil, take, drop, Option, Result, IsErr, refl, sym, ap, ◌∙◌, arith}
+use Rattle.std.proofs.Common.{◌≡◌, ℕ, suc, ◌+◌, ◌≤◌, ◌++◌, Bool, true, false, not, cond, List, [], ◌∷◌, append_assoc, append-nil, take}
+use Rattle.std.proofs.Common.{drop, Option, Result, IsErr, refl, sym, ap, ◌∙◌, arith}
 use Rattle.std.specs.List.{prefix_len}
 use Rattle.inf_characters.specs.Characters.{is_white}
 use Rattle.inf_characters.specs.declared.characters.CharSet.{CharSet}

@@ -1,5 +1,6 @@
 -- Writing one thing behind the other.
-use Rattle.std.proofs.Common.{ℕ, ◌≤◌, ◌++◌, List, length-append, append_assoc, Option, Result, Ok, Err, IsErr, sym, ap, ◌∙◌, inl, inr, arith}
+use Rattle.std.proofs.Common.{ℕ, ◌≤◌, ◌++◌, List, length-append, append_assoc, Option, Result, Ok, Err, IsErr, sym, ap, ◌∙◌, inl, inr}
+use Rattle.std.proofs.Common.{arith}
 use Rattle.inf_sinks.specs.Sinks.{Takes}
 use Rattle.inf_sinks.proofs.TakenBytes.{Takes-append}
 use Rattle.inf_files.specs.Files.{Rose}

@@ -1,6 +1,11 @@
 -- What the code's messages stand for.
 use Rattle.inf_report.specs.OwnWords.{Words}
-use Rattle.inf_report.specs.Messages.{Location, Told, Bytes, Quote, Text, End, Message, Syntax, IllegalCharacter, UnclosedQuote, NumberOutOfRange, UnknownEscape, LongName, NoZscii, Declared, SystemName, WrongKind, Undeclared, UsedBefore, NotConstant, ConstantOutOfRange, TooManyArguments, WrongOpcode, LabelMissing, LabelTwice, NothingToLeave, BranchTooFar, TooMany, MisplacedSwitches, WrongAbbreviation, WrongVerb, NoMain, MisplacedDefault, ErrorText, LoneConditional, UnusedLocal, WarningText, Exceeded, NoInclude, TooManyFiles, FatalText, TooManyErrors, ReadableTooLong, StoryTooLong, NoSource, DeepNesting}
+use Rattle.inf_report.specs.Messages.{Location, Told, Bytes, Quote, Text, End, Message, Syntax, IllegalCharacter, UnclosedQuote}
+use Rattle.inf_report.specs.Messages.{NumberOutOfRange, UnknownEscape, LongName, NoZscii, Declared, SystemName, WrongKind, Undeclared}
+use Rattle.inf_report.specs.Messages.{UsedBefore, NotConstant, ConstantOutOfRange, TooManyArguments, WrongOpcode, LabelMissing, LabelTwice}
+use Rattle.inf_report.specs.Messages.{NothingToLeave, BranchTooFar, TooMany, MisplacedSwitches, WrongAbbreviation, WrongVerb, NoMain}
+use Rattle.inf_report.specs.Messages.{MisplacedDefault, ErrorText, LoneConditional, UnusedLocal, WarningText, Exceeded, NoInclude}
+use Rattle.inf_report.specs.Messages.{TooManyFiles, FatalText, TooManyErrors, ReadableTooLong, StoryTooLong, NoSource, DeepNesting}
 use Rattle.inf_report.specs.declared.messages.Location.{Location as CodeLocation}
 use Rattle.inf_report.specs.declared.messages.Told.{Told as CodeTold}
 use Rattle.inf_report.specs.declared.messages.Told.TheVariants as told

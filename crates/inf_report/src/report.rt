@@ -2,7 +2,8 @@
 ghost use Rattle.std.specs.Prelude.{◌≡◌, OnOk, OnErr};
 ghost use Rattle.inf_report.specs.Meant.{located, meant, worded};
 ghost use Rattle.inf_report.specs.Writing.{Writes};
-ghost use Rattle.inf_report.specs.Reports.{closing_lines, error_lines, fatal_lines, no_counts, plain_lines, statistic_lines, warning_lines, with_error, with_fatal, with_warning};
+ghost use Rattle.inf_report.specs.Reports.{closing_lines, error_lines, fatal_lines, no_counts, plain_lines, statistic_lines, warning_lines};
+ghost use Rattle.inf_report.specs.Reports.{with_error, with_fatal, with_warning};
 
 use crate::lines::{write_closing, write_last, write_line, write_plain};
 use crate::messages::{Kind, Location, Message};

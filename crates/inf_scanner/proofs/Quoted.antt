@@ -1,5 +1,6 @@
 -- Only a quoted token asks for memory.
-use Rattle.std.proofs.Common.{◌≡◌, ◌<◌, ◌≤◌, ℕ, List, [], ◌∷◌, Bool, true, not, cond, ◌||◌, ◌&&◌, ◌==◌, Option, Some, None, refl, sym, ap, ◌∙◌, arith}
+use Rattle.std.proofs.Common.{◌≡◌, ◌<◌, ◌≤◌, ℕ, List, [], ◌∷◌, Bool, true, not, cond, ◌||◌, ◌&&◌, ◌==◌, Option, Some, None, refl, sym, ap}
+use Rattle.std.proofs.Common.{◌∙◌, arith}
 use Rattle.std.proofs.lemmas.Bool.{cond_both}
 use Rattle.inf_characters.specs.Characters.{is_line_end, is_white}
 use Rattle.inf_characters.specs.declared.characters.CharSet.{CharSet}

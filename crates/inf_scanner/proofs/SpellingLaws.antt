@@ -1,7 +1,10 @@
 -- Each source is its gaps and the spans of its tokens; the tokens do not depend on how the source is given.
-use Rattle.std.proofs.Common.{◌≡◌, ◌⊎◌, inl, inr, ℕ, suc, zero, ◌+◌, ◌<◌, ◌≤◌, List, [], ◌∷◌, ◌++◌, length, take, cond, not, ◌||◌, ◌&&◌, ◌==◌, nat_lt, Bool, true, false, Option, Some, None, refl, sym, ap, subst, ◌∙◌, arith, append-nil, append_assoc, length-append}
+use Rattle.std.proofs.Common.{◌≡◌, ◌⊎◌, inl, inr, ℕ, suc, zero, ◌+◌, ◌<◌, ◌≤◌, List, [], ◌∷◌, ◌++◌, length, take, cond, not, ◌||◌, ◌&&◌}
+use Rattle.std.proofs.Common.{◌==◌, nat_lt, Bool, true, false, Option, Some, None, refl, sym, ap, subst, ◌∙◌, arith, append-nil}
+use Rattle.std.proofs.Common.{append_assoc, length-append}
 use Rattle.std.specs.List.{list_all}
-use Rattle.std.proofs.lemmas.Bool.{and_parts, and_from, cond-true, cond-false, cond_both, cases_lt, lt-ltb, le-ltb, eqb-true, ne_eqb, not-true, not_from_false, or_from, or_left, or_right}
+use Rattle.std.proofs.lemmas.Bool.{and_parts, and_from, cond-true, cond-false, cond_both, cases_lt, lt-ltb, le-ltb, eqb-true, ne_eqb}
+use Rattle.std.proofs.lemmas.Bool.{not-true, not_from_false, or_from, or_left, or_right}
 use Rattle.std.proofs.lemmas.List.{take_all, length-take-le, take-append-le, append_cancel_right}
 use Rattle.inf_characters.specs.Characters.{is_line_end, is_white}
 use Rattle.inf_characters.specs.declared.characters.CharSet.{CharSet}
@@ -11,7 +14,9 @@ use Rattle.inf_scanner.specs.Kept.{Kept, nothing_kept, with_byte}
 use Rattle.inf_scanner.specs.Lines.{first_line, past}
 use Rattle.inf_scanner.specs.Marks.{first_mark, longer_mark, mark_bytes}
 use Rattle.inf_scanner.specs.Scanning.{Sight, Found, is_run_byte, begins_number, begun, find, kept, marked, passed}
-use Rattle.inf_scanner.specs.SpellingLaws.{AreSpelled, IsSpelled, LinesAreCounted, Piece, SourcesAreSpelledOnce, Spans, begins_gap, begins_with, ends_at, is_gap, is_in_quote, is_nothing, joined, kept_of, lines_ended, most_of, past_all}
+use Rattle.inf_scanner.specs.SpellingLaws.{AreSpelled, IsSpelled, LinesAreCounted, Piece, SourcesAreSpelledOnce, Spans, begins_gap}
+use Rattle.inf_scanner.specs.SpellingLaws.{begins_with, ends_at, is_gap, is_in_quote, is_nothing, joined, kept_of, lines_ended, most_of}
+use Rattle.inf_scanner.specs.SpellingLaws.{past_all}
 use Rattle.inf_scanner.specs.Tokens.{Read, next_token}
 use Rattle.inf_scanner.specs.declared.lines.Lines.{Lines}
 use Rattle.inf_scanner.specs.declared.scanner.Ending.TheVariants as ending

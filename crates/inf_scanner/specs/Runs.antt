@@ -1,5 +1,6 @@
 -- Runs of bytes that leave a state as it is: what they do together. Only the crate's private clauses cite them.
-use Rattle.std.specs.Prelude.{ℕ, zero, suc, ◌-◌, List, [], ◌∷◌, ◌++◌, length, take, Bool, true, false, not, ◌||◌, ◌==◌, nat_le, if◌then◌else◌}
+use Rattle.std.specs.Prelude.{ℕ, zero, suc, ◌-◌, List, [], ◌∷◌, ◌++◌, length, take, Bool, true, false, not, ◌||◌, ◌==◌, nat_le}
+use Rattle.std.specs.Prelude.{if◌then◌else◌}
 use Rattle.inf_characters.specs.Characters.{is_line_end}
 use Rattle.inf_scanner.specs.Kept.{Kept}
 use Rattle.inf_scanner.specs.Scanning.{is_digit, is_letter}

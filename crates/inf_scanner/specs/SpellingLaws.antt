@@ -1,5 +1,6 @@
 -- The spelling of a whole source: gaps and tokens, each with its bytes, which joined are the source.
-use Rattle.std.specs.Prelude.{◌≡◌, ℕ, ◌+◌, ◌<◌, ◌⊎◌, List, [], ◌∷◌, ◌++◌, length, take, Bool, true, false, not, ◌&&◌, ◌||◌, ◌==◌, nat_lt, if◌then◌else◌, None}
+use Rattle.std.specs.Prelude.{◌≡◌, ℕ, ◌+◌, ◌<◌, ◌⊎◌, List, [], ◌∷◌, ◌++◌, length, take, Bool, true, false, not, ◌&&◌, ◌||◌, ◌==◌, nat_lt}
+use Rattle.std.specs.Prelude.{if◌then◌else◌, None}
 use Rattle.std.specs.List.{list_all}
 use Rattle.inf_characters.specs.Characters.{is_line_end, is_white}
 use Rattle.inf_characters.specs.declared.characters.CharSet.{CharSet}

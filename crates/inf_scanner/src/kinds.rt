@@ -1,7 +1,8 @@
 //! What a token is, once its bytes are known.
 ghost use Rattle.std.specs.Prelude.{◌≡◌, ◌<◌, ◌≤◌, ◌+◌, ◌*◌, true, IsErr, IfOk, IfSome};
 ghost use Rattle.inf_scanner.specs.Scanning.{is_quoted};
-ghost use Rattle.inf_scanner.specs.Kinds.{digit_of, kind_of, number_of, quote_kind, quoted_kind, refusal, signed_kind, text_kind, value_from, value_of, word_of};
+ghost use Rattle.inf_scanner.specs.Kinds.{digit_of, kind_of, number_of, quote_kind, quoted_kind, refusal, signed_kind, text_kind};
+ghost use Rattle.inf_scanner.specs.Kinds.{value_from, value_of, word_of};
 
 use crate::scanner::Ending;
 use crate::spelling::Spelling;

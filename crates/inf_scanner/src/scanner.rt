@@ -4,7 +4,9 @@ ghost use Rattle.inf_characters.specs.declared.characters.CharSet.{CharSet as Se
 ghost use Rattle.inf_scanner.specs.Lines.{first_line};
 ghost use Rattle.std.specs.List.{prefix_len};
 ghost use Rattle.inf_scanner.specs.Runs.{is_blank, is_name_byte, is_plain, name_bytes, stays};
-ghost use Rattle.inf_scanner.specs.Scanning.{is_run_byte, begins_number, step_of, begin, at_end, most, is_gap, turn, sight, marked, begun, ended_at, find, found_after, goes_on, is_behind, is_on, is_open, is_quoted, most_behind, Sight};
+ghost use Rattle.inf_scanner.specs.Scanning.{is_run_byte, begins_number, step_of, begin, at_end, most, is_gap, turn, sight, marked, begun};
+ghost use Rattle.inf_scanner.specs.Scanning.{ended_at, find, found_after, goes_on, is_behind, is_on, is_open, is_quoted, most_behind};
+ghost use Rattle.inf_scanner.specs.Scanning.{Sight};
 
 use crate::lines::Lines;
 use crate::marks::{first_mark, is_whole, longer_mark};

@@ -1,6 +1,7 @@
 -- What was written of the last lines, and of all.
 use Rattle.std.specs.Prelude.{option_map}
-use Rattle.std.proofs.Common.{◌≡◌, ℕ, List, [], ◌++◌, take, drop, take-append-drop, append_assoc, arith, Option, Some, None, Result, Ok, Err, IfOk, refl, sym, subst, ◌∙◌}
+use Rattle.std.proofs.Common.{◌≡◌, ℕ, List, [], ◌++◌, take, drop, take-append-drop, append_assoc, arith, Option, Some, None, Result, Ok}
+use Rattle.std.proofs.Common.{Err, IfOk, refl, sym, subst, ◌∙◌}
 use Rattle.inf_report.specs.Reports.{closing}
 use Rattle.inf_sinks.specs.Sinks.{Takes}
 use Rattle.inf_sinks.specs.declared.sinks.Sink.{Ghosts as Sink}

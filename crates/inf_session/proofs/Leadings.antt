@@ -1,5 +1,6 @@
 -- Where turns lead: what has ended stays, turns follow one another, and what was written is only added to.
-use Rattle.std.proofs.Common.{◌≡◌, ◌⊎◌, inl, inr, ℕ, suc, zero, ◌+◌, ◌<◌, ◌||◌, List, [], ◌∷◌, ◌++◌, Bool, true, false, Option, Some, None, cond, refl, sym, ap, subst, ◌∙◌, append_assoc, append-nil, arith}
+use Rattle.std.proofs.Common.{◌≡◌, ◌⊎◌, inl, inr, ℕ, suc, zero, ◌+◌, ◌<◌, ◌||◌, List, [], ◌∷◌, ◌++◌, Bool, true, false, Option, Some, None}
+use Rattle.std.proofs.Common.{cond, refl, sym, ap, subst, ◌∙◌, append_assoc, append-nil, arith}
 use Rattle.inf_settings.specs.Bounds.{Limits}
 use Rattle.inf_files.specs.Files.{Openings, Sources}
 use Rattle.inf_sinks.specs.Sinks.{Takes}
@@ -12,8 +13,10 @@ use Rattle.inf_unit.specs.Directives.{Request, Nothing, Include, End}
 use Rattle.inf_reader.specs.Reading.{is_mode_ended}
 use Rattle.inf_scanner.specs.declared.tokens.Place.{Place}
 use Rattle.inf_session.specs.Choices.{Choices}
-use Rattle.inf_session.specs.Leading.{CutsShort, GivenUp, IsFront, NotTried, OpensAll, OpensWithin, StopsFor, StopsAtInclusion, Writes, WroteAll}
-use Rattle.inf_session.specs.Session.{State, answered, asked_nothing, file_closed, followed, has_ended, carried_out, included_by, is_parted, is_resting, left, left_by, none_included, part, piece_closed, rested, run, stepped, turn}
+use Rattle.inf_session.specs.Leading.{CutsShort, GivenUp, IsFront, NotTried, OpensAll, OpensWithin, StopsFor, StopsAtInclusion, Writes}
+use Rattle.inf_session.specs.Leading.{WroteAll}
+use Rattle.inf_session.specs.Session.{State, answered, asked_nothing, file_closed, followed, has_ended, carried_out, included_by, is_parted}
+use Rattle.inf_session.specs.Session.{is_resting, left, left_by, none_included, part, piece_closed, rested, run, stepped, turn}
 
 -- Fronts
 
@@ -433,7 +436,8 @@ not_tried_more : (failed more : Type 0) (sources : Sources) (directories : List 
     (openings : List (List ℕ)) → (failed → more)
     → NotTried failed sources directories text n openings → NotTried more sources directories text n openings
 not_tried_more failed more sources directories text n openings later h = record {
-  cause = elim h.cause as (λ _. more ⊎ OpensTooMany (inclusion sources directories text n) n openings) [ inl rose ↦ inl (later rose) | inr many ↦ inr many ];
+  cause = elim h.cause as (λ _. more ⊎ OpensTooMany (inclusion sources directories text n) n openings)
+      [ inl rose ↦ inl (later rose) | inr many ↦ inr many ];
   openings_are = h.openings_are;
 }
 

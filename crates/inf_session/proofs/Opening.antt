@@ -17,7 +17,8 @@ use Rattle.inf_sources.specs.declared.open_files.Included.{Included}
 use Rattle.inf_sources.specs.declared.open_files.Included.TheVariants as answer
 use Rattle.inf_session.specs.Choices.{Choices}
 use Rattle.inf_session.specs.Leading.{OpensWithin}
-use Rattle.inf_session.specs.Session.{State, answered, asked_nothing, followed, has_ended, carried_out, included, included_by, is_resting, left, none_included, piece_closed, rested, stepped, turn}
+use Rattle.inf_session.specs.Session.{State, answered, asked_nothing, followed, has_ended, carried_out, included, included_by, is_resting}
+use Rattle.inf_session.specs.Session.{left, none_included, piece_closed, rested, stepped, turn}
 use Rattle.inf_session.specs.Standing.{state}
 use Rattle.inf_session.specs.declared.session.Session.{Session}
 

@@ -1,5 +1,6 @@
 -- What the session stands for behind a file that was left or entered, a refused inclusion, and a turn.
-use Rattle.std.proofs.Common.{◌≡◌, ℕ, List, [], ◌∷◌, ◌++◌, length, drop, reverse, get_or, Bool, Option, refl, sym, ap, subst, ◌∙◌, append_assoc, Result, Ok, Err, IfErr}
+use Rattle.std.proofs.Common.{◌≡◌, ℕ, List, [], ◌∷◌, ◌++◌, length, drop, reverse, get_or, Bool, Option, refl, sym, ap, subst, ◌∙◌}
+use Rattle.std.proofs.Common.{append_assoc, Result, Ok, Err, IfErr}
 use Rattle.inf_settings.specs.Bounds.{Limits}
 use Rattle.inf_files.specs.Files.{Openings, Sources, opened}
 use Rattle.inf_sources.specs.Cursors.{Cursor}

@@ -1,5 +1,6 @@
 -- Each turn ends reading, or lessens how far it can still go.
-use Rattle.std.proofs.Common.{◌≡◌, ◌⊎◌, inl, inr, ℕ, suc, zero, ◌+◌, ◌-◌, ◌*◌, ◌<◌, ◌≤◌, List, [], ◌∷◌, ◌++◌, length, cond, Bool, true, false, sym, ap, subst, ◌∙◌, arith, refl, length-append}
+use Rattle.std.proofs.Common.{◌≡◌, ◌⊎◌, inl, inr, ℕ, suc, zero, ◌+◌, ◌-◌, ◌*◌, ◌<◌, ◌≤◌, List, [], ◌∷◌, ◌++◌, length, cond, Bool, true}
+use Rattle.std.proofs.Common.{false, sym, ap, subst, ◌∙◌, arith, refl, length-append}
 use Rattle.inf_lexer.specs.Readers.{Reader}
 use Rattle.inf_sources.specs.Open.{Open, lexers_of}
 use Rattle.inf_sources.specs.declared.open_file.OpenFile.{OpenFile}
@@ -40,7 +41,8 @@ weight_is outer r =
     let split = weigh_append 0 (length outer) outer (r ∷ []) (omega arith) in
     omega (arith, split)
 
-weight_in : (f : Open) (outer : List Reader) → lexers_of f.outer ≡ outer → weight f ≡ weigh_from 0 outer + scale (15 - length outer) (room f.lexer)
+weight_in : (f : Open) (outer : List Reader) → lexers_of f.outer ≡ outer →
+    weight f ≡ weigh_from 0 outer + scale (15 - length outer) (room f.lexer)
 weight_in f outer e = ap (λ rs. weigh_from 0 (rs ++ f.lexer ∷ [])) e ∙ weight_is outer f.lexer
 
 lexers_length : (files : List OpenFile) → length (lexers_of files) ≡ length files
@@ -53,7 +55,8 @@ abbrev pub Falls : Open → Open → Type 0
 Falls before after = weight after < weight before
 
 -- the file at hand goes on
-stays_less : (before mid after : Open) → lexers_of mid.outer ≡ lexers_of before.outer → room mid.lexer < room before.lexer → after ≡ mid → Falls before after
+stays_less : (before mid after : Open) → lexers_of mid.outer ≡ lexers_of before.outer → room mid.lexer < room before.lexer → after ≡ mid →
+    Falls before after
 stays_less before mid after outer less same =
     let was = weight_in before (lexers_of before.outer) refl in
     let now : weight after ≡ weigh_from 0 (lexers_of before.outer) + scale (15 - length (lexers_of before.outer)) (room mid.lexer) =
@@ -62,7 +65,8 @@ stays_less before mid after outer less same =
     omega (arith, was, now, more)
 
 -- it was left, with all that it could still have
-leaves_less : (before mid after : Open) → lexers_of mid.outer ≡ lexers_of before.outer → lexers_of mid.outer ≡ lexers_of after.outer ++ after.lexer ∷ [] → Falls before after
+leaves_less : (before mid after : Open) → lexers_of mid.outer ≡ lexers_of before.outer →
+    lexers_of mid.outer ≡ lexers_of after.outer ++ after.lexer ∷ [] → Falls before after
 leaves_less before mid after outer left =
     let was = weight_in before (lexers_of after.outer ++ after.lexer ∷ []) (sym outer ∙ left) in
     let some = scale_more (15 - length (lexers_of after.outer ++ after.lexer ∷ [])) 0 (room before.lexer) (omega arith) in
@@ -70,26 +74,31 @@ leaves_less before mid after outer left =
 
 -- another was entered, which can have no more than what was taken weighs
 enters_less : (before mid after : Open) → lexers_of mid.outer ≡ lexers_of before.outer → room mid.lexer < room before.lexer
-    → after.lexer.window.given ≡ 0 → after.lexer.window.left ≡ [] → lexers_of after.outer ≡ lexers_of mid.outer ++ mid.lexer ∷ [] → length (lexers_of mid.outer) < 15 →
+    → after.lexer.window.given ≡ 0 → after.lexer.window.left ≡ [] → lexers_of after.outer ≡ lexers_of mid.outer ++ mid.lexer ∷ [] → length
+    (lexers_of mid.outer) < 15 →
     Falls before after
 enters_less before mid after outer less none empty entered deep =
     let levels : 15 - length (lexers_of before.outer) ≡ suc (14 - length (lexers_of before.outer)) = omega (arith, deep, ap length outer) in
-    let was : weight before ≡ weigh_from 0 (lexers_of before.outer) + scale (14 - length (lexers_of before.outer)) (16777218 * room before.lexer) =
+    let was : weight before ≡ weigh_from 0 (lexers_of before.outer) + scale (14 - length (lexers_of before.outer))
+    (16777218 * room before.lexer) =
     weight_in before (lexers_of before.outer) refl ∙ ap (λ n. weigh_from 0 (lexers_of before.outer) + scale n (room before.lexer)) levels in
     let size : length (lexers_of before.outer ++ mid.lexer ∷ []) ≡ suc (length (lexers_of before.outer)) =
     omega (arith, length-append (lexers_of before.outer) (mid.lexer ∷ [])) in
     let inner : 15 - length (lexers_of before.outer ++ mid.lexer ∷ []) ≡ 14 - length (lexers_of before.outer) = omega (arith, size) in
     let all : room after.lexer ≡ 16777217 = omega (arith, none, ap length empty) in
-    let around : weigh_from 0 (lexers_of before.outer ++ mid.lexer ∷ []) ≡ weigh_from 0 (lexers_of before.outer) + scale (14 - length (lexers_of before.outer))
+    let around : weigh_from 0 (lexers_of before.outer ++ mid.lexer ∷ []) ≡ weigh_from 0 (lexers_of before.outer) + scale
+    (14 - length (lexers_of before.outer))
     (16777218 * room mid.lexer) =
     weight_is (lexers_of before.outer) mid.lexer ∙ ap (λ n. weigh_from 0 (lexers_of before.outer) + scale n (room mid.lexer)) levels in
-    let now : weight after ≡ weigh_from 0 (lexers_of before.outer ++ mid.lexer ∷ []) + scale (14 - length (lexers_of before.outer)) 16777217 =
+    let now : weight after ≡ weigh_from 0 (lexers_of before.outer ++ mid.lexer ∷ []) + scale
+    (14 - length (lexers_of before.outer)) 16777217 =
     weight_in after (lexers_of before.outer ++ mid.lexer ∷ []) (entered ∙ ap (λ rs. rs ++ mid.lexer ∷ []) outer)
     ∙ ap (λ n. weigh_from 0 (lexers_of before.outer ++ mid.lexer ∷ []) + scale n (room after.lexer)) inner
     ∙ ap (λ n. weigh_from 0 (lexers_of before.outer ++ mid.lexer ∷ []) + scale (14 - length (lexers_of before.outer)) n) all in
     let both = scale_sum (14 - length (lexers_of before.outer)) (16777218 * room mid.lexer) 16777217 in
     let more =
-    scale_more (14 - length (lexers_of before.outer)) (16777218 * room mid.lexer + 16777217) (16777218 * room before.lexer) (omega (arith, less)) in
+    scale_more (14 - length (lexers_of before.outer)) (16777218 * room mid.lexer + 16777217) (16777218 * room before.lexer)
+    (omega (arith, less)) in
     omega (arith, was, around, now, both, more)
 
 -- a token was taken of the innermost file, or its end was read; and then reading went on

@@ -2,7 +2,8 @@
 -- the grammar sees. A directive may ask for another file, which is read before what follows it, or that reading ends. Where the
 -- end of an included file was read, reading goes on in the file that includes it.
 -- Designer's Manual, fourth edition, sections 38 and 39.
-use Rattle.std.specs.Prelude.{◌≡◌, ℕ, List, [], ◌∷◌, ◌++◌, length, nat_lt, is_none, Option, Some, None, Bool, true, false, ◌&&◌, ◌||◌, if◌then◌else◌, zero, suc}
+use Rattle.std.specs.Prelude.{◌≡◌, ℕ, List, [], ◌∷◌, ◌++◌, length, nat_lt, is_none, Option, Some, None, Bool, true, false, ◌&&◌, ◌||◌}
+use Rattle.std.specs.Prelude.{if◌then◌else◌, zero, suc}
 use Rattle.inf_settings.specs.Bounds.{Limits}
 use Rattle.inf_scanner.specs.declared.tokens.BadToken.TheVariants as bad
 use Rattle.inf_scanner.specs.declared.tokens.Place.{Place}
@@ -95,7 +96,8 @@ has_ended s = s.is_over || has_ended_at (stand_of s)
 
 -- a token that comes to a place of the reading: at the front of a piece a name may be that of a class
 abbrev pub token_at : Bool → TokenKind → List ℕ → Place → Compilation → SourceToken
-token_at is_between kind bytes place w = record { kind = kind; bytes = bytes; place = place; is_class = is_between && is_class kind bytes w }
+token_at is_between kind bytes place w =
+    record { kind = kind; bytes = bytes; place = place; is_class = is_between && is_class kind bytes w }
 
 -- the next token of the innermost file
 abbrev pub token_of : State → SourceToken

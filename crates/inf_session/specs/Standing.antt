@@ -12,7 +12,8 @@ use Rattle.inf_files.specs.Files.{Openings, Sources}
 use Rattle.inf_sources.specs.Open.{nesting}
 use Rattle.inf_settings.specs.Settings.{number_of}
 use Rattle.inf_settings.specs.declared.setting.Setting.{Setting}
-use Rattle.inf_settings.specs.declared.setting.Setting.TheVariants.{ExpressionNodes, Labels, LowStrings, Objects, PropertyTables, References}
+use Rattle.inf_settings.specs.declared.setting.Setting.TheVariants.{ExpressionNodes, Labels, LowStrings, Objects, PropertyTables}
+use Rattle.inf_settings.specs.declared.setting.Setting.TheVariants.{References}
 use Rattle.inf_settings.specs.declared.settings.Settings.{Settings}
 use Rattle.inf_compilation.specs.Works.{work as work_of}
 use Rattle.inf_reader.specs.Reading.{has_ended_at}

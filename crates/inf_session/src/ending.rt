@@ -7,7 +7,8 @@ ghost use Rattle.inf_unit.specs.Messages.{with_closing, with_error, with_fatal};
 ghost use Rattle.inf_unit.specs.Names.{main_of, with_all_undeclared};
 ghost use Rattle.inf_compilation.specs.Actions.{begun_at};
 ghost use Rattle.inf_compilation.specs.Works.{work as work_of};
-ghost use Rattle.inf_session.specs.Ending.{begun, begun_from, fields_of, finished, first_line, is_clean, laid, linked, missing, named, refused, seen};
+ghost use Rattle.inf_session.specs.Ending.{begun, begun_from, fields_of, finished, first_line, is_clean, laid, linked, missing, named};
+ghost use Rattle.inf_session.specs.Ending.{refused, seen};
 ghost use Rattle.inf_session.specs.Session.{first_place};
 
 use crate::compiled::Status;
@@ -59,7 +60,8 @@ pub(crate) fn finish<B: Bounds>(
 /// Begins code, unless it has begun, and tells each name that was used and never declared.
 fn tell_last<B: Bounds>(files: &Stack, work: &mut Compilation<B>) -> Result<(), AllocError>
     ensures { let begun = begun_at B.most files.now.names first_place (work_of work.old) in
-        OnOk result (work_of work.new ≡ record begun { report = with_all_undeclared files.now.names begun.output.names.names begun.report }) }
+        OnOk result (work_of work.new ≡ record begun
+        { report = with_all_undeclared files.now.names begun.output.names.names begun.report }) }
 {
     work.begin(files, FIRST_LINE)?;
     tell_undeclared(&work.output.names, files, &mut work.report)

@@ -13,9 +13,11 @@ ghost use Rattle.inf_session.specs.Ending.{finished};
 ghost use Rattle.inf_settings.specs.Bounds.{AreSet};
 ghost use Rattle.inf_settings.specs.Settings.{all_settings};
 ghost use Rattle.inf_compilation.specs.Works.{work as work_of};
-ghost use Rattle.inf_session.specs.Leading.{CutsShort, GivenUp, NotTried, OpensAll, OpensWithin, StopsFor, StopsAtInclusion, StopsInToken, Writes};
+ghost use Rattle.inf_session.specs.Leading.{CutsShort, GivenUp, NotTried, OpensAll, OpensWithin, StopsFor, StopsAtInclusion, StopsInToken};
+ghost use Rattle.inf_session.specs.Leading.{Writes};
 ghost use Rattle.inf_conditionals.specs.Open.{no_conditions};
-ghost use Rattle.inf_session.specs.Session.{begun_with, followed, carried_out, included, left, part, quoted_behind, quoted_bytes, rested, run, stepped, token_at, turn};
+ghost use Rattle.inf_session.specs.Session.{begun_with, followed, carried_out, included, left, part, quoted_behind, quoted_bytes, rested};
+ghost use Rattle.inf_session.specs.Session.{run, stepped, token_at, turn};
 ghost use Rattle.inf_session.specs.Standing.{AreWithin, IsBounded, IsSet, came_to, ended, held, is_fatal, parted, resting, state};
 ghost use Rattle.inf_unit.specs.Atoms.{is_short};
 ghost use Rattle.inf_unit.specs.Spelled.{spelled};
@@ -526,7 +528,8 @@ impl<'a, B: Bounds> Session<'a, B> {
         ensures stops { Honestly F.Files files.old self.old.open_files (λ start. IfErr result (λ fault. IfRead fault (λ name.
             (name ≡ text.now) × NotTried (Rose (F.faults files.old) (F.faults files.new)) (F.sources files.old)
             (chosen self.old.setup).directories text.now
-            (nesting (F.sources files.old) start (F.openings files.old) self.old.open_files) (opened_since start (F.openings files.new))))) }
+            (nesting (F.sources files.old) start (F.openings files.old) self.old.open_files)
+            (opened_since start (F.openings files.new))))) }
         ensures fits { OnOk result (StaysFit F.Files files.old files.new self.old.open_files) }
     {
         let mut conditionals = self.conditionals.take_among();

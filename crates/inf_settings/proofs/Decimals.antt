@@ -1,5 +1,6 @@
 -- Decimal numbers that stop at the greatest one.
-use Rattle.std.proofs.Common.{◌≡◌, ℕ, suc, ◌+◌, ◌-◌, ◌*◌, ◌<◌, ◌≤◌, ◌&&◌, ◌∙◌, Bool, true, false, cond, nat_le, min, List, [], ◌∷◌, length, get_or, drop, drop-cons, add-one, Some, None, refl, ap, sym, arith}
+use Rattle.std.proofs.Common.{◌≡◌, ℕ, suc, ◌+◌, ◌-◌, ◌*◌, ◌<◌, ◌≤◌, ◌&&◌, ◌∙◌, Bool, true, false, cond, nat_le, min, List, [], ◌∷◌, length}
+use Rattle.std.proofs.Common.{get_or, drop, drop-cons, add-one, Some, None, refl, ap, sym, arith}
 use Rattle.std.proofs.lemmas.Bool.Decides.{nat_tests}
 use Rattle.std.proofs.lemmas.List.{drop_all}
 use Rattle.inf_settings.specs.Words.{capped, decimal_from, decimal_of, greatest}

@@ -3,7 +3,9 @@
 use Rattle.std.specs.Prelude.{ℕ, List, [], ◌∷◌, codes, Bool, ◌&&◌, nat_le, if◌then◌else◌, Option, Some, None, Result, Ok, Err}
 use Rattle.std.specs.Str.{bytes_eq}
 use Rattle.inf_settings.specs.declared.setting.Setting.{Setting}
-use Rattle.inf_settings.specs.declared.setting.Setting.TheVariants.{QuotedText, ExpressionNodes, Symbols, Labels, DictionaryEntries, Objects, Verbs, Actions, GrammarLines, PropertyTables, Arrays, LowStrings, Code, Strings, References}
+use Rattle.inf_settings.specs.declared.setting.Setting.TheVariants.{QuotedText, ExpressionNodes, Symbols, Labels, DictionaryEntries}
+use Rattle.inf_settings.specs.declared.setting.Setting.TheVariants.{Objects, Verbs, Actions, GrammarLines, PropertyTables, Arrays}
+use Rattle.inf_settings.specs.declared.setting.Setting.TheVariants.{LowStrings, Code, Strings, References}
 use Rattle.inf_settings.specs.declared.settings.Settings.{Settings}
 use Rattle.inf_settings.specs.declared.settings.SetFault.{SetFault}
 use Rattle.inf_settings.specs.declared.settings.SetFault.TheVariants.{Unknown, OutOfRange}

@@ -1,5 +1,6 @@
 -- A word that sets a setting: `$`, its name, `=` and a decimal number.
-use Rattle.std.specs.Prelude.{ℕ, ◌+◌, ◌-◌, ◌*◌, List, [], ◌∷◌, ◌&&◌, ◌==◌, nat_le, min, take, drop, position, if◌then◌else◌, Option, Some, None}
+use Rattle.std.specs.Prelude.{ℕ, ◌+◌, ◌-◌, ◌*◌, List, [], ◌∷◌, ◌&&◌, ◌==◌, nat_le, min, take, drop, position, if◌then◌else◌, Option, Some}
+use Rattle.std.specs.Prelude.{None}
 
 -- the greatest number that is told from others
 abbrev pub greatest : ℕ

@@ -1,5 +1,6 @@
 -- Of each conditional one side is kept.
-use Rattle.std.proofs.Common.{◌≡◌, ℕ, suc, ◌+◌, ◌≤◌, ◌==◌, max, List, [], ◌∷◌, ◌++◌, drop, length, map, reverse, cond, not, ◌&&◌, ◌||◌, Bool, true, false, Option, Some, None, is_none, unwrap_or, refl, sym, ap, subst, ◌∙◌, append_assoc, arith}
+use Rattle.std.proofs.Common.{◌≡◌, ℕ, suc, ◌+◌, ◌≤◌, ◌==◌, max, List, [], ◌∷◌, ◌++◌, drop, length, map, reverse, cond, not, ◌&&◌, ◌||◌}
+use Rattle.std.proofs.Common.{Bool, true, false, Option, Some, None, is_none, unwrap_or, refl, sym, ap, subst, ◌∙◌, append_assoc, arith}
 use Rattle.std.proofs.lemmas.List.{append-nil, map-append, reverse-append}
 use Rattle.std.proofs.Math.Bool.{and-false}
 use Rattle.std.proofs.Math.Dec.{eqb-suc-zero}
@@ -32,11 +33,23 @@ use Rattle.inf_conditionals.specs.declared.pending.Pending.{Pending}
 use Rattle.inf_conditionals.specs.declared.words.ConditionalWord.{ConditionalWord}
 use Rattle.inf_conditionals.specs.declared.words.ConditionalWord.TheVariants as word
 use Rattle.inf_conditionals.specs.Ends.{side_kept, with_all_lone, with_lone}
-use Rattle.inf_conditionals.specs.Judging.{Behind, at_front, asking as asking_on, awaiting, begun, behind_front, behind_sign, decided, effected, held, is_kept, is_none_pending, judged_by, kept, unmatched, named, none_handed, offered, offered_to, passed, passed_by, saying, taken, tokens_counted, unfit, went_on}
+use Rattle.inf_conditionals.specs.Judging.{Behind, at_front, asking as asking_on, awaiting, begun, behind_front, behind_sign, decided}
+use Rattle.inf_conditionals.specs.Judging.{effected, held, is_kept, is_none_pending, judged_by, kept, unmatched, named, none_handed}
+use Rattle.inf_conditionals.specs.Judging.{offered, offered_to, passed, passed_by, saying, taken, tokens_counted, unfit, went_on}
 use Rattle.inf_conditionals.specs.Open.{Conditions, ended_by, is_second, latest_among, levels_behind, most_levels, silent}
 use Rattle.inf_conditionals.specs.Words.{word_of}
 use Rattle.inf_reader.specs.Handing.{hash}
-use Rattle.inf_side_laws.specs.KeptSides.{AddsNone, Answers, AreParts, AreTaken, Around, Asking, At, Before, Begins, Closing, First, Follows, Fronted, FrontedWord, GoesOn, Handing, IsAsked, IsFirst, IsName, IsPart, IsPlain, IsSemicolon, IsSign, IsSignedPlain, NoneInside, NoneInsideBehind, NoneInsideFirst, NoParts, OneSideIsKept, Open, Opening, Part, Parts, Passed, Plain, Signed, StayAs, Then, Turning, acted, all_behind, all_handed_on, all_kept, all_told, all_tokens, among, are_kept, as_kept, asking, begins, begins_at, behind_name, behind_part, behind_parts, closed, condition_behind, declared_behind, declared_first, declared_sign, declared_tokens, ended_behind, ended_in, ended_places, first_ends, first_side, first_sign, first_tokens, going_on, handed_on, judged_at, kept_of, kept_sides, lone_at, lone_places, missing_in, none_around, opened_more, opening, other_side, part_tokens, placed_word, places, seconds, sign_ends, signed_tokens, told_of, told_parts, turned, unended, whole_condition}
+use Rattle.inf_side_laws.specs.KeptSides.{AddsNone, Answers, AreParts, AreTaken, Around, Asking, At, Before, Begins, Closing, First}
+use Rattle.inf_side_laws.specs.KeptSides.{Follows, Fronted, FrontedWord, GoesOn, Handing, IsAsked, IsFirst, IsName, IsPart, IsPlain}
+use Rattle.inf_side_laws.specs.KeptSides.{IsSemicolon, IsSign, IsSignedPlain, NoneInside, NoneInsideBehind, NoneInsideFirst, NoParts}
+use Rattle.inf_side_laws.specs.KeptSides.{OneSideIsKept, Open, Opening, Part, Parts, Passed, Plain, Signed, StayAs, Then, Turning, acted}
+use Rattle.inf_side_laws.specs.KeptSides.{all_behind, all_handed_on, all_kept, all_told, all_tokens, among, are_kept, as_kept, asking}
+use Rattle.inf_side_laws.specs.KeptSides.{begins, begins_at, behind_name, behind_part, behind_parts, closed, condition_behind}
+use Rattle.inf_side_laws.specs.KeptSides.{declared_behind, declared_first, declared_sign, declared_tokens, ended_behind, ended_in}
+use Rattle.inf_side_laws.specs.KeptSides.{ended_places, first_ends, first_side, first_sign, first_tokens, going_on, handed_on, judged_at}
+use Rattle.inf_side_laws.specs.KeptSides.{kept_of, kept_sides, lone_at, lone_places, missing_in, none_around, opened_more, opening}
+use Rattle.inf_side_laws.specs.KeptSides.{other_side, part_tokens, placed_word, places, seconds, sign_ends, signed_tokens, told_of}
+use Rattle.inf_side_laws.specs.KeptSides.{told_parts, turned, unended, whole_condition}
 use Rattle.inf_conditional_laws.specs.LoneEnds.{is_lone}
 use Rattle.inf_conditional_laws.specs.MissingEnds.{with_all_at}
 use Rattle.inf_conditional_laws.specs.Sides.{ends_side, level_behind}

@@ -1,5 +1,6 @@
 -- The turns of a reading by the sides that they keep.
-use Rattle.std.proofs.Common.{◌≡◌, ℕ, zero, suc, ◌+◌, ◌≤◌, [], ◌∷◌, ◌++◌, map, cond, ◌&&◌, Bool, true, false, Option, Some, None, refl, sym, ap, subst, ◌∙◌, arith}
+use Rattle.std.proofs.Common.{◌≡◌, ℕ, zero, suc, ◌+◌, ◌≤◌, [], ◌∷◌, ◌++◌, map, cond, ◌&&◌, Bool, true, false, Option, Some, None, refl, sym}
+use Rattle.std.proofs.Common.{ap, subst, ◌∙◌, arith}
 use Rattle.std.proofs.lemmas.List.{map-append}
 use Rattle.inf_settings.specs.Bounds.{Limits}
 use Rattle.inf_files.specs.Files.{Sources}
@@ -18,11 +19,14 @@ use Rattle.inf_conditionals.specs.Words.{word_of}
 use Rattle.inf_reader.specs.Handing.{is_between, judged_taken, said_told, site_of}
 use Rattle.inf_reader.specs.Reading.{Reading, is_mode_ended}
 use Rattle.inf_session.specs.Choices.{Choices}
-use Rattle.inf_session.specs.Session.{State, answered, asked_nothing, context_of, has_ended, carried_out, is_resting, left, piece_closed, rested, stand_of, stepped, token_of, turn}
-use Rattle.inf_side_laws.specs.KeptSides.{all_behind, all_handed_on, ended_behind, going_on, handed_as, handed_on, handed_sign, handed_token, judged_at}
+use Rattle.inf_session.specs.Session.{State, answered, asked_nothing, context_of, has_ended, carried_out, is_resting, left, piece_closed}
+use Rattle.inf_session.specs.Session.{rested, stand_of, stepped, token_of, turn}
+use Rattle.inf_side_laws.specs.KeptSides.{all_behind, all_handed_on, ended_behind, going_on, handed_as, handed_on, handed_sign}
+use Rattle.inf_side_laws.specs.KeptSides.{handed_token, judged_at}
 use Rattle.inf_laws.specs.KeptTokens.{given_as, given_of, given_sign, given_token}
 use Rattle.inf_laws.specs.KeptTurns.{given_by, given_in, turned}
-use Rattle.inf_side_laws.specs.SideTurns.{ReadingsStartClear, StayInOne, TurnsCutInnerSides, TurnsHandOn, TurnsKeepSides, TurnsTellMissingEnds, as_event, at_turn, at_turns, ends_there, is_inclusion, shown}
+use Rattle.inf_side_laws.specs.SideTurns.{ReadingsStartClear, StayInOne, TurnsCutInnerSides, TurnsHandOn, TurnsKeepSides}
+use Rattle.inf_side_laws.specs.SideTurns.{TurnsTellMissingEnds, as_event, at_turn, at_turns, ends_there, is_inclusion, shown}
 use Rattle.inf_conditional_laws.specs.Sides.{StayIn, level_behind}
 use Rattle.inf_side_laws.proofs.KeptSides.{one_side_is_kept}
 use Rattle.inf_laws.proofs.KeptTurns.{carried_out_reading, turn_reading}

@@ -11,7 +11,8 @@ use Rattle.inf_reader.specs.Handing.{is_between, site_of}
 use Rattle.inf_reader.specs.Reading.{is_mode_ended}
 use Rattle.inf_session.specs.Choices.{Choices}
 use Rattle.inf_session.specs.Session.{State, file_closed, has_ended, carried_out, is_resting, start, stepped, token_of, turn}
-use Rattle.inf_side_laws.specs.KeptSides.{Answers, At, Handing, IsClear, IsFile, Parts, all_handed_on, all_tokens, as_kept, behind_parts, kept_sides, none_around, unended}
+use Rattle.inf_side_laws.specs.KeptSides.{Answers, At, Handing, IsClear, IsFile, Parts, all_handed_on, all_tokens, as_kept, behind_parts}
+use Rattle.inf_side_laws.specs.KeptSides.{kept_sides, none_around, unended}
 use Rattle.inf_laws.specs.KeptTokens.{Given, Kept, Unfit}
 use Rattle.inf_laws.specs.KeptTurns.{given_in, turned}
 use Rattle.inf_conditional_laws.specs.MissingEnds.{with_all_at}

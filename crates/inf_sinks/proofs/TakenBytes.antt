@@ -1,5 +1,6 @@
 -- Bytes that a sink took in several writes.
-use Rattle.std.proofs.Common.{◌≡◌, ℕ, ◌+◌, ◌-◌, List, ◌++◌, length, take, drop, length-drop, sym, Option, Some, None, append_assoc, ◌∙◌, ap, subst}
+use Rattle.std.proofs.Common.{◌≡◌, ℕ, ◌+◌, ◌-◌, List, ◌++◌, length, take, drop, length-drop, sym, Option, Some, None, append_assoc, ◌∙◌, ap}
+use Rattle.std.proofs.Common.{subst}
 use Rattle.std.proofs.Math.Seq.{take-add, take-length}
 use Rattle.inf_sinks.specs.Sinks.{Takes}
 

@@ -1,5 +1,6 @@
 -- What calls keep: one behind the other, and each kind of them.
-use Rattle.std.proofs.Common.{◌≡◌, ◌+◌, ◌-◌, ◌<◌, ◌≤◌, ◌⊎◌, inl, inr, ℕ, true, suc, List, [], ◌∷◌, ◌++◌, length, min, IsTrue, refl, sym, ap, subst, ◌∙◌, arith, length-append}
+use Rattle.std.proofs.Common.{◌≡◌, ◌+◌, ◌-◌, ◌<◌, ◌≤◌, ◌⊎◌, inl, inr, ℕ, true, suc, List, [], ◌∷◌, ◌++◌, length, min, IsTrue, refl, sym, ap}
+use Rattle.std.proofs.Common.{subst, ◌∙◌, arith, length-append}
 use Rattle.inf_files.specs.Files.{Closes, Rose, Sources, last_count}
 use Rattle.inf_files.specs.declared.files.Files.{Ghosts as Files}
 use Rattle.inf_lexer.specs.Entering.{has_one_too_many}

@@ -1,5 +1,6 @@
 -- What was given of each opening is a front of its source, and each open file is tracked.
-use Rattle.std.proofs.Common.{◌≡◌, ◌⊎◌, inl, inr, ℕ, suc, zero, ◌-◌, ◌<◌, ◌≤◌, List, [], ◌∷◌, ◌++◌, length, reverse, get_or, unwrap_or, Some, refl, sym, ap, subst, ◌∙◌, arith, append_assoc, length-append}
+use Rattle.std.proofs.Common.{◌≡◌, ◌⊎◌, inl, inr, ℕ, suc, zero, ◌-◌, ◌<◌, ◌≤◌, List, [], ◌∷◌, ◌++◌, length, reverse, get_or, unwrap_or}
+use Rattle.std.proofs.Common.{Some, refl, sym, ap, subst, ◌∙◌, arith, append_assoc, length-append}
 use Rattle.std.specs.Prelude.{slice_get}
 use Rattle.std.proofs.Math.Seq.{get_or-append_seam}
 use Rattle.std.proofs.lemmas.Bool.{cases_lt}
@@ -9,7 +10,8 @@ use Rattle.inf_lexer.specs.Entering.{ClosedAgain, with_closed, with_opened}
 use Rattle.inf_lexer.specs.Names.{Nest, entered, number_of}
 use Rattle.inf_lexer.specs.Readers.{Reader, at_front}
 use Rattle.inf_lexer.specs.Unread.{Along, Ends, Gave, StillGives, innermost, innermost_place, unread_of}
-use Rattle.inf_sources.specs.Open.{AllGiven, AreNested, AreTracked, Each, Fits, IsCounted, IsFrontOf, IsNested, IsTracked, Open, lexers, lexers_of}
+use Rattle.inf_sources.specs.Open.{AllGiven, AreNested, AreTracked, Each, Fits, IsCounted, IsFrontOf, IsNested, IsTracked, Open, lexers}
+use Rattle.inf_sources.specs.Open.{lexers_of}
 use Rattle.inf_sources.specs.declared.open_file.OpenFile.{OpenFile}
 use Rattle.inf_sources.proofs.NamesKept.{named_at, names_stay}
 use Rattle.inf_sources.proofs.Openings.{slice_front}
@@ -132,7 +134,8 @@ read_given s start old new before after nested outer names file along window end
       each = read_each (IsFrontOf s) s n old new along.bytes gave front given.each;
       tracked = subst (λ (ps : List ℕ). AreTracked s n after.nest.names new.all ps (lexers after))
           (sym (ap reverse gave.places ∙ at.is))
-          (subst (λ (fs : List OpenFile). AreTracked s n after.nest.names new.all (at.place ∷ at.rest) (after.lexer ∷ lexers_of (reverse fs)))
+          (subst (λ (fs : List OpenFile). AreTracked s n after.nest.names new.all (at.place ∷ at.rest)
+          (after.lexer ∷ lexers_of (reverse fs)))
           (sym outer)
           (first, rest));
     }

@@ -1,5 +1,6 @@
 -- What is open after a token was read, and after a file was left.
-use Rattle.std.proofs.Common.{◌≡◌, ℕ, suc, ◌-◌, List, [], ◌∷◌, ◌++◌, length, drop, reverse, get_or, sym, ap, subst, ◌∙◌, arith, length-append, false, Option, Some, None}
+use Rattle.std.proofs.Common.{◌≡◌, ℕ, suc, ◌-◌, List, [], ◌∷◌, ◌++◌, length, drop, reverse, get_or, sym, ap, subst, ◌∙◌, arith}
+use Rattle.std.proofs.Common.{length-append, false, Option, Some, None}
 use Rattle.std.specs.Prelude.{IfNone, is_some}
 use Rattle.std.proofs.lemmas.List.{drop-map, reverse-reverse}
 use Rattle.inf_scanner.specs.Tokens.{Read, next_token}
@@ -11,7 +12,8 @@ use Rattle.inf_lexer.specs.Unread.{Gave, innermost_place, to_come}
 use Rattle.inf_sources.specs.Cursors.{Cursor, behind, read}
 use Rattle.inf_sources.specs.Inclusions.{Nesting, Waiting, closed}
 use Rattle.inf_sources.specs.declared.open_file.OpenFile.{OpenFile}
-use Rattle.inf_sources.specs.Open.{AreNested, IsNested, Open, Reads, closed_to, cursor_of, lexers, lexers_of, nesting, opened_since, rest_of, waiting_as, waiting_at}
+use Rattle.inf_sources.specs.Open.{AreNested, IsNested, Open, Reads, closed_to, cursor_of, lexers, lexers_of, nesting, opened_since}
+use Rattle.inf_sources.specs.Open.{rest_of, waiting_as, waiting_at}
 use Rattle.inf_sources.proofs.Places.{innermost_of, last_of, names_of, names_same, nested_as, nested_more, reverse_last, waiting_same}
 
 -- the same files are open
@@ -20,7 +22,8 @@ pub nested_on : (start old new : Openings) (before after : Open) → IsNested st
 nested_on start old new before after n places count outer = record {
   more = omega (arith, n.more, count);
   nested =
-      subst (λ (files : List OpenFile). AreNested (length new.all) (reverse new.open_places) (after.lexer ∷ lexers_of (reverse files))) (sym outer)
+      subst (λ (files : List OpenFile). AreNested (length new.all) (reverse new.open_places)
+      (after.lexer ∷ lexers_of (reverse files))) (sym outer)
       (subst (λ (ps : List ℕ). AreNested (length new.all) (reverse ps) (after.lexer ∷ lexers_of (reverse before.outer))) (sym places)
       (subst (λ (bound : ℕ). AreNested bound (reverse old.open_places) (after.lexer ∷ lexers_of (reverse before.outer))) (sym count)
       (nested_as (length old.all) (reverse old.open_places) before.lexer after.lexer (lexers_of (reverse before.outer)) n.nested)));

@@ -1,5 +1,6 @@
 -- What is open after a file was entered.
-use Rattle.std.proofs.Common.{◌≡◌, ◌⊎◌, inl, inr, ℕ, suc, zero, ◌<◌, ◌≤◌, List, [], ◌∷◌, ◌++◌, length, drop, reverse, get_or, Some, unwrap_or, refl, sym, ap, subst, ◌∙◌, arith, length-append}
+use Rattle.std.proofs.Common.{◌≡◌, ◌⊎◌, inl, inr, ℕ, suc, zero, ◌<◌, ◌≤◌, List, [], ◌∷◌, ◌++◌, length, drop, reverse, get_or, Some}
+use Rattle.std.proofs.Common.{unwrap_or, refl, sym, ap, subst, ◌∙◌, arith, length-append}
 use Rattle.std.specs.Prelude.{slice_get, Bool, Vec}
 use Rattle.std.proofs.Math.Seq.{get_or-append_seam}
 use Rattle.std.specs.declared.alloc.Global.{Global}
@@ -13,7 +14,8 @@ use Rattle.inf_sources.specs.Cursors.{Cursor, front}
 use Rattle.inf_sources.specs.Inclusions.{Nesting, Waiting, main_opened, with_opened as one_more}
 use Rattle.inf_sources.specs.declared.open_file.Conditional.{Conditional}
 use Rattle.inf_sources.specs.declared.open_file.OpenFile.{OpenFile}
-use Rattle.inf_sources.specs.Open.{AreNested, IsNested, Open, cursor_of, lexers, lexers_of, nesting, opened_since, rest_of, waiting_as, waiting_at, waits}
+use Rattle.inf_sources.specs.Open.{AreNested, IsNested, Open, cursor_of, lexers, lexers_of, nesting, opened_since, rest_of, waiting_as}
+use Rattle.inf_sources.specs.Open.{waiting_at, waits}
 use Rattle.inf_sources.proofs.Places.{innermost_of, last_of, names_of, nested_more, reverse_last, waiting_same}
 
 last_is : (old : Openings) (name : List ℕ) → innermost_place (with_opened name old) ≡ length old.all

@@ -1,5 +1,6 @@
 -- Which file an inclusion opens, and what is open then (Designer's Manual, fourth edition, sections 38 and 39).
-use Rattle.std.specs.Prelude.{◌≡◌, ℕ, ◌+◌, ◌≤◌, ◌⊎◌, List, [], ◌∷◌, ◌++◌, length, map, nat_le, not, Bool, if◌then◌else◌, Option, Some, None, slice_get, unwrap_or}
+use Rattle.std.specs.Prelude.{◌≡◌, ℕ, ◌+◌, ◌≤◌, ◌⊎◌, List, [], ◌∷◌, ◌++◌, length, map, nat_le, not, Bool, if◌then◌else◌, Option, Some, None}
+use Rattle.std.specs.Prelude.{slice_get, unwrap_or}
 use Rattle.inf_characters.specs.declared.characters.CharSet.{CharSet}
 use Rattle.inf_files.specs.Files.{Sources}
 use Rattle.inf_lexer.specs.Entering.{first_there}

@@ -1,5 +1,7 @@
 //! The files that are open, each with its lexer.
-ghost use Rattle.std.specs.Prelude.{◌≡◌, ◌≢◌, ◌+◌, ◌-◌, min, ◌≤◌, ◌<◌, ◌⊎◌, ◌++◌, [], ◌∷◌, false, true, if◌then◌else◌, is_ok, IfErr, IfNone, IfOk, IfSome, OnOk, OnErr, IsErrOf, IsOk, IsTrue, None, Some, length, map, reverse, slice_get, unwrap_or};
+ghost use Rattle.std.specs.Prelude.{◌≡◌, ◌≢◌, ◌+◌, ◌-◌, min, ◌≤◌, ◌<◌, ◌⊎◌, ◌++◌, [], ◌∷◌, false, true, if◌then◌else◌, is_ok, IfErr};
+ghost use Rattle.std.specs.Prelude.{IfNone, IfOk, IfSome, OnOk, OnErr, IsErrOf, IsOk, IsTrue, None, Some, length, map, reverse, slice_get};
+ghost use Rattle.std.specs.Prelude.{unwrap_or};
 ghost use Rattle.inf_files.specs.Files.{Openings, Rose, last_count};
 ghost use Rattle.inf_lexer.specs.Names.{can_name, innermost_name};
 ghost use Rattle.inf_lexer.specs.Readers.{Took, at_front};

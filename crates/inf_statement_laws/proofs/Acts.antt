@@ -3,9 +3,13 @@ use Rattle.std.proofs.Common.{◌≡◌, ℕ, List, [], ◌∷◌, Bool, true, f
 use Rattle.std.specs.Prelude.{◌-◌, if◌then◌else◌, nat_lt, unwrap_or}
 use Rattle.inf_settings.specs.Bounds.{Limits}
 use Rattle.inf_names.specs.Spellings.{Name}
-use Rattle.inf_unit.specs.Units.{first_place, last_passed, last_place, long_at, names_in, noted as unit_noted, taken as unit_taken, text_passed}
-use Rattle.inf_compilation.specs.Actions.{Compilation, close, close_open, header_of, header_with, is_deep, is_to_be_replaced, named, nested, opens, passed, settled_of, sized, stopped, took, trees_at}
-use Rattle.inf_compilation.specs.Parts.{actions_named, case_prepared, construct_closed, construct_ended, construct_opened, constructs_laid, found_in, has_last, is_default, order_of, part_begun, part_carried, part_effect, part_ended, part_finished, part_prepared, place_of, statement_at, wanted_of}
+use Rattle.inf_unit.specs.Units.{first_place, last_passed, last_place, long_at, names_in, noted as unit_noted, taken as unit_taken}
+use Rattle.inf_unit.specs.Units.{text_passed}
+use Rattle.inf_compilation.specs.Actions.{Compilation, close, close_open, header_of, header_with, is_deep, is_to_be_replaced, named, nested}
+use Rattle.inf_compilation.specs.Actions.{opens, passed, settled_of, sized, stopped, took, trees_at}
+use Rattle.inf_compilation.specs.Parts.{actions_named, case_prepared, construct_closed, construct_ended, construct_opened, constructs_laid}
+use Rattle.inf_compilation.specs.Parts.{found_in, has_last, is_default, order_of, part_begun, part_carried, part_effect, part_ended}
+use Rattle.inf_compilation.specs.Parts.{part_finished, part_prepared, place_of, statement_at, wanted_of}
 use Rattle.std.proofs.lemmas.Bool.{and_parts}
 use Rattle.inf_scanner.specs.declared.tokens.Place.{Place}
 use Rattle.inf_expressions.specs.declared.findings.Finding.{Finding}
@@ -25,7 +29,8 @@ use Rattle.inf_output.specs.Output.{Out}
 use Rattle.inf_compilation.specs.Context.{Context, longest}
 use Rattle.inf_unit.specs.Tokens.{SourceToken}
 use Rattle.inf_unit.proofs.Cases.{of_both}
-use Rattle.inf_constructs.specs.Constructs.{are_cases, are_own, cases_begun, changed, entered, entered_by, looped, looped_by, looped_over, opened, with_step}
+use Rattle.inf_constructs.specs.Constructs.{are_cases, are_own, cases_begun, changed, entered, entered_by, looped, looped_by, looped_over}
+use Rattle.inf_constructs.specs.Constructs.{opened, with_step}
 use Rattle.inf_constructs.specs.declared.constructs.Case.TheVariants as case
 use Rattle.inf_constructs.specs.declared.constructs.Construct.{Construct}
 use Rattle.inf_constructs.specs.declared.constructs.Kind.{Kind}
@@ -33,7 +38,8 @@ use Rattle.inf_constructs.specs.declared.constructs.Kind.TheVariants as kind
 use Rattle.inf_actions.specs.Acting.{act, ended as ended_as, is_crowded, is_tall, kind_of, noted, noted_of, played}
 use Rattle.inf_compilation.specs.declared.parts.Part.{Part}
 use Rattle.inf_compilation.specs.declared.parts.Part.TheVariants as part
-use Rattle.inf_statement_laws.specs.Happenings.{Acts, Happening, Takes, happen_quietly, happens_quietly, is_quiet, is_quiet_end, is_quiet_role}
+use Rattle.inf_statement_laws.specs.Happenings.{Acts, Happening, Takes, happen_quietly, happens_quietly, is_quiet, is_quiet_end}
+use Rattle.inf_statement_laws.specs.Happenings.{is_quiet_role}
 use Rattle.inf_statement_laws.specs.Laid.{happens, run}
 
 -- the same are open, and as many are closed ahead

@@ -1,5 +1,6 @@
 -- Nested statements are laid as a whole.
-use Rattle.std.proofs.Common.{◌≡◌, ℕ, suc, ◌-◌, List, [], ◌∷◌, ◌++◌, Bool, true, false, if◌then◌else◌, Option, Some, None, refl, sym, ◌∙◌, ap, subst, arith}
+use Rattle.std.proofs.Common.{◌≡◌, ℕ, suc, ◌-◌, List, [], ◌∷◌, ◌++◌, Bool, true, false, if◌then◌else◌, Option, Some, None, refl, sym, ◌∙◌}
+use Rattle.std.proofs.Common.{ap, subst, arith}
 use Rattle.std.proofs.lemmas.Bool.{lt-ltb}
 use Rattle.std.specs.Prelude.{length, max, nat_lt}
 use Rattle.inf_settings.specs.Bounds.{Limits}
@@ -20,13 +21,18 @@ use Rattle.inf_constructs.specs.declared.constructs.Kind.TheVariants as kind
 use Rattle.inf_constructs.specs.declared.constructs.Over.TheVariants as over
 use Rattle.inf_actions.specs.Acting.{act}
 use Rattle.inf_compilation.specs.Actions.{Compilation, is_deep, nested}
-use Rattle.inf_compilation.specs.Parts.{closed_ahead, construct_closed, construct_ended, construct_joined, construct_opened, constructs_laid}
+use Rattle.inf_compilation.specs.Parts.{closed_ahead, construct_closed, construct_ended, construct_joined, construct_opened}
+use Rattle.inf_compilation.specs.Parts.{constructs_laid}
 use Rattle.inf_statement_laws.specs.Happenings.{Acts, Between, Happening, IsRead, Moment, Quiet, bodies, rests}
-use Rattle.inf_statement_laws.specs.Nested.{Case, Do, For, If, IfElse, Nested, NoStep, Objectloop, Plain, Step, StepEnds, Switch, Then, While, happenings, step_happenings}
+use Rattle.inf_statement_laws.specs.Nested.{Case, Do, For, If, IfElse, Nested, NoStep, Objectloop, Plain, Step, StepEnds, Switch, Then}
+use Rattle.inf_statement_laws.specs.Nested.{While, happenings, step_happenings}
 use Rattle.inf_statement_laws.specs.Laid.{ended_as, happens, holding, laid, opened_at, passed, run, with_kind_in, with_step_in}
-use Rattle.inf_statement_laws.specs.Laws.{ClosingAheadIsClosing, EndsOpen, IsWhole, LeavesOpen, RoutinesAreLaidWhole, StatementsAreLaidWhole, StatementsLeaveWhatIsOpen, UnitsKeepLabels, endings}
-use Rattle.inf_statement_laws.proofs.Acts.{KindIn, StepIn, case_alone, case_ends, case_none_ahead, loop_ends, own_alone, quiet_run, step_ends}
-use Rattle.inf_statement_laws.proofs.Nesting.{Compound, body_is_nested, do_is_nested, embedded_is_nested, for_is_nested, if_is_nested, objectloop_is_nested, statement_is_nested, switch_is_nested, while_is_nested}
+use Rattle.inf_statement_laws.specs.Laws.{ClosingAheadIsClosing, EndsOpen, IsWhole, LeavesOpen, RoutinesAreLaidWhole}
+use Rattle.inf_statement_laws.specs.Laws.{StatementsAreLaidWhole, StatementsLeaveWhatIsOpen, UnitsKeepLabels, endings}
+use Rattle.inf_statement_laws.proofs.Acts.{KindIn, StepIn, case_alone, case_ends, case_none_ahead, loop_ends, own_alone, quiet_run}
+use Rattle.inf_statement_laws.proofs.Acts.{step_ends}
+use Rattle.inf_statement_laws.proofs.Nesting.{Compound, body_is_nested, do_is_nested, embedded_is_nested, for_is_nested, if_is_nested}
+use Rattle.inf_statement_laws.proofs.Nesting.{objectloop_is_nested, statement_is_nested, switch_is_nested, while_is_nested}
 
 -- Happenings behind others
 

@@ -1,16 +1,27 @@
 -- Each text of a statement is a nested statement.
-use Rattle.std.proofs.Common.{◌≡◌, ℕ, zero, suc, List, [], ◌∷◌, ◌++◌, Bool, true, false, ◌&&◌, ◌||◌, ◌==◌, Some, refl, sym, ◌∙◌, ap, subst, append-nil, inl, inr}
+use Rattle.std.proofs.Common.{◌≡◌, ℕ, zero, suc, List, [], ◌∷◌, ◌++◌, Bool, true, false, ◌&&◌, ◌||◌, ◌==◌, Some, refl, sym, ◌∙◌, ap, subst}
+use Rattle.std.proofs.Common.{append-nil, inl, inr}
 use Rattle.std.proofs.lemmas.Bool.{and_from, and_parts, eqb-true, or_cases}
 use Rattle.inf_machine.specs.declared.symbols.Symbol.{Symbol}
 use Rattle.inf_machine.specs.declared.symbols.Symbol.TheVariants.{Token, Rule, Act}
 use Rattle.inf_machine.specs.Grammar.{IsOneOf, Row}
 use Rattle.inf_syntax.specs.declared.actions.Action.{Action}
 use Rattle.inf_syntax.specs.declared.actions.Action.TheVariants as action
-use Rattle.inf_syntax.specs.Parts.{ !close, !end_for_step, !end_objectloop, !for_top, !loop, !until, directive_2, do_rest, else_part, for_rest, for_rest_3, if_rest, objectloop_rest, statement, switch_rest, switch_rest_1, value_3, while_rest}
+use Rattle.inf_syntax.specs.Parts.{ !close, !end_for_step, !end_objectloop, !for_top, !loop, !until, directive_2, do_rest, else_part}
+use Rattle.inf_syntax.specs.Parts.{for_rest, for_rest_3, if_rest, objectloop_rest, statement, switch_rest, switch_rest_1, value_3}
+use Rattle.inf_syntax.specs.Parts.{while_rest}
 use Rattle.inf_grammar.specs.Language.{grammar}
 use Rattle.inf_statement_laws.specs.Happenings.{Acts, Happening, IsRead, Moment, Quiet, Takes, happen_quietly, happens_quietly, is_quiet}
-use Rattle.inf_statement_laws.specs.Nested.{Case, Do, For, If, IfElse, Nested, NoStep, Objectloop, Plain, Step, StepEnds, Switch, Then, While, happenings, rest_of, step_happenings}
-use Rattle.inf_statement_laws.proofs.Rules.{all_may, all_quiet, body_may, brace, bracket, case_row, cases_may, do_parts, do_row, else_parts, else_row, else_word, embedded_may, for_parts, for_row, for_start, for_test, holding_row, if_parts, if_row, if_test, is_case, is_case_rule, is_holding, is_quiet_rule, is_rest, lone_parts, loop_parts, loop_row, loop_unit, may, number, quiet_for_start, quiet_for_test, quiet_if_test, quiet_loop_unit, quiet_row, quiet_step_front, quiet_switch_value, quiet_until_test, quiet_while_test, statement_may, step_front, step_parts, step_row, switch_parts, switch_row, switch_value, until_test, until_word, while_parts, while_row, while_test}
+use Rattle.inf_statement_laws.specs.Nested.{Case, Do, For, If, IfElse, Nested, NoStep, Objectloop, Plain, Step, StepEnds, Switch, Then}
+use Rattle.inf_statement_laws.specs.Nested.{While, happenings, rest_of, step_happenings}
+use Rattle.inf_statement_laws.proofs.Rules.{all_may, all_quiet, body_may, brace, bracket, case_row, cases_may, do_parts, do_row, else_parts}
+use Rattle.inf_statement_laws.proofs.Rules.{else_row, else_word, embedded_may, for_parts, for_row, for_start, for_test, holding_row}
+use Rattle.inf_statement_laws.proofs.Rules.{if_parts, if_row, if_test, is_case, is_case_rule, is_holding, is_quiet_rule, is_rest}
+use Rattle.inf_statement_laws.proofs.Rules.{lone_parts, loop_parts, loop_row, loop_unit, may, number, quiet_for_start, quiet_for_test}
+use Rattle.inf_statement_laws.proofs.Rules.{quiet_if_test, quiet_loop_unit, quiet_row, quiet_step_front, quiet_switch_value}
+use Rattle.inf_statement_laws.proofs.Rules.{quiet_until_test, quiet_while_test, statement_may, step_front, step_parts, step_row}
+use Rattle.inf_statement_laws.proofs.Rules.{switch_parts, switch_row, switch_value, until_test, until_word, while_parts, while_row}
+use Rattle.inf_statement_laws.proofs.Rules.{while_test}
 use Rattle.inf_statement_laws.proofs.Texts.{OfRule, Parts, raised, read_deep, split}
 
 -- Quiet texts

@@ -1,5 +1,6 @@
 -- Tokens as the machine takes them, and routines as a whole.
-use Rattle.std.proofs.Common.{◌≡◌, ℕ, zero, suc, ◌+◌, Option, Some, None, List, [], ◌∷◌, ◌++◌, true, refl, sym, ◌∙◌, ap, subst, arith, map, Bool, ◌&&◌}
+use Rattle.std.proofs.Common.{◌≡◌, ℕ, zero, suc, ◌+◌, Option, Some, None, List, [], ◌∷◌, ◌++◌, true, refl, sym, ◌∙◌, ap, subst, arith, map}
+use Rattle.std.proofs.Common.{Bool, ◌&&◌}
 use Rattle.std.proofs.lemmas.Bool.{and_from, and_parts}
 use Rattle.inf_settings.specs.Bounds.{Limits}
 use Rattle.inf_scanner.specs.declared.tokens.Mark.TheVariants as mark
@@ -25,12 +26,17 @@ use Rattle.inf_compilation.specs.Parts.{closed_ahead, construct_ended}
 use Rattle.inf_statement_laws.specs.Happenings.{Acts, AreOf, Between, Happening, Quiet, Takes, happen_quietly, is_quiet}
 use Rattle.inf_statement_laws.specs.Laid.{happens, next_comes, passed, run}
 use Rattle.inf_statement_laws.specs.Laws.{AreRoutine, RoutinesAreReadWhole, TokensHappen}
-use Rattle.inf_statement_laws.specs.Nested.{Case, Do, For, If, IfElse, Nested, NoStep, Objectloop, Plain, Step, StepEnds, Switch, Then, While, happenings, step_happenings}
-use Rattle.inf_statement_laws.specs.Readings.{Routine, Seen, all_fit, all_happenings, all_taken, behind_ends, behind_some, behind_token, body_laid, directed, left_behind, routine_happenings, routine_laid, token_happenings, with_behind}
+use Rattle.inf_statement_laws.specs.Nested.{Case, Do, For, If, IfElse, Nested, NoStep, Objectloop, Plain, Step, StepEnds, Switch, Then}
+use Rattle.inf_statement_laws.specs.Nested.{While, happenings, step_happenings}
+use Rattle.inf_statement_laws.specs.Readings.{Routine, Seen, all_fit, all_happenings, all_taken, behind_ends, behind_some, behind_token}
+use Rattle.inf_statement_laws.specs.Readings.{body_laid, directed, left_behind, routine_happenings, routine_laid, token_happenings}
+use Rattle.inf_statement_laws.specs.Readings.{with_behind}
 use Rattle.inf_statement_laws.proofs.Acts.{header_same, inside_act, is_inside, own_alone, quiet_inside, quiet_run, took_none}
-use Rattle.inf_statement_laws.proofs.Laying.{ahead, ahead_is, alone_behind, closing_open, depth_of, laid_as, next_ahead, next_passed, run_then}
+use Rattle.inf_statement_laws.proofs.Laying.{ahead, ahead_is, alone_behind, closing_open, depth_of, laid_as, next_ahead, next_passed}
+use Rattle.inf_statement_laws.proofs.Laying.{run_then}
 use Rattle.inf_statement_laws.proofs.Nesting.{body_in, quiet_of}
-use Rattle.inf_statement_laws.proofs.Rules.{header_parts, last_parts, piece_begins, quiet_header, routine_begins, routine_fits, routine_parts, semicolon_parts}
+use Rattle.inf_statement_laws.proofs.Rules.{header_parts, last_parts, piece_begins, quiet_header, routine_begins, routine_fits}
+use Rattle.inf_statement_laws.proofs.Rules.{routine_parts, semicolon_parts}
 use Rattle.inf_statement_laws.proofs.Texts.{OfRule, Parts, deep, split}
 
 -- Tokens

@@ -8,12 +8,18 @@ use Rattle.inf_machine.specs.Pieces.{all_rows}
 use Rattle.inf_syntax.specs.declared.actions.Action.{Action}
 use Rattle.inf_syntax.specs.declared.actions.Action.TheVariants as action
 use Rattle.inf_syntax.specs.Rows.{row, row_unless}
-use Rattle.inf_syntax.specs.Parts.{ !begin, !close, !else, !end_for_step, !end_if, !end_objectloop, !end_switch, !end_until, !end_while, !for_top, !loop, !open_do, !open_for, !open_if, !open_objectloop, !open_switch, !open_while, !outer, !until, 'close_brace', 'close_parenthesis', 'colon', 'else', 'open_brace', 'open_parenthesis', 'semicolon', 'until', directive_2, do_rest, else_part, expression, for_rest, for_rest_1, for_rest_2, for_rest_3, if_rest, mark_statement, mark_statement_1, objectloop_rest, statement, statement_3, switch_rest, switch_rest_1, top_item, value_3, while_rest}
+use Rattle.inf_syntax.specs.Parts.{ !begin, !close, !else, !end_for_step, !end_if, !end_objectloop, !end_switch, !end_until, !end_while}
+use Rattle.inf_syntax.specs.Parts.{ !for_top, !loop, !open_do, !open_for, !open_if, !open_objectloop, !open_switch, !open_while, !outer}
+use Rattle.inf_syntax.specs.Parts.{ !until, 'close_brace', 'close_parenthesis', 'colon', 'else', 'open_brace', 'open_parenthesis'}
+use Rattle.inf_syntax.specs.Parts.{'semicolon', 'until', directive_2, do_rest, else_part, expression, for_rest, for_rest_1, for_rest_2}
+use Rattle.inf_syntax.specs.Parts.{for_rest_3, if_rest, mark_statement, mark_statement_1, objectloop_rest, statement, statement_3}
+use Rattle.inf_syntax.specs.Parts.{switch_rest, switch_rest_1, top_item, value_3, while_rest}
 use Rattle.inf_grammar.specs.Evaluated.{rows_past}
 use Rattle.inf_machine.specs.Machine.{fits, taken}
 use Rattle.inf_scanner.specs.declared.tokens.Mark.TheVariants as mark
 use Rattle.inf_syntax.specs.Atoms.{mark_atom}
-use Rattle.inf_syntax.specs.Parts.{ !end_locals, !end_routine, !routine, 'close_bracket', 'open_bracket', NAME, directive, directive_1, piece}
+use Rattle.inf_syntax.specs.Parts.{ !end_locals, !end_routine, !routine, 'close_bracket', 'open_bracket', NAME, directive, directive_1}
+use Rattle.inf_syntax.specs.Parts.{piece}
 use Rattle.inf_grammar.specs.Language.{grammar, known}
 use Rattle.inf_statement_laws.specs.Happenings.{is_quiet}
 

@@ -78,7 +78,8 @@ laid limits context (IfElse opens test body joins word other closes) w =
     let c = opened limits kind.If w.output in
     let first = laid limits context body (run limits context test.all (opened_at context opens c w)) in
     let joined = between limits c.0 first.output in
-    ended_as limits closes joined.0 w.constructs (laid limits context other (run limits context word.all (holding joins joined w.constructs first)))
+    ended_as limits closes joined.0 w.constructs
+    (laid limits context other (run limits context word.all (holding joins joined w.constructs first)))
 laid limits context (While opens test body closes) w =
     let c = opened limits kind.While w.output in
     ended_as limits closes c.0 w.constructs (laid limits context body (run limits context test.all (opened_at context opens c w)))

@@ -22,7 +22,8 @@ use Rattle.inf_compilation.specs.Parts.{closed_ahead}
 use Rattle.inf_statement_laws.specs.Happenings.{Acts, AreOf, Between, Happening, IsRead, bodies, rests}
 use Rattle.inf_statement_laws.specs.Nested.{Nested, happenings, rest_of}
 use Rattle.inf_statement_laws.specs.Laid.{laid, next_comes, passed, run, with_kind_in, with_step_in}
-use Rattle.inf_statement_laws.specs.Readings.{Routine, Seen, all_fit, all_happenings, all_taken, body_laid, directive_between, left_behind, plainly_at, routine_happenings, routine_laid, token_happenings}
+use Rattle.inf_statement_laws.specs.Readings.{Routine, Seen, all_fit, all_happenings, all_taken, body_laid, directive_between, left_behind}
+use Rattle.inf_statement_laws.specs.Readings.{plainly_at, routine_happenings, routine_laid, token_happenings}
 
 -- What a token that fits does, and what is done behind it, is what its happenings do, one by one, from where it has come up to where the
 -- next one comes. They are those of its events. And tokens that the machine takes, one after the other, are a text where nothing is left
@@ -101,7 +102,8 @@ endings (place ∷ places) = Acts (plainly_at place) action.Close ∷ endings pl
 -- second one closes no more.
 pub record ClosingAheadIsClosing (limits : Limits) : Type 0 where
   pub behind : (context : Context) (places : List Place) (m : Between) (w : Compilation) → w.closed ≡ 0
-      → run limits context (endings places) (passed m (closed_ahead limits (length places) w)) ≡ passed m (run limits context (endings places) w)
+      → run limits context (endings places) (passed m (closed_ahead limits (length places) w))
+      ≡ passed m (run limits context (endings places) w)
   pub again : (count : ℕ) (m : Between) (w : Compilation) → w.closed ≡ 0
       → closed_ahead limits count (passed m (closed_ahead limits count w)) ≡ passed m (closed_ahead limits count w)
 

@@ -135,4 +135,5 @@ body_laid limits context r w =
     (run limits context r.header.all w)))
 
 abbrev pub routine_laid : Limits → Context → Routine → Compilation → Compilation
-routine_laid limits context r w = run limits context r.last.all (happens limits context (Acts r.ends action.EndRoutine) (body_laid limits context r w))
+routine_laid limits context r w =
+    run limits context r.last.all (happens limits context (Acts r.ends action.EndRoutine) (body_laid limits context r w))

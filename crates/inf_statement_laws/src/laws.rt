@@ -1,6 +1,7 @@
 //! What the definitions give together of whole statements.
 ghost use Rattle.inf_settings.specs.Bounds.{Limits};
-ghost use Rattle.inf_statement_laws.specs.Laws.{ClosingAheadIsClosing, RoutinesAreLaidWhole, RoutinesAreReadWhole, StatementsAreLaidWhole, StatementsLeaveWhatIsOpen, TokensHappen, UnitsKeepLabels};
+ghost use Rattle.inf_statement_laws.specs.Laws.{ClosingAheadIsClosing, RoutinesAreLaidWhole, RoutinesAreReadWhole, StatementsAreLaidWhole};
+ghost use Rattle.inf_statement_laws.specs.Laws.{StatementsLeaveWhatIsOpen, TokensHappen, UnitsKeepLabels};
 
 /// What a token does that fits, by its actions and its taking, with what is done behind it before the next one comes, is what its
 /// happenings do, one by one, and these are those of its events.

@@ -17,7 +17,8 @@ use Rattle.inf_statements.specs.Statements.{abbreviations, attribute_code, strin
 
 pub first_attribute : (limits : Limits) (op : Opcode) (object : Part) (nodes : List Tree) (roots : List Root) (root : Root)
     → Some root ≡ slice_get roots 0
-    → worked limits op (object ∷ part (at limits nodes root.place) ∷ []) None None ≡ attribute_code limits op object (trees_from nodes roots)
+    → worked limits op (object ∷ part (at limits nodes root.place) ∷ []) None None ≡ attribute_code limits op object
+    (trees_from nodes roots)
 first_attribute limits op object nodes [] root first = cc
 first_attribute limits op object nodes (r ∷ roots) root first =
     let same : r ≡ root = cc in

@@ -22,7 +22,8 @@ use Rattle.inf_statements.specs.Assembly.{ends_of, labelled, line_finding, line_
 use Rattle.inf_constructs.specs.Constructs.{Laying, giving, left_to}
 use Rattle.inf_constructs.specs.Labels.{NamedLabel, is_given}
 use Rattle.inf_statements.specs.Printing.{items_printed, text_at}
-use Rattle.inf_statements.specs.Statements.{action_laid, alone, attributes_changed, jumped_to, moved, one_worked, plain, returned, spaced, string_changed, style_of, styled}
+use Rattle.inf_statements.specs.Statements.{action_laid, alone, attributes_changed, jumped_to, moved, one_worked, plain, returned, spaced}
+use Rattle.inf_statements.specs.Statements.{string_changed, style_of, styled}
 use Rattle.inf_constructs.specs.declared.constructs.Construct.{Construct}
 use Rattle.inf_statements.specs.declared.statements.Statement.{Statement}
 use Rattle.inf_statements.specs.declared.statements.Statement.TheVariants as statement

@@ -3,7 +3,11 @@ ghost use Rattle.std.specs.Prelude.{◌≡◌, Bool, ◌≤◌, ◌-◌, IfOk, I
 ghost use Rattle.inf_opcode.specs.Opcodes.{row_of};
 ghost use Rattle.inf_output.specs.Output.{Takes, TakesVariable};
 ghost use Rattle.inf_names.specs.LocalList.{listed};
-ghost use Rattle.inf_statements.specs.Assembly.{branched, branched_to, ends_from, ends_of, first_variable, fits, fits_jump, fits_row, fits_some, has_ends, instructed, jumped_on, labelled, line_finding, line_instructed, line_laid, line_laid_by, named_first, no_ends, operands_in, placed, printing_of, prints, same, some_printed, store_finding, store_of, store_variable, stored_in, variable_of, with_end, wrong_opcode};
+ghost use Rattle.inf_statements.specs.Assembly.{branched, branched_to, ends_from, ends_of, first_variable, fits, fits_jump, fits_row};
+ghost use Rattle.inf_statements.specs.Assembly.{fits_some, has_ends, instructed, jumped_on, labelled, line_finding, line_instructed};
+ghost use Rattle.inf_statements.specs.Assembly.{line_laid, line_laid_by, named_first, no_ends, operands_in, placed, printing_of, prints};
+ghost use Rattle.inf_statements.specs.Assembly.{same, some_printed, store_finding, store_of, store_variable, stored_in, variable_of};
+ghost use Rattle.inf_statements.specs.Assembly.{with_end, wrong_opcode};
 ghost use Rattle.inf_constructs.specs.Roots.{trees_from};
 ghost use Rattle.inf_statements.specs.Statements.{PrintsText};
 
@@ -242,7 +246,8 @@ impl Line<'_> {
         roots: &[Root],
     ) -> Option<Finding>
         ensures { let line = self.now in
-            result ≡ line_finding B.most (listed line.locals.now) names.now line.tokens.now begun line.ends (trees_from nodes.now roots.now) }
+            result ≡ line_finding B.most (listed line.locals.now) names.now line.tokens.now begun line.ends
+            (trees_from nodes.now roots.now) }
     {
         let behind = next_place(begun);
         let stores = self.store_finding(names);

@@ -2,7 +2,11 @@
 ghost use Rattle.std.specs.Prelude.{◌≡◌, ◌≤◌, [], ◌∷◌, ◌++◌, List, IfOk, IfSome, OnOk, length, option_map};
 ghost use Rattle.inf_names.specs.LocalList.{listed};
 ghost use Rattle.inf_unit.specs.NameTokens.{named};
-ghost use Rattle.inf_statements.specs.Operands.{Settled, all_looked, found_operand, function_of, is_stack, leaf_added, leaf_named, leaves_named, looked, looked_action, looked_alone, looked_leaf, looked_name, new_action, one_added, operand_by, referring, settled, settled_action, settled_alone, settled_as, settled_leaf, settled_name, settled_text, settled_word, standing, stores_named, word_operand, word_sum};
+ghost use Rattle.inf_statements.specs.Operands.{Settled, all_looked, found_operand, function_of, is_stack, leaf_added, leaf_named};
+ghost use Rattle.inf_statements.specs.Operands.{leaves_named, looked, looked_action, looked_alone, looked_leaf, looked_name, new_action};
+ghost use Rattle.inf_statements.specs.Operands.{one_added, operand_by, referring, settled, settled_action, settled_alone, settled_as};
+ghost use Rattle.inf_statements.specs.Operands.{settled_leaf, settled_name, settled_text, settled_word, standing, stores_named};
+ghost use Rattle.inf_statements.specs.Operands.{word_operand, word_sum};
 ghost use Rattle.inf_statements.specs.Printing.{text_at};
 
 use inf_area::{AreaName, Target};

@@ -8,7 +8,11 @@ ghost use Rattle.inf_templates.specs.Meaning.{Meaning};
 ghost use Rattle.inf_templates.specs.Tasks.{part_of, parts_of};
 ghost use Rattle.inf_unit.specs.Spelled.{spelled};
 ghost use Rattle.inf_constructs.specs.Roots.{tree_in, trees_from};
-ghost use Rattle.inf_statements.specs.Statements.{action_laid, action_on, alone, are_several, attribute_code, attribute_opcode, attributes_changed, attributes_given, jumped_to, mark_statement, moved, one_worked, plain, processed, rest, returned, returned_by, spaced, statement_in, statement_of_kind, string_of, string_set, style_of, styled, styled_by, switched, tested, text_statement, unless, word_statement};
+ghost use Rattle.inf_statements.specs.Statements.{action_laid, action_on, alone, are_several, attribute_code, attribute_opcode};
+ghost use Rattle.inf_statements.specs.Statements.{attributes_changed, attributes_given, jumped_to, mark_statement, moved, one_worked};
+ghost use Rattle.inf_statements.specs.Statements.{plain, processed, rest, returned, returned_by, spaced, statement_in, statement_of_kind};
+ghost use Rattle.inf_statements.specs.Statements.{string_of, string_set, style_of, styled, styled_by, switched, tested, text_statement};
+ghost use Rattle.inf_statements.specs.Statements.{unless, word_statement};
 
 use inf_area::{AreaName, Target};
 use inf_constructs::SWITCHED;

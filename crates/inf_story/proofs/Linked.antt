@@ -31,7 +31,8 @@ is_story fields main names finished strings tables contents fixups targets are_c
     ∙ ap (λ lists. linked (cells_contents cells) (cells_fixups cells) lists fields) are_targets
     ∙ cells_in_order cells (looked_up names tables) fields
 
-pub is_too_long : (fields : HeaderFields) (main : ℕ) (finished : List Cell) (strings : List ℕ) (tables : AllTables) (contents : Areas (List ℕ))
+pub is_too_long : (fields : HeaderFields) (main : ℕ) (finished : List Cell) (strings : List ℕ) (tables : AllTables)
+    (contents : Areas (List ℕ))
     → contents ≡ cells_contents (areas main finished strings tables)
     → too_long_by (lengths contents) fields.scale ≡ too_long fields main finished strings tables
 unfolding too_long

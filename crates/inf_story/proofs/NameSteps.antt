@@ -1,5 +1,6 @@
 -- What names are, one by one.
-use Rattle.std.proofs.Common.{◌≡◌, ◌<◌, ◌+◌, ℕ, suc, zero, List, [], ◌∷◌, ◌++◌, Option, Some, None, drop, length, append_assoc, refl, sym, ap, ◌∙◌, arith}
+use Rattle.std.proofs.Common.{◌≡◌, ◌<◌, ◌+◌, ℕ, suc, zero, List, [], ◌∷◌, ◌++◌, Option, Some, None, drop, length, append_assoc, refl, sym}
+use Rattle.std.proofs.Common.{ap, ◌∙◌, arith}
 use Rattle.inf_area.specs.declared.targets.Value.{Value}
 use Rattle.inf_names.specs.Symbols.{Named, meaning_in, standing_at}
 use Rattle.inf_scanner.specs.declared.tokens.Place.{Place}

@@ -2,7 +2,8 @@
 use Rattle.std.proofs.Common.{refl}
 use Rattle.inf_objects.specs.Attributes.{attribute_cells, flag_byte, no_attributes}
 use Rattle.inf_objects.specs.Tables.{all_falling}
-use Rattle.inf_story.specs.Plain.{LookupIsPlain, TablesArePlain, class_numbers, dictionary, globals, objects, property_defaults, property_tables, table_places}
+use Rattle.inf_story.specs.Plain.{LookupIsPlain, TablesArePlain, class_numbers, dictionary, globals, objects, property_defaults}
+use Rattle.inf_story.specs.Plain.{property_tables, table_places}
 use Rattle.inf_text.specs.Packing.{packed, longest, character_zs}
 use Rattle.inf_world.specs.Areas.{first_names}
 

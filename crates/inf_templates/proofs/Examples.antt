@@ -27,7 +27,8 @@ use Rattle.inf_settings.specs.declared.setting.Setting.TheVariants as setting
 use Rattle.inf_settings.specs.Settings.{defaults}
 use Rattle.inf_tables.specs.Tables.{more, no_tables}
 use Rattle.inf_templates.specs.Parts.{calling, calling_routine}
-use Rattle.inf_templates.specs.Meaning.{and_branch, assign_alone, assign_value, call_of, meaning, related, single_tests, step_alone, step_value, test_branch, tests, triple_tests}
+use Rattle.inf_templates.specs.Meaning.{and_branch, assign_alone, assign_value, call_of, meaning, related, single_tests, step_alone}
+use Rattle.inf_templates.specs.Meaning.{step_value, test_branch, tests, triple_tests}
 
 abbrev limits : Limits
 limits = limits_of defaults

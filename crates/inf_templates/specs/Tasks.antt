@@ -19,7 +19,9 @@ use Rattle.inf_templates.specs.declared.tasks.Worked.TheVariants as worked
 use Rattle.inf_templates.specs.declared.reading.Goal.{Goal}
 use Rattle.inf_templates.specs.declared.reading.Goal.TheVariants as goal
 use Rattle.inf_templates.specs.Parts.{Part, calling, calling_routine, evaluated, is, jump_zero, load, operand_of, operands, put, worked_out}
-use Rattle.inf_templates.specs.Meaning.{Meaning, Target, Nowhere, InVariable, InMemory, by, compared, leaves_new, meaning, most_compared, operation_opcode, part, parts, related_opcode, single_opcode, single_tests, stepper, stepping, stored, triple_tests}
+use Rattle.inf_templates.specs.Meaning.{Meaning, Target, Nowhere, InVariable, InMemory, by, compared, leaves_new, meaning, most_compared}
+use Rattle.inf_templates.specs.Meaning.{operation_opcode, part, parts, related_opcode, single_opcode, single_tests, stepper, stepping}
+use Rattle.inf_templates.specs.Meaning.{stored, triple_tests}
 
 -- what the tree at a place means
 abbrev pub at : Limits → List Tree → ℕ → Meaning

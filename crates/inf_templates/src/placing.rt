@@ -2,7 +2,8 @@
 ghost use Rattle.std.specs.Prelude.{◌≡◌, ◌≤◌, ◌+◌, [], ◌∷◌, OnOk, is_some, length, not, take, false, true};
 ghost use Rattle.inf_output.specs.Output.{Takes, to};
 ghost use Rattle.inf_templates.specs.Parts.{call_opcode, calling, calling_routine, jump_zero, load, put};
-ghost use Rattle.inf_templates.specs.Meaning.{branching, asking, by, compared, leaves_new, most_compared, operation_opcode, related_opcode, setter, single_opcode, stepper, stepping, stored};
+ghost use Rattle.inf_templates.specs.Meaning.{branching, asking, by, compared, leaves_new, most_compared, operation_opcode, related_opcode};
+ghost use Rattle.inf_templates.specs.Meaning.{setter, single_opcode, stepper, stepping, stored};
 
 use crate::reading::STACK;
 use crate::tasks::Memory;

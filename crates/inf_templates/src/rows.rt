@@ -4,7 +4,8 @@ ghost use Rattle.std.specs.Prelude.{◌≡◌, ◌+◌, [], ◌∷◌, List, OnO
 ghost use Rattle.inf_expressions.specs.Trees.{Tree};
 ghost use Rattle.inf_output.specs.Output.{behind, next_label};
 ghost use Rattle.inf_templates.specs.Parts.{call_routine};
-ghost use Rattle.inf_templates.specs.Meaning.{and_branch, assign_alone, assign_value, both, call_of, leaf_branch, one, or_branch, part, parts, reader, related, related_opcode, step_alone, step_value, truth_behind, two};
+ghost use Rattle.inf_templates.specs.Meaning.{and_branch, assign_alone, assign_value, both, call_of, leaf_branch, one, or_branch, part};
+ghost use Rattle.inf_templates.specs.Meaning.{parts, reader, related, related_opcode, step_alone, step_value, truth_behind, two};
 ghost use Rattle.inf_templates.specs.Weights.{WeighsUnder, load_at, weight};
 ghost use Rattle.inf_templates.specs.Tasks.{Leads, Puts, at, task_code};
 ghost use Rattle.inf_output.specs.declared.veneer.Veneer.TheVariants as veneer;
@@ -126,7 +127,8 @@ pub(crate) fn alone<B: Bounds>(
     tasks: &mut Tasks,
     out: &mut Output<B>,
 ) -> Result<(), AllocError>
-    ensures code { OnOk result (Leads B.most nodes.now (task_code B.most nodes.now (task.Alone place)) tasks.old tasks.new out.old out.new) }
+    ensures code { OnOk result (Leads B.most nodes.now (task_code B.most nodes.now (task.Alone place)) tasks.old tasks.new
+        out.old out.new) }
     ensures less { OnOk result (WeighsUnder nodes.now (weight nodes.now (task.Alone place)) tasks.old tasks.new) }
 {
     match nodes.node(place) {

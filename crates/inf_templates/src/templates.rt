@@ -85,7 +85,8 @@ pub fn lay_call<B: Bounds>(
     store: Option<u8>,
     out: &mut Output<B>,
 ) -> Result<(), AllocError>
-    ensures { OnOk result (out.new ≡ call B.most (part_of B.most nodes.now routine) (parts_of B.most nodes.now arguments.now) store out.old) }
+    ensures { OnOk result (out.new ≡ call B.most (part_of B.most nodes.now routine) (parts_of B.most nodes.now arguments.now)
+        store out.old) }
 {
     evaluate_all(tasks, nodes, arguments, out)?;
     lay(tasks, nodes, Task::Evaluate(routine), out)?;

@@ -1,7 +1,8 @@
 -- What there may be of what expressions do not use.
 use Rattle.std.specs.Prelude.{◌≡◌}
 use Rattle.inf_settings.specs.Bounds.{Limits}
-use Rattle.inf_settings.specs.declared.setting.Setting.TheVariants.{Actions, Arrays, DictionaryEntries, GrammarLines, LowStrings, Objects, PropertyTables, Verbs}
+use Rattle.inf_settings.specs.declared.setting.Setting.TheVariants.{Actions, Arrays, DictionaryEntries, GrammarLines, LowStrings, Objects}
+use Rattle.inf_settings.specs.declared.setting.Setting.TheVariants.{PropertyTables, Verbs}
 
 -- as much as settings say where no word names another number
 pub record AreUsual (limits : Limits) : Type 0 where

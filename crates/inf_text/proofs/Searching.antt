@@ -1,5 +1,6 @@
 -- The search for the longest abbreviation.
-use Rattle.std.proofs.Common.{◌≡◌, ◌<◌, ◌≤◌, ◌+◌, ℕ, Bool, true, false, Option, None, Some, List, [], ◌∷◌, length, refl, arith, IfSome, cond, ltb}
+use Rattle.std.proofs.Common.{◌≡◌, ◌<◌, ◌≤◌, ◌+◌, ℕ, Bool, true, false, Option, None, Some, List, [], ◌∷◌, length, refl, arith, IfSome}
+use Rattle.std.proofs.Common.{cond, ltb}
 use Rattle.std.specs.Prelude.{◌&&◌}
 use Rattle.inf_characters.specs.Items.{same_item}
 use Rattle.inf_text.specs.Packing.{begins_with, better, longer, longest, longest_from}

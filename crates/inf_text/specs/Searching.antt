@@ -1,5 +1,6 @@
 -- The search for the longest abbreviation. Only the crate's private clauses cite it.
-use Rattle.std.specs.Prelude.{◌≡◌, ℕ, ◌<◌, ◌≤◌, ◌+◌, ◌==◌, nat_lt, nat_le, ◌&&◌, ◌||◌, Option, Some, None, List, [], ◌∷◌, length, drop, slice_index, slice_index_or, if◌then◌else◌}
+use Rattle.std.specs.Prelude.{◌≡◌, ℕ, ◌<◌, ◌≤◌, ◌+◌, ◌==◌, nat_lt, nat_le, ◌&&◌, ◌||◌, Option, Some, None, List, [], ◌∷◌, length, drop}
+use Rattle.std.specs.Prelude.{slice_index, slice_index_or, if◌then◌else◌}
 use Rattle.inf_characters.specs.Items.{same_item}
 use Rattle.inf_text.specs.Parts.{AreAbbreviations}
 use Rattle.inf_text.specs.declared.index.Index.{Index}

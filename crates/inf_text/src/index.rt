@@ -8,7 +8,8 @@
 ghost use Rattle.std.specs.Prelude.{◌≡◌, ◌<◌, ◌≤◌, ◌+◌, ◌-◌, ◌==◌, ◌&&◌, ◌||◌, IfSome, None, [], length, drop, replicate, if◌then◌else◌};
 ghost use Rattle.inf_characters.specs.Items.{same_item};
 ghost use Rattle.inf_text.specs.Packing.{begins_with, longest};
-ghost use Rattle.inf_text.specs.Searching.{AreBelow, AreIndexed, AreRanges, HaveLinks, IsIndex, IsOrder, best_of, code_of, common, first_code, linked_from, pick};
+ghost use Rattle.inf_text.specs.Searching.{AreBelow, AreIndexed, AreRanges, HaveLinks, IsIndex, IsOrder, best_of, code_of, common};
+ghost use Rattle.inf_text.specs.Searching.{first_code, linked_from, pick};
 
 use arrayvec::ArrayVec;
 use inf_characters::{Text, TextItem};

@@ -1,5 +1,6 @@
 -- Texts that are joined where no piece is cut.
-use Rattle.std.proofs.Common.{◌≡◌, ◌≤◌, ℕ, zero, suc, Bool, true, false, not, ◌&&◌, Result, Ok, Err, List, [], ◌∷◌, ◌++◌, length, replicate, refl, sym, ap, ◌∙◌, arith}
+use Rattle.std.proofs.Common.{◌≡◌, ◌≤◌, ℕ, zero, suc, Bool, true, false, not, ◌&&◌, Result, Ok, Err, List, [], ◌∷◌, ◌++◌, length, replicate}
+use Rattle.std.proofs.Common.{refl, sym, ap, ◌∙◌, arith}
 use Rattle.inf_characters.specs.Characters.{is_white}
 use Rattle.inf_text_laws.specs.Joining.{ReadsJoined, begins_white, ends_whole, joined}
 use Rattle.inf_characters.specs.Reading.{and_then, piece_at, text_from, text_of, with_front}

@@ -1,9 +1,11 @@
 -- Codes come back from their numbers, and accented letters from their spellings.
-use Rattle.std.proofs.Common.{◌≡◌, ◌<◌, ◌+◌, ◌-◌, ◌*◌, ◌/◌, ◌%◌, ℕ, Bool, true, false, cond, leb, ltb, Some, Ok, List, [], ◌∷◌, refl, ap, ◌∙◌, arith}
+use Rattle.std.proofs.Common.{◌≡◌, ◌<◌, ◌+◌, ◌-◌, ◌*◌, ◌/◌, ◌%◌, ℕ, Bool, true, false, cond, leb, ltb, Some, Ok, List, [], ◌∷◌, refl, ap}
+use Rattle.std.proofs.Common.{◌∙◌, arith}
 use Rattle.std.proofs.lemmas.Bool.Decides.{nat_tests}
 use Rattle.inf_characters.specs.Characters.{is_code}
 use Rattle.inf_text_laws.specs.Spelled.{AccentsRead, ComesBack, accents}
-use Rattle.inf_characters.specs.Reading.{and_then, code_piece, digit_of, escape_piece, number_from, piece_at, spelled, spellings, text_from, text_of}
+use Rattle.inf_characters.specs.Reading.{and_then, code_piece, digit_of, escape_piece, number_from, piece_at, spelled, spellings, text_from}
+use Rattle.inf_characters.specs.Reading.{text_of}
 use Rattle.inf_characters.proofs.Capped.{number_from-more}
 use Rattle.inf_characters.specs.declared.characters.CharSet.{CharSet}
 use Rattle.inf_characters.specs.declared.reading.Mode.{Mode}

@@ -9,7 +9,8 @@ use Rattle.inf_report.specs.Messages.{Location, Message, ErrorText, WarningText,
 use Rattle.inf_report.specs.OwnWords.{Words}
 use Rattle.inf_report.specs.declared.messages.Kind.{Kind}
 use Rattle.inf_report.specs.declared.messages.Kind.TheVariants as weight
-use Rattle.inf_report.specs.Reports.{Counts, no_counts, error_lines, warning_lines, fatal_lines, plain_lines, closing_lines, with_error as error_counted, with_warning as warning_counted, with_fatal as fatal_counted}
+use Rattle.inf_report.specs.Reports.{Counts, no_counts, error_lines, warning_lines, fatal_lines, plain_lines, closing_lines}
+use Rattle.inf_report.specs.Reports.{with_error as error_counted, with_warning as warning_counted, with_fatal as fatal_counted}
 
 -- the names of the files, as they were opened, by their numbers
 abbrev pub FileNames : Type 0

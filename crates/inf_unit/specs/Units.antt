@@ -1,5 +1,6 @@
 -- The unit at hand: its tokens, and what the grammar's actions gather of them.
-use Rattle.std.specs.Prelude.{ℕ, ◌+◌, ◌-◌, ◌==◌, List, [], ◌∷◌, ◌++◌, length, drop, min, slice_get, take, nat_lt, Bool, true, false, ◌&&◌, if◌then◌else◌, Option, Some, None, option_map, unwrap_or}
+use Rattle.std.specs.Prelude.{ℕ, ◌+◌, ◌-◌, ◌==◌, List, [], ◌∷◌, ◌++◌, length, drop, min, slice_get, take, nat_lt, Bool, true, false, ◌&&◌}
+use Rattle.std.specs.Prelude.{if◌then◌else◌, Option, Some, None, option_map, unwrap_or}
 use Rattle.inf_scanner.specs.declared.tokens.Mark.{Mark}
 use Rattle.inf_scanner.specs.declared.tokens.Mark.TheVariants as mark
 use Rattle.inf_scanner.specs.declared.tokens.Place.{Place}
@@ -7,7 +8,8 @@ use Rattle.inf_scanner.specs.declared.tokens.TokenKind.{TokenKind}
 use Rattle.inf_scanner.specs.declared.tokens.TokenKind.TheVariants as kind
 use Rattle.inf_gathering.specs.declared.gathering.Leaf.{Leaf}
 use Rattle.inf_gathering.specs.declared.gathering.Leaf.TheVariants as leaf
-use Rattle.inf_gathering.specs.Gatherings.{Gathering, nothing_gathered, with_bracket, with_call, with_closed_bracket, with_comma, with_leaf, with_list, with_part, with_prefix, with_rule, with_suffix, with_test, with_two}
+use Rattle.inf_gathering.specs.Gatherings.{Gathering, nothing_gathered, with_bracket, with_call, with_closed_bracket, with_comma, with_leaf}
+use Rattle.inf_gathering.specs.Gatherings.{with_list, with_part, with_prefix, with_rule, with_suffix, with_test, with_two}
 use Rattle.inf_names.specs.Locals.{Headed, no_locals, with_local}
 use Rattle.inf_names.specs.Spellings.{Name}
 use Rattle.inf_opcode.specs.declared.opcodes.Opcode.{Opcode}
@@ -30,7 +32,8 @@ use Rattle.inf_unit.specs.Opcodes.{opcode_of, takes_text}
 
 -- Its tokens so far, before which the first of those between the unit before and its beginning stands, where there are such; where among
 -- them it begins;
--- what is gathered of its expressions; the locals that it names, where it is the header of a routine; what it has beside them, in order; where among its tokens its outermost expression begins, if one is
+-- what is gathered of its expressions; the locals that it names, where it is the header of a routine; what it has beside them, in order;
+-- where among its tokens its outermost expression begins, if one is
 -- open, and whether that surely is one; whether the unit has ended, but for its last token; how many brackets and braces of its piece are
 -- open; and how many
 -- tokens it has, where it is whole and waits for what follows it.

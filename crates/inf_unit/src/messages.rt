@@ -3,7 +3,8 @@ ghost use Rattle.std.specs.Prelude.{◌≡◌, IsOk, OnErr, OnOk, option_map};
 ghost use Rattle.inf_report.specs.Meant.{located, meant, worded};
 ghost use Rattle.inf_report.specs.Writing.{Writes};
 ghost use Rattle.inf_unit.specs.Diagnostics.{blamed};
-ghost use Rattle.inf_unit.specs.Messages.{flushed, location, none_reported, setting_of, with_closing, with_error, with_fatal, with_fault, with_full, with_plain, with_warning, with_words};
+ghost use Rattle.inf_unit.specs.Messages.{flushed, location, none_reported, setting_of, with_closing, with_error, with_fatal, with_fault};
+ghost use Rattle.inf_unit.specs.Messages.{with_full, with_plain, with_warning, with_words};
 
 use inf_assembler::Limit as CodeLimit;
 use inf_lexer::{Place, Stack};

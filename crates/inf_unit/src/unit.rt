@@ -2,7 +2,10 @@
 ghost use Rattle.std.specs.Prelude.{◌≡◌, ◌≤◌, ◌++◌, ◌∷◌, [], None, OnOk, Some, length};
 ghost use Rattle.inf_unit.specs.AtHand.{unit};
 ghost use Rattle.inf_unit.specs.Spelled.{spelled};
-ghost use Rattle.inf_unit.specs.Units.{acted, begun, depth_behind, first_place, forgotten, headed_more, is_again, is_alone, is_assembly, is_sign, jump_label, jump_of, last_leaf, last_passed, leaf_of, long_at, marked_from, next_place, no_unit, noted, opcode_text, order, over, outer_tokens, own_place, prepared, ruled, semicolon_taken, stepped, taken, text_passed, told_leaf, with_item};
+ghost use Rattle.inf_unit.specs.Units.{acted, begun, depth_behind, first_place, forgotten, headed_more, is_again, is_alone, is_assembly};
+ghost use Rattle.inf_unit.specs.Units.{is_sign, jump_label, jump_of, last_leaf, last_passed, leaf_of, long_at, marked_from, next_place};
+ghost use Rattle.inf_unit.specs.Units.{no_unit, noted, opcode_text, order, over, outer_tokens, own_place, prepared, ruled, semicolon_taken};
+ghost use Rattle.inf_unit.specs.Units.{stepped, taken, text_passed, told_leaf, with_item};
 
 use crate::items::{Item, rule_of};
 use crate::kinds::is_mark;

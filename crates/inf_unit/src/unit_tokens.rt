@@ -5,7 +5,8 @@ ghost use Rattle.inf_unit.specs.Kept.{as_spelled};
 ghost use Rattle.inf_unit.specs.NameTokens.{named};
 ghost use Rattle.inf_unit.specs.Spelled.{spelled};
 ghost use Rattle.inf_unit.specs.Tokens.{name_of};
-ghost use Rattle.inf_unit.specs.Units.{bytes_at, directive_word, keyword_at, kind_at, last_place, name_at, name_order, names_in, place_at, quoted_in, with_name};
+ghost use Rattle.inf_unit.specs.Units.{bytes_at, directive_word, keyword_at, kind_at, last_place, name_at, name_order, names_in, place_at};
+ghost use Rattle.inf_unit.specs.Units.{quoted_in, with_name};
 
 use crate::kept::Kept;
 use crate::kinds::is_mark;

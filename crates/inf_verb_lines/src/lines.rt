@@ -3,7 +3,11 @@ ghost use Rattle.inf_compilation.specs.Context.{handed};
 ghost use Rattle.std.specs.Prelude.{IfOk, IfSome, OnOk, length, option_map, true, ◌<◌, ◌≡◌, ◌≤◌};
 ghost use Rattle.inf_unit.specs.NameTokens.{named as named_token};
 ghost use Rattle.inf_verbs.specs.Lines.{LineOf};
-ghost use Rattle.inf_verb_lines.specs.Verbs.{action_by, arrow_in, arrow_or, attribute_in, can_be_routine, has_verb, is_filter_word, is_lone_name, is_mark_at, is_reverse, is_right, is_sign_word, line_added, line_behind, line_ended, line_found, line_judged, line_kept, line_laid, line_token, line_tokens, lone_by, lone_token, name_token, named_at, named_behind, noun_named, one_line, parsing_routine, preposition, token_finding, tokens_finding, with_next, with_token, wrong_unless};
+ghost use Rattle.inf_verb_lines.specs.Verbs.{action_by, arrow_in, arrow_or, attribute_in, can_be_routine, has_verb, is_filter_word};
+ghost use Rattle.inf_verb_lines.specs.Verbs.{is_lone_name, is_mark_at, is_reverse, is_right, is_sign_word, line_added, line_behind};
+ghost use Rattle.inf_verb_lines.specs.Verbs.{line_ended, line_found, line_judged, line_kept, line_laid, line_token, line_tokens, lone_by};
+ghost use Rattle.inf_verb_lines.specs.Verbs.{lone_token, name_token, named_at, named_behind, noun_named, one_line, parsing_routine};
+ghost use Rattle.inf_verb_lines.specs.Verbs.{preposition, token_finding, tokens_finding, with_next, with_token, wrong_unless};
 ghost use Rattle.inf_compilation.specs.Works.{work};
 
 use crate::verbs::{end_of_verb, has_verb, is_mark_at};

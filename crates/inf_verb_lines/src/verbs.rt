@@ -2,7 +2,13 @@
 ghost use Rattle.inf_compilation.specs.Context.{handed};
 ghost use Rattle.std.specs.Prelude.{IfOk, OnOk, length, map, option_map, true, ◌<◌, ◌≡◌};
 ghost use Rattle.inf_names.specs.Spellings.{as_name};
-ghost use Rattle.inf_verb_lines.specs.Verbs.{extend_header, extend_with, fake_action, fake_findings, fake_with, has_most_verbs, has_verb, head_finding, header_opened, is_mark_at, is_name_in, like_at, like_finding, like_used, lines_extended, lines_of, misfit_finding, new_verb, no_verb_finding, place_behind, place_named, texts_before, verb_begun, verb_ended, verb_extended, verb_findings, verb_head, verb_header, verb_header_with, verb_named, verb_opened, verb_passed, verb_use, with_text, word_at, word_in, word_used, words_end, words_finding, words_from, words_given, words_used, wrong_verb};
+ghost use Rattle.inf_verb_lines.specs.Verbs.{extend_header, extend_with, fake_action, fake_findings, fake_with, has_most_verbs, has_verb};
+ghost use Rattle.inf_verb_lines.specs.Verbs.{head_finding, header_opened, is_mark_at, is_name_in, like_at, like_finding, like_used};
+ghost use Rattle.inf_verb_lines.specs.Verbs.{lines_extended, lines_of, misfit_finding, new_verb, no_verb_finding, place_behind};
+ghost use Rattle.inf_verb_lines.specs.Verbs.{place_named, texts_before, verb_begun, verb_ended, verb_extended, verb_findings, verb_head};
+ghost use Rattle.inf_verb_lines.specs.Verbs.{verb_header, verb_header_with, verb_named, verb_opened, verb_passed, verb_use, with_text};
+ghost use Rattle.inf_verb_lines.specs.Verbs.{word_at, word_in, word_used, words_end, words_finding, words_from, words_given, words_used};
+ghost use Rattle.inf_verb_lines.specs.Verbs.{wrong_verb};
 ghost use Rattle.inf_output.specs.Actions.{faked};
 ghost use Rattle.inf_compilation.specs.Meant.{again_as, found_as};
 ghost use Rattle.inf_compilation.specs.Works.{work};

@@ -1,5 +1,6 @@
 -- Bytes of verbs and their lines, and numbers in them that are known later: of joined lists, of one that is changed, and as written.
-use Rattle.std.proofs.Common.{◌≡◌, ℕ, zero, suc, ◌+◌, ◌*◌, ◌-◌, ◌≤◌, ◌<◌, List, [], ◌∷◌, ◌++◌, length, refl, arith, ap, sym, ◌∙◌, get_or, set, drop, length-append, append_assoc, append-nil, fold, length-set}
+use Rattle.std.proofs.Common.{◌≡◌, ℕ, zero, suc, ◌+◌, ◌*◌, ◌-◌, ◌≤◌, ◌<◌, List, [], ◌∷◌, ◌++◌, length, refl, arith, ap, sym, ◌∙◌, get_or}
+use Rattle.std.proofs.Common.{set, drop, length-append, append_assoc, append-nil, fold, length-set}
 use Rattle.std.proofs.lemmas.List.{get_or-set_same}
 use Rattle.inf_area.specs.declared.targets.AreaName.TheVariants as area_name
 use Rattle.inf_area.specs.declared.targets.Target.TheVariants as target
@@ -10,9 +11,11 @@ use Rattle.inf_verbs.specs.declared.lines.LineToken.{LineToken}
 use Rattle.inf_verbs.specs.declared.lines.LineToken.TheVariants as token
 use Rattle.inf_verbs.specs.declared.verbs.Place.{Place}
 use Rattle.inf_verbs.specs.declared.verbs.Place.TheVariants as place
-use Rattle.inf_verbs.specs.Lines.{LineOf, is_preposition, line_cells, line_size, lines_cells, lines_prepositions, lines_size, prepositions, token_type, token_value, tokens_cells}
+use Rattle.inf_verbs.specs.Lines.{LineOf, is_preposition, line_cells, line_size, lines_cells, lines_prepositions, lines_size, prepositions}
+use Rattle.inf_verbs.specs.Lines.{token_type, token_value, tokens_cells}
 use Rattle.inf_verbs.specs.Routines.{routines_cells}
-use Rattle.inf_verbs.specs.Verbs.{VerbOf, address_cells, extended, grammar_cells, lines_of, no_lines, part_size, places_from, places_of, parts_cells, verb_cells, verb_laters, verb_size, verbs_laters, verbs_size, with_line}
+use Rattle.inf_verbs.specs.Verbs.{VerbOf, address_cells, extended, grammar_cells, lines_of, no_lines, part_size, places_from, places_of}
+use Rattle.inf_verbs.specs.Verbs.{parts_cells, verb_cells, verb_laters, verb_size, verbs_laters, verbs_size, with_line}
 
 -- places for routines are all known later
 pub later_routines : (rs : List ℕ) → later_count (routines_cells rs) ≡ length rs

@@ -1,5 +1,6 @@
 -- Verbs and their lines (Inform Technical Manual, section 8.5).
-use Rattle.std.specs.Prelude.{ℕ, zero, suc, ◌+◌, ◌*◌, ◌%◌, List, [], ◌∷◌, ◌++◌, Option, Some, None, length, nat_le, nat_lt, slice_index_or, slice_set, if◌then◌else◌}
+use Rattle.std.specs.Prelude.{ℕ, zero, suc, ◌+◌, ◌*◌, ◌%◌, List, [], ◌∷◌, ◌++◌, Option, Some, None, length, nat_le, nat_lt, slice_index_or}
+use Rattle.std.specs.Prelude.{slice_set, if◌then◌else◌}
 use Rattle.inf_area.specs.declared.targets.AreaName.TheVariants as area_name
 use Rattle.inf_area.specs.declared.targets.Target.TheVariants as target
 use Rattle.inf_cells.specs.declared.cells.Cell.{Cell}

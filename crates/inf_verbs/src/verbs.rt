@@ -1,10 +1,12 @@
 //! Verbs, line by line.
-ghost use Rattle.std.specs.Prelude.{◌≡◌, ◌<◌, ◌≤◌, ◌+◌, ◌*◌, ◌++◌, ◌^◌, [], None, OnOk, OnErr, IfOk, IfErr, IfNone, MatchResult, length, unwrap_or};
+ghost use Rattle.std.specs.Prelude.{◌≡◌, ◌<◌, ◌≤◌, ◌+◌, ◌*◌, ◌++◌, ◌^◌, [], None, OnOk, OnErr, IfOk, IfErr, IfNone, MatchResult, length};
+ghost use Rattle.std.specs.Prelude.{unwrap_or};
 ghost use Rattle.inf_area.specs.Fixups.{with_fixups};
 ghost use Rattle.inf_area.specs.declared.targets.AreaName.TheVariants as area_name;
 ghost use Rattle.inf_cells.specs.Cells.{bytes_of, fixups_of};
 ghost use Rattle.inf_cells.specs.declared.cells.WriteFault.TheVariants as write_fault;
-ghost use Rattle.inf_verbs.specs.Verbs.{add_fault, address_cells, grammar_cells, line_fault_of, parts_cells, places_of, verb_at, verbs_laters, verbs_size, with_extended, with_line_of, with_verb};
+ghost use Rattle.inf_verbs.specs.Verbs.{add_fault, address_cells, grammar_cells, line_fault_of, parts_cells, places_of, verb_at};
+ghost use Rattle.inf_verbs.specs.Verbs.{verbs_laters, verbs_size, with_extended, with_line_of, with_verb};
 ghost use Rattle.inf_verbs.specs.declared.verbs.LineFault.TheVariants as line_fault;
 ghost use Rattle.inf_verbs.specs.declared.verbs.VerbFault.TheVariants as verb_fault;
 ghost use Rattle.inf_settings.specs.declared.setting.Setting.TheVariants as setting;

@@ -1,5 +1,6 @@
 -- The stem of a name, from where its last `.` stands.
-use Rattle.std.proofs.Common.{◌≡◌, ◌≢◌, ℕ, zero, suc, ◌<◌, ◌==◌, List, [], ◌∷◌, ◌++◌, length, get_or, Bool, true, false, Option, Some, None, drop, arith, lit<, ap, refl, sym, ◌∙◌}
+use Rattle.std.proofs.Common.{◌≡◌, ◌≢◌, ℕ, zero, suc, ◌<◌, ◌==◌, List, [], ◌∷◌, ◌++◌, length, get_or, Bool, true, false, Option, Some, None}
+use Rattle.std.proofs.Common.{drop, arith, lit<, ap, refl, sym, ◌∙◌}
 use Rattle.std.proofs.lemmas.List.{take-append-drop}
 use Rattle.std.specs.Str.Pattern.{FindsChar, RFindsChar, HasMatch, SplitsAroundMatch}
 use Rattle.std.specs.Str.{NoCharPasses}

@@ -1,5 +1,6 @@
 -- The counts of a world when a body ends.
-use Rattle.std.proofs.Common.{◌≡◌, ◌≤◌, ◌+◌, ◌∷◌, ◌++◌, ◌==◌, [], ℕ, List, Bool, true, false, Option, Some, None, length, length-append, refl, sym, ap, subst, ◌∙◌, arith}
+use Rattle.std.proofs.Common.{◌≡◌, ◌≤◌, ◌+◌, ◌∷◌, ◌++◌, ◌==◌, [], ℕ, List, Bool, true, false, Option, Some, None, length, length-append}
+use Rattle.std.proofs.Common.{refl, sym, ap, subst, ◌∙◌, arith}
 use Rattle.std.specs.Prelude.{IsErrAnd, MatchResult, Result, Ok, Err, nat_lt, option_map, slice_get, sum_by, if◌then◌else◌}
 use Rattle.std.proofs.lemmas.Bool.{ne_eqb}
 use Rattle.std.proofs.lemmas.List.Sums.{sum_by_push, sum_by-cons}
@@ -21,7 +22,8 @@ use Rattle.inf_world.specs.declared.faults.Misfit.TheVariants as misfit
 use Rattle.inf_world.specs.Faults.{given_fault}
 use Rattle.inf_world.specs.Objects.{class_at, or_latest}
 use Rattle.inf_world.specs.declared.kinds.Limits.{Limits}
-use Rattle.inf_world.specs.World.{AreHung, IsRefused, IsWorld, WorldOf, class_by_fault, class_of_fault, open_count, room_beside, with_properties}
+use Rattle.inf_world.specs.World.{AreHung, IsRefused, IsWorld, WorldOf, class_by_fault, class_of_fault, open_count, room_beside}
+use Rattle.inf_world.specs.World.{with_properties}
 use Rattle.inf_world.proofs.Latest.{latest-push, told}
 
 nothing_sum : (f : Property → ℕ) (ps : List Property) → ((p : Property) → f p ≡ 0) → sum_by f ps ≡ 0

@@ -1,5 +1,6 @@
 -- Areas of joined lists of objects.
-use Rattle.std.proofs.Common.{◌≡◌, ◌≤◌, ◌+◌, ◌-◌, ◌%◌, ◌∷◌, ◌++◌, [], ℕ, zero, suc, List, Bool, length, drop, map, replicate, append_assoc, refl, sym, ap, subst, ◌∙◌, arith}
+use Rattle.std.proofs.Common.{◌≡◌, ◌≤◌, ◌+◌, ◌-◌, ◌%◌, ◌∷◌, ◌++◌, [], ℕ, zero, suc, List, Bool, length, drop, map, replicate, append_assoc}
+use Rattle.std.proofs.Common.{refl, sym, ap, subst, ◌∙◌, arith}
 use Rattle.inf_area.specs.declared.targets.AreaName.TheVariants as area_name
 use Rattle.inf_area.specs.declared.targets.Target.TheVariants as target
 use Rattle.inf_area.specs.declared.targets.Value.{Value}
@@ -15,7 +16,9 @@ use Rattle.inf_objects.specs.declared.objects.Object.{Object}
 use Rattle.inf_objects.specs.declared.tree.Link.{Link}
 use Rattle.inf_objects.proofs.Walking.{link_is}
 use Rattle.inf_objects.proofs.Written.{later_joined, size_joined, values_laters}
-use Rattle.inf_world.specs.Areas.{all_defaults, all_objects, bare_cells, class_numbers_from, entries_by, entry_cells, first_names, first_objects, individual_places_from, individual_tables, object_by, object_cells, objects_from, parents_of, shown_attributes, table_places_from, tables_from}
+use Rattle.inf_world.specs.Areas.{all_defaults, all_objects, bare_cells, class_numbers_from, entries_by, entry_cells, first_names}
+use Rattle.inf_world.specs.Areas.{first_objects, individual_places_from, individual_tables, object_by, object_cells, objects_from}
+use Rattle.inf_world.specs.Areas.{parents_of, shown_attributes, table_places_from, tables_from}
 use Rattle.inf_world.specs.World.{AreHung, later_defaults, later_in}
 use Rattle.inf_world.specs.declared.kinds.Declared.{Declared}
 

@@ -1,5 +1,6 @@
 -- The objects and classes of a source, by their numbers: the first that it declares has the number 5.
-use Rattle.std.specs.Prelude.{ℕ, zero, suc, ◌+◌, ◌-◌, List, [], ◌∷◌, ◌==◌, ◌&&◌, Bool, true, false, not, Option, Some, None, IsSome, Result, Ok, Err, nat_le, slice_get, if◌then◌else◌}
+use Rattle.std.specs.Prelude.{ℕ, zero, suc, ◌+◌, ◌-◌, List, [], ◌∷◌, ◌==◌, ◌&&◌, Bool, true, false, not, Option, Some, None, IsSome, Result}
+use Rattle.std.specs.Prelude.{Ok, Err, nat_le, slice_get, if◌then◌else◌}
 use Rattle.inf_properties.specs.declared.sizes.Owner.{Owner}
 use Rattle.inf_properties.specs.declared.sizes.Owner.TheVariants as owner
 use Rattle.inf_objects.specs.declared.objects.Object.{Object}

@@ -1,5 +1,6 @@
 -- The world of a story, as far as its source told it.
-use Rattle.std.specs.Prelude.{ℕ, ◌+◌, ◌-◌, ◌<◌, ◌≤◌, ◌^◌, ◌≡◌, max, List, [], ◌∷◌, ◌++◌, ◌==◌, Bool, true, false, Option, Some, None, Result, Ok, Err, length, nat_le, nat_lt, option_map, slice_get, sum_by, if◌then◌else◌}
+use Rattle.std.specs.Prelude.{ℕ, ◌+◌, ◌-◌, ◌<◌, ◌≤◌, ◌^◌, ◌≡◌, max, List, [], ◌∷◌, ◌++◌, ◌==◌, Bool, true, false, Option, Some, None}
+use Rattle.std.specs.Prelude.{Result, Ok, Err, length, nat_le, nat_lt, option_map, slice_get, sum_by, if◌then◌else◌}
 use Rattle.inf_area.specs.declared.targets.Value.{Value}
 use Rattle.inf_area.specs.declared.targets.Value.TheVariants as value
 use Rattle.inf_properties.specs.declared.sizes.Owner.{Owner}
@@ -10,7 +11,8 @@ use Rattle.inf_properties.specs.Open.{Open, all, given_first, give_fault, value_
 use Rattle.inf_properties.specs.Sizes.{table_bytes}
 use Rattle.inf_objects.specs.declared.body.Body.{Body}
 use Rattle.inf_objects.specs.declared.objects.Object.{Object}
-use Rattle.inf_objects.specs.Objects.{begun, ended, head_bytes, is_lost, join_fault, nothing_read, object_bytes, object_fixups, with_named_class, with_said}
+use Rattle.inf_objects.specs.Objects.{begun, ended, head_bytes, is_lost, join_fault, nothing_read, object_bytes, object_fixups}
+use Rattle.inf_objects.specs.Objects.{with_named_class, with_said}
 use Rattle.inf_world.specs.declared.faults.AddFault.{AddFault}
 use Rattle.inf_world.specs.declared.faults.AddFault.TheVariants as fault
 use Rattle.inf_world.specs.declared.faults.Limit.TheVariants as limit

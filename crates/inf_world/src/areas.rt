@@ -4,7 +4,8 @@ ghost use Rattle.inf_area.specs.declared.targets.Value.TheVariants.{Known};
 ghost use Rattle.inf_cells.specs.Cells.{values_cells, word_cells};
 ghost use Rattle.inf_objects.specs.Tables.{class_values};
 ghost use Rattle.inf_objects.specs.Tree.{link_at};
-ghost use Rattle.inf_world.specs.Areas.{all_defaults, all_objects, bare_cells, class_numbers_by, class_numbers_from, entries_by, entry_cells, first_objects, individual_tables, object_by, objects_from, parents_of, tables_from};
+ghost use Rattle.inf_world.specs.Areas.{all_defaults, all_objects, bare_cells, class_numbers_by, class_numbers_from, entries_by};
+ghost use Rattle.inf_world.specs.Areas.{entry_cells, first_objects, individual_tables, object_by, objects_from, parents_of, tables_from};
 ghost use Rattle.inf_world.specs.World.{AreHung};
 
 use crate::kinds::Declared;

@@ -1,5 +1,6 @@
 //! What a world keeps of its objects, and how it is looked up.
-ghost use Rattle.std.specs.Prelude.{◌≡◌, ◌<◌, ◌≤◌, ◌++◌, ◌∷◌, ℕ, [], None, Some, length, option_map, slice_get, vec_len, vec_capacity, if◌then◌else◌};
+ghost use Rattle.std.specs.Prelude.{◌≡◌, ◌<◌, ◌≤◌, ◌++◌, ◌∷◌, ℕ, [], None, Some, length, option_map, slice_get, vec_len, vec_capacity};
+ghost use Rattle.std.specs.Prelude.{if◌then◌else◌};
 ghost use Rattle.inf_world.specs.Objects.{class_at, has_arrows, or_latest};
 ghost use Rattle.inf_world.specs.World.{later_defaults};
 

@@ -1,7 +1,8 @@
 //! What an interpreter and an author may rely on.
 ghost use Rattle.std.specs.Prelude.{◌≡◌, ◌+◌, ◌<◌, drop, length, slice_index_or};
 ghost use Rattle.inf_cells.specs.Cells.{bytes_of, later_count};
-ghost use Rattle.inf_world.specs.Areas.{all_objects, area_cells, held_bytes, individual_places_from, individual_tables, table_places_from, tables_from};
+ghost use Rattle.inf_world.specs.Areas.{all_objects, area_cells, held_bytes, individual_places_from, individual_tables, table_places_from};
+ghost use Rattle.inf_world.specs.Areas.{tables_from};
 ghost use Rattle.inf_world.specs.World.{ended_bytes, ended_fixups, later_defaults};
 ghost use Rattle.inf_world.specs.declared.kinds.WorldArea.TheVariants as area;
 

@@ -1,11 +1,18 @@
 //! The world as its source tells it.
-ghost use Rattle.std.specs.Prelude.{◌≡◌, ◌+◌, ◌<◌, ◌≤◌, ◌^◌, max, List, ℕ, [], ◌∷◌, None, Some, false, true, length, unwrap_or, option_map, slice_get, sum_by, IfOk, IsSome, OnOk, OnErr, MatchResult};
+ghost use Rattle.std.specs.Prelude.{◌≡◌, ◌+◌, ◌<◌, ◌≤◌, ◌^◌, max, List, ℕ, [], ◌∷◌, None, Some, false, true, length, unwrap_or, option_map};
+ghost use Rattle.std.specs.Prelude.{slice_get, sum_by, IfOk, IsSome, OnOk, OnErr, MatchResult};
 ghost use Rattle.inf_properties.specs.Properties.{has, is_reserved};
 ghost use Rattle.inf_properties.specs.declared.sizes.Owner.TheVariants as owner;
 ghost use Rattle.inf_properties.specs.Open.{give_fault, given_first, with_given};
 ghost use Rattle.inf_objects.specs.Objects.{begun, is_lost, object_bytes, object_fixups};
 ghost use Rattle.inf_world.specs.Objects.{IsReached, arrows_of, is_object, latest_with, parent_by_arrows, parent_of};
-ghost use Rattle.inf_world.specs.World.{AreHung, IsRefused, attribute_fault, bytes_now, class_header_fault, class_of_fault, fixups_now, full_fault, further_value_fault, given_property_fault, individual_fault, kind_of, lost_given, lost_given_fault, lost_header_fault, no_body_fault, no_world, object_count, object_header_fault, property_fault, room_of, set_attribute_fault, with_attribute, with_body, with_class_header, with_class_of, with_end, with_further_value, with_given_property, with_individual, with_lost_header, with_lost_property, with_object_header, with_properties, with_property, with_set_attribute};
+ghost use Rattle.inf_world.specs.World.{AreHung, IsRefused, attribute_fault, bytes_now, class_header_fault, class_of_fault, fixups_now};
+ghost use Rattle.inf_world.specs.World.{full_fault, further_value_fault, given_property_fault, individual_fault, kind_of, lost_given};
+ghost use Rattle.inf_world.specs.World.{lost_given_fault, lost_header_fault, no_body_fault, no_world, object_count, object_header_fault};
+ghost use Rattle.inf_world.specs.World.{property_fault, room_of, set_attribute_fault, with_attribute, with_body, with_class_header};
+ghost use Rattle.inf_world.specs.World.{with_class_of, with_end, with_further_value, with_given_property, with_individual};
+ghost use Rattle.inf_world.specs.World.{with_lost_header, with_lost_property, with_object_header, with_properties, with_property};
+ghost use Rattle.inf_world.specs.World.{with_set_attribute};
 ghost use Rattle.inf_world.specs.Faults.{given_fault};
 ghost use Rattle.inf_world.specs.declared.faults.AddFault.TheVariants.{Memory};
 ghost use Rattle.inf_settings.specs.declared.setting.Setting.TheVariants as setting;

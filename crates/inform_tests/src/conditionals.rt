@@ -9,7 +9,8 @@ static FOLDERS: [(&[(&str, &[u8])], &str); 27] = [
         &[
             (
                 "t.inf",
-                b"Include \"c.h\";\nIfdef K; Message \"yes\"; Ifnot; Message \"no\"; Endif;\n[ Main; #Ifdef L; new_line; #Endif; ];\nConstant L;\nIfdef M;",
+                b"Include \"c.h\";\nIfdef K; Message \"yes\"; Ifnot; Message \"no\"; Endif;\n[ Main; #Ifdef L; new_line; #Endif; ];\n\
+                    Constant L;\nIfdef M;",
             ),
             ("c.h", b"Constant K;"),
         ],
@@ -21,7 +22,8 @@ static FOLDERS: [(&[(&str, &[u8])], &str); 27] = [
             "t.inf",
             b"Endif;\nIfnot;\n[ Main;\n#Endif; print \"a\"; ];\nMessage \"b\";",
         )],
-        "t.inf(1): Error: Conditional without its other end\nt.inf(2): Error: Conditional without its other end\nt.inf(4): Error: Conditional without its other end\nb\nErrors: 3, warnings: 0 (no output)\n",
+        "t.inf(1): Error: Conditional without its other end\nt.inf(2): Error: Conditional without its other end\n\
+            t.inf(4): Error: Conditional without its other end\nb\nErrors: 3, warnings: 0 (no output)\n",
     ),
     // A second `Ifnot` is told in a side that is kept, and not in one that is left out.
     (
@@ -42,7 +44,8 @@ static FOLDERS: [(&[(&str, &[u8])], &str); 27] = [
     (
         &[(
             "t.inf",
-            b"Ifdef K; Iftrue J; Message \"a\"; Ifnot; 5 Endif; #Ifndef K; #Endif; \"x\"; ) Message \"b\"; #Ifnot; Message \"c\"; #Endif; [ Main; ];",
+            b"Ifdef K; Iftrue J; Message \"a\"; Ifnot; 5 Endif; #Ifndef K; #Endif; \"x\"; ) Message \"b\"; #Ifnot; Message \"c\"; #Endif; \
+                [ Main; ];",
         )],
         "c\nErrors: 0, warnings: 0\n",
     ),
@@ -52,7 +55,8 @@ static FOLDERS: [(&[(&str, &[u8])], &str); 27] = [
             "t.inf",
             b"[ Main;\n#Ifdef 5; print \"a\"; ];\n[ Main; ];\nIfdef;\nMessage \"b\";",
         )],
-        "t.inf(2): Error: Syntax error at \"5\"\nt.inf(3): Error: \"Main\" was declared at t.inf(1)\nt.inf(4): Error: Syntax error at \";\"\nb\nErrors: 3, warnings: 0 (no output)\n",
+        "t.inf(2): Error: Syntax error at \"5\"\nt.inf(3): Error: \"Main\" was declared at t.inf(1)\n\
+            t.inf(4): Error: Syntax error at \";\"\nb\nErrors: 3, warnings: 0 (no output)\n",
     ),
     // A conditional inside a directive ends in it: it is told behind all messages of the directive.
     (
@@ -60,7 +64,8 @@ static FOLDERS: [(&[(&str, &[u8])], &str); 27] = [
             "t.inf",
             b"Constant K;\n[ Main x;\n#Ifdef K;\nprint \"a\";\n];\nMessage \"b\";",
         )],
-        "t.inf(5): Warning: Local \"x\" is unused\nt.inf(3): Error: Conditional without its other end\nb\nErrors: 1, warnings: 1 (no output)\n",
+        "t.inf(5): Warning: Local \"x\" is unused\nt.inf(3): Error: Conditional without its other end\nb\n\
+            Errors: 1, warnings: 1 (no output)\n",
     ),
     // Two are told in the order in which they were opened.
     (
@@ -68,7 +73,8 @@ static FOLDERS: [(&[(&str, &[u8])], &str); 27] = [
             "t.inf",
             b"Ifndef A;\nIfndef B;\nIfndef C; Endif;\n[ Main; ];",
         )],
-        "t.inf(1): Error: Conditional without its other end\nt.inf(2): Error: Conditional without its other end\nErrors: 2, warnings: 0 (no output)\n",
+        "t.inf(1): Error: Conditional without its other end\nt.inf(2): Error: Conditional without its other end\n\
+            Errors: 2, warnings: 0 (no output)\n",
     ),
     // A conditional ends in the file in which it began.
     (
@@ -101,7 +107,8 @@ static FOLDERS: [(&[(&str, &[u8])], &str); 27] = [
     // A side that is left out may run to the end of the file, which then cuts the directive.
     (
         &[("t.inf", b"[ Main;\n#Ifdef K;\nprint \"a\"; ];")],
-        "t.inf(3): Error: Syntax error at end of file\nt.inf(2): Error: Conditional without its other end\nErrors: 2, warnings: 0 (no output)\n",
+        "t.inf(3): Error: Syntax error at end of file\nt.inf(2): Error: Conditional without its other end\n\
+            Errors: 2, warnings: 0 (no output)\n",
     ),
     // Among tokens that are passed over conditionals choose which these are, and are not told.
     (
@@ -114,7 +121,8 @@ static FOLDERS: [(&[(&str, &[u8])], &str); 27] = [
     // One that is left open there is told.
     (
         &[("t.inf", b")\n#Ifndef K; 5;\nMessage \"a\"; [ Main; ];")],
-        "t.inf(1): Error: Syntax error at \")\"\nt.inf(2): Error: Conditional without its other end\na\nErrors: 2, warnings: 0 (no output)\n",
+        "t.inf(1): Error: Syntax error at \")\"\nt.inf(2): Error: Conditional without its other end\na\n\
+            Errors: 2, warnings: 0 (no output)\n",
     ),
     // A conditional directive begins at its `#`.
     (
@@ -130,7 +138,8 @@ static FOLDERS: [(&[(&str, &[u8])], &str); 27] = [
             "t.inf",
             b"# #Ifndef K;\nConstant J; Ifdef J; Message \"j\"; Endif;\n# #Ifdef J; Ifnot; Message \"a\";\n[ Main; ];",
         )],
-        "t.inf(1): Error: Conditional without its other end\nj\nt.inf(3): Error: Conditional without its other end\na\nErrors: 2, warnings: 0 (no output)\n",
+        "t.inf(1): Error: Conditional without its other end\nj\nt.inf(3): Error: Conditional without its other end\na\n\
+            Errors: 2, warnings: 0 (no output)\n",
     ),
     // A conditional inside a conditional directive belongs to the directive around both.
     (
@@ -144,7 +153,9 @@ static FOLDERS: [(&[(&str, &[u8])], &str); 27] = [
     (
         &[(
             "t.inf",
-            b"Constant K = 7;\nIftrue K == 7; Message \"a\"; Ifnot; Message \"no\"; Endif;\n#Iffalse k * 2 - 14 || 'a' ~= 97; Message \"b\"; #Endif;\nIftrue -1 < 0 && ~~(3 == 1 or 2) && 7 / -2 == -3; Message \"c\"; Endif;\nIftrue K = 7; Message \"d\"; [ Main; ];",
+            b"Constant K = 7;\nIftrue K == 7; Message \"a\"; Ifnot; Message \"no\"; Endif;\n\
+                #Iffalse k * 2 - 14 || 'a' ~= 97; Message \"b\"; #Endif;\n\
+                Iftrue -1 < 0 && ~~(3 == 1 or 2) && 7 / -2 == -3; Message \"c\"; Endif;\nIftrue K = 7; Message \"d\"; [ Main; ];",
         )],
         "a\nb\nc\nt.inf(5): Error: Syntax error at \"=\"\nd\nErrors: 1, warnings: 0 (no output)\n",
     ),
@@ -152,15 +163,20 @@ static FOLDERS: [(&[(&str, &[u8])], &str); 27] = [
     (
         &[(
             "t.inf",
-            b"Iftrue X; Message \"no\"; Ifnot; Message \"a\"; Endif;\nIffalse 1 % 0; Message \"b\"; Endif;\nIffalse\nchild; Message \"c\"; Endif;\nIftrue 0 && X; Endif;\nIftrue\n(1 +\n5++) * 1 / 0; Endif;\nIftrue self || random(5); Endif;\nIftrue X(1, 2, 3, 4, 5, 6, 7, 8); Endif;\n[ Main; ];",
+            b"Iftrue X; Message \"no\"; Ifnot; Message \"a\"; Endif;\nIffalse 1 % 0; Message \"b\"; Endif;\nIffalse\n\
+                child; Message \"c\"; Endif;\nIftrue 0 && X; Endif;\nIftrue\n(1 +\n5++) * 1 / 0; Endif;\nIftrue self || random(5); Endif;\n\
+                Iftrue X(1, 2, 3, 4, 5, 6, 7, 8); Endif;\n[ Main; ];",
         )],
-        "t.inf(1): Error: Not a constant known here\na\nt.inf(2): Error: Constant out of range\nb\nt.inf(4): Error: Wrong kind: \"child\"\nc\nt.inf(5): Error: Not a constant known here\nt.inf(6): Error: Not a constant known here\nt.inf(9): Error: Not a constant known here\nt.inf(10): Error: Not a constant known here\nErrors: 7, warnings: 0 (no output)\n",
+        "t.inf(1): Error: Not a constant known here\na\nt.inf(2): Error: Constant out of range\nb\nt.inf(4): Error: Wrong kind: \"child\"\n\
+            c\nt.inf(5): Error: Not a constant known here\nt.inf(6): Error: Not a constant known here\n\
+            t.inf(9): Error: Not a constant known here\nt.inf(10): Error: Not a constant known here\nErrors: 7, warnings: 0 (no output)\n",
     ),
     // It sees the names of the directives before, and no locals.
     (
         &[(
             "t.inf",
-            b"Constant K = 3;\n[ Main K; #Iftrue K == 3; K; #Endif;\n#Iftrue L; #Endif; #Iffalse Main; #Endif; ];\nConstant L = 1;\n[ R; #Iftrue L; #Ifnot; ) #Endif; ];",
+            b"Constant K = 3;\n[ Main K; #Iftrue K == 3; K; #Endif;\n#Iftrue L; #Endif; #Iffalse Main; #Endif; ];\nConstant L = 1;\n\
+                [ R; #Iftrue L; #Ifnot; ) #Endif; ];",
         )],
         "t.inf(3): Error: Not a constant known here\nt.inf(3): Error: Not a constant known here\nErrors: 2, warnings: 0 (no output)\n",
     ),
@@ -168,31 +184,47 @@ static FOLDERS: [(&[(&str, &[u8])], &str); 27] = [
     (
         &[(
             "t.inf",
-            b"Iftrue 1 #Iftrue 0; + #Ifnot; - 1 #Endif; ; Message \"no\"; Ifnot; Message \"a\"; Endif;\nIftrue #Iffalse #Iftrue 1; 0 #Endif; == 2; 3 #Endif; == 3; Message \"b\"; Endif;\nIftrue 1 #Iftrue 1; ; Message \"c\"; Endif;\n[ Main; #Iftrue 1 #Ifdef K; ( #Endif; ; print \"d\"; #Endif; #Iftrue 2\n#Iftrue 3;\n; #Endif; ];",
+            b"Iftrue 1 #Iftrue 0; + #Ifnot; - 1 #Endif; ; Message \"no\"; Ifnot; Message \"a\"; Endif;\n\
+                Iftrue #Iffalse #Iftrue 1; 0 #Endif; == 2; 3 #Endif; == 3; Message \"b\"; Endif;\n\
+                Iftrue 1 #Iftrue 1; ; Message \"c\"; Endif;\n[ Main; #Iftrue 1 #Ifdef K; ( #Endif; ; print \"d\"; #Endif; #Iftrue 2\n\
+                #Iftrue 3;\n; #Endif; ];",
         )],
-        "a\nb\nt.inf(3): Error: Conditional without its other end\nc\nt.inf(5): Error: Conditional without its other end\nErrors: 2, warnings: 0 (no output)\n",
+        "a\nb\nt.inf(3): Error: Conditional without its other end\nc\nt.inf(5): Error: Conditional without its other end\n\
+            Errors: 2, warnings: 0 (no output)\n",
     ),
     // What does not fit a condition is the bad token of the directive around it.
     (
         &[(
             "t.inf",
-            b"Iftrue; Message \"a\";\nIftrue 5 5; Message \"b\";\nIffalse (1; Message \"c\";\nIftrue 1 Iftrue 1; Message \"d\";\n[ Main;\n#Iftrue 1\nx; print \"a\"; ];\n[ Main; #Iftrue 99999; ]; Message \"e\";\n[ Main; ];\nIftrue 1 #Iftrue = 1; ; Message \"f\";",
+            b"Iftrue; Message \"a\";\nIftrue 5 5; Message \"b\";\nIffalse (1; Message \"c\";\nIftrue 1 Iftrue 1; Message \"d\";\n[ Main;\n\
+                #Iftrue 1\nx; print \"a\"; ];\n[ Main; #Iftrue 99999; ]; Message \"e\";\n[ Main; ];\n\
+                Iftrue 1 #Iftrue = 1; ; Message \"f\";",
         )],
-        "t.inf(1): Error: Syntax error at \";\"\na\nt.inf(2): Error: Syntax error at \"5\"\nb\nt.inf(3): Error: Syntax error at \";\"\nc\nt.inf(4): Error: Syntax error at \"Iftrue\"\nd\nt.inf(7): Error: Syntax error at \"x\"\nt.inf(8): Error: \"Main\" was declared at t.inf(5)\nt.inf(8): Error: Number out of range\ne\nt.inf(9): Error: \"Main\" was declared at t.inf(5)\nt.inf(10): Error: Syntax error at \"=\"\nf\nErrors: 9, warnings: 0 (no output)\n",
+        "t.inf(1): Error: Syntax error at \";\"\na\nt.inf(2): Error: Syntax error at \"5\"\nb\nt.inf(3): Error: Syntax error at \";\"\nc\n\
+            t.inf(4): Error: Syntax error at \"Iftrue\"\nd\nt.inf(7): Error: Syntax error at \"x\"\n\
+            t.inf(8): Error: \"Main\" was declared at t.inf(5)\nt.inf(8): Error: Number out of range\ne\n\
+            t.inf(9): Error: \"Main\" was declared at t.inf(5)\nt.inf(10): Error: Syntax error at \"=\"\nf\n\
+            Errors: 9, warnings: 0 (no output)\n",
     ),
     // Among tokens that are passed over nothing is told of a condition.
     (
         &[(
             "t.inf",
-            b") #Iftrue 1; 5 #Ifnot; ; #Endif; ; Message \"a\";\n) #Iffalse X / 0; ; #Ifnot; #Endif; Message \"b\"; ; Message \"c\";\n) #Iftrue ; Message \"d\"; [ Main; ];",
+            b") #Iftrue 1; 5 #Ifnot; ; #Endif; ; Message \"a\";\n) #Iffalse X / 0; ; #Ifnot; #Endif; Message \"b\"; ; Message \"c\";\n\
+                ) #Iftrue ; Message \"d\"; [ Main; ];",
         )],
-        "t.inf(1): Error: Syntax error at \")\"\na\nt.inf(2): Error: Syntax error at \")\"\nt.inf(2): Error: Conditional without its other end\nt.inf(2): Error: Conditional without its other end\nt.inf(2): Error: Conditional without its other end\nb\nc\nt.inf(3): Error: Syntax error at \")\"\nd\nErrors: 6, warnings: 0 (no output)\n",
+        "t.inf(1): Error: Syntax error at \")\"\na\nt.inf(2): Error: Syntax error at \")\"\n\
+            t.inf(2): Error: Conditional without its other end\nt.inf(2): Error: Conditional without its other end\n\
+            t.inf(2): Error: Conditional without its other end\nb\nc\nt.inf(3): Error: Syntax error at \")\"\nd\n\
+            Errors: 6, warnings: 0 (no output)\n",
     ),
     // Brackets of a condition are counted from 0.
     (
         &[(
             "t.inf",
-            b"[ Main; { { { { { { { { { { { { { { { { { { { { #Iftrue (((((((((((((((((((((((((((((((((((((((((((((((((1))))))))))))))))))))))))))))))))))))))))))))))))); 5 #Endif; + 1; } } } } } } } } } } } } } } } } } } } } \n#Iftrue ((((((((((((((((((((((((((((((((((((((((((((((((((((((((((((((((\n(",
+            b"[ Main; { { { { { { { { { { { { { { { { { { { { #Iftrue (((((((((((((((((((((((((((((((((((((((((((((((((1)))))))))))))))))))\
+                )))))))))))))))))))))))))))))); 5 #Endif; + 1; } } } } } } } } } } } } } } } } } } } } \n\
+                #Iftrue ((((((((((((((((((((((((((((((((((((((((((((((((((((((((((((((((\n(",
         )],
         "t.inf(3): Fatal error: Nesting over 64\n",
     ),
@@ -200,7 +232,10 @@ static FOLDERS: [(&[(&str, &[u8])], &str); 27] = [
     (
         &[(
             "t.inf",
-            b"Iftrue\n- - - - - - - - - - - - - - - - - - - - - - - - - - - - - - - - - - - - - - - - - - - - - - - - - - - - - - - - - - - - - - - - - - - - - - - - - - - - - - - - - - - - - - - - - - - - - - - - - - - 1; Message \"a\"; Endif;\nIftrue\n1 +1 +1 +1 +1 +1 +1 +1 +1 +1 +1 +1 +1 +1 +1 +1 +1 +1 +1 +1 +1 +1 +1 +1 +1 +1 +1 +1 +1 +1 +1 +1 +1 +1 +1 +1 +1 +1 +1 +1 +1 +1 +1 +1 +1 +1 +1 +1 +1 +1\n+\n1",
+            b"Iftrue\n- - - - - - - - - - - - - - - - - - - - - - - - - - - - - - - - - - - - - - - - - - - - - - - - - - - - - - - - - - \
+                - - - - - - - - - - - - - - - - - - - - - - - - - - - - - - - - - - - - - - - - - 1; Message \"a\"; Endif;\nIftrue\n\
+                1 +1 +1 +1 +1 +1 +1 +1 +1 +1 +1 +1 +1 +1 +1 +1 +1 +1 +1 +1 +1 +1 +1 +1 +1 +1 +1 +1 +1 +1 +1 +1 +1 +1 +1 +1 +1 +1 +1 +1 +1 \
+                +1 +1 +1 +1 +1 +1 +1 +1 +1\n+\n1",
         )],
         "a\nt.inf(6): Fatal error: MAX_EXPRESSION_NODES is exceeded\n",
     ),

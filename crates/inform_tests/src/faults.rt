@@ -12,7 +12,8 @@ use std::test::Fail;
 static FILES: [(&str, &[u8]); 2] = [
     (
         "t.inf",
-        b"Include \"c.h\";\nIfdef K; Message \"yes\"; Ifnot; Message \"no\"; Endif;\n[ Main; #Ifdef L; new_line; #Endif; ];\nConstant L;\nIfdef M;",
+        b"Include \"c.h\";\nIfdef K; Message \"yes\"; Ifnot; Message \"no\"; Endif;\n[ Main; #Ifdef L; new_line; #Endif; ];\nConstant L;\n\
+            Ifdef M;",
     ),
     ("c.h", b"Constant K;"),
 ];

@@ -21,7 +21,8 @@ static FOLDERS: [(&[(&str, &[u8])], &str); 6] = [
             ),
             ("c.h", b"\nMessage \"c\";\n)"),
         ],
-        "a\nc\nc.h(3): Error: Syntax error at \")\"\nb\nc\nc.h(3): Error: Syntax error at \")\"\nt.inf(5): Error: Syntax error at \"5\"\nErrors: 3, warnings: 0 (no output)\n",
+        "a\nc\nc.h(3): Error: Syntax error at \")\"\nb\nc\nc.h(3): Error: Syntax error at \")\"\nt.inf(5): Error: Syntax error at \"5\"\n\
+            Errors: 3, warnings: 0 (no output)\n",
     ),
     // A directive ends in the file in which it began.
     (

@@ -22,21 +22,26 @@ use std::process::Abort;
 use std::test::Fail;
 
 const SOURCE: &[u8] =
-    b"Message \"abc\"; [ Main; F(); F(); ];\nIfdef K; Message \"long\"; Ifnot; Constant K; Message \"e\"; Endif;\n[ F; print \"hello\"; ];\n5;";
+    b"Message \"abc\"; [ Main; F(); F(); ];\nIfdef K; Message \"long\"; Ifnot; Constant K; Message \"e\"; Endif;\n\
+        [ F; print \"hello\"; ];\n5;";
 
 /// Sides between directives and inside a routine, with a `#` before their words and without.
-const SIDES: &[u8] =
-    b"Constant K;\nIfdef L; Constant A; #Endif; Ifndef K;\nMessage \"x\";\n#Ifnot; Message \"y\"; Endif; [ Main; #Ifdef L; print \"a\"; #Ifnot; print \"b\"; #Endif; ];\n";
+const SIDES: &[u8] = b"Constant K;\nIfdef L; Constant A; #Endif; Ifndef K;\nMessage \"x\";\n\
+        #Ifnot; Message \"y\"; Endif; [ Main; #Ifdef L; print \"a\"; #Ifnot; print \"b\"; #Endif; ];\n";
 
 /// Expressions of some tokens, in conditions between directives and inside a routine, too; labels of two routines, one of which a bad token
 /// ends: what
 /// stands behind its last whole statement does not count.
 const EXPRESSIONS: &[u8] =
-    b"Iftrue 1 + 2 * 3 == 7;\nEndif;\n[ Main i; while (i < 9) if (i == 4) i++; #Iftrue (2 + 3 + 4 + 5 + 6) > 1; i = 1; #Endif; ];\n[ R x; if (x) if (x > 1) if (x > 2) { x = 1; 5 } ];\nConstant C = 1 + 2;\n[ S; do { } until (1); ];\n";
+    b"Iftrue 1 + 2 * 3 == 7;\nEndif;\n[ Main i; while (i < 9) if (i == 4) i++; #Iftrue (2 + 3 + 4 + 5 + 6) > 1; i = 1; #Endif; ];\n\
+        [ R x; if (x) if (x > 1) if (x > 2) { x = 1; 5 } ];\nConstant C = 1 + 2;\n[ S; do { } until (1); ];\n";
 
 /// Directives of each kind that tables are made of, a routine with labels and a string, and one with a low string.
 const TABLES: &[u8] =
-    b"Constant text = \"abcd\";\nClass Room with size 1 2, name 'hall';\nRoom hall \"Hall\" with size 3 \"ab\", run [ x; return x; ];\nArray list --> 'hall' 'door' ##Go list;\nVerb 'take' 'get' * noun 'off'/'door' -> Take * -> Look;\nExtend 'get' first * topic -> Go reverse;\nFake_action Fall;\n[ Main x; while (x) x--; print (string) \"abc\", x; ];\n[ Set; string 1 \"abcd\"; ];\n";
+    b"Constant text = \"abcd\";\nClass Room with size 1 2, name 'hall';\nRoom hall \"Hall\" with size 3 \"ab\", run [ x; return x; ];\n\
+        Array list --> 'hall' 'door' ##Go list;\nVerb 'take' 'get' * noun 'off'/'door' -> Take * -> Look;\n\
+        Extend 'get' first * topic -> Go reverse;\nFake_action Fall;\n[ Main x; while (x) x--; print (string) \"abc\", x; ];\n\
+        [ Set; string 1 \"abcd\"; ];\n";
 
 /// The line behind the bad token of these.
 const CUT: &str = "t.inf(4): Error: Syntax error at \"}\"\n";

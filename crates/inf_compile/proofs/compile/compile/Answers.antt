@@ -10,7 +10,8 @@ use Rattle.inf_session.specs.Ending.{missing}
 use Rattle.inf_session.specs.Faults.{IfRead, IfStory}
 use Rattle.inf_session.specs.declared.compiled.Status.TheVariants as status
 use Rattle.inf_compile.specs.Compiling.{Compiles, DeliversPart, HasCause, chosen_by, named_by}
-use Rattle.inf_compile.proofs.Delivering.{all_named, more_caused, none_clean, none_read, none_told, refused_begins, refused_compiles, refused_opens, untouched_always}
+use Rattle.inf_compile.proofs.Delivering.{all_named, more_caused, none_clean, none_read, none_told, refused_begins, refused_compiles}
+use Rattle.inf_compile.proofs.Delivering.{refused_opens, untouched_always}
 use Rattle.inf_compile.proofs.compile.compile.Goals as goal
 
 pub returns-then-names_nothing-clause-headline : goal.returns-then-names_nothing-clause-headline

@@ -1,4 +1,5 @@
-use Rattle.inf_outcome.proofs.Examples.{conditionals_choose, conditions_choose, empty_source, files_are_included, hello_is_a_story, names_are_undeclared, no_source, sixteen_are_open, text_is_missing}
+use Rattle.inf_outcome.proofs.Examples.{conditionals_choose, conditions_choose, empty_source, files_are_included, hello_is_a_story}
+use Rattle.inf_outcome.proofs.Examples.{names_are_undeclared, no_source, sixteen_are_open, text_is_missing}
 use Rattle.inf_outcome.proofs.laws.sources_have_these_outcomes.Goals as goal
 
 pub returns : goal.returns

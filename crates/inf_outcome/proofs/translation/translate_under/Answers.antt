@@ -16,7 +16,8 @@ use Rattle.inf_session.proofs.Delivering.{if_ok_more}
 use Rattle.inf_session.proofs.Standings.{if_caused_more}
 use Rattle.inf_settings.specs.Bounds.{Limits, limits_of}
 use Rattle.inf_outcome.specs.Comes.{Comes, Concludes, IsUnread, Stops}
-use Rattle.inf_outcome.proofs.Concluding.{begins_of, begun_is, comes_of, given_up_between, heard_from, if_ok_both, none_given, opened_first, opened_some, unread_by}
+use Rattle.inf_outcome.proofs.Concluding.{begins_of, begun_is, comes_of, given_up_between, heard_from, if_ok_both, none_given, opened_first}
+use Rattle.inf_outcome.proofs.Concluding.{opened_some, unread_by}
 use Rattle.inf_outcome.proofs.translation.translate_under.Goals as goal
 
 pub returns-clause-comes : goal.returns-clause-comes
@@ -214,7 +215,8 @@ returns-in-Err-clause-opened g c = λ honest.
     let mid = files.openings c.enter_main.new.files in
     let still = subst (λ b. IsTrue b) (sym c.enter_main.ensures.kept.honesty) honest in
     let nested = subst (λ (x : Open). IsNested old mid x) (sym c.in-Err.ensures.back) (c.in-Ok.ensures.nested honest) in
-    inr (opened_first s (chosen c.args.setup) c.args.main.name.now old mid (files.openings c.close.new.files) c.in-Ok.open_files c.args.setup.set
+    inr (opened_first s (chosen c.args.setup) c.args.main.name.now old mid (files.openings c.close.new.files) c.in-Ok.open_files
+    c.args.setup.set
     c.of-limit.result
     (c.close.ensures.closed still old nested) (c.in-Ok.ensures.given_all honest) (c.in-Ok.ensures.nesting honest))
 

@@ -2,7 +2,8 @@ use Rattle.std.proofs.Common.{◌≡◌, ◌+◌, ◌∙◌, None, drop, get_or,
 use Rattle.std.proofs.lemmas.List.{drop_more}
 use Rattle.inf_text.specs.Searching.{best_of, common, first_code, text_at}
 use Rattle.inf_text.specs.declared.index.Link.{Link}
-use Rattle.inf_text.proofs.Linking.{Searches-more, Searches-next, common-fits_left, fits_next, goes_on, going_on, not_going_on, shorter, taken_is, text_is}
+use Rattle.inf_text.proofs.Linking.{Searches-more, Searches-next, common-fits_left, fits_next, goes_on, going_on, not_going_on, shorter}
+use Rattle.inf_text.proofs.Linking.{taken_is, text_is}
 use Rattle.inf_text.proofs.index.longest_of.Goals as goal
 use Rattle.inf_text.proofs.index.longest_of.Goals.{then-may_go_on, else-may_go_on+then-link-matched, else-may_go_on+else-link-matched}
 

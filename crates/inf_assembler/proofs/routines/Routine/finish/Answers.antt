@@ -1,5 +1,6 @@
 -- What is computed from what is kept is what the routine's cells say.
-use Rattle.std.proofs.Common.{◌≡◌, ◌+◌, [], ◌∷◌, ◌++◌, length, take, Option, Some, None, ◌⊎◌, inr, subst, MatchResult, sym, ◌∙◌, ap, arith, append_assoc, length-append}
+use Rattle.std.proofs.Common.{◌≡◌, ◌+◌, [], ◌∷◌, ◌++◌, length, take, Option, Some, None, ◌⊎◌, inr, subst, MatchResult, sym, ◌∙◌, ap, arith}
+use Rattle.std.proofs.Common.{append_assoc, length-append}
 use Rattle.std.proofs.lemmas.List.{take-append-le, take-take}
 use Rattle.inf_area.specs.Fixups.{with_fixups}
 use Rattle.inf_assembler.specs.declared.routines.CloseFault.{CloseFault}
@@ -7,8 +8,10 @@ use Rattle.inf_assembler.specs.declared.routines.CloseFault.TheVariants as close
 use Rattle.inf_opcode.specs.Cells.{fixup_count, kept_from}
 use Rattle.inf_assembler.specs.Places.{with_some, missing, twice_behind}
 use Rattle.inf_assembler.specs.Closing.{found, kept_place, kept_missing, kept_fixups, squeezed}
-use Rattle.inf_assembler.specs.Routines.{State, contents_of, long_places, body_bytes, closing_bytes, routine_fixups, end_fault, full_fault, body_fault, fault_of}
-use Rattle.inf_assembler.proofs.Finishing.{none_of, long_is, places_is, missing_is, twice_is, fixups_is, order_is, squeezed_is, fault_missing, fault_twice, fault_body, with_none, with_some_of, length-fixups, both_ok}
+use Rattle.inf_assembler.specs.Routines.{State, contents_of, long_places, body_bytes, closing_bytes, routine_fixups, end_fault, full_fault}
+use Rattle.inf_assembler.specs.Routines.{body_fault, fault_of}
+use Rattle.inf_assembler.proofs.Finishing.{none_of, long_is, places_is, missing_is, twice_is, fixups_is, order_is, squeezed_is}
+use Rattle.inf_assembler.proofs.Finishing.{fault_missing, fault_twice, fault_body, with_none, with_some_of, length-fixups, both_ok}
 use Rattle.inf_assembler.proofs.routines.Routine.finish.Goals as goal
 
 pub returns-in-Some-clause-fault : goal.returns-in-Some-clause-fault

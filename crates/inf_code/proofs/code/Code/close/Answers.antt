@@ -6,7 +6,8 @@ use Rattle.inf_assembler.specs.declared.routines.CloseFault.TheVariants as close
 use Rattle.inf_assembler.specs.Routines.{State, contents_of}
 use Rattle.inf_cells.specs.declared.cells.Cell.{Cell as CodeCell}
 use Rattle.inf_code.specs.declared.code.CodeLimits.{CodeLimits}
-use Rattle.inf_code.specs.Code.{Routines, IsCode, open_in, closed_cells, place_behind, source_cells, with_closed, fault_closed, fault_behind, fault_end}
+use Rattle.inf_code.specs.Code.{Routines, IsCode, open_in, closed_cells, place_behind, source_cells, with_closed, fault_closed}
+use Rattle.inf_code.specs.Code.{fault_behind, fault_end}
 use Rattle.inf_code.proofs.CodeSteps.{closed_size, code_after, finished_closed, size_finished}
 use Rattle.inf_code.proofs.Ends.{is_first, told_first, told_lost, zeros_none, zeros_told}
 use Rattle.inf_code.proofs.code.Code.close.Goals as goal

@@ -6,7 +6,8 @@ use Rattle.inf_names.specs.Entries.{as_named}
 use Rattle.inf_names.specs.SystemNames.{system_meaning}
 use Rattle.inf_settings.specs.declared.setting.Setting.TheVariants as setting
 use Rattle.inf_names.specs.Symbols.{Named, IsDeclared, declarations, declare_fault, folded, put, standing_of, with_declared}
-use Rattle.inf_names.proofs.Putting.{declarations-declared, declarations-few, fits_behind, length-put, open_where_fit, put-insert, room_where_fit}
+use Rattle.inf_names.proofs.Putting.{declarations-declared, declarations-few, fits_behind, length-put, open_where_fit, put-insert}
+use Rattle.inf_names.proofs.Putting.{room_where_fit}
 use Rattle.inf_names.proofs.symbols.Symbols.declare.Goals as goal
 
 pub overflow_add-self : goal.overflow_add-self

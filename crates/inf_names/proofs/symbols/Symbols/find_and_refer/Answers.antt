@@ -4,8 +4,10 @@ use Rattle.std.proofs.lemmas.List.{length-map}
 use Rattle.std.specs.Prelude.{is_some, nat_le}
 use Rattle.inf_names.specs.Entries.{as_named}
 use Rattle.inf_names.specs.SystemNames.{system_meaning}
-use Rattle.inf_names.specs.Symbols.{Named, Table, IsUsed, declarations, folded, is_full, number_among, number_of, put, standing_of, with_used}
-use Rattle.inf_names.proofs.Putting.{declarations-used, fits_behind, found_at_number, index_of-absent, length-put, new_number, new_used, not_numbered, put-insert}
+use Rattle.inf_names.specs.Symbols.{Named, Table, IsUsed, declarations, folded, is_full, number_among, number_of, put, standing_of}
+use Rattle.inf_names.specs.Symbols.{with_used}
+use Rattle.inf_names.proofs.Putting.{declarations-used, fits_behind, found_at_number, index_of-absent, length-put, new_number, new_used}
+use Rattle.inf_names.proofs.Putting.{not_numbered, put-insert}
 use Rattle.inf_names.proofs.symbols.Symbols.find_and_refer.Goals as goal
 
 pub invariant_of-self-2 : goal.invariant_of-self-2

@@ -11,7 +11,8 @@ use Rattle.inf_session.specs.Leading.{CutsShort, GivenUp, OpensWithin, StopsFor,
 use Rattle.inf_session.specs.Session.{has_ended, turn}
 use Rattle.inf_session.specs.Standing.{came_to, ended, parted, state}
 use Rattle.inf_session.proofs.Delivering.{appends_then}
-use Rattle.inf_session.proofs.Leadings.{cuts_then, given_up, opened_then, part_first, part_none, part_then, still_going, stops_more, writes_none, writes_then}
+use Rattle.inf_session.proofs.Leadings.{cuts_then, given_up, opened_then, part_first, part_none, part_then, still_going, stops_more}
+use Rattle.inf_session.proofs.Leadings.{writes_none, writes_then}
 use Rattle.inf_session.specs.declared.setup.Setup.{Setup}
 use Rattle.inf_session.proofs.Bounds.{bounded_still}
 use Rattle.inf_session.proofs.Standings.{if_caused_more, if_read_both}

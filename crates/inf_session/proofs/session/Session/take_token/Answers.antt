@@ -90,7 +90,8 @@ returns-clause-longest g c = λ before.
     let longest = λ (t : SourceToken). quoted_behind site c.in_ok-judged.judged t c.args.self.now.quoted in
     subst (λ n. n ≤ most) (sym (c.quoted_behind-self.ensures ∙ ap longest c.token_at-spelled.ensures))
     (quoted_within site c.in_ok-judged.judged
-    (token_at site.is_between token.kind c.spelling-spelling.result.now token.place (work c.args.self.now.progress.work)) c.args.self.now.quoted most
+    (token_at site.is_between token.kind c.spelling-spelling.result.now token.place (work c.args.self.now.progress.work))
+    c.args.self.now.quoted most
     few before)
 
 pub returns-clause-stepped : goal.returns-clause-stepped
@@ -110,7 +111,8 @@ returns-clause-stepped g c = λ honest start nested told.
     let site = c.site-site.ensures in
     let spelled = token_at c.site-site.result.is_between token.kind bytes token.place before.work in
     let spelled_is = c.token_at-spelled.ensures in
-    let is = token_is before c.site-site.result.is_between token.kind bytes token.place (ap (λ (x : Site). x.is_between) site) reads.kind reads.place
+    let is =
+    token_is before c.site-site.result.is_between token.kind bytes token.place (ap (λ (x : Site). x.is_between) site) reads.kind reads.place
     (c.spelling-spelling.ensures ∙ reads.bytes) in
     let behind_it =
     c.in_ok-judged.ensures ∙ ap (λ (t : SourceToken). judged c.site-site.result before.work.output t before.conditions) spelled_is

@@ -1,4 +1,5 @@
-use Rattle.std.proofs.Common.{◌≡◌, ◌≤◌, ◌⊎◌, IsTrue, inl, inr, List, false, length, ◌++◌, [], ◌∷◌, Err, Some, None, map, refl, reverse, sym, ap, subst, ◌∙◌}
+use Rattle.std.proofs.Common.{◌≡◌, ◌≤◌, ◌⊎◌, IsTrue, inl, inr, List, false, length, ◌++◌, [], ◌∷◌, Err, Some, None, map, refl, reverse, sym}
+use Rattle.std.proofs.Common.{ap, subst, ◌∙◌}
 use Rattle.inf_files.specs.Files.{Openings, Rose}
 use Rattle.inf_lexer.specs.Entering.{Leaves}
 use Rattle.inf_lexer.specs.Names.{Nest, can_name, candidates, innermost_name, number_of}
@@ -10,7 +11,8 @@ use Rattle.inf_sources.specs.declared.faults.IncludeFault.TheVariants as vain
 use Rattle.inf_sources.specs.Open.{Each, Fits, IsNested, Open, nesting, opened_since, waits}
 use Rattle.inf_sources.specs.declared.open_file.OpenFile.{OpenFile}
 use Rattle.inf_sources.specs.declared.open_files.Included.TheVariants as included
-use Rattle.inf_sources.proofs.Answering.{is_true, deep_is, entered_fits, entered_is, entered_nested_of, first_is, opened_in_vain, opens_too_many}
+use Rattle.inf_sources.proofs.Answering.{is_true, deep_is, entered_fits, entered_is, entered_nested_of, first_is, opened_in_vain}
+use Rattle.inf_sources.proofs.Answering.{opens_too_many}
 use Rattle.inf_sources.proofs.Calls.{asked_too_many, went_by, went_in}
 use Rattle.inf_sources.proofs.Counting.{entered_counts}
 use Rattle.inf_sources.proofs.Fronts.{entered_given, failed_fit, failed_given, fit_more}
@@ -77,7 +79,8 @@ returns-in-Ok-clause-nesting g c = λ honest start nested.
     c.args.conditionals.now c.args.is_system.now n
     (e.is_opened honest) e.is_entered.0
     (c.replace.ensures.after ∙ e.is_entered.1) outer
-    ∙ ap (λ i. nested_by before.nest.set before.nest.limit s (reverse c.args.conditionals.now.items) c.args.is_system.now i (nesting s start old before))
+    ∙ ap (λ i. nested_by before.nest.set before.nest.limit s (reverse c.args.conditionals.now.items) c.args.is_system.now i
+    (nesting s start old before))
     (sym (first_is s directories text start old before (Some e.name) n c.self.invariant.0 fit flat (e.is_first honest)))) nested
 
 pub returns-in-Ok-clause-went : goal.returns-in-Ok-clause-went
@@ -144,14 +147,16 @@ returns-in-Err-Absent-clause-nesting g c = λ honest start nested.
     (Err f)) c.in-Err-Absent.field-0-is (c.in-Err-Absent.ensures.leaves honest) in
     subst (λ (o : Open). IsNested start old o → nesting s start (files.openings c.enter.new.files)
     (record { nest = c.enter.new.self; lexer = c.self.inside.lexer; outer = c.reserve.new.self.items })
-    ≡ nested_by o.nest.set o.nest.limit s (reverse c.args.conditionals.now.items) c.args.is_system.now (inclusion s directories text (nesting s start old o)) (nesting s start old o)) c.self.view_is
+    ≡ nested_by o.nest.set o.nest.limit s (reverse c.args.conditionals.now.items) c.args.is_system.now
+    (inclusion s directories text (nesting s start old o)) (nesting s start old o)) c.self.view_is
     (λ n. ap (λ x. nesting s start x (record { nest = c.enter.new.self; lexer = c.self.inside.lexer; outer = c.reserve.new.self.items }))
     left.1
     ∙ ap (λ x. nesting s start old (record { nest = x; lexer = c.self.inside.lexer; outer = c.reserve.new.self.items }))
     c.in-Err-Absent.ensures.err
     ∙ ap (λ x. nesting s start old (record { nest = c.self.inside.names; lexer = c.self.inside.lexer; outer = x }))
     c.in_ok-reserve.ensures.items
-    ∙ ap (λ i. nested_by before.nest.set before.nest.limit s (reverse c.args.conditionals.now.items) c.args.is_system.now i (nesting s start old before))
+    ∙ ap (λ i. nested_by before.nest.set before.nest.limit s (reverse c.args.conditionals.now.items) c.args.is_system.now i
+    (nesting s start old before))
     (sym (first_is s directories text start old before None n c.self.invariant.0 fit flat left.0))) nested
 
 pub returns-in-Err-TooDeep-clause-answer : goal.returns-in-Err-TooDeep-clause-answer
@@ -180,14 +185,16 @@ returns-in-Err-TooDeep-clause-nesting g c = λ honest start nested.
     let full = c.in-Err-TooDeep.ensures.full (ap (λ f. Err f) c.in-Err-TooDeep.field-0-is) in
     subst (λ (o : Open). IsNested start old o → nesting s start (files.openings c.enter.new.files)
     (record { nest = c.enter.new.self; lexer = c.self.inside.lexer; outer = c.reserve.new.self.items })
-    ≡ nested_by o.nest.set o.nest.limit s (reverse c.args.conditionals.now.items) c.args.is_system.now (inclusion s directories text (nesting s start old o)) (nesting s start old o)) c.self.view_is
+    ≡ nested_by o.nest.set o.nest.limit s (reverse c.args.conditionals.now.items) c.args.is_system.now
+    (inclusion s directories text (nesting s start old o)) (nesting s start old o)) c.self.view_is
     (λ n. ap (λ x. nesting s start x (record { nest = c.enter.new.self; lexer = c.self.inside.lexer; outer = c.reserve.new.self.items }))
     (ap files.openings (c.in-Err-TooDeep.ensures.too_deep (is_true (can_name text) fit) full).1)
     ∙ ap (λ x. nesting s start old (record { nest = x; lexer = c.self.inside.lexer; outer = c.reserve.new.self.items }))
     c.in-Err-TooDeep.ensures.err
     ∙ ap (λ x. nesting s start old (record { nest = c.self.inside.names; lexer = c.self.inside.lexer; outer = x }))
     c.in_ok-reserve.ensures.items
-    ∙ ap (λ i. nested_by before.nest.set before.nest.limit s (reverse c.args.conditionals.now.items) c.args.is_system.now i (nesting s start old before))
+    ∙ ap (λ i. nested_by before.nest.set before.nest.limit s (reverse c.args.conditionals.now.items) c.args.is_system.now i
+    (nesting s start old before))
     (sym (deep_is s directories text start old before n c.self.invariant.0 fit full))) nested
 
 pub returns-in-Ok-clause-fits : goal.returns-in-Ok-clause-fits
