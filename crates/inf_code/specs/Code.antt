@@ -103,6 +103,11 @@ pub record Routines : Type 0 where
   pub finished : List CodeCell
   pub opened : Option Opened
 
+-- whether a routine is open that is lost
+abbrev pub is_lost_in : Option Opened → Bool
+is_lost_in None = false
+is_lost_in (Some o) = o.is_lost
+
 -- what code may hold
 abbrev pub code_limits : SettingLimits → CodeLimits
 code_limits limits = record { labels = limits bound.Labels; code = limits bound.Code; refs = limits bound.References }

@@ -11,7 +11,8 @@ ghost use Rattle.inf_assembler.specs.declared.routines.CloseFault.TheVariants as
 ghost use Rattle.inf_assembler.specs.Routines.{IsOpen, contents_of, refusal};
 ghost use Rattle.inf_code.specs.Code.{IsSpare, begun, bytes_of_code, code_cells, code_count, code_left, code_limits, fault_behind};
 ghost use Rattle.inf_code.specs.Code.{fault_closed, reference_count, references_left, references_open, full_begun, full_behind_bytes};
-ghost use Rattle.inf_code.specs.Code.{full_first, full_label, full_opened, full_with, labels, labels_left, place_behind, routine_bounds};
+ghost use Rattle.inf_code.specs.Code.{full_first, full_label, full_opened, full_with, is_lost_in, labels, labels_left, place_behind};
+ghost use Rattle.inf_code.specs.Code.{routine_bounds};
 ghost use Rattle.inf_code.specs.Code.{with_closed, with_item, with_label, with_none_open, with_opened, zeros_behind};
 ghost use Rattle.inf_settings.specs.declared.setting.Setting.TheVariants as setting;
 
@@ -202,6 +203,16 @@ impl<B: Bounds> Code<B> {
         match &self.routine {
             Some(routine) => routine.labels(),
             None => 0,
+        }
+    }
+
+    /// Whether a routine is open that is lost.
+    pub fn is_lost(&self) -> bool
+        ensures { result ≡ is_lost_in self.now.opened }
+    {
+        match &self.routine {
+            Some(_) => self.is_lost,
+            None => false,
         }
     }
 

@@ -24,6 +24,7 @@ use Rattle.inf_assembler.specs.declared.routines.RoutineKind.{RoutineKind}
 use Rattle.inf_assembler.specs.declared.routines.Limit.{Limit as CodeLimit}
 use Rattle.inf_assembler.specs.declared.routines.Limit.TheVariants as code_setting
 use Rattle.inf_code.specs.Code.{Routines, begun as code_begun, code_left, fault_closed, full_begun, full_label, full_opened, full_with}
+use Rattle.inf_code.specs.Code.{is_lost_in}
 use Rattle.inf_code.specs.Code.{labels_left, references_left, with_item, with_closed, with_label as with_mark, with_none_open, with_opened}
 use Rattle.inf_names.specs.declared.meanings.Meaning.{Meaning}
 use Rattle.inf_names.specs.declared.meanings.Meaning.TheVariants as meaning
@@ -109,9 +110,20 @@ abbrev pub without : Item → Past → Past
 without (Instruction parts) past = without_bytes (length parts.text) (taken (counts_of (front_cells parts)) past)
 without (Mark label) past = taken (counts_of (Of (Marks label) ∷ [])) past
 
+-- The same in a routine that is lost, of which the labels count alone.
+abbrev pub without_labels : ℕ → Past → Past
+without_labels labels past = record past { labels = less past.labels labels }
+
+abbrev pub without_lost : Item → Past → Past
+without_lost (Instruction parts) past = without_labels (counts_of (front_cells parts)).labels past
+without_lost (Mark label) past = without (Mark label) past
+
 -- an item that is not laid any more counts all the same
+abbrev pub without_item : Routines → Item → Past → Past
+without_item code item past = if is_lost_in code.opened then without_lost item past else without item past
+
 abbrev pub passed : Limits → Item → Code
-passed limits item o = record o { past = Some (without item (past_of limits o)) }
+passed limits item o = record o { past = Some (without_item o.code item (past_of limits o)) }
 
 -- the first limit that was passed, in the order of the settings
 abbrev pub full_of : Option ℕ → Setting → Option Setting → Option Setting

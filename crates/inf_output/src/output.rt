@@ -12,6 +12,7 @@ ghost use Rattle.inf_output.specs.Output.{found_simple, full, full_of, full_past
 ghost use Rattle.inf_output.specs.Output.{laid_all, less, low_string_at, marked, naming, next_label, opened, or_full, passed, passed_limit};
 ghost use Rattle.inf_output.specs.Output.{passed_table, past_of, referred, referred_as, routine, simple_by, standing_simple, string_at};
 ghost use Rattle.inf_output.specs.Output.{symbols_passed, table_passed, taken, together, used, whole, with_low_text, with_text, with_word};
+ghost use Rattle.inf_output.specs.Output.{without_bytes, without_labels};
 
 use crate::items::{Item, Items, proper_operands};
 use crate::operands::{Simple, add_written};
@@ -149,6 +150,27 @@ impl Past {
             code: less(self.code, counts.bytes),
             strings: self.strings,
             refs: less(self.refs, counts.fixups),
+        }
+    }
+
+    /// What is left behind an instruction that takes so much, and as many bytes of text.
+    fn behind(self, counts: Counts, text: usize) -> Past
+        ensures { result ≡ without_bytes text (taken counts self) }
+    {
+        let past = self.taken(counts);
+        Past {
+            code: less(past.code, text),
+            ..past
+        }
+    }
+
+    /// So many more labels.
+    fn labelled(self, labels: usize) -> Past
+        ensures { result ≡ without_labels labels self }
+    {
+        Past {
+            labels: less(self.labels, labels),
+            ..self
         }
     }
 
@@ -333,15 +355,17 @@ impl<B: Bounds> Output<B> {
         }
     }
 
-    /// An instruction is not laid any more, but counted.
+    /// An instruction is not laid any more, but counted. Of a routine that is lost the labels count alone.
     fn pass(&mut self, instruction: &Instruction<'_>)
         requires { IsProper (parts_of instruction.now) }
         ensures { self.new ≡ passed B.most (item.Instruction (parts_of instruction.now)) self.old }
     {
-        let past = self.rest().taken(proper_counts(instruction));
-        self.past = Some(Past {
-            code: less(past.code, instruction.text.len()),
-            ..past
+        let counts = proper_counts(instruction);
+        let past = self.rest();
+        self.past = Some(if self.code.is_lost() {
+            past.labelled(counts.labels)
+        } else {
+            past.behind(counts, instruction.text.len())
         });
     }
 
