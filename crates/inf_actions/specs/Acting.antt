@@ -1,12 +1,12 @@
 -- What each action of the grammar does.
-use Rattle.std.specs.Prelude.{List, [], ◌∷◌, length, Bool, false, true, ◌&&◌, None, Some, nat_lt, if◌then◌else◌}
+use Rattle.std.specs.Prelude.{ℕ, List, [], ◌∷◌, length, Bool, false, true, ◌&&◌, None, Some, nat_lt, if◌then◌else◌, Option}
 use Rattle.inf_settings.specs.Bounds.{Limits}
 use Rattle.inf_settings.specs.Settings.{number_of}
 use Rattle.inf_settings.specs.declared.setting.Setting.TheVariants as setting
 use Rattle.inf_scanner.specs.declared.tokens.Place.{Place}
 use Rattle.inf_syntax.specs.declared.actions.Action.{Action}
 use Rattle.inf_compilation.specs.Context.{Context}
-use Rattle.inf_unit.specs.Roles.{is_arrow, is_text, makes_sure, role_of}
+use Rattle.inf_unit.specs.Roles.{ends_outer, ends_token, is_arrow, is_text, makes_sure, role_of}
 use Rattle.inf_unit.specs.declared.roles.Ending.{Ending}
 use Rattle.inf_unit.specs.declared.roles.Ending.TheVariants as ending
 use Rattle.inf_unit.specs.declared.roles.Note.{Note}
@@ -14,19 +14,21 @@ use Rattle.inf_unit.specs.declared.roles.Opening.{Opening}
 use Rattle.inf_unit.specs.declared.roles.Opening.TheVariants as opening
 use Rattle.inf_unit.specs.declared.roles.Role.{Role}
 use Rattle.inf_unit.specs.declared.roles.Role.TheVariants as role
-use Rattle.inf_unit.specs.Units.{last_leaf, last_passed, noted as unit_noted, stepped, text_passed}
+use Rattle.inf_unit.specs.Units.{is_full, last_leaf, last_passed, noted as unit_noted, operands_passed, order, stepped, text_passed}
+use Rattle.inf_statements.specs.Operands.{leaves_named}
+use Rattle.inf_expressions.specs.declared.units.Wanted.TheVariants as wanted
 use Rattle.inf_constructs.specs.declared.constructs.Case.TheVariants as case
 use Rattle.inf_constructs.specs.declared.constructs.Kind.{Kind}
 use Rattle.inf_constructs.specs.declared.constructs.Kind.TheVariants as kind
 use Rattle.inf_constructs.specs.declared.constructs.Over.TheVariants as over
-use Rattle.inf_compilation.specs.Actions.{Compilation, body_ended, close, header_end, is_deep, nested, sized}
+use Rattle.inf_compilation.specs.Actions.{Compilation, body_ended, close, cut, finding_at, header_end, is_deep, nested, sized}
 use Rattle.inf_actions.specs.Directives.{directive_end}
 use Rattle.inf_listings.specs.Arrays.{entry_ended}
 use Rattle.inf_actions.specs.Headers.{header_ended}
 use Rattle.inf_bodies.specs.Bodies.{attribute_read, class_read, property_read}
 use Rattle.inf_bodies.specs.Values.{embedded_read, value_read}
 use Rattle.inf_compilation.specs.Parts.{construct_closed, construct_joined, construct_opened, part_ended, statement_at}
-use Rattle.inf_verb_lines.specs.Verbs.{line_ended}
+use Rattle.inf_verb_lines.specs.Verbs.{line_ended, token_sifted}
 use Rattle.inf_compilation.specs.declared.parts.Part.TheVariants as part
 
 -- Whether the unit at hand prints more than code may have bytes. Its code then passes that setting, whatever else it prints.
@@ -38,15 +40,31 @@ is_crowded limits w = nat_lt (limits setting.Code) (length w.unit.items)
 abbrev pub is_tall : Context → Compilation → Bool
 is_tall context w = nat_lt (number_of setting.Objects context.settings) (last_leaf w.unit)
 
+-- Its operands, which are more than an instruction has, name their locals and are judged.
+abbrev pub operands_named : Compilation → Compilation
+operands_named w =
+    record w {
+      locals = leaves_named w.unit.tokens w.unit.gathering.leaves w.locals;
+      unit = operands_passed (finding_at (order w.unit.begun) wanted.Operand w) w.unit;
+    }
+
 -- Something is noted of the unit at hand, by which its outermost expression may be too long. Of texts that are printed, and of arrows
--- before an object's name, so many are kept.
+-- before an object's name, so many are kept, and of operands none where they are too many; of the tokens of a line of grammar
+-- that is too long those that matter.
 abbrev pub noted_of : Context → Note → Compilation → Compilation
 noted_of context n w = let v = record w { unit = unit_noted n w.unit } in if makes_sure n then sized context v else v
+
+-- Whether the unit at hand has more tokens than the grammar may have bytes. A token of a line of grammar has three bytes, and is three
+-- tokens of the source at most.
+abbrev pub is_long : Context → Compilation → Bool
+is_long context w = nat_lt (number_of setting.GrammarLines context.settings) (last_leaf w.unit)
 
 abbrev pub noted : Limits → Context → Note → Compilation → Compilation
 noted limits context n w =
     if is_text n && is_crowded limits w then record w { unit = text_passed w.unit }
     else if is_arrow n && is_tall context w then record w { unit = last_passed w.unit }
+    else if ends_outer n && is_full w.unit then operands_named w
+    else if ends_token n && is_long context w then token_sifted context w
     else noted_of context n w
 
 -- The unit at hand ends, before a token at a place.
@@ -103,3 +121,11 @@ acted limits context place (a ∷ actions) w = acted limits context place action
 -- what those on the way to a token do
 abbrev pub all_acted : Limits → Context → Place → List Action → Compilation → Compilation
 all_acted limits context place actions w = acted limits context place actions (record w { opening = None })
+
+-- A bad token at a place cuts the unit at hand. An entry of an array that waited for what follows it is whole before it.
+abbrev pub held_ended : Option ℕ → Limits → Context → Place → Compilation → Compilation
+held_ended None limits context place w = w
+held_ended (Some count) limits context place w = entry_ended limits context place false w
+
+abbrev pub cut_at : Limits → Context → Place → Compilation → Compilation
+cut_at limits context place w = cut context (held_ended w.unit.held limits context place w)

@@ -1,7 +1,8 @@
 //! What the actions of the grammar do: they gather what a unit has, which acts at its end.
 ghost use Rattle.inf_compilation.specs.Context.{handed};
 ghost use Rattle.std.specs.Prelude.{None, OnOk, ◌≡◌};
-ghost use Rattle.inf_actions.specs.Acting.{act, acted, all_acted, ended, is_crowded, is_tall, kind_of, noted, noted_of};
+ghost use Rattle.inf_actions.specs.Acting.{act, acted, all_acted, cut_at, ended, is_crowded, is_long, is_tall, kind_of, noted, noted_of};
+ghost use Rattle.inf_actions.specs.Acting.{operands_named};
 ghost use Rattle.inf_unit.specs.Directives.{Nothing};
 ghost use Rattle.inf_compilation.specs.Actions.{cut, is_deep};
 ghost use Rattle.inf_compilation.specs.Works.{work};
@@ -14,13 +15,18 @@ use inf_compilation::compilation::Compilation;
 use inf_compilation::context::Context;
 use inf_compilation::parts::Part;
 use inf_constructs::constructs::{Case, Kind, Over};
+use inf_expressions::Wanted;
 use inf_lexer::Place;
 use inf_listings::arrays::end_entry;
 use inf_settings::bounds::Bounds;
 use inf_settings::setting::Setting;
+use inf_statements::operands::name_locals;
 use inf_syntax::Action;
-use inf_unit::roles::{Ending, Note, Opening, Role, is_arrow, is_text, makes_sure, role_of};
-use inf_verb_lines::lines::end_line;
+use inf_unit::roles::{
+    Ending, Note, Opening, Role, ends_outer, ends_token, is_arrow, is_text, makes_sure, role_of,
+};
+use inf_unit::unit::order;
+use inf_verb_lines::lines::{end_line, sift_token};
 use std::alloc::AllocError;
 
 /// The kind of a statement that begins.
@@ -37,10 +43,23 @@ fn kind_of(opening: Opening) -> Kind
     }
 }
 
-/// A bad token cuts the unit at hand, of which the outermost expression surely was one, and the word before it opened its statement.
-/// The routine in
-/// which it stands is given up.
+/// A bad token at a place cuts the unit at hand. An entry of an array that waited for what follows it is whole before it.
 pub fn cut<B: Bounds>(
+    compilation: &mut Compilation<B>,
+    context: &Context<'_>,
+    place: Place,
+) -> Result<(), AllocError>
+    ensures { OnOk result (work compilation.new ≡ cut_at B.most (handed context.now) place (work compilation.old)) }
+{
+    if compilation.unit.held.is_some() {
+        end_entry(compilation, context, place, false)?;
+    }
+    give_up(compilation, context)
+}
+
+/// A bad token cuts the unit at hand, of which the outermost expression surely was one, and the word before it opened its statement.
+/// The routine in which it stands is given up.
+fn give_up<B: Bounds>(
     compilation: &mut Compilation<B>,
     context: &Context<'_>,
 ) -> Result<(), AllocError>
@@ -125,7 +144,8 @@ fn is_tall<B: Bounds>(compilation: &Compilation<B>, context: &Context<'_>) -> bo
 }
 
 /// Something is noted of the unit at hand, by which its outermost expression may be too long. Of texts that are printed, and of arrows
-/// before an object's name, so many are kept.
+/// before an object's name, so many are kept, and of operands none where they are too many; of the tokens of a line of grammar
+/// that is too long those that matter.
 fn note<B: Bounds>(
     compilation: &mut Compilation<B>,
     context: &Context<'_>,
@@ -141,7 +161,37 @@ fn note<B: Bounds>(
         compilation.unit.pass_last();
         return Ok(());
     }
+    if ends_outer(note) && compilation.unit.is_full() {
+        return pass_operands(compilation);
+    }
+    if ends_token(note) && is_long(compilation, context) {
+        return sift_token(compilation, context);
+    }
     keep_note(compilation, context, note)
+}
+
+/// Whether the unit at hand has more tokens than the grammar may have bytes. A token of a line of grammar has three bytes, and is three
+/// tokens of the source at most.
+fn is_long<B: Bounds>(compilation: &Compilation<B>, context: &Context<'_>) -> bool
+    ensures { result ≡ is_long (handed context.now) (work compilation.now) }
+{
+    compilation.unit.last() > context.settings.of(Setting::GrammarLines) as usize
+}
+
+/// The operands of the unit at hand, which are more than an instruction has, name their locals and are judged.
+fn pass_operands<B: Bounds>(compilation: &mut Compilation<B>) -> Result<(), AllocError>
+    ensures { OnOk result (work compilation.new ≡ operands_named (work compilation.old)) }
+{
+    let operands = compilation.operands()?;
+    let first = order(compilation.unit.begun);
+    let finding = compilation.finding(first, Wanted::Operand, operands.as_slice())?;
+    let unit = &compilation.unit;
+    name_locals(
+        &mut compilation.locals,
+        &unit.tokens,
+        unit.gathering.leaves(),
+    );
+    compilation.unit.pass_operands(finding)
 }
 
 /// The same of what is kept.

@@ -69,7 +69,8 @@ statement_at w = statement_in w.unit.tokens w.unit.begun w.unit.items
 -- What is wrong with it: the least of what is found of its expressions and beside them.
 abbrev pub line_finding_of : Limits → Context → Compilation → Option Finding
 line_finding_of limits context w =
-    site_finding limits (site_of context w) w.output.names (map tree_in (trees_at (order w.unit.begun) wanted.Operand (operands_of w) w))
+    least_of_both w.unit.passed
+    (site_finding limits (site_of context w) w.output.names (map tree_in (trees_at (order w.unit.begun) wanted.Operand (operands_of w) w)))
 
 abbrev pub own_finding : Limits → Context → Part → Compilation → Option Finding
 own_finding limits context (part.Statement statement.Assembly) w = line_finding_of limits context w

@@ -196,10 +196,10 @@ impl<B: Bounds> Compilation<B> {
             self.unit.gathering.symbols(),
             operands,
         )?;
-        Ok(
-            self.site(context)
-                .line_finding(&self.output.names, &forest.nodes, &forest.roots),
-        )
+        let found = self
+            .site(context)
+            .line_finding(&self.output.names, &forest.nodes, &forest.roots);
+        Ok(least_of_both(self.unit.passed, found))
     }
 
     /// What is wrong with the unit beside its expressions.

@@ -1,5 +1,5 @@
 -- What a unit gathers while it is read.
-use Rattle.std.specs.Prelude.{ℕ, ◌+◌, ◌-◌, ◌==◌, List, [], ◌∷◌, ◌++◌, length, map, drop, take, Bool, if◌then◌else◌}
+use Rattle.std.specs.Prelude.{ℕ, zero, suc, ◌+◌, ◌-◌, ◌==◌, List, [], ◌∷◌, ◌++◌, length, map, drop, take, Bool, if◌then◌else◌}
 use Rattle.inf_expressions.specs.declared.symbols.Symbol.{Symbol}
 use Rattle.inf_expressions.specs.declared.symbols.Symbol.TheVariants as symbol
 use Rattle.inf_expressions.specs.declared.operators.Unary.{Unary}
@@ -28,6 +28,11 @@ with_leaf first token leaf g = record g {
   symbols = g.symbols ++ symbol.Leaf first token (length g.leaves) ∷ [];
   firsts = first ∷ g.firsts;
 }
+
+-- so many numbers
+abbrev pub numbers : ℕ → Gathering
+numbers zero = nothing_gathered
+numbers (suc n) = with_leaf n n (leaf.Number 0) (numbers n)
 
 -- names are those of actions
 abbrev pub action_leaf : Leaf → Leaf

@@ -1,8 +1,8 @@
 //! What a unit gathers of its expressions.
-ghost use Rattle.std.specs.Prelude.{◌≡◌, OnOk, [], drop, map, reverse};
-ghost use Rattle.inf_gathering.specs.Gatherings.{action_leaf, beginning, comma, counted, latest, nothing_gathered, one_more, with_actions};
-ghost use Rattle.inf_gathering.specs.Gatherings.{with_bracket, with_call, with_closed_bracket, with_comma, with_leaf, with_list, with_part};
-ghost use Rattle.inf_gathering.specs.Gatherings.{with_prefix, with_rule, with_suffix, with_test, with_two};
+ghost use Rattle.std.specs.Prelude.{◌≡◌, OnOk, [], drop, length, map, reverse};
+ghost use Rattle.inf_gathering.specs.Gatherings.{action_leaf, beginning, comma, counted, latest, nothing_gathered, numbers, one_more};
+ghost use Rattle.inf_gathering.specs.Gatherings.{with_actions, with_bracket, with_call, with_closed_bracket, with_comma, with_leaf};
+ghost use Rattle.inf_gathering.specs.Gatherings.{with_list, with_part, with_prefix, with_rule, with_suffix, with_test, with_two};
 
 use inf_expressions::{Binary, Symbol, Unary};
 use inf_scanner::DictionaryWord;
@@ -112,6 +112,24 @@ impl Gathering {
         ensures { result.now ≡ self.now.symbols }
     {
         self.symbols.as_slice()
+    }
+
+    /// How many expressions are whole.
+    pub fn wholes(&self) -> usize
+        ensures { result ≡ length self.now.firsts }
+    {
+        self.firsts.len()
+    }
+
+    /// So many numbers stand for all that was gathered.
+    pub fn keep_numbers(&mut self, count: u32) -> Result<(), AllocError>
+        ensures { OnOk result (self.new ≡ numbers count) }
+    {
+        self.clear();
+        for order in 0..count {
+            self.leaf(order, order, Leaf::Number(0))?;
+        }
+        Ok(())
     }
 
     /// Names are those of actions.

@@ -41,7 +41,8 @@ judged_reads : (limits : Limits) (context : Context) (t : SourceToken) (r : Read
     (judged limits context t r w).reading ≡ judged_by t r
 judged_reads limits context t r w = go (fits grammar known (atom_of t) r.stack)
   where
-    go : (b : Bool) → (cond b (took limits context t r w) (bad context t r w)).reading ≡ cond b (took_by (atom_of t) r) (bad_by t.kind r)
+    go : (b : Bool) → (cond b (took limits context t r w) (bad limits context t r w)).reading
+        ≡ cond b (took_by (atom_of t) r) (bad_by t.kind r)
     go true = refl
     go false = refl
 

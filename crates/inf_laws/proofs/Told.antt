@@ -71,14 +71,14 @@ module _ (limits : Limits) (context : Context) (tokens : List SourceToken) (t : 
   takes : BeginsPiece (map atom_of (tokens ++ t ∷ [])) → judged limits context t r w ≡ took limits context t r w
   takes begun =
       of_both (λ (x : ReaderState). x ≡ took limits context t r w) (fits grammar known (atom_of t) r.stack)
-      (took limits context t r w) (bad context t r w)
+      (took limits context t r w) (bad limits context t r w)
       (λ _. refl)
       (λ out. absurd (stops tokens r t at out begun))
 
-  tells : (BeginsPiece (map atom_of (tokens ++ t ∷ [])) → ⊥) → judged limits context t r w ≡ bad context t r w
+  tells : (BeginsPiece (map atom_of (tokens ++ t ∷ [])) → ⊥) → judged limits context t r w ≡ bad limits context t r w
   tells none =
-      of_both (λ (x : ReaderState). x ≡ bad context t r w) (fits grammar known (atom_of t) r.stack)
-      (took limits context t r w) (bad context t r w)
+      of_both (λ (x : ReaderState). x ≡ bad limits context t r w) (fits grammar known (atom_of t) r.stack)
+      (took limits context t r w) (bad limits context t r w)
       (λ f. absurd (none (begins (tokens ++ t ∷ []) _ (goes tokens r t at f))))
       (λ _. refl)
 

@@ -22,8 +22,8 @@ pub record IsTakenOrTold (limits : Limits) (context : Context) (tokens : List So
   where
     pub taken : BeginsPiece (map atom_of (tokens ++ t ∷ [])) →
         given_at limits context (Kept t) s ≡ took limits context t (at_hand s.reading) (work_by s.reading.stack s.work)
-    pub told : (BeginsPiece (map atom_of (tokens ++ t ∷ [])) → ⊥) → given_at limits context (Kept t) s ≡ bad context t (at_hand s.reading)
-        (work_by s.reading.stack s.work)
+    pub told : (BeginsPiece (map atom_of (tokens ++ t ∷ [])) → ⊥) →
+        given_at limits context (Kept t) s ≡ bad limits context t (at_hand s.reading) (work_by s.reading.stack s.work)
 
 -- of any token but the end of a source between two pieces, which is none of a piece
 abbrev pub TokensAreTakenOrTold : Limits → Type 0
@@ -35,4 +35,4 @@ TokensAreTakenOrTold limits =
 abbrev pub UnfitTokensAreTold : Limits → Type 0
 UnfitTokensAreTold limits =
     (context : Context) (t : SourceToken) (s : ReaderState) → s.reading.mode ≡ mode.Reads → given_at limits context (Unfit t) s ≡
-    bad context t s.reading s.work
+    bad limits context t s.reading s.work

@@ -21,7 +21,7 @@ end_in_piece : (limits : Limits) (context : Context) (bytes : List ℕ) (place :
     → (judged limits context (record { kind = kind.End; bytes = bytes; place = place; is_class = named }) r w).reading.mode ≡ mode.Ended
 end_in_piece limits context bytes place named r w =
     let t : SourceToken = record { kind = kind.End; bytes = bytes; place = place; is_class = named } in
-    ap (λ b. (cond b (took limits context t r w) (bad context t r w)).reading.mode) (end_fits_nothing r.stack)
+    ap (λ b. (cond b (took limits context t r w) (bad limits context t r w)).reading.mode) (end_fits_nothing r.stack)
 
 end_read : (limits : Limits) (context : Context) (bytes : List ℕ) (place : Place) (named : Bool) (stack : List (Symbol Action))
     (r : Reading) (w : Compilation)

@@ -56,7 +56,7 @@ hash place = record { kind = kind.Mark mark.Hash; bytes = codes "#"; place = pla
 
 -- a token that does not fit a conditional is the bad one of the piece at hand, and where one was told it is passed over
 abbrev pub unfit_in : Limits → Recovery → Context → SourceToken → ReaderState → ReaderState
-unfit_in limits mode.Reads context t s = bad context t s.reading s.work
+unfit_in limits mode.Reads context t s = bad limits context t s.reading s.work
 unfit_in limits _ context t s = step limits context t s.reading s.work
 
 -- one that a condition takes is not handed on

@@ -20,8 +20,8 @@ use Rattle.inf_machine.specs.declared.symbols.Symbol.TheVariants.{Rule}
 use Rattle.inf_machine.specs.Machine.{fits, taken}
 use Rattle.inf_grammar.specs.Routines.{is_in_routine}
 use Rattle.inf_grammar.specs.Language.{grammar, known}
-use Rattle.inf_compilation.specs.Actions.{Compilation, cut, no_work, piece_begun as work_begun, took as work_took}
-use Rattle.inf_actions.specs.Acting.{all_acted}
+use Rattle.inf_compilation.specs.Actions.{Compilation, no_work, piece_begun as work_begun, took as work_took}
+use Rattle.inf_actions.specs.Acting.{all_acted, cut_at}
 use Rattle.inf_reader.specs.Tests.{complaint_of}
 use Rattle.inf_reader.specs.declared.recovery.Recovery.{Recovery}
 use Rattle.inf_reader.specs.declared.recovery.Recovery.TheVariants as mode
@@ -79,9 +79,9 @@ with_complaint at m r = with_complaint_of (kind_of m) at m r
 
 -- The bad token of a piece is told, and is the first that is passed over. The unit that it stands in gives nothing, and a
 -- routine that it stands in is never finished: what there is of it and of its locals is left, and nothing reads it.
-abbrev pub bad : Context → SourceToken → Reading → Compilation → ReaderState
-bad context t r w =
-    let c = cut context w in
+abbrev pub bad : Limits → Context → SourceToken → Reading → Compilation → ReaderState
+bad limits context t r w =
+    let c = cut_at limits context t.place w in
     record {
       reading = between (passed (skip_of r.stack) t.kind);
       work = record c { report = with_complaint (location context.names t.place) (complaint_of t) c.report };
@@ -95,7 +95,7 @@ took limits context t r w =
 
 -- a token of a piece is taken where it fits; else it is the bad one
 abbrev pub judged : Limits → Context → SourceToken → Reading → Compilation → ReaderState
-judged limits context t r w = if fits grammar known (atom_of t) r.stack then took limits context t r w else bad context t r w
+judged limits context t r w = if fits grammar known (atom_of t) r.stack then took limits context t r w else bad limits context t r w
 
 -- the rule of the pieces
 abbrev pub piece_rule : ℕ

@@ -217,10 +217,10 @@ impl<B: Bounds> Progress<B> {
     /// Tells the bad token of a piece, and passes over it.
     fn bad(&mut self, context: &Context<'_>, token: &SourceToken<'_>) -> Result<(), AllocError>
         ensures { let before = reading self.old.reader in
-            OnOk result (standing self.new ≡ bad (handed context.now) (spelled token.now) before (work self.old.work)) }
+            OnOk result (standing self.new ≡ bad B.most (handed context.now) (spelled token.now) before (work self.old.work)) }
     {
         self.reader.give_up(token);
-        cut(&mut self.work, context)?;
+        cut(&mut self.work, context, token.place)?;
         let at = location(context.files, token.place);
         complain(&mut self.work.report, at, token)
     }

@@ -3,7 +3,7 @@ use Rattle.std.proofs.Common.{◌≡◌, ℕ, List, [], ◌∷◌, Bool, true, f
 use Rattle.std.specs.Prelude.{◌-◌, if◌then◌else◌, nat_lt, unwrap_or}
 use Rattle.inf_settings.specs.Bounds.{Limits}
 use Rattle.inf_names.specs.Spellings.{Name}
-use Rattle.inf_unit.specs.Units.{first_place, last_passed, last_place, long_at, names_in, noted as unit_noted, taken as unit_taken}
+use Rattle.inf_unit.specs.Units.{first_place, is_full, last_passed, last_place, long_at, names_in, noted as unit_noted, taken as unit_taken}
 use Rattle.inf_unit.specs.Units.{text_passed}
 use Rattle.inf_compilation.specs.Actions.{Compilation, close, close_open, header_of, header_with, is_deep, is_to_be_replaced, named, nested}
 use Rattle.inf_compilation.specs.Actions.{opens, passed, settled_of, sized, stopped, took, trees_at}
@@ -16,7 +16,8 @@ use Rattle.inf_expressions.specs.declared.findings.Finding.{Finding}
 use Rattle.inf_expressions.specs.Questions.{children_of}
 use Rattle.inf_expressions.specs.Rooted.{Rooted}
 use Rattle.inf_expressions.specs.Trees.{Tree}
-use Rattle.inf_unit.specs.Roles.{is_arrow, is_text, makes_sure, role_of}
+use Rattle.inf_unit.specs.Roles.{ends_outer, ends_token, is_arrow, is_text, makes_sure, role_of}
+use Rattle.inf_verb_lines.specs.Verbs.{token_sifted}
 use Rattle.inf_unit.specs.declared.roles.Ending.{Ending}
 use Rattle.inf_unit.specs.declared.roles.Ending.TheVariants as ending
 use Rattle.inf_unit.specs.declared.roles.Note.{Note}
@@ -35,7 +36,7 @@ use Rattle.inf_constructs.specs.declared.constructs.Case.TheVariants as case
 use Rattle.inf_constructs.specs.declared.constructs.Construct.{Construct}
 use Rattle.inf_constructs.specs.declared.constructs.Kind.{Kind}
 use Rattle.inf_constructs.specs.declared.constructs.Kind.TheVariants as kind
-use Rattle.inf_actions.specs.Acting.{act, ended as ended_as, is_crowded, is_tall, kind_of, noted, noted_of, played}
+use Rattle.inf_actions.specs.Acting.{act, ended as ended_as, is_crowded, is_long, is_tall, kind_of, noted, noted_of, operands_named, played}
 use Rattle.inf_compilation.specs.declared.parts.Part.{Part}
 use Rattle.inf_compilation.specs.declared.parts.Part.TheVariants as part
 use Rattle.inf_statement_laws.specs.Happenings.{Acts, Happening, Takes, happen_quietly, happens_quietly, is_quiet, is_quiet_end}
@@ -127,11 +128,15 @@ quiet_note_of context n w =
 
 quiet_note : (limits : Limits) (context : Context) (n : Note) (w : Compilation) → SameOpen w (noted limits context n w)
 quiet_note limits context n w =
-    let kept = if is_arrow n && is_tall context w then record w { unit = last_passed w.unit } else noted_of context n w in
+    let sifted = if ends_token n && is_long context w then token_sifted context w else noted_of context n w in
+    let named = if ends_outer n && is_full w.unit then operands_named w else sifted in
+    let passed = record w { unit = last_passed w.unit } in
+    let kept = if is_arrow n && is_tall context w then passed else named in
     of_both (SameOpen w) (is_text n && is_crowded limits w) (record w { unit = text_passed w.unit }) kept (λ _. (refl, refl))
-    (λ _. of_both (SameOpen w) (is_arrow n && is_tall context w) (record w { unit = last_passed w.unit }) (noted_of context n w)
-    (λ _. (refl, refl))
-    (λ _. quiet_note_of context n w))
+    (λ _. of_both (SameOpen w) (is_arrow n && is_tall context w) passed named (λ _. (refl, refl))
+    (λ _. of_both (SameOpen w) (ends_outer n && is_full w.unit) (operands_named w) sifted (λ _. (refl, refl))
+    (λ _. of_both (SameOpen w) (ends_token n && is_long context w) (token_sifted context w) (noted_of context n w) (λ _. (refl, refl))
+    (λ _. quiet_note_of context n w))))
 
 quiet_end : (limits : Limits) (context : Context) (place : Place) (e : Ending) (w : Compilation) → is_quiet_end e ≡ true →
     SameOpen w (ended_as limits context place e w)

@@ -455,6 +455,9 @@ abbrev pub !end_attribute : Symbol Action
 abbrev pub !end_line : Symbol Action
 !end_line = Act action.EndLine
 
+abbrev pub !token : Symbol Action
+!token = Act action.Token
+
 abbrev pub !comma : Symbol Action
 !comma = Act action.Comma
 

@@ -25,6 +25,7 @@ pub enum Action {
     Negate,
     EndAttribute,
     EndLine,
+    Token,
     Comma,
     Not,
     BitNot,

@@ -15,4 +15,6 @@ unit u = record {
   is_over = u.is_over;
   depth = u.depth;
   held = u.held;
+  passed = u.passed;
+  long = u.long;
 }

@@ -11,6 +11,7 @@ pub mod Steps
 pub mod Texts
 pub mod Items
 pub mod Opcodes
+pub mod LongLines
 pub mod Units
 pub mod NameTokens
 pub mod AtHand

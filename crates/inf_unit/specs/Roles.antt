@@ -57,6 +57,16 @@ abbrev pub is_text : Note → Bool
 is_text note.PrintText = true
 is_text _ = false
 
+-- whether an outermost expression ends
+abbrev pub ends_outer : Note → Bool
+ends_outer note.OuterEnd = true
+ends_outer _ = false
+
+-- whether a token of a line of grammar ends
+abbrev pub ends_token : Note → Bool
+ends_token note.LineToken = true
+ends_token _ = false
+
 -- whether an arrow stands before the name of an object
 abbrev pub is_arrow : Note → Bool
 is_arrow note.Arrow = true
@@ -132,6 +142,7 @@ role_of action.AsmText = role.Note note.AsmText
 role_of action.Store = role.Note note.Store
 role_of action.Branch = role.Note (note.Branch true)
 role_of action.BranchNot = role.Note (note.Branch false)
+role_of action.Token = role.Note note.LineToken
 role_of action.EndLocals = role.End ending.Locals
 role_of action.EndEmbedded = role.End ending.Embedded
 role_of action.EndRoutine = role.End ending.Routine

@@ -1,6 +1,6 @@
 -- The unit at hand: its tokens, and what the grammar's actions gather of them.
 use Rattle.std.specs.Prelude.{ℕ, ◌+◌, ◌-◌, ◌==◌, List, [], ◌∷◌, ◌++◌, length, drop, min, slice_get, take, nat_lt, Bool, true, false, ◌&&◌}
-use Rattle.std.specs.Prelude.{if◌then◌else◌, Option, Some, None, option_map, unwrap_or}
+use Rattle.std.specs.Prelude.{◌||◌, if◌then◌else◌, not, Option, Some, None, option_map, unwrap_or}
 use Rattle.inf_scanner.specs.declared.tokens.Mark.{Mark}
 use Rattle.inf_scanner.specs.declared.tokens.Mark.TheVariants as mark
 use Rattle.inf_scanner.specs.declared.tokens.Place.{Place}
@@ -8,8 +8,10 @@ use Rattle.inf_scanner.specs.declared.tokens.TokenKind.{TokenKind}
 use Rattle.inf_scanner.specs.declared.tokens.TokenKind.TheVariants as kind
 use Rattle.inf_gathering.specs.declared.gathering.Leaf.{Leaf}
 use Rattle.inf_gathering.specs.declared.gathering.Leaf.TheVariants as leaf
-use Rattle.inf_gathering.specs.Gatherings.{Gathering, nothing_gathered, with_bracket, with_call, with_closed_bracket, with_comma, with_leaf}
-use Rattle.inf_gathering.specs.Gatherings.{with_list, with_part, with_prefix, with_rule, with_suffix, with_test, with_two}
+use Rattle.inf_gathering.specs.Gatherings.{Gathering, nothing_gathered, numbers, with_bracket, with_call, with_closed_bracket, with_comma}
+use Rattle.inf_gathering.specs.Gatherings.{with_leaf, with_list, with_part, with_prefix, with_rule, with_suffix, with_test, with_two}
+use Rattle.inf_expressions.specs.Findings.{least_of_both}
+use Rattle.inf_expressions.specs.declared.findings.Finding.{Finding}
 use Rattle.inf_names.specs.Locals.{Headed, no_locals, with_local}
 use Rattle.inf_names.specs.Spellings.{Name}
 use Rattle.inf_opcode.specs.declared.opcodes.Opcode.{Opcode}
@@ -26,6 +28,7 @@ use Rattle.inf_unit.specs.declared.steps.Step.{Step}
 use Rattle.inf_unit.specs.declared.steps.Step.TheVariants as step
 use Rattle.inf_unit.specs.declared.items.Item.{Item}
 use Rattle.inf_unit.specs.declared.items.Item.TheVariants as item
+use Rattle.inf_unit.specs.LongLines.{LongLine, no_tokens}
 use Rattle.inf_unit.specs.declared.items.PrintRule.{PrintRule}
 use Rattle.inf_unit.specs.Items.{is_own, rule_of}
 use Rattle.inf_unit.specs.Opcodes.{opcode_of, takes_text}
@@ -36,7 +39,8 @@ use Rattle.inf_unit.specs.Opcodes.{opcode_of, takes_text}
 -- where among its tokens its outermost expression begins, if one is
 -- open, and whether that surely is one; whether the unit has ended, but for its last token; how many brackets and braces of its piece are
 -- open; and how many
--- tokens it has, where it is whole and waits for what follows it.
+-- tokens it has, where it is whole and waits for what follows it; the least of what was found of operands that are not kept; and its
+-- tokens, where it is a line of grammar that has too many.
 pub record Unit : Type 0 where
   pub tokens : List SourceToken
   pub begun : ℕ
@@ -48,6 +52,8 @@ pub record Unit : Type 0 where
   pub is_over : Bool
   pub depth : ℕ
   pub held : Option ℕ
+  pub passed : Option Finding
+  pub long : Option LongLine
 
 -- at the front of a piece
 abbrev pub no_unit : Unit
@@ -63,6 +69,8 @@ no_unit = record {
   depth =
       0;
   held = None;
+  passed = None;
+  long = None;
 }
 
 -- The next token is the first of a unit. Of those before it the first is kept.
@@ -318,6 +326,31 @@ is_again at tokens = is_some_mark mark.Semicolon (kind_at tokens (at - 1)) && na
 abbrev pub semicolon_taken : Unit → Unit
 semicolon_taken u = if is_again (last_leaf u) u.tokens then last_passed u else u
 
+-- Whether it is an assembly line with more operands than an instruction has. Whatever they are, it then is wrong, and as many numbers
+-- stand for them as are too many; what was found of them is kept.
+abbrev pub is_full : Unit → Bool
+is_full u = nat_lt 8 (length u.gathering.firsts) && is_assembly u
+
+abbrev pub operands_passed : Option Finding → Unit → Unit
+operands_passed f u =
+    record u {
+      tokens = take (next_place (next_place u.begun)) u.tokens;
+      gathering = numbers 9;
+      outer = None;
+      passed = least_of_both u.passed f;
+    }
+
+-- A token ends of a line of grammar that has too many. Those so far are kept, of which one is wrong or none; one more is kept where it is
+-- wrong, or new, unless one before it is wrong.
+abbrev pub sifted_by : Option LongLine → Bool → Bool → Unit → Unit
+sifted_by None is_bad is_new u = record u { long = Some (no_tokens (length u.tokens) is_bad) }
+sifted_by (Some l) is_bad is_new u =
+    if (is_bad || is_new) && not l.is_bad then record u { long = Some (record l { count = length u.tokens; is_bad = is_bad }) }
+    else record u { tokens = take l.count u.tokens }
+
+abbrev pub sifted : Bool → Bool → Unit → Unit
+sifted is_bad is_new u = sifted_by u.long is_bad is_new u
+
 -- what an action notes of the unit
 abbrev pub noted : Note → Unit → Unit
 noted note.Begin u = begun u
@@ -338,6 +371,7 @@ noted note.Default u = with_item item.Default u
 noted note.AsmText u = opcode_text u
 noted note.Store u = with_item (item.Store (last_leaf u)) u
 noted (note.Branch sense) u = with_item (item.Branch (last_leaf u) sense) u
+noted note.LineToken u = u
 
 -- what an action gathers or notes; one that ends a unit, or has to do with the statements around it, does neither
 abbrev pub played : Role → Unit → Unit

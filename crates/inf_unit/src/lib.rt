@@ -5,6 +5,7 @@ pub mod directives;
 pub mod items;
 pub mod kept;
 pub mod kinds;
+pub mod long_lines;
 pub mod messages;
 pub mod names;
 pub mod opcodes;

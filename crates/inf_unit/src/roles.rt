@@ -1,6 +1,7 @@
 //! What each action of the grammar is there for.
 ghost use Rattle.std.specs.Prelude.{◌≡◌};
-ghost use Rattle.inf_unit.specs.Roles.{failing, is_arrow, is_text, makes_sure, operation, prefix, property, role_of, suffix, test, two};
+ghost use Rattle.inf_unit.specs.Roles.{ends_outer, ends_token, failing, is_arrow, is_text, makes_sure, operation, prefix, property};
+ghost use Rattle.inf_unit.specs.Roles.{role_of, suffix, test, two};
 
 use crate::steps::Step;
 use inf_expressions::{Binary, Operation, PropertyPart, Single, Step as Stepping, Test, Unary};
@@ -44,6 +45,8 @@ pub enum Note {
     Store,
     /// The last token names a label to which an instruction branches, where its test holds or where it fails.
     Branch(bool),
+    /// The last tokens are one of a line of grammar.
+    LineToken,
 }
 
 /// Which unit ends.
@@ -183,6 +186,20 @@ pub fn is_arrow(note: Note) -> bool
     matches!(note, Note::Arrow)
 }
 
+/// Whether an outermost expression ends.
+pub fn ends_outer(note: Note) -> bool
+    ensures { result ≡ ends_outer note }
+{
+    matches!(note, Note::OuterEnd)
+}
+
+/// Whether a token of a line of grammar ends.
+pub fn ends_token(note: Note) -> bool
+    ensures { result ≡ ends_token note }
+{
+    matches!(note, Note::LineToken)
+}
+
 /// What an action is there for. A call would cost more than the look into the table.
 #[inline(always)]
 pub fn role_of(action: Action) -> Role
@@ -256,6 +273,7 @@ pub fn role_of(action: Action) -> Role
         Action::Store => Role::Note(Note::Store),
         Action::Branch => Role::Note(Note::Branch(true)),
         Action::BranchNot => Role::Note(Note::Branch(false)),
+        Action::Token => Role::Note(Note::LineToken),
         Action::EndLocals => Role::End(Ending::Locals),
         Action::EndEmbedded => Role::End(Ending::Embedded),
         Action::EndRoutine => Role::End(Ending::Routine),

@@ -3,20 +3,24 @@ ghost use Rattle.std.specs.Prelude.{◌≡◌, ◌≤◌, ◌++◌, ◌∷◌, [
 ghost use Rattle.inf_unit.specs.AtHand.{unit};
 ghost use Rattle.inf_unit.specs.Spelled.{spelled};
 ghost use Rattle.inf_unit.specs.Units.{acted, begun, depth_behind, first_place, forgotten, headed_more, is_again, is_alone, is_assembly};
-ghost use Rattle.inf_unit.specs.Units.{is_sign, jump_label, jump_of, last_leaf, last_passed, leaf_of, long_at, marked_from, next_place};
-ghost use Rattle.inf_unit.specs.Units.{no_unit, noted, opcode_text, order, over, outer_tokens, own_place, prepared, ruled, semicolon_taken};
-ghost use Rattle.inf_unit.specs.Units.{stepped, taken, text_passed, told_leaf, with_item};
+ghost use Rattle.inf_unit.specs.Units.{is_full, is_sign, jump_label, jump_of, last_leaf, last_passed, leaf_of, long_at, marked_from};
+ghost use Rattle.inf_unit.specs.Units.{next_place, no_unit, noted, opcode_text, operands_passed, order, outer_tokens, over, own_place};
+ghost use Rattle.inf_unit.specs.Units.{prepared, ruled, semicolon_taken, sifted, stepped, taken, text_passed, told_leaf, with_item};
 
 use crate::items::{Item, rule_of};
 use crate::kinds::is_mark;
+use crate::long_lines::LongLine;
 use crate::opcodes::{opcode_of, takes_text};
 use crate::roles::{Note, Role, role_of};
 use crate::steps::Step;
 use crate::tokens::SourceToken;
 use crate::unit_tokens::UnitTokens;
+use inf_expressions::{Finding, least_of_both};
 use inf_gathering::gathering::{Gathering, Leaf};
+use inf_names::hashing::NameHashing;
 use inf_names::locals::Headed;
 use inf_names::spellings::Name;
+use inf_opcode::MOST_OPERANDS;
 use inf_scanner::{Mark, Place, TokenKind};
 use inf_syntax::Action;
 use std::alloc::{AllocError, Global};
@@ -43,6 +47,10 @@ pub struct Unit {
     pub depth: u32,
     /// How many tokens it has, where it is whole and waits for what follows it.
     pub held: Option<usize>,
+    /// The least of what was found of operands that are not kept.
+    pub passed: Option<Finding>,
+    /// Its tokens, where it is a line of grammar that has too many.
+    pub long: Option<LongLine>,
 }
 
 /// The leaf that a token at a place of its unit is.
@@ -140,6 +148,8 @@ impl Unit {
             is_over: false,
             depth: 0,
             held: None,
+            passed: None,
+            long: None,
         }
     }
 
@@ -172,6 +182,8 @@ impl Unit {
         self.is_sure = false;
         self.is_over = false;
         self.held = None;
+        self.passed = None;
+        self.long = None;
     }
 
     /// It has ended, but for its last token, if it has one still. Where it waited, the first of the tokens behind it stays.
@@ -249,6 +261,7 @@ impl Unit {
             Note::AsmText => return self.opcode_text(),
             Note::Store => return self.item(Item::Store(last)),
             Note::Branch(sense) => return self.item(Item::Branch(last, sense)),
+            Note::LineToken => {}
         }
         Ok(())
     }
@@ -259,6 +272,40 @@ impl Unit {
     {
         self.outer = None;
         self.tokens.truncate(self.tokens.len().saturating_sub(2));
+    }
+
+    /// Whether it is an assembly line with more operands than an instruction has.
+    pub fn is_full(&self) -> bool
+        ensures { result ≡ is_full (unit self.now) }
+    {
+        self.gathering.wholes() > MOST_OPERANDS && self.is_assembly()
+    }
+
+    /// Its operands, of which this is the least that was found, are not kept: as many numbers stand for them as are too many.
+    pub fn pass_operands(&mut self, finding: Option<Finding>) -> Result<(), AllocError>
+        ensures { OnOk result (unit self.new ≡ operands_passed finding (unit self.old)) }
+    {
+        self.passed = least_of_both(self.passed, finding);
+        self.outer = None;
+        let opcode = next_place(self.begun);
+        self.tokens.truncate(next_place(opcode));
+        self.gathering.keep_numbers(9)
+    }
+
+    /// A token ends of a line that has too many. Those so far are kept, of which one is wrong or none; one more is kept where it is wrong,
+    /// or new, unless one before it is wrong.
+    pub fn sift(&mut self, alloc: Global, hashing: NameHashing, is_bad: bool, is_new: bool)
+        ensures { unit self.new ≡ sifted is_bad is_new (unit self.old) }
+    {
+        let count = self.tokens.len();
+        match &mut self.long {
+            None => self.long = Some(LongLine::new(alloc, hashing, count, is_bad)),
+            Some(line) if (is_bad | is_new) & !line.is_bad => {
+                line.count = count;
+                line.is_bad = is_bad;
+            }
+            Some(line) => self.tokens.truncate(line.count),
+        }
     }
 
     /// The last token names a local: it is kept among these, and not among the tokens.

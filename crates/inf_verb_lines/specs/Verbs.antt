@@ -31,8 +31,12 @@ use Rattle.inf_settings.specs.declared.setting.Setting.TheVariants as setting
 use Rattle.inf_names.specs.Spellings.{Name}
 use Rattle.inf_unit.specs.Messages.{Diagnostic}
 use Rattle.inf_compilation.specs.Context.{Context}
+use Rattle.inf_settings.specs.Settings.{number_of as setting_number}
+use Rattle.inf_settings.specs.declared.settings.Settings.{Settings}
+use Rattle.inf_unit.specs.LongLines.{LongLine, name_added, word_added}
 use Rattle.inf_unit.specs.Tokens.{SourceToken}
-use Rattle.inf_unit.specs.Units.{bytes_at, first_place, is_some_mark, kind_at, name_at, name_order, next_place, order}
+use Rattle.inf_unit.specs.Units.{Unit, bytes_at, first_place, is_some_mark, kind_at, last_leaf, name_at, name_order, next_place, order}
+use Rattle.inf_unit.specs.Units.{sifted}
 use Rattle.inf_verbs.specs.Lines.{LineOf}
 use Rattle.inf_verbs.specs.Routines.{number_of, with_routine}
 use Rattle.inf_verbs.specs.Verbs.{AllVerbs, add_fault, line_fault_of, with_extended, with_line_of, with_verb}
@@ -447,3 +451,45 @@ fake_with limits context first name f w =
 abbrev pub fake_action : Limits → Context → Place → List Name → Compilation → Compilation
 fake_action limits context first [] w = passed true w
 fake_action limits context first (name ∷ names) w = fake_with limits context first name (faked limits name.bytes name.place w.output) w
+
+-- Lines that have more tokens than the grammar may have bytes. If nothing is wrong with such a one, it passes that setting.
+
+-- whether a name is a noun of the language where it stands in a line
+abbrev pub is_noun : Named → List ℕ → Bool
+is_noun named.Alone name = is_some (noun_named name)
+is_noun _ name = false
+
+-- the token at a place, which ends a token of the line, comes, and whether it is new
+abbrev pub token_brought_by : Option TokenKind → Settings → List SourceToken → ℕ → LongLine → LongLine × Bool
+token_brought_by (Some (kind.Word word)) settings tokens at l = word_added word.text (setting_number setting.DictionaryEntries settings) l
+token_brought_by (Some kind.Name) settings tokens at l =
+    if is_noun (named_at tokens at) (bytes_at tokens at) then (l, false)
+    else name_added (bytes_at tokens at) (setting_number setting.Symbols settings) l
+token_brought_by _ settings tokens at l = (l, false)
+
+abbrev pub token_brought : Settings → List SourceToken → ℕ → LongLine → LongLine × Bool
+token_brought settings tokens at l = token_brought_by (kind_at tokens at) settings tokens at l
+
+abbrev pub last_brought_by : Option LongLine → Settings → Unit → Unit × Bool
+last_brought_by None settings u = (u, false)
+last_brought_by (Some l) settings u =
+    let r = token_brought settings u.tokens (last_leaf u) l in (record u { long = Some r.0 }, r.1)
+
+abbrev pub last_brought : Settings → Unit → Unit × Bool
+last_brought settings u = last_brought_by u.long settings u
+
+-- what is wrong with the last token, to which the word before a sign belongs; and with all so far, where the line was not too long before
+abbrev pub last_finding : Unit → Table Place → Option Finding
+last_finding u names = least_of_both (token_finding u.tokens (last_leaf u - 2) names) (token_finding u.tokens (last_leaf u) names)
+
+abbrev pub new_finding_by : Option LongLine → Unit → Table Place → Option Finding
+new_finding_by None u names = tokens_finding (length u.tokens) u.tokens names
+new_finding_by (Some l) u names = last_finding u names
+
+abbrev pub new_finding : Unit → Table Place → Option Finding
+new_finding u names = new_finding_by u.long u names
+
+-- A token ends. It is kept where it is wrong, or new.
+abbrev pub token_sifted : Context → Compilation → Compilation
+token_sifted context w =
+    let r = last_brought context.settings w.unit in record w { unit = sifted (is_some (new_finding w.unit w.output.names)) r.1 r.0 }

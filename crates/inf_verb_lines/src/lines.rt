@@ -4,10 +4,12 @@ ghost use Rattle.std.specs.Prelude.{IfOk, IfSome, OnOk, length, option_map, true
 ghost use Rattle.inf_unit.specs.NameTokens.{named as named_token};
 ghost use Rattle.inf_verbs.specs.Lines.{LineOf};
 ghost use Rattle.inf_verb_lines.specs.Verbs.{action_by, arrow_in, arrow_or, attribute_in, can_be_routine, has_verb, is_filter_word};
-ghost use Rattle.inf_verb_lines.specs.Verbs.{is_lone_name, is_mark_at, is_reverse, is_right, is_sign_word, line_added, line_behind};
-ghost use Rattle.inf_verb_lines.specs.Verbs.{line_ended, line_found, line_judged, line_kept, line_laid, line_token, line_tokens, lone_by};
-ghost use Rattle.inf_verb_lines.specs.Verbs.{lone_token, name_token, named_at, named_behind, noun_named, one_line, parsing_routine};
-ghost use Rattle.inf_verb_lines.specs.Verbs.{preposition, token_finding, tokens_finding, with_next, with_token, wrong_unless};
+ghost use Rattle.inf_verb_lines.specs.Verbs.{is_lone_name, is_mark_at, is_noun, is_reverse, is_right, is_sign_word, last_brought};
+ghost use Rattle.inf_verb_lines.specs.Verbs.{last_finding, line_added, line_behind, line_ended, line_found, line_judged, line_kept};
+ghost use Rattle.inf_verb_lines.specs.Verbs.{line_laid, line_token, line_tokens, lone_by, lone_token, name_token, named_at, named_behind};
+ghost use Rattle.inf_verb_lines.specs.Verbs.{new_finding, noun_named, one_line, parsing_routine, preposition, token_brought, token_finding};
+ghost use Rattle.inf_verb_lines.specs.Verbs.{token_sifted, tokens_finding, with_next, with_token, wrong_unless};
+ghost use Rattle.inf_unit.specs.AtHand.{unit as unit_of};
 ghost use Rattle.inf_compilation.specs.Works.{work};
 
 use crate::verbs::{end_of_verb, has_verb, is_mark_at};
@@ -22,8 +24,10 @@ use inf_output::Output;
 use inf_scanner::{DictionaryWord, Mark, TokenKind};
 use inf_settings::bounds::Bounds;
 use inf_settings::setting::Setting;
+use inf_settings::settings::Settings;
 use inf_tables::{LineFault, LineToken, Noun, WordUse};
-use inf_unit::unit::{next_place, order};
+use inf_unit::long_lines::LongLine;
+use inf_unit::unit::{Unit, next_place, order};
 use inf_unit::unit_tokens::{NameToken, UnitTokens};
 use inf_verbs::Place as LinePlace;
 use std::alloc::{AllocError, Global};
@@ -504,4 +508,82 @@ pub fn end_line<B: Bounds>(
     let first = compilation.unit.first_place(place);
     let arrow = arrow_in(&compilation.unit.tokens);
     judge_line(compilation, context, first, arrow)
+}
+
+/// Whether a name is a noun of the language where it stands in a line. Each other one is a name of the source.
+fn is_noun(named: Named, name: &[u8]) -> bool
+    ensures { result ≡ is_noun named name.now }
+{
+    match named {
+        Named::Alone => noun_named(name).is_some(),
+        Named::Sign | Named::Filter | Named::Scope => false,
+    }
+}
+
+/// The token at a place of a line, which ends a token of the line, comes. Answers whether it is new.
+fn bring_token(
+    line: &mut LongLine,
+    settings: &Settings,
+    tokens: &UnitTokens,
+    at: usize,
+) -> Result<bool, AllocError>
+    ensures { IfOk result (λ is_new. (line.new, is_new) ≡ token_brought settings.now tokens.now at line.old) }
+{
+    match tokens.kind(at) {
+        Some(TokenKind::Word(word)) => {
+            line.add_word(word.text, settings.of(Setting::DictionaryEntries))
+        }
+        Some(TokenKind::Name) if !is_noun(named_at(tokens, at), tokens.bytes_at(at)) => {
+            line.add_name(tokens.bytes_at(at), settings.of(Setting::Symbols))
+        }
+        _ => Ok(false),
+    }
+}
+
+/// The same of the last token of a unit, if it is a line that has too many.
+fn bring_last(unit: &mut Unit, settings: &Settings) -> Result<bool, AllocError>
+    ensures { IfOk result (λ is_new. (unit_of unit.new, is_new) ≡ last_brought settings.now (unit_of unit.old)) }
+{
+    let at = unit.last();
+    match &mut unit.long {
+        Some(line) => bring_token(line, settings, &unit.tokens, at),
+        None => Ok(false),
+    }
+}
+
+/// What is wrong with the last token of a line, to which the word before a sign belongs.
+fn last_finding<B: Bounds>(unit: &Unit, names: &Symbols<Place, B>) -> Option<Finding>
+    ensures { result ≡ last_finding (unit_of unit.now) names.now }
+{
+    let at = unit.last();
+    least_of_both(
+        token_finding(&unit.tokens, at.saturating_sub(2), names),
+        token_finding(&unit.tokens, at, names),
+    )
+}
+
+/// What is wrong with the last token of a line, and where it was not too long before, with all so far.
+fn new_finding<B: Bounds>(unit: &Unit, names: &Symbols<Place, B>) -> Option<Finding>
+    ensures { result ≡ new_finding (unit_of unit.now) names.now }
+{
+    match unit.long {
+        Some(_) => last_finding(unit, names),
+        None => tokens_finding(unit.tokens.len(), &unit.tokens, names),
+    }
+}
+
+/// A token ends of a line that has more than the grammar may have bytes. It is kept where it is wrong, or new.
+pub fn sift_token<B: Bounds>(
+    compilation: &mut Compilation<B>,
+    context: &Context<'_>,
+) -> Result<(), AllocError>
+    ensures { OnOk result (work compilation.new ≡ token_sifted (handed context.now) (work compilation.old)) }
+{
+    let is_bad = new_finding(&compilation.unit, &compilation.output.names).is_some();
+    let is_new = bring_last(&mut compilation.unit, context.settings)?;
+    let hashing = compilation.output.names.hashing();
+    compilation
+        .unit
+        .sift(compilation.alloc, hashing, is_bad, is_new);
+    Ok(())
 }

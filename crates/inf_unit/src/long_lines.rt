@@ -1,0 +1,78 @@
+//! What is kept of a line of grammar that has more tokens than the grammar may have bytes.
+//!
+//! Such a line passes that setting, if nothing is wrong with it. So of a token more it matters only whether something is wrong with it,
+//! and whether it passes a setting that is told before that one: there are more names, or more words, than there may be.
+ghost use Rattle.std.specs.Prelude.{◌≡◌, ◌≤◌, IfOk, length};
+ghost use Rattle.inf_unit.specs.LongLines.{name_added, no_tokens, word_added};
+
+use inf_names::hashing::NameHashing;
+use inf_names::symbols::Symbols;
+use inf_scanner::Place;
+use inf_settings::bounds::Unbounded;
+use std::alloc::{AllocError, Global};
+use std::collections::BTreeMap;
+use std::marker::Model;
+
+/// Where a name came first does not matter here.
+const NOWHERE: Place = Place { file: 0, line: 0 };
+
+/// The tokens of such a line.
+#[derive(Drop)]
+pub struct LongLine {
+    /// How many tokens of the unit stand before the one at hand.
+    pub count: usize,
+    /// Whether something is wrong with one of them.
+    pub is_bad: bool,
+    /// The names that came since the line was too long, each once.
+    names: Symbols<Place, Unbounded>,
+    /// The words.
+    words: BTreeMap<[u8; 6], ()>,
+}
+
+impl Model for LongLine {
+    ghost use Rattle.inf_unit.specs.LongLines.{LongLine as Value_of};
+
+    ghost Value = { Value_of };
+
+    ghost view = { λ l. record { count = l.count; is_bad = l.is_bad; names = l.names; words = l.words.entries } };
+}
+
+impl LongLine {
+    /// One with so many tokens, of which one is wrong or none.
+    pub fn new(alloc: Global, hashing: NameHashing, count: usize, is_bad: bool) -> LongLine
+        ensures { result ≡ no_tokens count is_bad }
+    {
+        LongLine {
+            count,
+            is_bad,
+            names: Symbols::new(alloc, u32::MAX, false, hashing),
+            words: BTreeMap::new(alloc),
+        }
+    }
+
+    /// A name of at most 35 bytes comes, of which there may be so many. Answers whether it is new, and not more than one too many came.
+    pub fn add_name(&mut self, name: &[u8], most: u32) -> Result<bool, AllocError>
+        requires { length name.now ≤ 35 }
+        ensures { IfOk result (λ is_new. (self.new, is_new) ≡ name_added name.now most self.old) }
+    {
+        let count = self.names.len();
+        if count > most as usize {
+            return Ok(false);
+        }
+        match self.names.refer(name, NOWHERE) {
+            Ok(_) => Ok(self.names.len() > count),
+            Err(_) => Err(AllocError),
+        }
+    }
+
+    /// The same of a word with this text.
+    pub fn add_word(&mut self, text: [u8; 6], most: u32) -> Result<bool, AllocError>
+        ensures { IfOk result (λ is_new. (self.new, is_new) ≡ word_added text most self.old) }
+    {
+        if self.words.len() > most as usize || self.words.contains_key(&text) {
+            return Ok(false);
+        }
+        self.words.insert(text, ())?;
+        Ok(true)
+    }
+}
