@@ -45,7 +45,7 @@ sum_of_sources() {
     (
         cd "$root" || exit
         lines_of "${names[@]}"
-        find HANDLES "${names[@]/#/crates/}" \( -name out -o -name must-fail \) -prune -o -type f -print |
+        find HANDLES "${names[@]/#/crates/}" \( -name out -o -name 'must-fail*' \) -prune -o -type f -print |
             LC_ALL=C sort | xargs -d '\n' sha256sum
     ) | sha256sum | cut -d ' ' -f 1
 }
@@ -66,7 +66,7 @@ is_built() {
     [[ -x $out/inform && -e $out/built ]] || return 1
     mapfile -t folders < <(crates_below inform | sed "s|^|$root/crates/|")
     newer=$(find "$root/crates.txt" "$root/HANDLES" "${folders[@]}" \
-        \( -name out -o -name must-fail \) -prune -o -type f -newer "$out/built" -print -quit)
+        \( -name out -o -name 'must-fail*' \) -prune -o -type f -newer "$out/built" -print -quit)
     [[ -z $newer ]]
 }
 
@@ -83,6 +83,6 @@ copy_crates() {
     cp "$root/HANDLES" "$to"
     lines_of "$@" >"$to/crates.txt"
     for name in "$@"; do
-        tar -C "$root/crates" -c --exclude="$name/out" --exclude="$name/must-fail" "$name" | tar -C "$to/crates" -x
+        tar -C "$root/crates" -c --exclude="$name/out" --exclude="$name/must-fail*" "$name" | tar -C "$to/crates" -x
     done
 }
