@@ -4,6 +4,7 @@ ghost use Rattle.std.specs.Prelude.{OnErr};
 ghost use Rattle.inf_area.specs.Moves.{moved};
 ghost use Rattle.inf_area.specs.Words.{with_word};
 
+use crate::words::word_bytes;
 use std::alloc::{AllocError, Global};
 use std::marker::Model;
 
@@ -131,8 +132,9 @@ impl Area for FlatArea {
     }
 
     fn patch_word(&mut self, at: usize, word: u16) {
-        self.content[at] = (word / 256) as u8;
-        self.content[at + 1] = (word % 256) as u8;
+        let [high, low] = word_bytes(word);
+        self.content[at] = high;
+        self.content[at + 1] = low;
     }
 
     fn move_left(&mut self, to: usize, from: usize, end: usize) {

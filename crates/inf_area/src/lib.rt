@@ -9,8 +9,10 @@ mod areas;
 mod fixups;
 mod pages;
 mod targets;
+mod words;
 
 pub use areas::{Area, FlatArea};
 pub use fixups::{AddFault, Fixup, Refs};
 pub use pages::PagedArea;
 pub use targets::{AreaName, SystemConstant, Target, Value};
+pub use words::word_bytes;

@@ -4,6 +4,7 @@ ghost use Rattle.std.specs.Prelude.{OnErr};
 ghost use Rattle.inf_area.specs.Pages.{page_bytes, AreWhole};
 
 use crate::areas::Area;
+use crate::words::word_bytes;
 use std::alloc::{AllocError, Global};
 use std::marker::Model;
 
@@ -109,8 +110,9 @@ impl Area for PagedArea {
 
     fn patch_word(&mut self, at: usize, word: u16) {
         let pages = self.pages.as_mut_slice();
-        set_byte(pages, at, (word / 256) as u8);
-        set_byte(pages, at + 1, (word % 256) as u8);
+        let [high, low] = word_bytes(word);
+        set_byte(pages, at, high);
+        set_byte(pages, at + 1, low);
     }
 
     fn cut(&mut self, at: usize, n: usize) {

@@ -10,7 +10,7 @@ ghost use Rattle.inf_assembler.specs.Closing.{found, saving, kept_place, kept_mi
 ghost use Rattle.inf_assembler.specs.Closing.{only, AreInOrder};
 
 use arrayvec::ArrayVec;
-use inf_area::{AddFault, Area, AreaName, Fixup, Refs};
+use inf_area::{AddFault, Area, AreaName, Fixup, Refs, word_bytes};
 use inf_opcode::{Destination, Kept, Label, Special, sense_bit};
 use std::alloc::{AllocError, Global};
 
@@ -170,8 +170,9 @@ fn branch_bytes(short: bool, sense: bool, offset: usize) -> ArrayVec<u8, 2>
     if short {
         bytes.push(sense_bit(sense) + 64 + (offset % 64) as u8);
     } else {
-        bytes.push(sense_bit(sense) + (offset / 256) as u8);
-        bytes.push((offset % 256) as u8);
+        let [high, low] = word_bytes(offset as u16);
+        bytes.push(sense_bit(sense) + high);
+        bytes.push(low);
     }
     bytes
 }
@@ -199,10 +200,7 @@ fn closed_special(
         }
         Special::Jumps(label) => {
             let offset = offset_to(0x8000, new + 2, place_of(places, label))?;
-            let mut bytes = ArrayVec::new();
-            bytes.push((offset / 256) as u8);
-            bytes.push((offset % 256) as u8);
-            Some(bytes)
+            Some(ArrayVec::from(word_bytes(offset as u16)))
         }
         Special::Refers(_) => {
             let mut bytes = ArrayVec::new();

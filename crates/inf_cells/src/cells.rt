@@ -4,7 +4,7 @@ ghost use Rattle.inf_area.specs.Fixups.{with_fixups};
 ghost use Rattle.inf_cells.specs.Cells.{bytes_of, fixups_of, later_count, value_cells, values_cells, word_cells};
 ghost use Rattle.inf_cells.specs.declared.cells.WriteFault.TheVariants.{Full, Memory};
 
-use inf_area::{Area, AreaName, Fixup, Refs, Target, Value};
+use inf_area::{Area, AreaName, Fixup, Refs, Target, Value, word_bytes};
 use std::alloc::{AllocError, Global};
 use std::marker::Model;
 
@@ -79,8 +79,9 @@ impl Cells {
     pub fn word(&mut self, number: u16) -> Result<(), AllocError>
         ensures { OnOk result (self.new ≡ self.old ++ word_cells number) }
     {
-        self.byte((number / 256) as u8)?;
-        self.byte((number % 256) as u8)
+        let [high, low] = word_bytes(number);
+        self.byte(high)?;
+        self.byte(low)
     }
 
     /// A value in two bytes.

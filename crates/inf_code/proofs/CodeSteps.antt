@@ -195,6 +195,20 @@ module _ (scale : Scale) (kind : RoutineKind) (limits : CodeLimits) (finished : 
         behind = tt;
       }
 
+  -- each routine has a byte at least
+  pub counted_closed : (routines : ℕ) → whole ≡ written ++ zeros_behind scale closed.len → routines + 8 ≤ finished
+      → routines + 1 + 8 ≤ length whole
+  counted_closed routines filled few = omega (
+    arith,
+    few,
+    ap length filled,
+    length-append written (zeros_behind scale closed.len),
+    ap length written_is,
+    length-append (take finished bytes) (contents.locals ∷ closes.body ++ closing kind contents),
+    length-append (contents.locals ∷ closes.body) (closing kind contents),
+    length_finished limits finished refs bytes (Some routine) is,
+  )
+
   -- so many bytes it has then
   size_after : whole ≡ written ++ zeros_behind scale closed.len → place_behind (source_cells (length whole) listed whole) ≡ length whole
   size_after filled =

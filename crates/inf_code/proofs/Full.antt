@@ -1,7 +1,8 @@
 -- Which limit is passed: the first that the assembler finds of its area is the first of the routines.
-use Rattle.std.specs.Prelude.{nat_lt}
+use Rattle.std.specs.Prelude.{◌-◌, ◌<◌, ◌≤◌, nat_lt}
 use Rattle.std.proofs.Common.{◌≡◌, ℕ, ◌+◌, Bool, true, false, cond, List, [], ◌∷◌, length, take, Option, Some, None, refl, sym, ◌∙◌, ap}
 use Rattle.std.proofs.Common.{arith, length-append}
+use Rattle.std.proofs.lemmas.Bool.Decides.{nat_tests}
 use Rattle.inf_area.specs.declared.fixups.Fixup.{Fixup}
 use Rattle.inf_area.specs.declared.targets.AreaName.TheVariants as name
 use Rattle.inf_cells.specs.declared.cells.Cell.{Cell as CodeCell}
@@ -27,6 +28,13 @@ use Rattle.inf_code.proofs.CodeSteps.{size_finished}
 pub later_stands_for : (place : ℕ) (fixups : List Fixup) (bytes : List ℕ) (cells : List CodeCell) → StandsFor place fixups bytes cells →
     later_count cells ≡ length fixups
 later_stands_for place fixups bytes cells stands = sym (length-fixups_of name.Code place cells) ∙ ap length stands.fixups_are
+
+-- as many fixups as are left have no room with one more, and fewer have
+pub too_many : (limit len own count : ℕ) → len ≤ limit → limit - len ≤ own → count ≡ 1 + own → nat_lt limit (len + count) ≡ true
+too_many limit len own count within is same = grind (arith, nat_tests, within, is, same)
+
+pub not_too_many : (limit len own count : ℕ) → own < limit - len → count ≡ 1 + own → nat_lt limit (len + count) ≡ false
+not_too_many limit len own count is same = grind (arith, nat_tests, is, same)
 
 -- where no limit would be passed, that of bytes is not
 pub code_is_free : (full : Bool) (rest : Option Limit) → cond full (Some setting.Code) rest ≡ None →

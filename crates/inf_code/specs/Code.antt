@@ -1,6 +1,8 @@
 -- The code of a story: finished routines, as bytes and the numbers that are known later, and the routine that is open.
 use Rattle.std.specs.Prelude.{◌≡◌, ℕ, ◌+◌, ◌-◌, ◌≤◌, ◌<◌, ◌^◌, Bool, true, false, not, ◌&&◌, nat_lt, if◌then◌else◌, List, [], ◌∷◌, ◌++◌}
 use Rattle.std.specs.Prelude.{length, map, take, drop, Option, Some, None}
+use Rattle.inf_area.specs.declared.fixups.AddFault.{AddFault}
+use Rattle.inf_area.specs.declared.fixups.AddFault.TheVariants as add_fault
 use Rattle.inf_area.specs.declared.fixups.Fixup.{Fixup}
 use Rattle.inf_area.specs.declared.targets.AreaName.TheVariants as name
 use Rattle.inf_area.specs.declared.targets.Target.{Target}
@@ -95,12 +97,13 @@ pub record Opened : Type 0 where
   pub is_lost : Bool
 
 -- The routines of a story: what packed addresses are multiplied by, whether its code has begun, the finished routines of
--- its source, and
--- the one that is open, if any. Code begins with a first routine that the source does not have: it calls the source's Main.
+-- its source, how many these are, and the one that is open, if any. Code begins with a first routine that the source does not have: it
+-- calls the source's Main.
 pub record Routines : Type 0 where
   pub scale : Scale
   pub has_begun : Bool
   pub finished : List CodeCell
+  pub routines : ℕ
   pub opened : Option Opened
 
 -- whether a routine is open that is lost
@@ -113,11 +116,19 @@ abbrev pub code_limits : SettingLimits → CodeLimits
 code_limits limits = record { labels = limits bound.Labels; code = limits bound.Code; refs = limits bound.References }
 
 abbrev pub no_routines : Scale → Routines
-no_routines scale = record { scale = scale; has_begun = false; finished = []; opened = None }
+no_routines scale = record { scale = scale; has_begun = false; finished = []; routines = 0; opened = None }
 
 -- The code with the first routine, which calls what is known then.
 abbrev pub code_cells : Target → List CodeCell → List CodeCell
 code_cells called finished = first_cells called ++ finished
+
+-- whether there would be more fixups than there may be with those of the code behind others, and why they are not listed: that, or else
+-- there is no memory
+abbrev pub are_too_many : Target → List CodeCell → Fixups → Bool
+are_too_many called finished refs = nat_lt refs.limit (length refs.list + later_count (code_cells called finished))
+
+abbrev pub unlisted : Bool → AddFault
+unlisted full = if full then add_fault.Full else add_fault.Memory
 
 -- an instruction more in a routine, and in the one that is open
 abbrev pub with_instruction : Parts → Contents → Contents
@@ -140,11 +151,17 @@ abbrev pub closed_cells : Scale → RoutineKind → ℕ → Option Opened → Li
 closed_cells scale kind place None = []
 closed_cells scale kind place (Some o) = if o.is_lost then [] else padded scale (routine_cells place kind o.contents)
 
+-- how many routines that is: one, unless it is lost
+abbrev pub closed_count : Option Opened → ℕ
+closed_count None = 0
+closed_count (Some o) = if o.is_lost then 0 else 1
+
 -- the routines after the open one is closed
 abbrev pub with_closed : RoutineKind → Routines → Routines
 with_closed kind routines =
     record routines {
       finished = routines.finished ++ closed_cells routines.scale kind (place_behind routines.finished) routines.opened;
+      routines = routines.routines + closed_count routines.opened;
       opened = None;
     }
 
@@ -196,6 +213,10 @@ begun_unless (Some s) routines = routines
 
 abbrev pub begun : SettingLimits → Routines → Routines
 begun limits routines = begun_unless (full_begun limits routines) routines
+
+-- the routines of a story so far, of which the first one counts where code has begun
+abbrev pub routine_count : Routines → ℕ
+routine_count routines = (if routines.has_begun then 1 else 0) + routines.routines
 
 -- the bytes of code and the references of a story so far
 abbrev pub code_count : Routines → ℕ

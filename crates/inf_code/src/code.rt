@@ -1,5 +1,5 @@
 //! The code of a story: its finished routines, and the one that is open.
-ghost use Rattle.std.specs.Prelude.{◌≡◌, ◌≤◌, ◌⊎◌, ◌++◌, ◌+◌, [], None, Some, IfOk, MatchResult, OnOk, OnErr, false, if◌then◌else◌, length};
+ghost use Rattle.std.specs.Prelude.{◌≡◌, ◌≤◌, ◌⊎◌, ◌∷◌, ◌++◌, ◌+◌, [], None, Some, IfOk, MatchResult, OnOk, OnErr, false, if◌then◌else◌, length};
 ghost use Rattle.std.specs.Prelude.{nat_lt, take, true};
 ghost use Rattle.inf_area.specs.Fixups.{with_fixups};
 ghost use Rattle.inf_cells.specs.Cells.{bytes_of, fixups_of};
@@ -9,10 +9,10 @@ ghost use Rattle.inf_assembler.specs.declared.routines.Limit.{Limit};
 ghost use Rattle.inf_assembler.specs.declared.routines.Limit.TheVariants as code_setting;
 ghost use Rattle.inf_assembler.specs.declared.routines.CloseFault.TheVariants as close_fault;
 ghost use Rattle.inf_assembler.specs.Routines.{IsOpen, contents_of, refusal};
-ghost use Rattle.inf_code.specs.Code.{IsSpare, begun, bytes_of_code, code_cells, code_count, code_left, code_limits, fault_behind};
+ghost use Rattle.inf_code.specs.Code.{IsSpare, are_too_many, begun, bytes_of_code, code_cells, code_count, code_left, code_limits, fault_behind};
 ghost use Rattle.inf_code.specs.Code.{fault_closed, reference_count, references_left, references_open, full_begun, full_behind_bytes};
 ghost use Rattle.inf_code.specs.Code.{full_first, full_label, full_opened, full_with, is_lost_in, labels, labels_left, place_behind};
-ghost use Rattle.inf_code.specs.Code.{routine_bounds};
+ghost use Rattle.inf_code.specs.Code.{routine_bounds, routine_count, unlisted};
 ghost use Rattle.inf_code.specs.Code.{with_closed, with_item, with_label, with_none_open, with_opened, zeros_behind};
 ghost use Rattle.inf_settings.specs.declared.setting.Setting.TheVariants as setting;
 
@@ -108,6 +108,8 @@ pub struct Code<B: Bounds> {
     refs: Refs,
     // How many bytes the finished routines have, with the first one.
     finished: usize,
+    // How many routines these are, without the first one.
+    routines: usize,
     // What stands behind these bytes where no routine is open is no longer used.
     routine: Option<Routine>,
     // Whether the open routine is lost. What it refers to goes to the spare list, which is empty between.
@@ -118,6 +120,7 @@ pub struct Code<B: Bounds> {
 }
 
 impl<B: Bounds> Model for Code<B> {
+    ghost use Rattle.std.specs.Prelude.{◌+◌, ◌≤◌};
     ghost use Rattle.inf_code.specs.Code.{Routines, HasRoom, IsCode, IsSpare, open_in, source_cells};
 
     ghost Value = { Routines };
@@ -127,11 +130,12 @@ impl<B: Bounds> Model for Code<B> {
       has_begun = code.has_begun;
       finished = source_cells
           code.finished code.refs code.area;
+      routines = code.routines;
       opened = open_in code.area code.is_lost code.routine;
     } };
 
     ghost invariant = { λ code. IsCode code.limits code.finished code.refs code.area code.routine ×
-        (HasRoom code.has_begun code.limits × IsSpare code.spare) };
+        (HasRoom code.has_begun code.limits × (IsSpare code.spare × code.routines + 8 ≤ code.finished)) };
 }
 
 impl<B: Bounds> Code<B> {
@@ -151,6 +155,7 @@ impl<B: Bounds> Code<B> {
             area,
             refs: Refs::new(alloc, MOST_REFERENCES),
             finished: FIRST_ROUTINE_BYTES,
+            routines: 0,
             routine: None,
             is_lost: false,
             spare: Refs::new(alloc, MOST_REFERENCES),
@@ -163,6 +168,13 @@ impl<B: Bounds> Code<B> {
         ensures { result ≡ self.now.scale }
     {
         self.scale
+    }
+
+    /// From now on packed addresses are multiplied by `scale`: so the next routine that is closed is filled up.
+    pub fn set_scale(&mut self, scale: Scale)
+        ensures { self.new ≡ record self.old { scale = scale } }
+    {
+        self.scale = scale;
     }
 
     /// Where the next routine of the source begins, in bytes from the front of the code.
@@ -181,6 +193,17 @@ impl<B: Bounds> Code<B> {
             self.finished
         } else {
             self.finished - FIRST_ROUTINE_BYTES
+        }
+    }
+
+    /// The number of routines so far: the first one, once code has begun, and the finished ones.
+    pub fn routines(&self) -> usize
+        ensures { result ≡ routine_count self.now }
+    {
+        if self.has_begun {
+            1 + self.routines
+        } else {
+            self.routines
         }
     }
 
@@ -378,6 +401,7 @@ impl<B: Bounds> Code<B> {
             return Err(fault);
         }
         self.finished = self.area.len();
+        self.routines += 1;
         Ok(())
     }
 
@@ -389,21 +413,46 @@ impl<B: Bounds> Code<B> {
     }
 
     /// The area of the code, whose first routine calls what a target is, and behind other fixups those of it. An open routine is given up.
+    ///
+    /// Refuses first where there would be more fixups than there may be, then where no memory is left; the fixups then stay as they were.
     pub fn into_area(self, called: Target, refs: &mut Refs) -> Result<PagedArea, AddFault>
         ensures bytes { IfOk result (λ area. area ≡ bytes_of (code_cells called self.finished)) }
         ensures fixups { OnOk result (refs.new
             ≡ with_fixups (refs.old.list ++ fixups_of AreaName.Code 0 (code_cells called self.finished)) refs.old) }
+        ensures err { OnErr result (refs.new ≡ refs.old) }
+        ensures fault { let full = are_too_many called self.finished refs.old in
+            MatchResult result (λ _. full ≡ false) (λ fault. fault ≡ unlisted full) }
     {
+        if refs.limit() - refs.len() <= self.refs.len() {
+            return Err(AddFault::Full);
+        }
         let mut area = self.area;
         cut_back(&mut area, self.finished);
-        refs.add(Fixup {
+        let first = Fixup {
             area: AreaName::Code,
             place: CALLED,
             target: called,
-        })?;
-        refs.extend(self.refs.as_slice())?;
+        };
+        list_all(refs, first, self.refs.as_slice())?;
         Ok(area)
     }
+}
+
+/// Lists a fixup and others behind it, for all of which there is room. Refused, the list stays as it was.
+fn list_all(refs: &mut Refs, first: Fixup, others: &[Fixup]) -> Result<(), AllocError>
+    requires { length refs.old.list + (1 + length others.now) ≤ refs.old.limit }
+    ensures ok { OnOk result (refs.new ≡ with_fixups (refs.old.list ++ first ∷ others.now) refs.old) }
+    ensures err { OnErr result (refs.new ≡ refs.old) }
+{
+    let listed = refs.len();
+    if refs.add(first).is_err() {
+        return Err(AllocError);
+    }
+    if refs.extend(others).is_err() {
+        refs.keep(listed);
+        return Err(AllocError);
+    }
+    Ok(())
 }
 
 /// Where the references of a routine are listed that is lost or not.

@@ -7,7 +7,7 @@ ghost use Rattle.inf_settings.specs.declared.setting.Setting.TheVariants as sett
 
 use crate::places::Places;
 use crate::uses::{Word, WordUse, is_of_other_verb, joined};
-use inf_area::Area;
+use inf_area::{Area, word_bytes};
 use inf_settings::bounds::Bounds;
 use std::alloc::{AllocError, AllocFailed, Global};
 use std::collections::BTreeMap;
@@ -181,15 +181,8 @@ impl<B: Bounds> Dictionary<B> {
         ensures { IfOk result (λ bytes. bytes.items ≡ dictionary_bytes self.now.list) }
     {
         let count = self.words.len();
-        let head = [
-            3,
-            b'.',
-            b',',
-            b'"',
-            9,
-            (count / 256 % 256) as u8,
-            (count % 256) as u8,
-        ];
+        let [high, low] = word_bytes((count % 65536) as u16);
+        let head = [3, b'.', b',', b'"', 9, high, low];
         let mut bytes = Vec::from_slice(alloc, &head)?;
         for (text, word) in &self.words {
             add_entry(&mut bytes, text, *word)?;

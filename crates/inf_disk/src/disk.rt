@@ -1,4 +1,4 @@
-ghost use Rattle.std.specs.Prelude.{◌≡◌, ◌+◌, ◌<◌, ◌≤◌, [], ◌∷◌, ◌++◌, None, Some, Ok, true, IsErr, IsSome, IsErrOf, IfOk, OnOk, OnErr};
+ghost use Rattle.std.specs.Prelude.{◌≡◌, ◌==◌, ◌&&◌, IsTrue, ◌+◌, ◌<◌, ◌≤◌, [], ◌∷◌, ◌++◌, None, Some, Ok, true, IsErr, IsSome, IsErrOf, IfOk, OnOk, OnErr};
 ghost use Rattle.std.specs.Prelude.{is_ok, length, min, if◌then◌else◌};
 ghost use Rattle.std.specs.Fs.{new_options, with_write, with_create, with_truncate};
 ghost use Rattle.std.specs.Io.KnownBytes.{ReadConsumes, WriteAppends};
@@ -11,7 +11,7 @@ use inf_files::given_bytes::GivenBytes;
 use inf_sinks::sinks::{Sink, SinkFault};
 use std::alloc::Global;
 use std::cell::Cell;
-use std::fs::{OpenFile, OpenOptions};
+use std::fs::{Metadata, OpenFile, OpenOptions};
 use std::io::{ErrorKind, Read, Write};
 use std::os::unix::fs::MetadataExt;
 use std::{fs, rt};
@@ -39,12 +39,37 @@ impl Trouble {
 
     /// Counts a failure, and keeps its reason.
     pub fn add(&mut self, reason: ErrorKind)
+        ensures count { self.new.failures ≡ min (self.old.failures + 1) last_count }
         ensures rose { Rose self.old.failures self.new.failures }
         ensures later { self.old.failures ≤ self.new.failures }
         ensures reason { self.new.reason ≡ Some reason }
     {
         self.failures.add();
         self.reason = Some(reason);
+    }
+}
+
+/// A file as the system tells it from others: by the number of its device, and by its own number there.
+#[derive(Clone, Copy, Debug)]
+struct FileNumbers {
+    device: u64,
+    file: u64,
+}
+
+impl FileNumbers {
+    /// The numbers that the system tells of a file.
+    fn of(metadata: &Metadata) -> FileNumbers {
+        FileNumbers {
+            device: metadata.dev(),
+            file: metadata.ino(),
+        }
+    }
+
+    /// Whether both are of one file: both numbers are the same.
+    fn is_one(self, other: FileNumbers) -> bool
+        ensures { result ≡ (self.device == other.device && self.file == other.file) }
+    {
+        self.device == other.device && self.file == other.file
     }
 }
 
@@ -78,7 +103,7 @@ impl<'r> StoryPlace<'r> {
         let (Ok(source), Ok(story)) = (source.metadata(), fs::metadata(system, self.name)) else {
             return;
         };
-        if source.dev() == story.dev() && source.ino() == story.ino() {
+        if FileNumbers::of(&source).is_one(FileNumbers::of(&story)) {
             self.is_source.set(true);
         }
     }
@@ -152,20 +177,24 @@ fn read_some<F: Read>(
     ensures count { IfOk result (λ n. n ≤ length to.new) }
     ensures failed { IsErr result → Rose trouble.old.failures trouble.new.failures }
     ensures reason { IsErr result → IsSome trouble.new.reason }
+    ensures patient { IsErr result → ¬ (trouble.new.reason ≡ Some ErrorKind.Interrupted) }
     ensures kept { OnOk result (trouble.new.reason ≡ trouble.old.reason) }
     ensures later { trouble.old.failures ≤ trouble.new.failures }
 {
     for _ in 0..u64::MAX {
-        match file.read(to) {
+        let error = match file.read(to) {
             Ok(count) => return Ok(count),
-            Err(error) if error.kind() == ErrorKind::Interrupted => {}
-            Err(error) => {
-                trouble.add(error.kind());
+            Err(error) => error,
+        };
+        match error.kind() {
+            ErrorKind::Interrupted => {}
+            reason => {
+                trouble.add(reason);
                 return Err(ReadFault::Device);
             }
         }
     }
-    trouble.add(ErrorKind::Interrupted);
+    trouble.add(ErrorKind::TimedOut);
     Err(ReadFault::Device)
 }
 
@@ -229,6 +258,7 @@ impl<R: rt::Files> Files for DiskFiles<'_, R> {
         ensures same { OnErr result (self.new.given ≡ self.old.given) }
         ensures cause { IsErr result → Rose self.old.trouble.failures self.new.trouble.failures }
         ensures reason { IsErr result → IsSome self.new.trouble.reason }
+        ensures patient { IsErr result → ¬ (self.new.trouble.reason ≡ Some ErrorKind.Interrupted) }
         ensures kept { OnOk result (self.new.trouble.reason ≡ self.old.trouble.reason) }
         ensures faults { self.old.trouble.failures ≤ self.new.trouble.failures }
     {
@@ -260,26 +290,30 @@ fn write_some<W: Write>(to: &mut W, bytes: &[u8], trouble: &mut Trouble) -> Resu
     ensures count { IfOk result (λ n. n ≤ length bytes.now) }
     ensures failed { IsErr result → Rose trouble.old.failures trouble.new.failures }
     ensures reason { IsErr result → IsSome trouble.new.reason }
+    ensures patient { IsErr result → ¬ (trouble.new.reason ≡ Some ErrorKind.Interrupted) }
     ensures nothing { result ≡ Ok 0 → Rose trouble.old.failures trouble.new.failures }
     ensures empty { result ≡ Ok 0 → trouble.new.reason ≡ Some ErrorKind.WriteZero }
     ensures kept { IfOk result (λ n. 0 < n → trouble.new.reason ≡ trouble.old.reason) }
     ensures later { trouble.old.failures ≤ trouble.new.failures }
 {
     for _ in 0..u64::MAX {
-        match to.write(bytes) {
+        let error = match to.write(bytes) {
             Ok(0) => {
                 trouble.add(ErrorKind::WriteZero);
                 return Ok(0);
             }
             Ok(count) => return Ok(count),
-            Err(error) if error.kind() == ErrorKind::Interrupted => {}
-            Err(error) => {
-                trouble.add(error.kind());
+            Err(error) => error,
+        };
+        match error.kind() {
+            ErrorKind::Interrupted => continue,
+            reason => {
+                trouble.add(reason);
                 return Err(SinkFault::Device);
             }
         }
     }
-    trouble.add(ErrorKind::Interrupted);
+    trouble.add(ErrorKind::TimedOut);
     Err(SinkFault::Device)
 }
 
@@ -319,6 +353,7 @@ impl<W: Write> Sink for OutputSink<W> {
         ensures count { IfOk result (λ n. n ≤ length bytes.now) }
         ensures failed { IsErr result → Rose self.old.trouble.failures self.new.trouble.failures }
         ensures reason { IsErr result → IsSome self.new.trouble.reason }
+        ensures patient { IsErr result → ¬ (self.new.trouble.reason ≡ Some ErrorKind.Interrupted) }
         ensures nothing { result ≡ Ok 0 →
             Rose self.old.trouble.failures self.new.trouble.failures }
         ensures empty { result ≡ Ok 0 → self.new.trouble.reason ≡ Some ErrorKind.WriteZero }
@@ -355,6 +390,38 @@ impl<'r, R: rt::Files> StorySink<'r, R> {
             trouble: Trouble::none(),
         }
     }
+
+    /// Makes the file and writes to it, unless it is a source of the run, which is neither opened nor made then.
+    fn begin(&mut self, is_source: bool, bytes: &[u8]) -> Result<usize, SinkFault>
+        requires some { 0 < length bytes.now }
+        requires none { self.old.file ≡ None }
+        ensures spared { IsTrue is_source → IsErr result × (self.new.file ≡ None)
+            × (self.new.trouble.reason ≡ Some ErrorKind.ResourceBusy) }
+        ensures bytes { WritesMade (R.File.contents) self.old.file self.new.file result bytes.now }
+        ensures count { IfOk result (λ n. n ≤ length bytes.now) }
+        ensures failed { IsErr result → Rose self.old.trouble.failures self.new.trouble.failures }
+        ensures reason { IsErr result → IsSome self.new.trouble.reason }
+        ensures nothing { result ≡ Ok 0 → Rose self.old.trouble.failures self.new.trouble.failures }
+        ensures empty { result ≡ Ok 0 → self.new.trouble.reason ≡ Some ErrorKind.WriteZero }
+        ensures kept { IfOk result (λ n. 0 < n → self.new.trouble.reason ≡ self.old.trouble.reason) }
+        ensures failures { self.old.trouble.failures ≤ self.new.trouble.failures }
+    {
+        if is_source {
+            self.trouble.add(ErrorKind::ResourceBusy);
+            return Err(SinkFault::Device);
+        }
+        match story_options().open(self.system, self.place.name) {
+            Ok(mut file) => {
+                let answer = write_some(&mut file, bytes, &mut self.trouble);
+                self.file = Some(file);
+                answer
+            }
+            Err(error) => {
+                self.trouble.add(error.kind());
+                Err(SinkFault::Device)
+            }
+        }
+    }
 }
 
 impl<R: rt::Files> Sink for StorySink<'_, R> {
@@ -379,20 +446,6 @@ impl<R: rt::Files> Sink for StorySink<'_, R> {
         if let Some(file) = &mut self.file {
             return write_some(file, bytes, &mut self.trouble);
         }
-        if self.place.is_source() {
-            self.trouble.add(ErrorKind::ResourceBusy);
-            return Err(SinkFault::Device);
-        }
-        match story_options().open(self.system, self.place.name) {
-            Ok(mut file) => {
-                let answer = write_some(&mut file, bytes, &mut self.trouble);
-                self.file = Some(file);
-                answer
-            }
-            Err(error) => {
-                self.trouble.add(error.kind());
-                Err(SinkFault::Device)
-            }
-        }
+        self.begin(self.place.is_source(), bytes)
     }
 }

@@ -1,5 +1,5 @@
-ghost use Rattle.std.specs.Prelude.{◌≡◌, ◌≤◌};
-ghost use Rattle.inf_files.specs.Files.{Rose};
+ghost use Rattle.std.specs.Prelude.{◌≡◌, ◌≤◌, ◌+◌, min};
+ghost use Rattle.inf_files.specs.Files.{Rose, last_count};
 
 use std::marker::Model;
 
@@ -27,6 +27,7 @@ impl Failures {
 
     /// Counts one more failure.
     pub fn add(&mut self)
+        ensures count { self.new ≡ min (self.old + 1) last_count }
         ensures rose { Rose self.old self.new }
         ensures later { self.old ≤ self.new }
     {

@@ -7,3 +7,5 @@ pub mod NameLists
 pub mod FileNames
 pub mod Candidates
 pub mod AnswerLaws
+pub mod Heading
+pub mod HeadLaws

@@ -1,5 +1,5 @@
 -- A token that is not ended by the bytes that were given.
-use Rattle.std.proofs.Common.{◌≡◌, ◌⊎◌, inl, inr, ℕ, ◌+◌, ◌-◌, ◌≤◌, ◌<◌, List, [], ◌∷◌, ◌++◌, length, Bool, true, false, cond, IsTrue, refl}
+use Rattle.std.proofs.Common.{◌≡◌, ◌⊎◌, inl, inr, ℕ, ◌+◌, ◌-◌, ◌≤◌, ◌<◌, List, [], ◌++◌, length, Bool, true, false, cond, IsTrue, refl}
 use Rattle.std.proofs.Common.{sym, ap, subst, ◌∙◌, arith, append_assoc}
 use Rattle.inf_characters.specs.declared.characters.CharSet.{CharSet}
 use Rattle.inf_files.specs.Files.{Sources, Openings}
@@ -9,7 +9,7 @@ use Rattle.inf_scanner.specs.declared.scanner.State.{State}
 use Rattle.inf_scanner.specs.declared.scanner.State.TheVariants as state
 use Rattle.inf_scanner.proofs.Growing.{rest_within, takes_more}
 use Rattle.inf_lexer.specs.Readers.{StaysUnfinished}
-use Rattle.inf_lexer.specs.Unread.{CanFollow, Heard, ReadsOn, View, to_come, unread}
+use Rattle.inf_lexer.specs.Unread.{Heard, ReadsOn, View, to_come, unread}
 use Rattle.inf_lexer.proofs.Hearing.{reads_by}
 
 past_of : (before after some : ℕ) → before ≤ 16777216 → after ≡ before + some →

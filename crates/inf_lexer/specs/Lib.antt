@@ -1,5 +1,7 @@
 pub mod Unread
+pub mod Heads
 pub mod Readers
 pub mod Names
 pub mod Entering
 pub mod AnswerLaws
+pub mod HeadLaws

@@ -9,6 +9,8 @@ use Rattle.inf_scanner.specs.declared.lines.Lines.{Lines}
 use Rattle.inf_scanner.specs.declared.tokens.Token.{Token}
 use Rattle.inf_scanner.specs.declared.tokens.TokenKind.{TokenKind}
 use Rattle.inf_scanner.specs.declared.tokens.TokenKind.TheVariants as kind
+use Rattle.inf_lexer.specs.Heads.{HeadRead}
+use Rattle.inf_lexer.specs.declared.head.HeadPlace.{HeadPlace}
 use Rattle.inf_lexer.specs.Unread.{IsAtEnd, View}
 
 -- A lexer: the character set, how many bytes a quoted token may have, the number of its file, what is in view of it, the bytes
@@ -25,6 +27,11 @@ pub record Reader : Type 0 where
 -- what a call read
 abbrev pub read_out : Token → Reader → List ℕ → Read
 read_out token reader rest = record { kind = token.kind; line = token.place.line; kept = reader.kept; lines = reader.lines; rest = rest }
+
+-- what a call read of a head
+abbrev pub head_out : Bool → HeadPlace → List ℕ → Reader → List ℕ → HeadRead
+head_out is_word place word reader rest =
+    record { is_word = is_word; place = place; word = word; lines = reader.lines; rest = rest }
 
 -- a lexer that has read nothing yet
 abbrev pub at_front : CharSet → ℕ → ℕ → Reader

@@ -1,7 +1,13 @@
 //! What the definitions give together.
 ghost use Rattle.inf_lexer.specs.AnswerLaws.{TokensAreTheSources};
+ghost use Rattle.inf_lexer.specs.HeadLaws.{HeadsHaveNoTokens};
 
 /// The tokens that a lexer answers are those of the source, however few bytes each reading gives.
 pub fn tokens_are_the_sources()
     ensures { TokensAreTheSources }
+{}
+
+/// The tokens of a source are those behind its head: reading a word of the head, or its end, leaves the next token as it was.
+pub fn heads_have_no_tokens()
+    ensures { HeadsHaveNoTokens }
 {}

@@ -1,18 +1,23 @@
 //! The tokens of an open source, one after another.
 ghost use Rattle.std.specs.Prelude.{◌≡◌, ◌+◌, ◌-◌, ◌<◌, ◌≤◌, ◌⊎◌, [], false, true, length, min, is_err, IsTrue, IsErrOf, IfOk, OnOk, Err};
+ghost use Rattle.std.specs.Prelude.{IsErr, IfErr, OnErr};
 ghost use Rattle.inf_files.specs.Files.{Rose, last_count};
+ghost use Rattle.inf_lexer.specs.Heads.{HeadFound, HeadRead, head_found, next_head_word};
 ghost use Rattle.inf_lexer.specs.Unread.{Along, Ends, Heard, StillGives, to_come, unread};
 ghost use Rattle.inf_scanner.specs.Scanning.{Found, begun, find, is_quoted, sight};
 ghost use Rattle.inf_scanner.specs.Tokens.{Read, next_token};
-ghost use Rattle.inf_lexer.specs.Readers.{StaysUnfinished, Took, at_front, read_out};
+ghost use Rattle.inf_lexer.specs.Readers.{StaysUnfinished, Took, at_front, head_out, read_out};
 
 use crate::faults::LexFault;
+use crate::head::{HeadPlace, HeadTurn, is_word, place_behind, take_head};
 use crate::window::Window;
+use arrayvec::ArrayVec;
 use inf_files::files::Files;
-use inf_scanner::{Ending, Place, Seen, State, Token, Turn, kind_of};
+use inf_scanner::{Ending, Lines, Place, Seen, State, Token, Turn, kind_of};
 use inf_text::CharSet;
 use std::alloc::{AllocError, Global};
 use std::marker::Model;
+use std::mem;
 
 /// Reads the bytes of the next token.
 fn scan<F: Files>(
@@ -69,6 +74,57 @@ fn scan<F: Files>(
             Turn::On(next) => state = next,
             Turn::Last(ending) => return Ok(ending),
             Turn::Behind(ending) => return Ok(ending),
+        }
+    }
+}
+
+/// Reads the bytes of a head up to the end of its next word, or to its own end, and tells where that is.
+fn scan_head<F: Files>(
+    from: HeadPlace,
+    window: &mut Window,
+    lines: &mut Lines,
+    word: &mut ArrayVec<u8, 256>,
+    files: &mut F,
+) -> Result<HeadPlace, LexFault>
+    requires is_open { 0 < F.depth files.old }
+    requires few { window.old.given ≤ 16777216 }
+    requires room { lines.old.line + length window.old.left ≤ window.old.given + 1 }
+    requires window { length window.old.left ≤ 4096 }
+    ensures heard { IfOk result (λ place. Heard HeadFound (F.is_honest files.old) (F.sources files.old)
+        (F.openings files.old) (F.openings files.new) window.old window.new
+        (λ rest. record { place = place; word = word.new.items; lines = lines.new; rest = rest })
+        (head_found from word.old.items lines.old)) }
+    ensures end { IsTrue (F.is_honest files.old) → Ends (F.sources files.old) (F.openings files.old) window.old →
+        Ends (F.sources files.old) (F.openings files.new) window.new }
+    ensures still { IsTrue (F.is_honest files.old) → StillGives (F.openings files.old) window.old →
+        StillGives (F.openings files.new) window.new }
+    ensures gave { IsTrue (F.is_honest files.old) →
+        Along (F.sources files.old) (F.openings files.old) (F.openings files.new) window.old.given window.new.given }
+    ensures room { OnOk result (lines.new.line + length window.new.left ≤ window.new.given + 1) }
+    ensures window { length window.new.left ≤ 4096 }
+    ensures few { OnOk result (window.new.given ≤ 16777216) }
+    ensures more { window.old.given ≤ window.new.given }
+    ensures err { IfErr result (λ fault. fault ≡ LexFault.Read) }
+    ensures cause { IsErr result → Rose (F.faults files.old) (F.faults files.new) ⊎ (16777216 < window.new.given) }
+    ensures on { IsErr result → window.new.is_over ≡ false }
+    ensures given { min (F.given files.old + (window.new.given - window.old.given)) last_count ≤ F.given files.new }
+    ensures depth { F.depth files.new ≡ F.depth files.old }
+    ensures opened { F.opened files.new ≡ F.opened files.old }
+    ensures faults { F.faults files.old ≤ F.faults files.new }
+    ensures sources { F.sources files.new ≡ F.sources files.old }
+    ensures honesty { F.is_honest files.new ≡ F.is_honest files.old }
+{
+    let mut place = from;
+    'windows: loop {
+        window.refill(files)?;
+        if window.left().is_empty() {
+            return Ok(place);
+        }
+        let (taken, turn) = take_head(place, lines, word, window.left());
+        window.pass(taken);
+        match turn {
+            HeadTurn::On(next) => place = next,
+            HeadTurn::Stopped(last) => return Ok(last),
         }
     }
 }
@@ -204,6 +260,92 @@ impl Lexer {
                 line: self.seen.first,
             },
         })
+    }
+
+    /// Reads the next word of the head of the source into `word`, of which at most 256 bytes are kept, and tells whether there was one.
+    ///
+    /// The head is the source's lines, from its first byte on, that begin with `!%`; lines end with CR, LF or CR LF. What follows `!%` is
+    /// words, which are cut at spaces and tabs alone. `place` tells where the head goes on: `HeadPlace::Line` before the first call, and
+    /// from then on what the call before left. Behind the last word the answer is false, and the source goes on behind the head, but for a
+    /// comment that ends it. The lexer's source is the one that was opened last and is not closed.
+    ///
+    /// `Read` comes where the source could not be read, or has more than 16,777,216 bytes, and after every refusal.
+    pub fn next_head_word<F: Files>(
+        &mut self,
+        files: &mut F,
+        place: &mut HeadPlace,
+        word: &mut ArrayVec<u8, 256>,
+    ) -> Result<bool, LexFault>
+        requires { 0 < F.depth files.old }
+
+        // With an honest reader it is the next word of what is still to come.
+        ensures word { IsTrue (F.is_honest files.old) → IfOk result (λ is_word.
+            head_out is_word place.new word.new.items self.new (to_come (F.sources files.old) (F.openings files.new) self.new.window)
+            ≡ next_head_word place.old self.old.lines (to_come (F.sources files.old) (F.openings files.old) self.old.window)) }
+
+        // With any reader it is the next word of what is in view and the bytes that were given, whatever follows them.
+        ensures heard { IfOk result (λ is_word. Heard HeadRead (F.is_honest files.old) (F.sources files.old)
+            (F.openings files.old) (F.openings files.new) self.old.window self.new.window
+            (head_out is_word place.new word.new.items self.new) (next_head_word place.old self.old.lines)) }
+        ensures end { IsTrue (F.is_honest files.old) → Ends (F.sources files.old) (F.openings files.old) self.old.window →
+            Ends (F.sources files.old) (F.openings files.new) self.new.window }
+        ensures still { IsTrue (F.is_honest files.old) → StillGives (F.openings files.old) self.old.window →
+            StillGives (F.openings files.new) self.new.window }
+        ensures same { (self.new.set ≡ self.old.set) × (self.new.limit ≡ self.old.limit) × (self.new.file ≡ self.old.file) }
+        ensures kept { self.new.kept ≡ self.old.kept }
+
+        // What it was given: at most 4,096 bytes behind the word, each once.
+        ensures window { length self.new.window.left ≤ 4096 }
+        ensures gave { IsTrue (F.is_honest files.old) → Along (F.sources files.old)
+            (F.openings files.old) (F.openings files.new) self.old.window.given self.new.window.given }
+        ensures given { min (F.given files.old + (self.new.window.given - self.old.window.given)) last_count
+            ≤ F.given files.new }
+        ensures few { OnOk result (self.new.window.given ≤ 16777216) }
+
+        // A refusal has its cause, leaves the place, and is the last answer but `Read`.
+        ensures read { IfErr result (λ fault. fault ≡ LexFault.Read) }
+        ensures cause { IsErr result → (self.old.has_failed ≡ true)
+            ⊎ (Rose (F.faults files.old) (F.faults files.new) ⊎ (16777216 < self.new.window.given)) }
+        ensures on { self.old.has_failed ≡ false → IsErr result → self.new.window.is_over ≡ false }
+        ensures unmoved { OnErr result (place.new ≡ place.old) }
+        ensures failed { self.new.has_failed ≡ is_err result }
+        ensures over { self.old.has_failed ≡ true → result ≡ Err LexFault.Read }
+        ensures depth { F.depth files.new ≡ F.depth files.old }
+        ensures opened { F.opened files.new ≡ F.opened files.old }
+        ensures faults { F.faults files.old ≤ F.faults files.new }
+        ensures sources { F.sources files.new ≡ F.sources files.old }
+        ensures honesty { F.is_honest files.new ≡ F.is_honest files.old }
+    {
+        if mem::replace(&mut self.has_failed, true) {
+            return Err(LexFault::Read);
+        }
+        word.clear();
+        let last = scan_head(*place, &mut self.window, &mut self.seen.lines, word, files)?;
+        self.has_failed = false;
+        *place = place_behind(last);
+        Ok(is_word(last))
+    }
+
+    /// The character set that is read by.
+    pub fn characters(&self) -> CharSet
+        ensures { result ≡ self.now.set }
+    {
+        self.set
+    }
+
+    /// Reads by the character set `set` from the next token on.
+    pub fn set_characters(&mut self, set: CharSet)
+        ensures { self.new ≡ record self.old { set = set } }
+    {
+        self.set = set;
+    }
+
+    /// Reads by the character set `set` from the next token on, and lets a quoted token have `limit` bytes between its quotes.
+    pub fn choose(&mut self, set: CharSet, limit: u32)
+        ensures { self.new ≡ record self.old { set = set; limit = limit } }
+    {
+        self.set_characters(set);
+        self.limit = limit;
     }
 
     /// The bytes of the token that was read last: of a text or quote those between its quotes, and of a token

@@ -4,6 +4,7 @@
 
 mod enter_faults;
 mod faults;
+mod head;
 mod include_names;
 pub mod laws;
 mod lexer;
@@ -12,6 +13,7 @@ mod window;
 
 pub use enter_faults::EnterFault;
 pub use faults::LexFault;
+pub use head::HeadPlace;
 pub use inf_scanner::{BadToken, DictionaryWord, Mark, Place, Token, TokenKind};
 pub use lexer::Lexer;
 pub use stack::Stack;

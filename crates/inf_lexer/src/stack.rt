@@ -69,6 +69,21 @@ impl Stack {
         }
     }
 
+    /// Has files that are entered from here on read by the character set `set`.
+    pub fn set_characters(&mut self, set: CharSet)
+        ensures { self.new ≡ record self.old { set = set } }
+    {
+        self.set = set;
+    }
+
+    /// Has files that are entered from here on read by the character set `set`, and a quoted token of theirs have at most `limit` bytes.
+    pub fn choose(&mut self, set: CharSet, limit: u32)
+        ensures { self.new ≡ record self.old { set = set; limit = limit } }
+    {
+        self.set_characters(set);
+        self.limit = limit;
+    }
+
     /// Enters the main source, by its whole name; it is then the innermost file.
     ///
     /// The faults, in the order of their checks: `BadName` for an empty name; `TooDeep` where 16 files are

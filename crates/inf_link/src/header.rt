@@ -4,6 +4,7 @@ ghost use Rattle.std.specs.List.{flat_map};
 ghost use Rattle.inf_link.specs.Header.{checksum, header, header_back, header_front, number_bytes};
 
 use crate::areas::Areas;
+use inf_area::word_bytes;
 use inf_cells::Scale;
 use std::alloc::AllocError;
 
@@ -38,8 +39,7 @@ fn append_numbers(out: &mut Vec<u8>, numbers: &[usize]) -> Result<(), AllocError
     ensures { OnOk result (out.new.items ≡ out.old.items ++ flat_map number_bytes numbers.now) }
 {
     for number in numbers {
-        let number = number % 65536;
-        out.extend_from_slice(&[(number / 256) as u8, (number % 256) as u8])?;
+        out.extend_from_slice(&word_bytes((number % 65536) as u16))?;
     }
     Ok(())
 }

@@ -4,3 +4,4 @@ pub mod Unknown
 pub mod LocalLemmas
 pub mod Places
 pub mod SameNames
+pub mod NameLists

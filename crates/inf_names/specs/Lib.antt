@@ -5,3 +5,4 @@ pub mod Keys
 pub mod Spellings
 pub mod Locals
 pub mod LocalList
+pub mod NameSets

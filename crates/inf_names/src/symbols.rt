@@ -148,6 +148,13 @@ impl<P: Copy, B: Bounds> Symbols<P, B> {
         self.hashing
     }
 
+    /// From now on the language has the name `DEBUG` where `is_debugging` says so, and has it not else. What is known of names stays.
+    pub fn set_debugging(&mut self, is_debugging: bool)
+        ensures { self.new ≡ record self.old { is_debugging = is_debugging } }
+    {
+        self.is_debugging = is_debugging;
+    }
+
     /// How many names were declared or used.
     pub fn len(&self) -> usize
         ensures count { result ≡ length self.now.names }

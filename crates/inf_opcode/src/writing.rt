@@ -15,7 +15,7 @@ use crate::cells::{Kept, Special};
 use crate::instructions::{Branch, Instruction, Operand};
 use crate::opcodes::{OpcodeRow, OperandCount};
 use arrayvec::ArrayVec;
-use inf_area::Area;
+use inf_area::{Area, word_bytes};
 use std::alloc::AllocError;
 
 // The most bytes of an instruction without its text: four of a heading, eight operands, a store variable and a branch.
@@ -137,8 +137,9 @@ fn push_operand(bytes: &mut ArrayVec<u8, FRONT_MAX>, operand: Operand)
 {
     match operand {
         Operand::Large(number) => {
-            bytes.push((number / 256) as u8);
-            bytes.push((number % 256) as u8);
+            let [high, low] = word_bytes(number);
+            bytes.push(high);
+            bytes.push(low);
         }
         Operand::Small(byte) | Operand::Variable(byte) => bytes.push(byte),
         Operand::Later(_) | Operand::Offset(_) => {

@@ -1,5 +1,6 @@
 pub mod Actions
 pub mod Operands
 pub mod Strings
+pub mod Texts
 pub mod Output
 pub mod Veneer

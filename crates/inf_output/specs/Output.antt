@@ -6,6 +6,7 @@ use Rattle.inf_scanner.specs.declared.tokens.Place.{Place}
 use Rattle.inf_area.specs.declared.targets.AreaName.TheVariants as area
 use Rattle.inf_area.specs.declared.targets.Target.{Target}
 use Rattle.inf_area.specs.declared.targets.Target.TheVariants as target
+use Rattle.inf_cells.specs.declared.scale.Scale.{Scale}
 use Rattle.inf_opcode.specs.declared.instructions.Branch.{Branch}
 use Rattle.inf_opcode.specs.declared.instructions.Destination.TheVariants.{To}
 use Rattle.inf_opcode.specs.declared.instructions.Label.{Label}
@@ -40,10 +41,11 @@ use Rattle.inf_output.specs.declared.items.Item.{Item}
 use Rattle.inf_output.specs.declared.items.Item.TheVariants.{Instruction, Mark}
 use Rattle.inf_output.specs.declared.operands.Simple.{Simple}
 use Rattle.inf_output.specs.declared.operands.Simple.TheVariants.{Known, Variable, Later}
-use Rattle.inf_output.specs.declared.output.Past.{Past}
+use Rattle.inf_output.specs.declared.past.Past.{Past}
 use Rattle.inf_output.specs.declared.veneer.Veneer.{Veneer}
 use Rattle.inf_output.specs.Operands.{written}
 use Rattle.inf_output.specs.Strings.{StringArea, fits, with_string}
+use Rattle.inf_output.specs.Texts.{Packing}
 use Rattle.inf_dictionary.specs.declared.dictionary.AddFault.{AddFault as WordFault}
 use Rattle.inf_dictionary.specs.declared.dictionary.AddFault.TheVariants as word_fault
 use Rattle.inf_dictionary.specs.declared.uses.WordUse.{WordUse}
@@ -54,14 +56,15 @@ use Rattle.inf_tables.specs.LowStrings.{low_fits, low_size, with_low}
 use Rattle.inf_tables.specs.Tables.{AllTables, references}
 use Rattle.inf_output.specs.Veneer.{name_of}
 
--- What is laid: the routines of the story, its strings, its tables, the names, the actions that appeared, the place of the first token of
--- the unit at hand, the number of the next label of the
+-- What is laid: the routines of the story, its strings, its tables, the names, how texts are packed, the actions that appeared, the place
+-- of the first token of the unit at hand, the number of the next label of the
 -- routine, what is left of each limit once one was passed, and the items of code that is kept apart, if there is such code.
 pub record Out : Type 0 where
   pub code : Routines
   pub strings : StringArea
   pub tables : AllTables
   pub names : Table Place
+  pub texts : Packing
   pub seen : Table Place
   pub first : Place
   pub next : ℕ
@@ -244,6 +247,12 @@ with_labels_left limits (Some rest) o = o
 
 abbrev pub closed : Limits → RoutineKind → Code
 closed limits kind o = with_labels_left limits (past_of limits o).labels (code_closed limits kind o)
+
+-- What packed addresses are multiplied by
+
+-- so the next routine and the next string are filled up
+abbrev pub with_scale : Scale → Code
+with_scale scale o = record o { code = record o.code { scale = scale }; strings = record o.strings { scale = scale } }
 
 -- Strings
 

@@ -1,5 +1,5 @@
 //! Items that are kept apart and come later.
-ghost use Rattle.std.specs.Prelude.{◌≡◌, ◌≤◌, ◌++◌, ◌∷◌, [], IfOk, OnOk, length};
+ghost use Rattle.std.specs.Prelude.{◌≡◌, ◌≤◌, ◌++◌, ◌∷◌, [], IfOk, OnErr, OnOk, length};
 ghost use Rattle.inf_opcode.specs.Instructions.{IsProper};
 ghost use Rattle.inf_opcode.specs.PartsOf.{parts_of};
 
@@ -130,7 +130,8 @@ impl Items {
     /// An instruction behind the others.
     pub(crate) fn instruction(&mut self, instruction: &Instruction<'_>) -> Result<(), AllocError>
         requires { IsProper (parts_of instruction.now) }
-        ensures { OnOk result (self.new ≡ self.old ++ item.Instruction (parts_of instruction.now) ∷ []) }
+        ensures ok { OnOk result (self.new ≡ self.old ++ item.Instruction (parts_of instruction.now) ∷ []) }
+        ensures err { OnErr result (self.new ≡ self.old) }
     {
         let kept = KeptInstruction::new(self.alloc, instruction)?;
         self.list.push(Item::Instruction(kept))?;
@@ -139,7 +140,8 @@ impl Items {
 
     /// The place of a label behind the others.
     pub(crate) fn mark(&mut self, label: Label) -> Result<(), AllocError>
-        ensures { OnOk result (self.new ≡ self.old ++ item.Mark label ∷ []) }
+        ensures ok { OnOk result (self.new ≡ self.old ++ item.Mark label ∷ []) }
+        ensures err { OnErr result (self.new ≡ self.old) }
     {
         self.list.push(Item::Mark(label))?;
         Ok(())

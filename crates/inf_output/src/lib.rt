@@ -1,4 +1,5 @@
-//! What the units of a routine are laid into: the code of a story, its strings, the names that it uses, and the number of the next label.
+//! What the units of a routine are laid into: the code of a story, its strings, the names that it uses, how texts are packed, and the
+//! number of the next label.
 //!
 //! Code is defined as what it adds to an `Output`, and pieces of code are put together by a few words: one behind another, with a label of
 //! its
@@ -12,12 +13,16 @@ mod actions;
 mod items;
 mod operands;
 mod output;
+mod past;
 mod strings;
+mod texts;
 mod veneer;
 
 pub use actions::key_of as action_key;
 pub use items::{Item, Items, KeptInstruction};
 pub use operands::Simple;
-pub use output::{Output, Past};
+pub use output::Output;
+pub use past::Past;
 pub use strings::Strings;
+pub use texts::Texts;
 pub use veneer::Veneer;

@@ -1,5 +1,5 @@
 //! What units are laid into.
-ghost use Rattle.std.specs.Prelude.{◌≡◌, ◌≤◌, [], IfOk, None, OnOk, is_some, length};
+ghost use Rattle.std.specs.Prelude.{◌≡◌, ◌≤◌, [], IfOk, None, OnErr, OnOk, is_some, length};
 ghost use Rattle.inf_opcode.specs.Counts.{counts_of};
 ghost use Rattle.inf_opcode.specs.Instructions.{IsProper, front_cells};
 ghost use Rattle.inf_opcode.specs.PartsOf.{parts_of};
@@ -7,20 +7,22 @@ ghost use Rattle.inf_code.specs.Code.{fault_closed};
 ghost use Rattle.inf_names.specs.Symbols.{declare_fault};
 ghost use Rattle.inf_names.specs.declared.meanings.Meaning.{Meaning as Standing};
 ghost use Rattle.inf_output.specs.declared.items.Item.TheVariants as item;
-ghost use Rattle.inf_output.specs.Output.{Takes, TakesVariable, apart, begun, behind, closed, code_closed, counted, declared, first_table};
-ghost use Rattle.inf_output.specs.Output.{found_simple, full, full_of, full_past, in_routine, instruction, items_of, jumped, laid};
-ghost use Rattle.inf_output.specs.Output.{laid_all, less, low_string_at, marked, naming, next_label, opened, or_full, passed, passed_limit};
-ghost use Rattle.inf_output.specs.Output.{passed_table, past_of, referred, referred_as, routine, simple_by, standing_simple, string_at};
-ghost use Rattle.inf_output.specs.Output.{symbols_passed, table_passed, taken, together, used, whole, with_low_text, with_text, with_word};
-ghost use Rattle.inf_output.specs.Output.{without_bytes, without_labels};
+ghost use Rattle.inf_output.specs.Output.{Takes, TakesVariable, apart, begun, behind, closed, code_closed, declared, found_simple, full};
+ghost use Rattle.inf_output.specs.Output.{in_routine, instruction, items_of, jumped, laid, laid_all, low_string_at, marked, naming};
+ghost use Rattle.inf_output.specs.Output.{next_label, opened, passed, passed_table, past_of, referred, referred_as, routine, simple_by};
+ghost use Rattle.inf_output.specs.Output.{standing_simple, string_at, symbols_passed, together, used, with_low_text, with_scale, with_text};
+ghost use Rattle.inf_output.specs.Output.{with_word};
 
 use crate::items::{Item, Items, proper_operands};
 use crate::operands::{Simple, add_written};
+use crate::past::Past;
 use crate::strings::Strings;
+use crate::texts::Texts;
 use crate::veneer::Veneer;
 use arrayvec::ArrayVec;
 use inf_area::{AreaName, Target};
 use inf_assembler::{CloseFault, GrowFault, Limit as CodeLimit, RoutineKind};
+use inf_cells::Scale;
 use inf_code::code::Code;
 use inf_names::meanings::Meaning;
 use inf_names::symbols::{DeclareFault, Found, ReferFault, Symbols};
@@ -32,23 +34,6 @@ use inf_tables::{Tables, WordFault, WordUse};
 use std::alloc::{AllocError, Global};
 use std::marker::Model;
 
-/// What is left of each limit, one of which was passed; nothing of those that were.
-#[derive(Clone, Copy, Debug, PartialEq, Eq)]
-pub struct Past {
-    /// Whether there are more names than there may be.
-    pub symbols: bool,
-    /// The labels, branches and jumps that the open routine may still take.
-    pub labels: Option<usize>,
-    /// The first limit of a table that was passed, in the order of the settings.
-    pub tables: Option<Setting>,
-    /// The bytes of code.
-    pub code: Option<usize>,
-    /// Whether there are more bytes of strings than there may be.
-    pub strings: bool,
-    /// The references.
-    pub refs: Option<usize>,
-}
-
 /// What the units of a routine are laid into.
 #[derive(Drop)]
 pub struct Output<B: Bounds> {
@@ -56,6 +41,8 @@ pub struct Output<B: Bounds> {
     pub strings: Strings<B>,
     pub tables: Tables<B>,
     pub names: Symbols<Place, B>,
+    /// How texts are packed.
+    pub texts: Texts,
     /// The actions that appeared, but fake ones: each is declared by its name behind two signs, with its number.
     pub seen: Symbols<Place, Unbounded>,
     /// The place of the first token of the unit at hand, where routines of the veneer are used.
@@ -78,151 +65,13 @@ impl<B: Bounds> Model for Output<B> {
       strings = o.strings;
       tables = o.tables;
       names = o.names;
+      texts = o.texts;
       seen = o.seen;
       first = o.first;
       next = o.next;
       past = o.past;
       kept = o.kept;
     } };
-}
-
-/// So much more of a limit.
-fn less(rest: Option<usize>, more: usize) -> Option<usize>
-    ensures { result ≡ less rest more }
-{
-    rest?.checked_sub(more)
-}
-
-/// The first limit, which nothing is left of, or one behind it.
-fn full_of(rest: Option<usize>, limit: Setting, others: Option<Setting>) -> Option<Setting>
-    ensures { result ≡ full_of rest limit others }
-{
-    match rest {
-        None => Some(limit),
-        Some(_) => others,
-    }
-}
-
-/// The first limit of a table that was passed, or one behind it.
-fn or_full(passed: Option<Setting>, others: Option<Setting>) -> Option<Setting>
-    ensures { result ≡ or_full passed others }
-{
-    match passed {
-        None => others,
-        Some(limit) => Some(limit),
-    }
-}
-
-/// The first of two limits of tables, in the order of the settings.
-fn first_table(passed: Option<Setting>, limit: Setting) -> Setting
-    ensures { result ≡ first_table passed limit }
-{
-    match passed {
-        None => limit,
-        Some(other) if limit.place() < other.place() => limit,
-        Some(other) => other,
-    }
-}
-
-impl Past {
-    /// What is left beside some code.
-    fn whole<B: Bounds>(code: &Code<B>) -> Past
-        ensures { result ≡ whole B.most code.now }
-    {
-        Past {
-            symbols: false,
-            labels: code.labels_left(),
-            tables: None,
-            code: code.code_left(),
-            strings: false,
-            refs: code.references_left(),
-        }
-    }
-
-    /// So much more of the limits.
-    fn taken(self, counts: Counts) -> Past
-        ensures { result ≡ taken counts self }
-    {
-        Past {
-            symbols: self.symbols,
-            labels: less(self.labels, counts.labels),
-            tables: self.tables,
-            code: less(self.code, counts.bytes),
-            strings: self.strings,
-            refs: less(self.refs, counts.fixups),
-        }
-    }
-
-    /// What is left behind an instruction that takes so much, and as many bytes of text.
-    fn behind(self, counts: Counts, text: usize) -> Past
-        ensures { result ≡ without_bytes text (taken counts self) }
-    {
-        let past = self.taken(counts);
-        Past {
-            code: less(past.code, text),
-            ..past
-        }
-    }
-
-    /// So many more labels.
-    fn labelled(self, labels: usize) -> Past
-        ensures { result ≡ without_labels labels self }
-    {
-        Past {
-            labels: less(self.labels, labels),
-            ..self
-        }
-    }
-
-    /// A limit is passed.
-    fn passed(self, limit: CodeLimit) -> Past
-        ensures { result ≡ passed_limit limit self }
-    {
-        match limit {
-            CodeLimit::Labels => Past {
-                labels: None,
-                ..self
-            },
-            CodeLimit::Code => Past { code: None, ..self },
-            CodeLimit::Refs => Past { refs: None, ..self },
-        }
-    }
-
-    /// So many more references stand in tables.
-    fn counted(self, references: usize) -> Past
-        ensures { result ≡ counted references self }
-    {
-        Past {
-            refs: less(self.refs, references),
-            ..self
-        }
-    }
-
-    /// A limit of a table is passed.
-    fn table_passed(self, limit: Setting) -> Past
-        ensures { result ≡ table_passed limit self }
-    {
-        Past {
-            tables: Some(first_table(self.tables, limit)),
-            ..self
-        }
-    }
-
-    /// The first of the limits that were passed, in the order of the settings.
-    fn full(self) -> Option<Setting>
-        ensures { result ≡ full_past self }
-    {
-        if self.symbols {
-            return Some(Setting::Symbols);
-        }
-        let others = if self.strings {
-            Some(Setting::Strings)
-        } else {
-            full_of(self.refs, Setting::References, None)
-        };
-        let others = full_of(self.code, Setting::Code, others);
-        full_of(self.labels, Setting::Labels, or_full(self.tables, others))
-    }
 }
 
 /// How much an instruction takes without its text.
@@ -283,12 +132,13 @@ fn found(found: Found<Place>, number: Option<usize>) -> Simple
 }
 
 impl<B: Bounds> Output<B> {
-    /// An output for some code, strings, tables and names, of which no routine was begun.
+    /// An output for some code, strings, tables, names and texts, of which no routine was begun.
     pub fn new(
         code: Code<B>,
         strings: Strings<B>,
         tables: Tables<B>,
         names: Symbols<Place, B>,
+        texts: Texts,
         seen: Symbols<Place, Unbounded>,
         first: Place,
     ) -> Output<B>
@@ -298,6 +148,7 @@ impl<B: Bounds> Output<B> {
               strings = strings;
               tables = tables;
               names = names;
+              texts = texts;
               seen = seen;
               first = first;
               next = 0;
@@ -310,12 +161,21 @@ impl<B: Bounds> Output<B> {
             strings,
             tables,
             names,
+            texts,
             seen,
             first,
             next: 0,
             past: None,
             kept: None,
         }
+    }
+
+    /// From now on packed addresses are multiplied by `scale`: so the next routine and the next string are filled up.
+    pub fn set_scale(&mut self, scale: Scale)
+        ensures { self.new ≡ with_scale scale self.old }
+    {
+        self.code.set_scale(scale);
+        self.strings.set_scale(scale);
     }
 
     /// The first limit that was passed, in the order of the settings, counted over all that was laid since. The references of tables count
@@ -397,7 +257,8 @@ impl<B: Bounds> Output<B> {
     #[tactic(auto, unfolding(crate::specs::Output::laid))]
     pub fn emit(&mut self, instruction: &Instruction<'_>) -> Result<(), AllocError>
         requires { IsProper (parts_of instruction.now) }
-        ensures { OnOk result (self.new ≡ laid B.most (item.Instruction (parts_of instruction.now)) self.old) }
+        ensures ok { OnOk result (self.new ≡ laid B.most (item.Instruction (parts_of instruction.now)) self.old) }
+        ensures err { OnErr result (self.new ≡ self.old) }
     {
         match &mut self.kept {
             Some(kept) => kept.instruction(instruction),
@@ -409,7 +270,8 @@ impl<B: Bounds> Output<B> {
     #[tactic(auto, using(crate::proofs::Limits::is_passed))]
     fn emit_in_routine(&mut self, instruction: &Instruction<'_>) -> Result<(), AllocError>
         requires { IsProper (parts_of instruction.now) }
-        ensures { OnOk result (self.new ≡ in_routine B.most self.old.past (item.Instruction (parts_of instruction.now)) self.old) }
+        ensures ok { OnOk result (self.new ≡ in_routine B.most self.old.past (item.Instruction (parts_of instruction.now)) self.old) }
+        ensures err { OnErr result (self.new ≡ self.old) }
     {
         if self.past.is_some() {
             self.pass(instruction);
@@ -428,7 +290,8 @@ impl<B: Bounds> Output<B> {
     /// The place of a label.
     #[tactic(auto, unfolding(crate::specs::Output::laid, crate::specs::Output::marked))]
     pub fn mark(&mut self, label: Label) -> Result<(), AllocError>
-        ensures { OnOk result (self.new ≡ marked B.most label self.old) }
+        ensures ok { OnOk result (self.new ≡ marked B.most label self.old) }
+        ensures err { OnErr result (self.new ≡ self.old) }
     {
         match &mut self.kept {
             Some(kept) => kept.mark(label),
@@ -439,7 +302,8 @@ impl<B: Bounds> Output<B> {
     /// The place of a label in the open routine.
     #[tactic(auto, using(crate::proofs::Limits::is_passed))]
     fn mark_in_routine(&mut self, label: Label) -> Result<(), AllocError>
-        ensures { OnOk result (self.new ≡ in_routine B.most self.old.past (item.Mark label) self.old) }
+        ensures ok { OnOk result (self.new ≡ in_routine B.most self.old.past (item.Mark label) self.old) }
+        ensures err { OnErr result (self.new ≡ self.old) }
     {
         if self.past.is_some() {
             self.pass_mark(label);
@@ -565,6 +429,7 @@ impl<B: Bounds> Output<B> {
     ) -> Result<Option<DeclareFault<Place>>, AllocError>
         requires { length name.now ≤ 35 }
         ensures value { OnOk result (self.new ≡ declared B.most name.now place meaning self.old) }
+        ensures err { OnErr result (self.new ≡ self.old) }
         ensures fault { IfOk result (λ fault. fault ≡ declare_fault B.most name.now self.old.names) }
     {
         match self.names.declare(name, place, meaning) {
@@ -587,6 +452,7 @@ impl<B: Bounds> Output<B> {
     ) -> Result<Option<(Found<Place>, Option<usize>)>, AllocError>
         requires { length name.now ≤ 35 }
         ensures value { OnOk result (self.new ≡ referred B.most name.now place self.old) }
+        ensures err { OnErr result (self.new ≡ self.old) }
         ensures found { IfOk result (λ found. found ≡ referred_as B.most name.now self.old) }
     {
         match self.names.find_and_refer(name, place) {
@@ -614,6 +480,7 @@ impl<B: Bounds> Output<B> {
     pub fn string(&mut self, text: &[u8]) -> Result<Target, AllocError>
         ensures target { IfOk result (λ target. target ≡ string_at self.old) }
         ensures value { OnOk result (self.new ≡ with_text B.most text.now self.old) }
+        ensures err { OnErr result (self.new ≡ self.old) }
     {
         let place = self.strings.len();
         if !self.strings.add(text)? {
@@ -631,6 +498,7 @@ impl<B: Bounds> Output<B> {
     pub fn low_string(&mut self, text: &[u8]) -> Result<Target, AllocError>
         ensures target { IfOk result (λ target. target ≡ low_string_at self.old) }
         ensures value { OnOk result (self.new ≡ with_low_text B.most text.now self.old) }
+        ensures err { OnErr result (self.new ≡ self.old) }
     {
         let place = self.tables.low_strings.len();
         if !self.tables.low_strings.add(text)? {

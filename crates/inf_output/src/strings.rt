@@ -1,5 +1,5 @@
 //! The strings of a story.
-ghost use Rattle.std.specs.Prelude.{◌≡◌, ◌≤◌, IfOk, if◌then◌else◌, length};
+ghost use Rattle.std.specs.Prelude.{◌≡◌, ◌≤◌, IfOk, OnErr, if◌then◌else◌, length};
 ghost use Rattle.inf_output.specs.Strings.{fits, with_string};
 ghost use Rattle.inf_settings.specs.declared.setting.Setting.TheVariants as setting;
 
@@ -49,6 +49,13 @@ impl<B: Bounds> Strings<B> {
         }
     }
 
+    /// From now on packed addresses are multiplied by `scale`: so the next string is filled up.
+    pub fn set_scale(&mut self, scale: Scale)
+        ensures { self.new ≡ record self.old { scale = scale } }
+    {
+        self.scale = scale;
+    }
+
     /// How many bytes they have: the place of the next one.
     pub fn len(&self) -> usize
         ensures value { result ≡ length self.now.bytes }
@@ -57,10 +64,13 @@ impl<B: Bounds> Strings<B> {
         self.area.len()
     }
 
-    /// Adds a string of these bytes, and answers that it was added; or that it would pass the limit.
+    /// Adds a string of the bytes `text`, and answers that it was added; or that it would pass the limit. Where memory runs out they stay
+    /// as they were.
+    #[tactic(auto, using(crate::proofs::Cutting::cut_behind))]
     pub fn add(&mut self, text: &[u8]) -> Result<bool, AllocError>
-        ensures { IfOk result (λ added. (added ≡ fits B.most text.now self.old)
+        ensures value { IfOk result (λ added. (added ≡ fits B.most text.now self.old)
             × (self.new ≡ if fits B.most text.now self.old then with_string text.now self.old else self.old)) }
+        ensures err { OnErr result (self.new ≡ self.old) }
     {
         let zeros: &[u8] = &[0, 0, 0, 0, 0, 0, 0];
         let behind = &zeros[..self.scale.gap(text.len())];
@@ -68,8 +78,12 @@ impl<B: Bounds> Strings<B> {
         if room < text.len() || room - text.len() < behind.len() {
             return Ok(false);
         }
+        let front = self.area.len();
         self.area.append(text)?;
-        self.area.append(behind)?;
+        if let Err(fault) = self.area.append(behind) {
+            self.area.cut(front, text.len());
+            return Err(fault);
+        }
         Ok(true)
     }
 

@@ -13,6 +13,10 @@ pub record Location : Type 0 where
   pub file : List ℕ
   pub line : ℕ
 
+-- a line of the routines that the compiler has of its own, which are named as a file
+abbrev pub veneer_line : ℕ → Location
+veneer_line line = record { file = codes "veneer"; line = line }
+
 -- A token as messages name it: by its bytes, which are those between its quotes where it has single ones; but a text by that word,
 -- and the end of a file.
 pub data Told : Type 0 where

@@ -1,7 +1,7 @@
 //! The messages of a compilation, in one table.
 ghost use Rattle.std.specs.Prelude.{◌≡◌};
-ghost use Rattle.inf_report.specs.Messages.{kind_of, most, number_of, severity, text};
-ghost use Rattle.inf_report.specs.Meant.{meant, named};
+ghost use Rattle.inf_report.specs.Messages.{kind_of, most, number_of, severity, text, veneer_line};
+ghost use Rattle.inf_report.specs.Meant.{located, meant, named};
 ghost use Rattle.inf_report.specs.Wordings.{said};
 
 use crate::own_words::OwnWords;
@@ -138,6 +138,18 @@ pub enum Message<'a> {
     NoSource(&'a [u8]),
     /// One nesting more inside 64 others.
     DeepNesting,
+}
+
+impl Location<'static> {
+    /// The line `line` of the routines that the compiler has of its own, the veneer, which messages name as a file `veneer`.
+    pub fn veneer(line: u32) -> Location<'static>
+        ensures { located result ≡ veneer_line line }
+    {
+        Location {
+            file: b"veneer",
+            line,
+        }
+    }
 }
 
 impl Kind {

@@ -54,6 +54,13 @@ impl Report {
         }
     }
 
+    /// Has warnings told from now on, or neither told nor counted, as `has_warnings` says. What was counted stays.
+    pub fn set_warnings(&mut self, has_warnings: bool)
+        ensures { self.new ≡ record self.old { has_warnings = has_warnings } }
+    {
+        self.has_warnings = has_warnings;
+    }
+
     /// How many errors were told.
     pub fn errors(&self) -> u32
         ensures { result ≡ self.now.errors }

@@ -1,14 +1,14 @@
 -- What calls keep: one behind the other, and each kind of them.
-use Rattle.std.proofs.Common.{◌≡◌, ◌+◌, ◌-◌, ◌<◌, ◌≤◌, ◌⊎◌, inl, inr, ℕ, true, suc, List, [], ◌∷◌, ◌++◌, length, min, IsTrue, refl, sym, ap}
+use Rattle.std.proofs.Common.{◌≡◌, ◌+◌, ◌-◌, ◌≤◌, inl, inr, ℕ, true, suc, List, [], ◌∷◌, ◌++◌, length, min, IsTrue, refl, sym, ap}
 use Rattle.std.proofs.Common.{subst, ◌∙◌, arith, length-append}
-use Rattle.inf_files.specs.Files.{Closes, Rose, Sources, last_count}
+use Rattle.inf_files.specs.Files.{Closes, Sources, last_count}
 use Rattle.inf_files.specs.declared.files.Files.{Ghosts as Files}
 use Rattle.inf_lexer.specs.Entering.{has_one_too_many}
 use Rattle.inf_lexer.specs.Names.{Nest}
 use Rattle.inf_lexer.specs.Readers.{Reader}
 use Rattle.inf_lexer.specs.Unread.{Along, Ends, StillGives}
 use Rattle.inf_sources.specs.Calls.{AskedTooMany, Honestly, IsUnreadable, StaysFit, StaysGiven, Went, given_to}
-use Rattle.inf_sources.specs.Open.{AllGiven, Each, Fits, IsNested, Open, lexers_of}
+use Rattle.inf_sources.specs.Open.{AllGiven, IsNested, Open, lexers_of}
 use Rattle.inf_sources.specs.declared.open_file.OpenFile.{OpenFile}
 use Rattle.inf_sources.proofs.Counting.{many_names}
 use Rattle.inf_sources.proofs.Fronts.{left_given, read_fit, read_given}

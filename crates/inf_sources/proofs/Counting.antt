@@ -1,6 +1,6 @@
 -- Each name is that of an opening.
 use Rattle.std.proofs.Common.{◌≡◌, ◌⊎◌, ◌||◌, refl, leb-true, not, inl, inr, ℕ, suc, ◌≤◌, List, [], ◌∷◌, ◌++◌, length, Bool, true, false}
-use Rattle.std.proofs.Common.{cond, Err, ap, ◌∙◌, arith, length-append}
+use Rattle.std.proofs.Common.{cond, Err, ap, arith, length-append}
 use Rattle.std.specs.Prelude.{nat_le}
 use Rattle.std.specs.List.{list_any}
 use Rattle.std.specs.Str.{bytes_eq}

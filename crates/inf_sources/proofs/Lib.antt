@@ -8,3 +8,4 @@ pub mod NamesKept
 pub mod Fronts
 pub mod Quoted
 pub mod Answering
+pub mod Choosing

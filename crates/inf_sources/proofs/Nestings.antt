@@ -1,15 +1,19 @@
 -- What is open after a token was read, and after a file was left.
 use Rattle.std.proofs.Common.{◌≡◌, ℕ, suc, ◌-◌, List, [], ◌∷◌, ◌++◌, length, drop, reverse, get_or, sym, ap, subst, ◌∙◌, arith}
-use Rattle.std.proofs.Common.{length-append, false, Option, Some, None}
+use Rattle.std.proofs.Common.{length-append, Bool, false, Option, Some, None}
 use Rattle.std.specs.Prelude.{IfNone, is_some}
 use Rattle.std.proofs.lemmas.List.{drop-map, reverse-reverse}
 use Rattle.inf_scanner.specs.Tokens.{Read, next_token}
+use Rattle.inf_scanner.specs.declared.lines.Lines.{Lines}
 use Rattle.inf_scanner.specs.declared.tokens.Token.{Token}
 use Rattle.inf_files.specs.Files.{Closes, Opening, Openings, Sources, opened}
 use Rattle.inf_lexer.specs.Names.{Nest, left}
-use Rattle.inf_lexer.specs.Readers.{Reader, read_out}
+use Rattle.inf_lexer.specs.Heads.{HeadRead, next_head_word}
+use Rattle.inf_lexer.specs.Readers.{Reader, head_out, read_out}
+use Rattle.inf_lexer.specs.declared.head.HeadPlace.{HeadPlace}
 use Rattle.inf_lexer.specs.Unread.{Gave, innermost_place, to_come}
 use Rattle.inf_sources.specs.Cursors.{Cursor, behind, read}
+use Rattle.inf_sources.specs.Heading.{ReadsHead, behind_head, read_head}
 use Rattle.inf_sources.specs.Inclusions.{Nesting, Waiting, closed}
 use Rattle.inf_sources.specs.declared.open_file.OpenFile.{OpenFile}
 use Rattle.inf_sources.specs.Open.{AreNested, IsNested, Open, Reads, closed_to, cursor_of, lexers, lexers_of, nesting, opened_since}
@@ -49,15 +53,41 @@ pub opened_as_before : (s : Sources) (start old new : Openings) (bytes : List �
     opened_since start new ≡ opened_since start old
 opened_as_before s start old new bytes gave = names_behind (length start.all) old.all new.all (names_given s old new bytes gave)
 
-cursor_behind : (before after : Reader) (r : Read) (rest : List ℕ) → rest ≡ r.rest → after.lines ≡ r.lines → after.file ≡ before.file →
-    after.set ≡ before.set
-    → after.limit ≡ before.limit → (was : List ℕ) → cursor_of after rest ≡ behind (cursor_of before was) r
-cursor_behind before after r rest on lines file set limit was =
+-- a lexer that has read on
+cursor_moved : (before after : Reader) (rest was : List ℕ) (lines : Lines) → rest ≡ was → after.lines ≡ lines → after.file ≡ before.file
+    → after.set ≡ before.set → after.limit ≡ before.limit
+    → cursor_of after rest ≡ record { rest = was; lines = lines; file = before.file; set = before.set; limit = before.limit }
+cursor_moved before after rest was lines on passed file set limit =
     ap (λ x. record { rest = x; lines = after.lines; file = after.file; set = after.set; limit = after.limit }) on
-    ∙ ap (λ x. record { rest = r.rest; lines = x; file = after.file; set = after.set; limit = after.limit }) lines
-    ∙ ap (λ x. record { rest = r.rest; lines = r.lines; file = x; set = after.set; limit = after.limit }) file
-    ∙ ap (λ x. record { rest = r.rest; lines = r.lines; file = before.file; set = x; limit = after.limit }) set
-    ∙ ap (λ x. record { rest = r.rest; lines = r.lines; file = before.file; set = before.set; limit = x }) limit
+    ∙ ap (λ x. record { rest = was; lines = x; file = after.file; set = after.set; limit = after.limit }) passed
+    ∙ ap (λ x. record { rest = was; lines = lines; file = x; set = after.set; limit = after.limit }) file
+    ∙ ap (λ x. record { rest = was; lines = lines; file = before.file; set = x; limit = after.limit }) set
+    ∙ ap (λ x. record { rest = was; lines = lines; file = before.file; set = before.set; limit = x }) limit
+
+-- the innermost file was read on, up to this cursor
+nesting_on : (s : Sources) (start old new : Openings) (before after : Open) (bytes : List ℕ) (c : Cursor) → IsNested start old before
+    → Gave s old new bytes → after.nest ≡ before.nest → after.outer ≡ before.outer
+    → cursor_of after.lexer (to_come s new after.lexer.window) ≡ c
+    → nesting s start new after ≡ record (nesting s start old before) { cursor = c }
+nesting_on s start old new before after bytes c n gave nest outer cursor =
+    let at = innermost_of (length old.all) (reverse old.open_places) before.lexer (lexers_of (reverse before.outer)) n.nested in
+    let place : innermost_place old ≡ at.place = last_of old.open_places at.place at.rest at.is in
+    let waits : waiting_at s new.all (drop 1 (reverse new.open_places)) (reverse after.outer) ≡ waiting_at s old.all
+    (drop 1 (reverse old.open_places)) (reverse before.outer) =
+    ap (λ (ps : List ℕ). waiting_at s new.all (drop 1 (reverse ps)) (reverse after.outer)) gave.places
+    ∙ ap (λ (files : List OpenFile). waiting_at s new.all (drop 1 (reverse old.open_places)) (reverse files)) outer
+    ∙ ap (λ (ps : List ℕ). waiting_at s new.all (drop 1 ps) (reverse before.outer)) at.is
+    ∙ waiting_same s old.all new.all at.place at.rest (reverse before.outer) at.inner
+    (λ i less. gave.others i (λ is. omega (arith, less, is, place)))
+    ∙ sym (ap (λ (ps : List ℕ). waiting_at s old.all (drop 1 ps) (reverse before.outer)) at.is) in
+    ap (λ (x : Nest). made x.names (names_of (drop (length start.all) new.all))
+    (cursor_of after.lexer (to_come s new after.lexer.window))
+    (waiting_at s new.all (drop 1 (reverse new.open_places)) (reverse after.outer))) nest
+    ∙ ap (λ x. made before.nest.names x (cursor_of after.lexer (to_come s new after.lexer.window))
+    (waiting_at s new.all (drop 1 (reverse new.open_places)) (reverse after.outer))) (opened_as_before s start old new bytes gave)
+    ∙ ap (λ x. made before.nest.names (names_of (drop (length start.all) old.all)) x
+    (waiting_at s new.all (drop 1 (reverse new.open_places)) (reverse after.outer))) cursor
+    ∙ ap (λ x. made before.nest.names (names_of (drop (length start.all) old.all)) c x) waits
 
 -- a token was read of the innermost file
 pub reads_on : (s : Sources) (start old new : Openings) (before after : Open) (token : Token) (bytes : List ℕ) → IsNested start old before
@@ -70,34 +100,35 @@ pub reads_on : (s : Sources) (start old new : Openings) (before after : Open) (t
 reads_on s start old new before after token bytes n gave nest outer e file same =
     let c = cursor_of before.lexer (to_come s old before.lexer.window) in
     let r : Read = read c in
-    let at = innermost_of (length old.all) (reverse old.open_places) before.lexer (lexers_of (reverse before.outer)) n.nested in
-    let place : innermost_place old ≡ at.place = last_of old.open_places at.place at.rest at.is in
     let cursor : cursor_of after.lexer (to_come s new after.lexer.window) ≡ behind c r =
-    cursor_behind before.lexer after.lexer r (to_come s new after.lexer.window) (ap (λ (x : Read). x.rest) e) (ap (λ (x : Read). x.lines) e)
-    same.2 same.0 same.1
-    (to_come s old before.lexer.window) in
-    let waits : waiting_at s new.all (drop 1 (reverse new.open_places)) (reverse after.outer) ≡ waiting_at s old.all
-    (drop 1 (reverse old.open_places)) (reverse before.outer) =
-    ap (λ (ps : List ℕ). waiting_at s new.all (drop 1 (reverse ps)) (reverse after.outer)) gave.places
-    ∙ ap (λ (files : List OpenFile). waiting_at s new.all (drop 1 (reverse old.open_places)) (reverse files)) outer
-    ∙ ap (λ (ps : List ℕ). waiting_at s new.all (drop 1 ps) (reverse before.outer)) at.is
-    ∙ waiting_same s old.all new.all at.place at.rest (reverse before.outer) at.inner
-    (λ i less. gave.others i (λ is. omega (arith, less, is, place)))
-    ∙ sym (ap (λ (ps : List ℕ). waiting_at s old.all (drop 1 ps) (reverse before.outer)) at.is) in
+    cursor_moved before.lexer after.lexer (to_come s new after.lexer.window) r.rest r.lines (ap (λ (x : Read). x.rest) e)
+    (ap (λ (x : Read). x.lines) e) same.2 same.0 same.1 in
     record {
       kind = ap (λ (x : Read). x.kind) e;
       place = ap (λ (f : ℕ). record { file = f; line = token.place.line }) file
           ∙ ap (λ (l : ℕ). record { file = before.lexer.file; line = l }) (ap (λ (x : Read). x.line) e);
       bytes = ap (λ (x : Read). x.kept.bytes) e;
-      goes_on =
-          ap (λ (x : Nest). made x.names (names_of (drop (length start.all) new.all))
-          (cursor_of after.lexer (to_come s new after.lexer.window))
-          (waiting_at s new.all (drop 1 (reverse new.open_places)) (reverse after.outer))) nest
-          ∙ ap (λ x. made before.nest.names x (cursor_of after.lexer (to_come s new after.lexer.window))
-          (waiting_at s new.all (drop 1 (reverse new.open_places)) (reverse after.outer))) (opened_as_before s start old new bytes gave)
-          ∙ ap (λ x. made before.nest.names (names_of (drop (length start.all) old.all)) x
-          (waiting_at s new.all (drop 1 (reverse new.open_places)) (reverse after.outer))) cursor
-          ∙ ap (λ x. made before.nest.names (names_of (drop (length start.all) old.all)) (behind c r) x) waits;
+      goes_on = nesting_on s start old new before after bytes (behind c r) n gave nest outer cursor;
+    }
+
+-- a word of its head was read
+pub reads_head_on : (s : Sources) (start old new : Openings) (before after : Open) (is_word : Bool) (place from : HeadPlace)
+    (word bytes : List ℕ) → IsNested start old before → Gave s old new bytes → after.nest ≡ before.nest → after.outer ≡ before.outer
+    → head_out is_word place word after.lexer (to_come s new after.lexer.window)
+    ≡ next_head_word from before.lexer.lines (to_come s old before.lexer.window)
+    → (after.lexer.set ≡ before.lexer.set) × (after.lexer.limit ≡ before.lexer.limit) × (after.lexer.file ≡ before.lexer.file)
+    → ReadsHead is_word place word from (nesting s start old before) (nesting s start new after)
+reads_head_on s start old new before after is_word place from word bytes n gave nest outer e same =
+    let c = cursor_of before.lexer (to_come s old before.lexer.window) in
+    let r : HeadRead = read_head from c in
+    let cursor : cursor_of after.lexer (to_come s new after.lexer.window) ≡ behind_head c r =
+    cursor_moved before.lexer after.lexer (to_come s new after.lexer.window) r.rest r.lines (ap (λ (x : HeadRead). x.rest) e)
+    (ap (λ (x : HeadRead). x.lines) e) same.2 same.0 same.1 in
+    record {
+      tells = ap (λ (x : HeadRead). x.is_word) e;
+      goes_to = ap (λ (x : HeadRead). x.place) e;
+      spelled = ap (λ (x : HeadRead). x.word) e;
+      goes_on = nesting_on s start old new before after bytes (behind_head c r) n gave nest outer cursor;
     }
 
 -- The innermost file was left

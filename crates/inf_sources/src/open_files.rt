@@ -1,21 +1,24 @@
 //! The files that are open, each with its lexer.
 ghost use Rattle.std.specs.Prelude.{◌≡◌, ◌≢◌, ◌+◌, ◌-◌, min, ◌≤◌, ◌<◌, ◌⊎◌, ◌++◌, [], ◌∷◌, false, true, if◌then◌else◌, is_ok, IfErr};
 ghost use Rattle.std.specs.Prelude.{IfNone, IfOk, IfSome, OnOk, OnErr, IsErrOf, IsOk, IsTrue, None, Some, length, map, reverse, slice_get};
-ghost use Rattle.std.specs.Prelude.{unwrap_or};
-ghost use Rattle.inf_files.specs.Files.{Openings, Rose, last_count};
+ghost use Rattle.std.specs.Prelude.{ℕ, IsErr, is_err, unwrap_or};
+ghost use Rattle.inf_files.specs.Files.{Openings, Rose, Sources, last_count};
 ghost use Rattle.inf_lexer.specs.Names.{can_name, innermost_name};
 ghost use Rattle.inf_lexer.specs.Readers.{Took, at_front};
 ghost use Rattle.inf_lexer.specs.Unread.{IsAtEnd, unread};
-ghost use Rattle.inf_sources.specs.Calls.{AskedTooMany, Honestly, Kept, StaysFit, Went};
+ghost use Rattle.inf_sources.specs.Calls.{AskedTooMany, Honestly, Kept, StaysFit, Went, given_all};
+ghost use Rattle.inf_sources.specs.Choosing.{chosen, file_with, nesting_chosen, nesting_with, open_with};
 ghost use Rattle.inf_sources.specs.Cursors.{Unfinished};
+ghost use Rattle.inf_sources.specs.Heading.{ReadsHead};
 ghost use Rattle.inf_sources.specs.Inclusions.{OpenedInVain, OpensTooMany, answer_of, closed, inclusion, main_opened, nested_by};
 ghost use Rattle.inf_sources.specs.Quoted.{KeepsFew};
 ghost use Rattle.inf_sources.specs.Open.{AllGiven, Each, Fits, IsNested, Reads, closed_to, nesting, opened_since, waits};
 
 use crate::faults::IncludeFault;
 use crate::open_file::{Conditional, OpenFile};
+use arrayvec::ArrayVec;
 use inf_files::files::Files;
-use inf_lexer::{EnterFault, LexFault, Lexer, Stack, Token};
+use inf_lexer::{EnterFault, HeadPlace, LexFault, Lexer, Stack, Token};
 use inf_text::CharSet;
 use std::alloc::Global;
 use std::marker::Model;
@@ -30,6 +33,15 @@ pub enum Included {
     NotThere,
     /// 16 files are open already.
     TooDeep,
+}
+
+/// Has some files that wait read by a character set.
+fn set_all(files: &mut [OpenFile], set: CharSet)
+    ensures { files.new ≡ map (file_with set) files.old }
+{
+    for at in 0..files.len() {
+        files[at].lexer.set_characters(set);
+    }
 }
 
 /// The files that are open: their names, the lexer of the innermost, and the others as they were left.
@@ -123,6 +135,45 @@ impl OpenFiles {
         self.lexer.spelling()
     }
 
+    /// The character set by which all open files are read, and those that are entered later.
+    pub fn characters(&self) -> CharSet
+        ensures innermost { result ≡ self.now.lexer.set }
+        ensures later { result ≡ self.now.nest.set }
+    {
+        self.lexer.characters()
+    }
+
+    /// Reads by the character set `set` from the next token on, in each file that is open, and in those that are entered later.
+    pub fn set_characters(&mut self, set: CharSet)
+        ensures value { self.new ≡ open_with set self.old }
+        ensures nesting { (sources : Sources) (start now : Openings) →
+            nesting sources start now self.new ≡ nesting_with set (nesting sources start now self.old) }
+        ensures nested { (start now : Openings) → IsNested start now self.old → IsNested start now self.new }
+        ensures given_all { (sources : Sources) (n : ℕ) (now : Openings) →
+            AllGiven sources n now self.old → AllGiven sources n now self.new }
+        ensures given { given_all self.new ≡ given_all self.old }
+    {
+        self.names.set_characters(set);
+        self.lexer.set_characters(set);
+        set_all(self.outer.as_mut_slice(), set);
+    }
+
+    /// Reads by the character set `set` from the next token on, and lets quoted tokens have `limit` bytes, in the main source, which is
+    /// open alone, and in files that are entered later.
+    pub fn choose(&mut self, set: CharSet, limit: u32)
+        requires alone { self.old.outer ≡ [] }
+        ensures value { self.new ≡ chosen set limit self.old }
+        ensures nesting { (sources : Sources) (start now : Openings) →
+            nesting sources start now self.new ≡ nesting_chosen set limit (nesting sources start now self.old) }
+        ensures nested { (start now : Openings) → IsNested start now self.old → IsNested start now self.new }
+        ensures given_all { (sources : Sources) (n : ℕ) (now : Openings) →
+            AllGiven sources n now self.old → AllGiven sources n now self.new }
+        ensures given { given_all self.new ≡ given_all self.old }
+    {
+        self.names.choose(set, limit);
+        self.lexer.choose(set, limit);
+    }
+
     /// The next token of the innermost file; at its end that is the end, again and again.
     ///
     /// `Read` comes where the file could not be read, or has more than 16,777,216 bytes; `Memory` where there is no room
@@ -146,6 +197,7 @@ impl OpenFiles {
         ensures took { IfOk result (λ token. Took token.kind self.old.lexer.window self.new.lexer.window self.new.lexer.kept) }
         ensures quoted { IfOk result (λ token. KeepsFew self.old.nest.limit token.kind self.new.lexer.kept) }
         ensures goes { OnOk result (self.new.lexer.has_failed ≡ false) }
+        ensures failed { OnErr result (self.new.lexer.has_failed ≡ true) }
         ensures same { (self.new.nest ≡ self.old.nest) × ((self.new.outer ≡ self.old.outer) × (self.new.lexer.file ≡ self.old.lexer.file)) }
 
         // What it was given: at most 4,096 bytes behind the token.
@@ -156,6 +208,39 @@ impl OpenFiles {
     {
         let token = self.lexer.next(files)?;
         Ok(token)
+    }
+
+    /// Reads the next word of the head of the innermost file into `word`, as `Lexer::next_head_word` reads it: at most 256 bytes of it are
+    /// kept, and the answer tells whether there was one. `place` tells where the head goes on: `HeadPlace::Line` before the first call.
+    ///
+    /// `Read` comes where the file could not be read, or has more than 16,777,216 bytes.
+    pub fn next_head_word<F: Files>(
+        &mut self,
+        files: &mut F,
+        place: &mut HeadPlace,
+        word: &mut ArrayVec<u8, 256>,
+    ) -> Result<bool, LexFault>
+        requires is_open { length self.old.outer < F.depth files.old }
+        requires goes { self.old.lexer.has_failed ≡ false }
+        ensures word { Honestly F.Files files.old self.old (λ start. IfOk result (λ is_word.
+            ReadsHead is_word place.new word.new.items place.old
+            (nesting (F.sources files.old) start (F.openings files.old) self.old)
+            (nesting (F.sources files.old) start (F.openings files.new) self.new))) }
+        ensures opened { Honestly F.Files files.old self.old
+            (λ start. opened_since start (F.openings files.new) ≡ opened_since start (F.openings files.old)) }
+        ensures went { Went F.Files files.old files.new self.old self.new }
+        ensures fits { OnOk result (StaysFit F.Files files.old files.new self.old) }
+        ensures failed { self.new.lexer.has_failed ≡ is_err result }
+        ensures same { (self.new.nest ≡ self.old.nest) × ((self.new.outer ≡ self.old.outer) × (self.new.lexer.file ≡ self.old.lexer.file)) }
+        ensures window { length self.new.lexer.window.left ≤ 4096 }
+        ensures few { OnOk result (self.new.lexer.window.given ≤ 16777216) }
+        ensures on { IsErr result → self.new.lexer.window.is_over ≡ false }
+        ensures unmoved { OnErr result (place.new ≡ place.old) }
+        ensures cause { IsErr result → IsErrOf result LexFault.Read × (Rose (F.faults files.old) (F.faults files.new)
+            ⊎ (16777216 < self.new.lexer.window.given)) }
+    {
+        let is_word = self.lexer.next_head_word(files, place, word)?;
+        Ok(is_word)
     }
 
     /// Enters the file that the text of an inclusion names, in these directories or beside the innermost file; it is then

@@ -1,14 +1,15 @@
 -- The low strings of a story behind the first one, which each story has: three spaces, in two bytes.
-use Rattle.std.specs.Prelude.{ℕ, ◌+◌, List, [], ◌++◌, length, Bool, nat_le}
+use Rattle.std.specs.Prelude.{ℕ, ◌+◌, List, [], ◌∷◌, ◌++◌, length, Bool, nat_le}
 use Rattle.inf_settings.specs.Bounds.{Limits}
 use Rattle.inf_settings.specs.declared.setting.Setting.TheVariants as setting
 
--- the bytes of packed texts
+-- the bytes of packed texts, and where those of abbreviations begin, in bytes from the front of the first one
 pub record LowArea : Type 0 where
   pub bytes : List ℕ
+  pub abbreviations : List ℕ
 
 abbrev pub no_low_strings : LowArea
-no_low_strings = record { bytes = [] }
+no_low_strings = record { bytes = []; abbreviations = [] }
 
 -- how many bytes there are with the first one
 abbrev pub low_size : LowArea → ℕ
@@ -17,6 +18,10 @@ low_size low = 2 + length low.bytes
 -- one more: a packed text is of whole words (Z-Machine Standard 1.1, section 3.2)
 abbrev pub with_low : List ℕ → LowArea → LowArea
 with_low text low = record low { bytes = low.bytes ++ text }
+
+-- one more, which is an abbreviation (section 3.3)
+abbrev pub with_abbreviation : List ℕ → LowArea → LowArea
+with_abbreviation text low = record (with_low text low) { abbreviations = low.abbreviations ++ low_size low ∷ [] }
 
 -- whether there is room for it
 abbrev pub low_fits : Limits → List ℕ → LowArea → Bool

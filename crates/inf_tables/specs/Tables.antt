@@ -39,13 +39,15 @@ more count other = min (count + other) 18446744073709551615
 
 -- How many numbers in the tables are known when the story is laid out: in the world as if the open body ended here, first values of
 -- variables, entries of
--- arrays, addresses of verbs' lines and of prepositions, and one for each action and each routine that parses. The addresses of the tables
+-- arrays, addresses of verbs' lines and of prepositions, and one for each action, each routine that parses and each abbreviation. The
+-- addresses of the tables
 -- of the first
 -- four objects are not counted here: code keeps as many back from its limit.
 abbrev pub references : AllTables → ℕ
 references t =
     more (more (more (fixups_now t.world - 4) (laters t.globals)) (arrays_laters (all_of t.arrays)))
-    (more (verbs_laters t.verbs.list) (more (length t.actions.routines) (length t.parsing)))
+    (more (more (verbs_laters t.verbs.list) (more (length t.actions.routines) (length t.parsing)))
+    (length t.low_strings.abbreviations))
 
 -- with so many others
 abbrev pub references_with : ℕ → AllTables → ℕ

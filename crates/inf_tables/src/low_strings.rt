@@ -1,6 +1,6 @@
 //! The low strings of a story.
-ghost use Rattle.std.specs.Prelude.{◌≡◌, ◌≤◌, IfOk, if◌then◌else◌, max};
-ghost use Rattle.inf_tables.specs.LowStrings.{low_fits, low_size, with_low};
+ghost use Rattle.std.specs.Prelude.{◌≡◌, ◌≤◌, IfOk, OnErr, if◌then◌else◌, max};
+ghost use Rattle.inf_tables.specs.LowStrings.{low_fits, low_size, with_abbreviation, with_low};
 ghost use Rattle.inf_settings.specs.declared.setting.Setting.TheVariants as setting;
 
 use inf_settings::bounds::Bounds;
@@ -16,6 +16,8 @@ const FIRST_BYTES: usize = 2;
 #[derive(Drop)]
 pub struct LowStrings<B: Bounds> {
     bytes: Vec<u8>,
+    // Where those of abbreviations begin, in the order in which these were declared.
+    abbreviations: Vec<usize>,
     limit: usize,
     of: PhantomData<B>,
     ghost is_most: { limit ≡ B.most setting.LowStrings },
@@ -27,7 +29,7 @@ impl<B: Bounds> Model for LowStrings<B> {
 
     ghost Value = { LowArea };
 
-    ghost view = { λ low. record { bytes = low.bytes.items } };
+    ghost view = { λ low. record { bytes = low.bytes.items; abbreviations = low.abbreviations.items } };
 
     ghost invariant = { λ low. 2 + length low.bytes.items ≤ max 2 low.limit };
 }
@@ -42,6 +44,7 @@ impl<B: Bounds> LowStrings<B> {
     {
         LowStrings {
             bytes: Vec::new(alloc),
+            abbreviations: Vec::new(alloc),
             limit,
             of: PhantomData,
         }
@@ -55,17 +58,49 @@ impl<B: Bounds> LowStrings<B> {
         FIRST_BYTES + self.bytes.len()
     }
 
-    /// Adds a low string of these bytes, and answers that it was added; or that it would pass the limit.
-    pub fn add(&mut self, text: &[u8]) -> Result<bool, AllocError>
-        ensures { IfOk result (λ added. (added ≡ low_fits B.most text.now self.old)
-            × (self.new ≡ if low_fits B.most text.now self.old then with_low text.now self.old else self.old)) }
+    /// Whether there is room for a low string of these bytes.
+    fn fits(&self, text: &[u8]) -> bool
+        ensures { result ≡ low_fits B.most text.now self.now }
     {
         let size = self.len();
-        if self.limit < size || self.limit - size < text.len() {
+        self.limit >= size && self.limit - size >= text.len()
+    }
+
+    /// Adds a low string of the bytes `text`, and answers that it was added; or that it would pass the limit. Where memory runs out they
+    /// stay as they were.
+    pub fn add(&mut self, text: &[u8]) -> Result<bool, AllocError>
+        ensures value { IfOk result (λ added. (added ≡ low_fits B.most text.now self.old)
+            × (self.new ≡ if low_fits B.most text.now self.old then with_low text.now self.old else self.old)) }
+        ensures err { OnErr result (self.new ≡ self.old) }
+    {
+        if !self.fits(text) {
             return Ok(false);
         }
         self.bytes.extend_from_slice(text)?;
         Ok(true)
+    }
+
+    /// Adds a low string of the bytes `packed`, which is an abbreviation, as `add` does, and keeps its place.
+    pub fn add_abbreviation(&mut self, packed: &[u8]) -> Result<bool, AllocError>
+        ensures value { IfOk result (λ added. (added ≡ low_fits B.most packed.now self.old)
+            × (self.new ≡ if low_fits B.most packed.now self.old then with_abbreviation packed.now self.old else self.old)) }
+        ensures err { OnErr result (self.new ≡ self.old) }
+    {
+        if !self.fits(packed) {
+            return Ok(false);
+        }
+        let place = self.len();
+        self.abbreviations.reserve(1)?;
+        self.bytes.extend_from_slice(packed)?;
+        self.abbreviations.push_reserved(place);
+        Ok(true)
+    }
+
+    /// Where the abbreviations begin, in the order in which they were added, in bytes from the front of the first low string.
+    pub fn abbreviation_places(&self) -> &[usize]
+        ensures { result.now ≡ self.now.abbreviations }
+    {
+        self.abbreviations.as_slice()
     }
 
     /// The bytes of those behind the first one.

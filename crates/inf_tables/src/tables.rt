@@ -105,7 +105,11 @@ impl<B: Bounds> Tables<B> {
             self.verbs.later_count(),
             more(self.actions.len(), self.parsing.len()),
         );
-        more(more(world, self.arrays.later_count()), grammar)
+        let abbreviations = self.low_strings.abbreviation_places().len();
+        more(
+            more(world, self.arrays.later_count()),
+            more(grammar, abbreviations),
+        )
     }
 
     /// These with so many others.

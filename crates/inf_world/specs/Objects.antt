@@ -1,6 +1,6 @@
 -- The objects and classes of a source, by their numbers: the first that it declares has the number 5.
 use Rattle.std.specs.Prelude.{ℕ, zero, suc, ◌+◌, ◌-◌, List, [], ◌∷◌, ◌==◌, ◌&&◌, Bool, true, false, not, Option, Some, None, IsSome, Result}
-use Rattle.std.specs.Prelude.{Ok, Err, nat_le, slice_get, if◌then◌else◌}
+use Rattle.std.specs.Prelude.{Ok, Err, length, nat_le, slice_get, if◌then◌else◌}
 use Rattle.inf_properties.specs.declared.sizes.Owner.{Owner}
 use Rattle.inf_properties.specs.declared.sizes.Owner.TheVariants as owner
 use Rattle.inf_objects.specs.declared.objects.Object.{Object}
@@ -25,6 +25,14 @@ class_in (Some o) = if is_class o.owner then Some o else None
 -- the class with a number
 abbrev pub class_at : ℕ → List Object → Option Object
 class_at number objects = class_in (declared_at number objects)
+
+-- how many classes it has, by name or by inheritance
+abbrev pub classes_of : Option Object → ℕ
+classes_of None = 0
+classes_of (Some class) = length class.classes
+
+abbrev pub class_count : ℕ → List Object → ℕ
+class_count number objects = classes_of (class_at number objects)
 
 abbrev pub is_object_in : Option Object → Bool
 is_object_in None = false

@@ -1,14 +1,15 @@
 //! What a world keeps of its objects, and how it is looked up.
 ghost use Rattle.std.specs.Prelude.{◌≡◌, ◌<◌, ◌≤◌, ◌++◌, ◌∷◌, ℕ, [], None, Some, length, option_map, slice_get, vec_len, vec_capacity};
 ghost use Rattle.std.specs.Prelude.{if◌then◌else◌};
-ghost use Rattle.inf_world.specs.Objects.{class_at, has_arrows, or_latest};
+ghost use Rattle.inf_world.specs.Objects.{class_at, class_count, has_arrows, or_latest};
 ghost use Rattle.inf_world.specs.World.{later_defaults};
 
 use crate::kinds::Declared;
-use crate::world::SYSTEM_OBJECTS;
+use crate::world::{SYSTEM_OBJECTS, World};
 use inf_area::Value;
 use inf_objects::Object;
 use inf_properties::Owner;
+use inf_settings::bounds::Bounds;
 
 /// The class of a number.
 pub(crate) fn class_of(objects: &[Object], number: usize) -> Option<&Object>
@@ -61,5 +62,18 @@ pub(crate) fn note_latest(latest: &mut Vec<usize>, object: &Object, number: usiz
         latest[object.arrows] = number;
     } else {
         let _added = latest.push(number);
+    }
+}
+
+impl<B: Bounds> World<B> {
+    /// How many classes the class with a number has, by name or by inheritance: at most 32. It is 0 where the number is that of no class
+    /// whose body ended.
+    pub fn class_count(&self, number: usize) -> usize
+        ensures { result ≡ class_count number self.now.objects }
+    {
+        match class_of(self.objects(), number) {
+            Some(class) => class.classes.as_slice().len(),
+            None => 0,
+        }
     }
 }

@@ -19,6 +19,7 @@ returns g c =
       scale = inside.scale;
       has_begun = inside.has_begun;
       finished = before;
+      routines = inside.routines;
       opened = open_in inside.area
           b r;
     } in

@@ -1,14 +1,14 @@
 -- What stands behind the finished routines is the closed one and its padding; a lost one gives nothing.
 use Rattle.std.specs.Prelude.{nat_lt, MatchResult, Bool}
-use Rattle.std.proofs.Common.{◌≡◌, ◌⊎◌, false, true, refl, List, ◌++◌, length, Option, Some, None, sym, ◌∙◌, ap, subst}
+use Rattle.std.proofs.Common.{◌≡◌, ◌≤◌, ◌+◌, ◌⊎◌, false, true, refl, arith, List, ◌++◌, length, Option, Some, None, sym, ◌∙◌, ap, subst}
 use Rattle.inf_assembler.specs.declared.routines.CloseFault.{CloseFault}
 use Rattle.inf_assembler.specs.declared.routines.CloseFault.TheVariants as close_fault
 use Rattle.inf_assembler.specs.Routines.{State, contents_of}
 use Rattle.inf_cells.specs.declared.cells.Cell.{Cell as CodeCell}
 use Rattle.inf_code.specs.declared.code.CodeLimits.{CodeLimits}
-use Rattle.inf_code.specs.Code.{Routines, IsCode, open_in, closed_cells, place_behind, source_cells, with_closed, fault_closed}
+use Rattle.inf_code.specs.Code.{Routines, IsCode, open_in, closed_cells, closed_count, place_behind, source_cells, with_closed, fault_closed}
 use Rattle.inf_code.specs.Code.{fault_behind, fault_end}
-use Rattle.inf_code.proofs.CodeSteps.{closed_size, code_after, finished_closed, size_finished}
+use Rattle.inf_code.proofs.CodeSteps.{closed_size, code_after, counted_closed, finished_closed, size_finished}
 use Rattle.inf_code.proofs.Ends.{is_first, told_first, told_lost, zeros_none, zeros_told}
 use Rattle.inf_code.proofs.code.Code.close.Goals as goal
 
@@ -28,6 +28,7 @@ returns-then-self-clause-fault g c =
       scale = inside.scale;
       has_begun = inside.has_begun;
       finished = before;
+      routines = inside.routines;
       opened = open_in inside.area
           b r;
     } in
@@ -56,11 +57,12 @@ returns-in-Err-clause-fault g c =
       scale = inside.scale;
       has_begun = inside.has_begun;
       finished = before;
+      routines = inside.routines;
       opened = open_in inside.area
           b r;
     } in
     let Tells : Option CloseFault → Type 0 = λ wrong. (c.in-Err.fault ≡ close_fault.Memory) ⊎ (wrong ≡ Some c.in-Err.fault) in
-    let first = is_first inside.limits inside.finished inside.refs inside.spare inside.area false routine kind is c.self.invariant.1.1
+    let first = is_first inside.limits inside.finished inside.refs inside.spare inside.area false routine kind is c.self.invariant.1.1.0
     inside.refs refl in
     subst Tells (ap (λ r. Closed inside.limits (With false r)) (sym some)
     ∙ ap (λ b. Closed inside.limits (With b inside.routine)) (sym kept)
@@ -81,7 +83,12 @@ invariant_of-self-2 g c =
     routine c.in-Ok.closed is c.in-Ok.ensures.ok c.in_default-fill_up.ensures.ok few in
     let none : IsCode inside.limits (length whole) listed whole c.take.new.self =
     subst (IsCode inside.limits (length whole) listed whole) (sym c.take.ensures.after) after in
-    (subst (λ n. IsCode inside.limits n listed whole c.take.new.self) (sym c.len-self-inside.ensures.value) none, c.self.invariant.1)
+    let count = counted_closed inside.scale c.args.kind inside.limits inside.finished inside.refs listed inside.area c.close.new.area whole
+    routine c.in-Ok.closed is c.in-Ok.ensures.ok inside.routines c.in_default-fill_up.ensures.ok c.self.invariant.1.1.1 in
+    let len = sym c.len-self-inside.ensures.value in (
+      subst (λ n. IsCode inside.limits n listed whole c.take.new.self) len none,
+      (c.self.invariant.1.0, (c.self.invariant.1.1.0, subst (λ n. inside.routines + 1 + 8 ≤ n) len count)),
+    )
 
 pub returns-clause-ok : goal.returns-clause-ok
 returns-clause-ok g c =
@@ -102,6 +109,7 @@ returns-clause-ok g c =
       scale = inside.scale;
       has_begun = inside.has_begun;
       finished = cells;
+      routines = inside.routines + 1;
       opened = open_in whole
           inside.is_lost r;
     } in
@@ -111,6 +119,7 @@ returns-clause-ok g c =
       has_begun = inside.has_begun;
       finished = before ++ closed_cells inside.scale
           kind (place_behind before) (open_in inside.area b r);
+      routines = inside.routines + closed_count (open_in inside.area b r);
       opened = None;
     } in
     ap (λ n. Of (source_cells n listed whole) c.take.new.self) c.len-self-inside.ensures.value
@@ -134,6 +143,7 @@ returns-in-Err-fill_up-clause-fault g c =
       scale = inside.scale;
       has_begun = inside.has_begun;
       finished = before;
+      routines = inside.routines;
       opened = open_in inside.area
           b r;
     } in
@@ -141,7 +151,7 @@ returns-in-Err-fill_up-clause-fault g c =
     let size_is = closed_size inside.scale kind inside.limits inside.finished inside.refs c.close.new.refs inside.area written routine
     c.in-Ok.closed is c.in-Ok.ensures.ok in
     let same = ap (nat_lt inside.limits.code) size_is in
-    let first = is_first inside.limits inside.finished inside.refs inside.spare inside.area false routine kind is c.self.invariant.1.1
+    let first = is_first inside.limits inside.finished inside.refs inside.spare inside.area false routine kind is c.self.invariant.1.1.0
     inside.refs refl in
     let Tells : Option CloseFault → Type 0 =
     λ wrong. (c.in-Err-fill_up.fault ≡ close_fault.Memory) ⊎ (wrong ≡ Some c.in-Err-fill_up.fault) in
@@ -166,6 +176,7 @@ returns-clause-fault g c =
       scale = inside.scale;
       has_begun = inside.has_begun;
       finished = before;
+      routines = inside.routines;
       opened = open_in inside.area
           b r;
     } in
@@ -173,7 +184,7 @@ returns-clause-fault g c =
     let size_is = closed_size inside.scale kind inside.limits inside.finished inside.refs c.close.new.refs inside.area written routine
     c.in-Ok.closed is c.in-Ok.ensures.ok in
     let over = ap (nat_lt inside.limits.code) size_is ∙ c.in_default-fill_up.ensures.fault in
-    let first = is_first inside.limits inside.finished inside.refs inside.spare inside.area false routine kind is c.self.invariant.1.1
+    let first = is_first inside.limits inside.finished inside.refs inside.spare inside.area false routine kind is c.self.invariant.1.1.0
     inside.refs refl in
     subst (λ wrong. wrong ≡ None) (ap (λ r. Closed inside.limits (With false r)) (sym some)
     ∙ ap (λ b. Closed inside.limits (With b inside.routine)) (sym kept)

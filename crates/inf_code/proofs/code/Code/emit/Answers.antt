@@ -30,11 +30,12 @@ returns-clause-fault g c =
     subst (IsCode inside.limits inside.finished inside.refs inside.area) c.in-Some.is c.self.invariant.0 in
     let before = source_cells inside.finished inside.refs inside.area in
     let kept = lists inside.is_lost inside.finished inside.refs inside.spare inside.area c.listed-refs.result.now is.stands is.limit
-    c.self.invariant.1.1 c.listed-refs.ensures in
+    c.self.invariant.1.1.0 c.listed-refs.ensures in
     let With : Option State → Routines = λ r. record {
       scale = inside.scale;
       has_begun = inside.has_begun;
       finished = before;
+      routines = inside.routines;
       opened = open_in inside.area inside.is_lost r;
     } in
     let Tells : Option Limit → Type 0 = λ full. MatchResult c.emit.result (λ _. full ≡ None) (λ fault. fault ≡ refusal full) in

@@ -1,4 +1,4 @@
-use Rattle.std.proofs.Common.{◌≡◌, length, sym, ◌∙◌, ap, arith, refl}
+use Rattle.std.proofs.Common.{sym, ◌∙◌, ap, arith, refl}
 use Rattle.std.specs.Option.{is_some}
 use Rattle.inf_files.specs.MemoryFiles.{sources_of, kept_in, MemoryState}
 use Rattle.inf_files.proofs.OpeningLemmas.{source_absent, source_present, AreOpenings-opened, openings_of-opened}

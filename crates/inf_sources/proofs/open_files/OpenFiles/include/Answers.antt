@@ -2,7 +2,7 @@ use Rattle.std.proofs.Common.{◌≡◌, ◌≤◌, ◌⊎◌, IsTrue, inl, inr,
 use Rattle.std.proofs.Common.{ap, subst, ◌∙◌}
 use Rattle.inf_files.specs.Files.{Openings, Rose}
 use Rattle.inf_lexer.specs.Entering.{Leaves}
-use Rattle.inf_lexer.specs.Names.{Nest, can_name, candidates, innermost_name, number_of}
+use Rattle.inf_lexer.specs.Names.{Nest, can_name, candidates, innermost_name}
 use Rattle.inf_lexer.specs.Readers.{Reader}
 use Rattle.inf_lexer.specs.declared.enter_faults.EnterFault.TheVariants as fault
 use Rattle.inf_sources.specs.Calls.{AskedTooMany, Honestly, Went}

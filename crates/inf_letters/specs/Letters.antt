@@ -1,0 +1,122 @@
+-- The letters of a command, of the head of a source and of `Switches`: what they say matter by matter (Inform Designer's
+-- Manual, fourth edition, section 39).
+use Rattle.std.specs.Prelude.{ℕ, ◌==◌, Bool, true, false, List, [], ◌∷◌, if◌then◌else◌, Option, Some, None, unwrap_or}
+use Rattle.std.specs.Option.{option_or}
+use Rattle.inf_characters.specs.declared.characters.CharSet.{CharSet}
+use Rattle.inf_characters.specs.declared.characters.CharSet.TheVariants.{Ascii, Latin1}
+use Rattle.inf_cells.specs.declared.scale.Scale.{Scale}
+use Rattle.inf_cells.specs.declared.scale.Scale.TheVariants.{Four, Eight}
+use Rattle.inf_letters.specs.declared.letters.Letters.{Letters}
+use Rattle.inf_letters.specs.declared.letters.Said.{Said}
+use Rattle.inf_letters.specs.declared.letters.Said.TheVariants as said
+
+-- nothing was said
+abbrev pub none_spoken : Letters
+none_spoken =
+    record { set = None; scale = None; warns = None; abbreviates = None; counts = None; ignores = None; debugs = None }
+
+-- the letters that stand alone: `e`, `s`, `w`, `i` and `D`
+abbrev pub alone : ℕ → Option Said
+alone b =
+    if b == 101 then Some (said.Abbreviates true)
+    else if b == 115 then Some (said.Counts true)
+    else if b == 119 then Some (said.Warns false)
+    else if b == 105 then Some (said.Ignores true)
+    else if b == 68 then Some (said.Debugs true)
+    else None
+
+-- the letters that stand behind `~`: the same, and `S`
+abbrev pub turned_off : ℕ → Option Said
+turned_off b =
+    if b == 101 then Some (said.Abbreviates false)
+    else if b == 115 then Some (said.Counts false)
+    else if b == 119 then Some (said.Warns true)
+    else if b == 105 then Some (said.Ignores false)
+    else if b == 68 then Some (said.Debugs false)
+    else if b == 83 then Some said.Nothing
+    else None
+
+-- `v5` and `v8` by the digit
+abbrev pub version_of : ℕ → Option Said
+version_of b = if b == 53 then Some (said.Scale Four) else if b == 56 then Some (said.Scale Eight) else None
+
+-- `C0` and `C1` by the digit
+abbrev pub characters_of : ℕ → Option Said
+characters_of b = if b == 48 then Some (said.Set Ascii) else if b == 49 then Some (said.Set Latin1) else None
+
+-- the letters that come in pairs: behind `~`, `v`, `C` and `E`
+abbrev pub paired : ℕ → ℕ → Option Said
+paired b c =
+    if b == 126 then turned_off c
+    else if b == 118 then version_of c
+    else if b == 67 then characters_of c
+    else if b == 69 then (if c == 49 then Some said.Nothing else None)
+    else None
+
+-- one thing more is the last word on its matter
+abbrev pub spoken : Said → Letters → Letters
+spoken (said.Set set) l = record l { set = Some set }
+spoken (said.Scale scale) l = record l { scale = Some scale }
+spoken (said.Warns warns) l = record l { warns = Some warns }
+spoken (said.Abbreviates abbreviates) l = record l { abbreviates = Some abbreviates }
+spoken (said.Counts counts) l = record l { counts = Some counts }
+spoken (said.Ignores ignores) l = record l { ignores = Some ignores }
+spoken (said.Debugs debugs) l = record l { debugs = Some debugs }
+spoken said.Nothing l = l
+
+-- what is said by what follows it, and nothing where it is unknown
+abbrev pub followed : (Letters → Option Letters) → Letters → Option Said → Option Letters
+followed next l None = None
+followed next l (Some s) = next (spoken s l)
+
+-- the first of two readings, or where it is unknown the second
+abbrev pub either : Option Said → (Said → Option Letters) → Option Letters → Option Letters
+either None first second = second
+either (Some s) first second = first s
+
+-- Letters behind what was said, from left to right: each stands alone or is one of a pair. One that is unknown has all unheard.
+abbrev pub with_letters : List ℕ → Letters → Option Letters
+with_letters [] l = Some l
+with_letters (b ∷ []) l = followed (λ x. Some x) l (alone b)
+with_letters (b ∷ c ∷ letters) l =
+    either (alone b) (λ s. with_letters (c ∷ letters) (spoken s l)) (followed (with_letters letters) l (paired b c))
+
+-- on each matter what the first ones say, or where they say nothing, what the others do
+abbrev pub spoken_over : Letters → Letters → Letters
+spoken_over l others = record {
+  set = option_or l.set others.set;
+  scale = option_or l.scale others.scale;
+  warns = option_or l.warns others.warns;
+  abbreviates = option_or l.abbreviates others.abbreviates;
+  counts = option_or l.counts others.counts;
+  ignores = option_or l.ignores others.ignores;
+  debugs = option_or l.debugs others.debugs;
+}
+
+-- the character set of the sources
+abbrev pub set_of : Letters → CharSet
+set_of l = unwrap_or l.set Latin1
+
+-- the version of the story
+abbrev pub scale_of : Letters → Scale
+scale_of l = unwrap_or l.scale Four
+
+-- whether warnings are told
+abbrev pub warns : Letters → Bool
+warns l = unwrap_or l.warns true
+
+-- whether texts are abbreviated
+abbrev pub abbreviates : Letters → Bool
+abbreviates l = unwrap_or l.abbreviates false
+
+-- whether statistics are told
+abbrev pub counts : Letters → Bool
+counts l = unwrap_or l.counts false
+
+-- whether `Switches` says nothing
+abbrev pub ignores : Letters → Bool
+ignores l = unwrap_or l.ignores false
+
+-- whether the language has the name `DEBUG`
+abbrev pub debugs : Letters → Bool
+debugs l = unwrap_or l.debugs false

@@ -1,0 +1,16 @@
+use Rattle.std.proofs.Common.{◌≡◌, ℕ, ◌+◌, ◌-◌, ◌≤◌, List, ◌++◌, drop, length}
+use Rattle.inf_lexer.specs.Heads.{head_found}
+use Rattle.inf_lexer.proofs.head.take_head.Given as goal
+
+-- what is found from here in the bytes that are left is what was found in all of them
+abbrev pub invariant-loop-byte : goal.invariant-loop-byte
+invariant-loop-byte l =
+    record {
+      found : (rest : List ℕ) → head_found l.place l.word.items l.lines (drop l.taken l.bytes ++ rest) ≡ head_found l.fn.from
+          l.fn.word.items l.fn.lines (l.bytes ++ rest);
+      within : l.taken ≤ length l.bytes;
+      few : l.lines.line ≤ l.fn.lines.line + l.taken;
+    }
+
+abbrev pub decreases-loop-byte : goal.decreases-loop-byte
+decreases-loop-byte l = length l.bytes - l.taken

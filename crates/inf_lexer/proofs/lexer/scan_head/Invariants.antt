@@ -1,0 +1,32 @@
+use Rattle.std.proofs.Common.{◌≡◌, ◌+◌, ◌-◌, ◌≤◌, length, min, IsTrue}
+use Rattle.inf_files.specs.Files.{last_count}
+use Rattle.inf_lexer.specs.Heads.{HeadFound, head_found}
+use Rattle.inf_lexer.specs.Unread.{Ends, Heard, StillGives}
+use Rattle.inf_lexer.proofs.lexer.scan_head.Given as goal
+
+-- what is read from here is the head from the start, and what was given since is in view or was taken
+abbrev pub invariant-windows : goal.invariant-windows
+invariant-windows g l =
+    let files = g.F.Files in
+    let sources = files.sources l.fn.files in
+    record {
+      heard : Heard HeadFound (files.is_honest l.fn.files) sources (files.openings l.fn.files) (files.openings l.files) l.fn.window l.window
+          (head_found l.place l.word.items l.lines) (head_found l.fn.from l.fn.word.items l.fn.lines);
+      end : IsTrue (files.is_honest l.fn.files) → Ends sources (files.openings l.fn.files) l.fn.window →
+          Ends sources (files.openings l.files) l.window;
+      still : IsTrue (files.is_honest l.fn.files) → StillGives (files.openings l.fn.files) l.fn.window →
+          StillGives (files.openings l.files) l.window;
+      room : l.lines.line + length l.window.left ≤ l.window.given + 1;
+      window : length l.window.left ≤ 4096;
+      few : l.window.given ≤ 16777216;
+      more : l.fn.window.given ≤ l.window.given;
+      given : min (files.given l.fn.files + (l.window.given - l.fn.window.given)) last_count ≤ files.given l.files;
+      depth : files.depth l.files ≡ files.depth l.fn.files;
+      opened : files.opened l.files ≡ files.opened l.fn.files;
+      faults : files.faults l.fn.files ≤ files.faults l.files;
+      sources : files.sources l.files ≡ files.sources l.fn.files;
+      honesty : files.is_honest l.files ≡ files.is_honest l.fn.files;
+    }
+
+abbrev pub decreases-windows : goal.decreases-windows
+decreases-windows g l = 16777217 + length l.window.left - l.window.given

@@ -1,0 +1,23 @@
+-- The head of a source is no part of its tokens.
+use Rattle.std.specs.Prelude.{◌≡◌, ℕ, List}
+use Rattle.inf_characters.specs.declared.characters.CharSet.{CharSet}
+use Rattle.inf_scanner.specs.Scanning.{begun, find}
+use Rattle.inf_scanner.specs.declared.lines.Lines.{Lines}
+use Rattle.inf_scanner.specs.declared.scanner.State.{State}
+use Rattle.inf_scanner.specs.declared.scanner.State.TheVariants as state
+use Rattle.inf_lexer.specs.Heads.{next_head_word}
+use Rattle.inf_lexer.specs.declared.head.HeadPlace.{HeadPlace}
+use Rattle.inf_lexer.specs.declared.head.HeadPlace.TheVariants as place
+
+-- what is being read at a place of a head where tokens are read: a comment, but for the front of a line
+abbrev pub state_at : HeadPlace → State
+state_at place.Line = state.Gap
+state_at place.Return = state.Gap
+state_at place.Behind = state.Gap
+state_at _ = state.Comment
+
+-- Where a word of a head was read, or its end was, the next token is the one that it was before. So the tokens of a source are those behind
+-- its head, since both its front and what is behind its head are the front of a line.
+abbrev pub HeadsHaveNoTokens : Type 0
+HeadsHaveNoTokens = (set : CharSet) (limit : ℕ) (p : HeadPlace) (lines : Lines) (bytes : List ℕ) → let r = next_head_word p lines bytes in
+    find set limit (state_at r.place) (begun r.lines) r.rest ≡ find set limit (state_at p) (begun lines) bytes

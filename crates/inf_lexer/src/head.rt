@@ -1,0 +1,167 @@
+//! The head of a source: its lines, from the first byte on, that begin with `!%`, and the words of these lines.
+ghost use Rattle.std.specs.Prelude.{◌≡◌, ℕ, ◌+◌, ◌<◌, ◌≤◌, ◌^◌, ◌++◌, List, drop, length, true};
+ghost use Rattle.inf_scanner.specs.Lines.{past};
+ghost use Rattle.inf_lexer.specs.Heads.{head_after, head_found, head_step, is_head_on, is_word, place_behind, with_head_byte};
+
+use arrayvec::ArrayVec;
+use inf_scanner::Lines;
+
+/// How many bytes of a word are kept.
+const MOST_WORD_BYTES: usize = 256;
+
+/// Where a head is read.
+#[derive(Clone, Copy, Debug, PartialEq, Eq)]
+pub enum HeadPlace {
+    /// Before the first byte of a line.
+    Line,
+    /// Behind a carriage return, to which a line feed belongs.
+    Return,
+    /// Behind the `!` at the front of a line.
+    Sign,
+    /// Between the words of a line.
+    Gap,
+    /// In a word.
+    Word,
+    /// In the comment that ends the head.
+    Comment,
+    /// Behind the head.
+    Behind,
+}
+
+/// What a byte does.
+#[derive(Clone, Copy)]
+pub enum HeadStep {
+    /// It is passed over.
+    Pass(HeadPlace),
+    /// It is one of a word.
+    Keep,
+    /// It stands behind the word, or behind the head.
+    Stop,
+}
+
+/// What came of some bytes.
+#[derive(Clone, Copy)]
+pub enum HeadTurn {
+    /// All were taken.
+    On(HeadPlace),
+    /// One stands behind the word, or behind the head.
+    Stopped(HeadPlace),
+}
+
+/// The first byte of a line.
+fn line_step(byte: u8) -> HeadStep
+    ensures { result ≡ head_step HeadPlace.Line byte }
+{
+    match byte {
+        b'!' => HeadStep::Pass(HeadPlace::Sign),
+        _ => HeadStep::Stop,
+    }
+}
+
+/// A byte of a comment that ends the head.
+fn comment_step(byte: u8) -> HeadStep
+    ensures { result ≡ head_step HeadPlace.Comment byte }
+{
+    match byte {
+        b'\r' | b'\n' => HeadStep::Stop,
+        _ => HeadStep::Pass(HeadPlace::Comment),
+    }
+}
+
+/// A byte between words.
+fn gap_step(byte: u8) -> HeadStep
+    ensures { result ≡ head_step HeadPlace.Gap byte }
+{
+    match byte {
+        b' ' | b'\t' => HeadStep::Pass(HeadPlace::Gap),
+        b'\r' => HeadStep::Pass(HeadPlace::Return),
+        b'\n' => HeadStep::Pass(HeadPlace::Line),
+        _ => HeadStep::Keep,
+    }
+}
+
+/// What a byte does.
+fn head_step(place: HeadPlace, byte: u8) -> HeadStep
+    ensures { result ≡ head_step place byte }
+{
+    match place {
+        HeadPlace::Line => line_step(byte),
+        HeadPlace::Return if byte == b'\n' => HeadStep::Pass(HeadPlace::Line),
+        HeadPlace::Return => line_step(byte),
+        HeadPlace::Sign if byte == b'%' => HeadStep::Pass(HeadPlace::Gap),
+        HeadPlace::Sign | HeadPlace::Comment => comment_step(byte),
+        HeadPlace::Gap => gap_step(byte),
+        HeadPlace::Word if matches!(byte, b' ' | b'\t' | b'\r' | b'\n') => HeadStep::Stop,
+        HeadPlace::Word => HeadStep::Keep,
+        HeadPlace::Behind => HeadStep::Stop,
+    }
+}
+
+/// Goes past a byte.
+fn pass(lines: &mut Lines, byte: u8)
+    requires { lines.old.line + 1 < 2 ^ 32 }
+    ensures past { lines.new ≡ past byte lines.old }
+    ensures few { lines.new.line ≤ lines.old.line + 1 }
+{
+    if byte == b'\r' || (byte == b'\n' && !lines.after_return) {
+        lines.line += 1;
+    }
+    lines.after_return = byte == b'\r';
+}
+
+/// Keeps a byte of a word, as long as there is room.
+fn keep(word: &mut ArrayVec<u8, MOST_WORD_BYTES>, byte: u8)
+    ensures { word.new.items ≡ with_head_byte byte word.old.items }
+{
+    if word.len() < MOST_WORD_BYTES {
+        word.push(byte);
+    }
+}
+
+/// Takes bytes of a head up to the end of a word or of the head, or all of them. Answers how many.
+pub(crate) fn take_head(
+    from: HeadPlace,
+    lines: &mut Lines,
+    word: &mut ArrayVec<u8, MOST_WORD_BYTES>,
+    bytes: &[u8],
+) -> (usize, HeadTurn)
+    requires { lines.old.line + length bytes.now < 2 ^ 32 }
+    ensures found { (rest : List ℕ) → head_after result.1 word.new.items lines.new (drop result.0 bytes.now ++ rest)
+        ≡ head_found from word.old.items lines.old (bytes.now ++ rest) }
+    ensures within { result.0 ≤ length bytes.now }
+    ensures all { is_head_on result.1 ≡ true → result.0 ≡ length bytes.now }
+    ensures few { lines.new.line ≤ lines.old.line + result.0 }
+{
+    let mut place = from;
+    let mut taken = 0;
+    while let Some(byte) = bytes.get(taken) {
+        match head_step(place, *byte) {
+            HeadStep::Pass(next) => place = next,
+            HeadStep::Keep => {
+                keep(word, *byte);
+                place = HeadPlace::Word;
+            }
+            HeadStep::Stop => return (taken, HeadTurn::Stopped(place)),
+        }
+        pass(lines, *byte);
+        taken += 1;
+    }
+    (taken, HeadTurn::On(place))
+}
+
+/// Where the head goes on behind a word, or at its end.
+pub(crate) fn place_behind(place: HeadPlace) -> HeadPlace
+    ensures { result ≡ place_behind place }
+{
+    match place {
+        HeadPlace::Word => HeadPlace::Gap,
+        _ => HeadPlace::Behind,
+    }
+}
+
+/// Whether a word ends there.
+pub(crate) fn is_word(place: HeadPlace) -> bool
+    ensures { result ≡ is_word place }
+{
+    matches!(place, HeadPlace::Word)
+}

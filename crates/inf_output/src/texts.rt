@@ -1,0 +1,92 @@
+//! How the texts of a story are packed.
+ghost use Rattle.std.specs.Prelude.{◌≡◌, IfOk, OnErr, OnOk, []};
+ghost use Rattle.std.specs.Option.{option_copied};
+ghost use Rattle.inf_text.specs.Declaring.{Declares};
+ghost use Rattle.inf_text.specs.Packing.{in_use, packed};
+ghost use Rattle.inf_output.specs.Texts.{late, no_texts, used_in};
+
+use inf_text::{AbbrevFault, Abbreviations, Text, pack};
+use std::alloc::{AllocError, Global};
+use std::marker::Model;
+
+/// How the texts of a story are packed: the abbreviations that its source declares, and whether texts are packed with them (Z-Machine
+/// Standard 1.1, section 3.3). An abbreviation is declared in front of each text that is packed (Designer's Manual, fourth edition,
+/// section 45).
+#[derive(Drop)]
+pub struct Texts {
+    abbreviations: Abbreviations,
+    are_used: bool,
+    is_late: bool,
+}
+
+impl Model for Texts {
+    ghost use Rattle.inf_output.specs.Texts.{Packing};
+
+    ghost Value = { Packing };
+
+    ghost view = { λ t. record { declared = t.abbreviations; are_used = t.are_used; is_late = t.is_late } };
+}
+
+impl Texts {
+    /// No abbreviations, with which no text is packed; nor was one packed so far. They take no memory until the first one is declared.
+    pub fn new(alloc: Global) -> Texts
+        ensures { result ≡ no_texts }
+    {
+        Texts {
+            abbreviations: Abbreviations::new(alloc),
+            are_used: false,
+            is_late: false,
+        }
+    }
+
+    /// From now on texts are packed with the abbreviations where `are_used` says so, and without them else.
+    pub fn set_used(&mut self, are_used: bool)
+        ensures { self.new ≡ record self.old { are_used = are_used } }
+    {
+        self.are_used = are_used;
+    }
+
+    /// Whether a text was packed. Then it is too late to declare an abbreviation.
+    pub fn is_late(&self) -> bool
+        ensures { result ≡ self.now.is_late }
+    {
+        self.is_late
+    }
+
+    /// The bytes of `text`, packed with the abbreviations where these are used. From now on it is late. Where memory runs out nothing is
+    /// changed.
+    pub fn pack(&mut self, alloc: Global, text: &Text) -> Result<Vec<u8>, AllocError>
+        ensures bytes { IfOk result (λ bytes. bytes.items ≡ packed text.now (used_in self.old)) }
+        ensures late { OnOk result (self.new ≡ late self.old) }
+        ensures err { OnErr result (self.new ≡ self.old) }
+    {
+        if !self.are_used {
+            return self.pack_low(alloc, text);
+        }
+        let bytes = pack(alloc, text, Some(&self.abbreviations))?;
+        self.is_late = true;
+        Ok(bytes)
+    }
+
+    /// The bytes of `text`, packed without abbreviations, as those of low strings are. From now on it is late. Where memory runs out nothing
+    /// is changed.
+    pub fn pack_low(&mut self, alloc: Global, text: &Text) -> Result<Vec<u8>, AllocError>
+        ensures bytes { IfOk result (λ bytes. bytes.items ≡ packed text.now []) }
+        ensures late { OnOk result (self.new ≡ late self.old) }
+        ensures err { OnErr result (self.new ≡ self.old) }
+    {
+        let bytes = pack(alloc, text, None)?;
+        self.is_late = true;
+        Ok(bytes)
+    }
+
+    /// Declares `text` as an abbreviation, and answers its number: how many were declared before. The refusals, in this order: `Full`
+    /// where there are 64, `Repeated` where the text is declared, `TooShort` where it has fewer than two characters, `Memory` where there
+    /// is too little memory. A refusal changes nothing.
+    pub fn declare(&mut self, text: &Text) -> Result<u8, AbbrevFault>
+        ensures declared { Declares self.old.declared text.now self.new.declared result }
+        ensures others { self.new ≡ record self.old { declared = self.new.declared } }
+    {
+        self.abbreviations.declare(text)
+    }
+}

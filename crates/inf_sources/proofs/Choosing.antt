@@ -1,0 +1,136 @@
+-- What is open where all files are read by another character set.
+use Rattle.std.proofs.Common.{◌≡◌, ℕ, suc, ◌+◌, List, [], ◌∷◌, ◌++◌, length, drop, map, reverse, refl, sym, ap, subst, ◌∙◌}
+use Rattle.std.proofs.lemmas.List.{length-map}
+use Rattle.std.proofs.lemmas.Grind.{reverse_onto}
+use Rattle.inf_characters.specs.declared.characters.CharSet.{CharSet}
+use Rattle.inf_files.specs.Files.{Opening, Openings, Sources}
+use Rattle.inf_lexer.specs.Readers.{Reader}
+use Rattle.inf_sources.specs.Calls.{given_all, given_to}
+use Rattle.inf_sources.specs.Choosing.{chosen, file_with, nesting_with, open_with, reader_with, waiting_with}
+use Rattle.inf_sources.specs.Inclusions.{Waiting}
+use Rattle.inf_sources.specs.Open.{AllGiven, AllWait, AreNested, AreTracked, IsNested, Open, files_of, lexers, lexers_of, nesting}
+use Rattle.inf_sources.specs.Open.{waiting_at}
+use Rattle.inf_sources.specs.declared.open_file.OpenFile.{OpenFile}
+use Rattle.inf_sources.proofs.Places.{nested_as}
+
+map_last : {X : Type 0} → (f : X → X) (xs : List X) (x : X) → map f (xs ++ x ∷ []) ≡ map f xs ++ f x ∷ []
+map_last f [] x = refl
+map_last f (y ∷ xs) x = ap (λ ys. f y ∷ ys) (map_last f xs x)
+
+-- what is done to each is done to each backwards
+reverse_each : {X : Type 0} → (f : X → X) (xs : List X) → reverse (map f xs) ≡ map f (reverse xs)
+reverse_each f [] = refl
+reverse_each f (x ∷ xs) =
+    reverse_onto (map f xs) (f x) [] ∙ ap (λ ys. ys ++ f x ∷ []) (reverse_each f xs)
+    ∙ sym (ap (map f) (reverse_onto xs x []) ∙ map_last f (reverse xs) x)
+
+-- The lexers
+
+readers_with : (set : CharSet) (files : List OpenFile) → lexers_of (map (file_with set) files) ≡ map (reader_with set) (lexers_of files)
+readers_with set [] = refl
+readers_with set (f ∷ files) = ap (λ rs. reader_with set f.lexer ∷ rs) (readers_with set files)
+
+lexers_with : (set : CharSet) (o : Open) → lexers (open_with set o) ≡ map (reader_with set) (lexers o)
+lexers_with set o =
+    ap (λ (fs : List OpenFile). reader_with set o.lexer ∷ lexers_of fs) (reverse_each (file_with set) o.outer)
+    ∙ ap (λ rs. reader_with set o.lexer ∷ rs) (readers_with set (reverse o.outer))
+
+files_with : (set : CharSet) (readers : List Reader) → files_of (map (reader_with set) readers) ≡ files_of readers
+files_with set [] = refl
+files_with set (r ∷ readers) = ap (λ fs. r.file ∷ fs) (files_with set readers)
+
+-- are those of the same files,
+pub numbers_with : (set : CharSet) (files : List OpenFile) → files_of (lexers_of (map (file_with set) files)) ≡ files_of (lexers_of files)
+numbers_with set files = ap files_of (readers_with set files) ∙ files_with set (lexers_of files)
+
+wait_with : (was set : CharSet) (limit : ℕ) (readers : List Reader) → AllWait was limit readers
+    → AllWait set limit (map (reader_with set) readers)
+wait_with was set limit [] all = all
+wait_with was set limit (r ∷ readers) all =
+    (record { of_set = refl; of_limit = all.0.of_limit; goes = all.0.goes }, wait_with was set limit readers all.1)
+
+-- and wait as before.
+pub all_wait_with : (was set : CharSet) (limit : ℕ) (files : List OpenFile) → AllWait was limit (lexers_of files)
+    → AllWait set limit (lexers_of (map (file_with set) files))
+all_wait_with was set limit files all =
+    subst (AllWait set limit) (sym (readers_with set files)) (wait_with was set limit (lexers_of files) all)
+
+given_with : (set : CharSet) (readers : List Reader) → given_to (map (reader_with set) readers) ≡ given_to readers
+given_with set [] = refl
+given_with set (r ∷ readers) = ap (λ n. r.window.given + n) (given_with set readers)
+
+-- They were given as much.
+pub given_all_with : (set : CharSet) (o : Open) → given_all (open_with set o) ≡ given_all o
+given_all_with set o =
+    ap (λ n. n + o.lexer.window.given) (ap given_to (readers_with set o.outer) ∙ given_with set (lexers_of o.outer))
+
+-- What is still to come
+
+waiting_each : (set : CharSet) (s : Sources) (all : List Opening) (places : List ℕ) (files : List OpenFile)
+    → waiting_at s all places (map (file_with set) files) ≡ map (waiting_with set) (waiting_at s all places files)
+waiting_each set s all [] files = refl
+waiting_each set s all (p ∷ places) [] = refl
+waiting_each set s all (p ∷ places) (f ∷ files) =
+    ap (λ (ws : List Waiting). waiting_at s all (p ∷ []) (file_with set f ∷ []) ++ ws) (waiting_each set s all places files)
+
+pub nesting_is_with : (set : CharSet) (s : Sources) (start now : Openings) (o : Open)
+    → nesting s start now (open_with set o) ≡ nesting_with set (nesting s start now o)
+nesting_is_with set s start now o =
+    let was = nesting s start now o in
+    ap (λ (ws : List Waiting). record (nesting_with set was) { waiting = ws })
+    (ap (λ (fs : List OpenFile). waiting_at s now.all (drop 1 (reverse now.open_places)) fs) (reverse_each (file_with set) o.outer)
+    ∙ waiting_each set s now.all (drop 1 (reverse now.open_places)) (reverse o.outer))
+
+nested_each : (set : CharSet) (bound : ℕ) (places : List ℕ) (readers : List Reader) → AreNested bound places readers
+    → AreNested bound places (map (reader_with set) readers)
+nested_each set bound [] [] h = h
+nested_each set bound (p ∷ places) [] h = h
+nested_each set bound [] (r ∷ readers) h = absurd h
+nested_each set bound (p ∷ places) (r ∷ readers) h = (h.0, nested_each set p places readers h.1)
+
+pub is_nested_with : (set : CharSet) (start now : Openings) (o : Open) → IsNested start now o → IsNested start now (open_with set o)
+is_nested_with set start now o n = record {
+  more = n.more;
+  nested = subst (AreNested (length now.all) (reverse now.open_places)) (sym (lexers_with set o))
+      (nested_each set (length now.all) (reverse now.open_places) (lexers o) n.nested);
+  others = ap (λ k. drop (suc k) (reverse now.open_places)) (length-map o.outer (file_with set)) ∙ n.others;
+}
+
+tracked_each : (set : CharSet) (s : Sources) (n : ℕ) (names : List (List ℕ)) (all : List Opening) (places : List ℕ) (readers : List Reader)
+    → AreTracked s n names all places readers → AreTracked s n names all places (map (reader_with set) readers)
+tracked_each set s n names all places [] h = h
+tracked_each set s n names all [] (r ∷ readers) h = absurd h
+tracked_each set s n names all (p ∷ places) (r ∷ readers) h =
+    (record { behind = h.0.behind; named = h.0.named; counted = h.0.counted }, tracked_each set s n names all places readers h.1)
+
+pub all_given_with : (set : CharSet) (s : Sources) (n : ℕ) (now : Openings) (o : Open) → AllGiven s n now o
+    → AllGiven s n now (open_with set o)
+all_given_with set s n now o all = record {
+  each = all.each;
+  tracked = subst (AreTracked s n o.nest.names now.all (reverse now.open_places)) (sym (lexers_with set o))
+      (tracked_each set s n o.nest.names now.all (reverse now.open_places) (lexers o) all.tracked);
+}
+
+-- The innermost file alone
+
+pub is_nested_chosen : (set : CharSet) (limit : ℕ) (start now : Openings) (o : Open) → IsNested start now o
+    → IsNested start now (chosen set limit o)
+is_nested_chosen set limit start now o n = record {
+  more = n.more;
+  nested = nested_as (length now.all) (reverse now.open_places) o.lexer (chosen set limit o).lexer (lexers_of (reverse o.outer)) n.nested;
+  others = n.others;
+}
+
+tracked_chosen : (set : CharSet) (limit : ℕ) (s : Sources) (n : ℕ) (names : List (List ℕ)) (all : List Opening) (places : List ℕ)
+    (r : Reader) (readers : List Reader) → AreTracked s n names all places (r ∷ readers)
+    → AreTracked s n names all places (record r { set = set; limit = limit } ∷ readers)
+tracked_chosen set limit s n names all [] r readers h = absurd h
+tracked_chosen set limit s n names all (p ∷ places) r readers h =
+    (record { behind = h.0.behind; named = h.0.named; counted = h.0.counted }, h.1)
+
+pub all_given_chosen : (set : CharSet) (limit : ℕ) (s : Sources) (n : ℕ) (now : Openings) (o : Open) → AllGiven s n now o
+    → AllGiven s n now (chosen set limit o)
+all_given_chosen set limit s n now o all = record {
+  each = all.each;
+  tracked = tracked_chosen set limit s n o.nest.names now.all (reverse now.open_places) o.lexer (lexers_of (reverse o.outer)) all.tracked;
+}

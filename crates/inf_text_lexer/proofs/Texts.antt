@@ -1,0 +1,29 @@
+-- What is found of a text is the next token of it.
+use Rattle.std.proofs.Common.{◌≡◌, ℕ, List, [], ◌++◌, sym, ap, ◌∙◌, append-nil}
+use Rattle.inf_characters.specs.declared.characters.CharSet.{CharSet}
+use Rattle.inf_scanner.specs.Kinds.{kind_of}
+use Rattle.inf_scanner.specs.Scanning.{Found, Sight, begun, find, found_after}
+use Rattle.inf_scanner.specs.Tokens.{next_token, read_of}
+use Rattle.inf_scanner.specs.declared.lines.Lines.{Lines}
+use Rattle.inf_scanner.specs.declared.scanner.Ending.{Ending}
+use Rattle.inf_scanner.specs.declared.scanner.State.TheVariants as state
+use Rattle.inf_scanner.specs.declared.scanner.Turn.{Turn}
+use Rattle.inf_scanner.specs.declared.tokens.TokenKind.{TokenKind}
+use Rattle.inf_text_lexer.specs.TextReaders.{read_with}
+
+-- what ended so behind a text's bytes is found of the text
+pub found_is : (set : CharSet) (limit : ℕ) (seen : Sight) (text behind : List ℕ) (turn : Turn) (e : Ending) (now after : Sight)
+    → ((rest : List ℕ) → found_after set limit turn now (behind ++ rest) ≡ find set limit state.Gap seen (text ++ rest))
+    → record { ending = e; seen = after; rest = behind } ≡ found_after set limit turn now behind
+    → record { ending = e; seen = after; rest = behind } ≡ find set limit state.Gap seen text
+found_is set limit seen text behind turn e now after found ended =
+    ended ∙ (ap (λ r. found_after set limit turn now r) (sym (append-nil behind)) ∙ (found []
+    ∙ ap (λ r. find set limit state.Gap seen r) (append-nil text)))
+
+-- and so is the next token
+pub token_is : (set : CharSet) (limit : ℕ) (lines : Lines) (text behind : List ℕ) (e : Ending) (after : Sight) (k : TokenKind)
+    → record { ending = e; seen = after; rest = behind } ≡ find set limit state.Gap (begun lines) text
+    → k ≡ kind_of set e after.kept
+    → read_with k after behind ≡ next_token set limit lines text
+token_is set limit lines text behind e after k found is =
+    ap (λ x. read_with x after behind) is ∙ ap (λ (f : Found). read_of set f) found
