@@ -9,16 +9,23 @@ use Rattle.inf_unit.specs.declared.directives.Directive.TheVariants as directive
 use Rattle.inf_unit.specs.Messages.{location, with_words}
 use Rattle.inf_compilation.specs.Context.{Context}
 use Rattle.inf_unit.specs.Units.{directive_word, first_place, names_in, quoted_in}
-use Rattle.inf_compilation.specs.Actions.{Compilation, begun_at, constant, passed, replace, stub, words_of}
+use Rattle.inf_compilation.specs.Actions.{Compilation, code_begun, constant, passed, replace, stub, unit_ended, words_of}
+use Rattle.inf_compilation.specs.Findings.{nothing_found}
 use Rattle.inf_declarations.specs.Declarations.{attribute, global_variable, property}
 use Rattle.inf_verb_lines.specs.Verbs.{fake_action}
 use Rattle.inf_declarations.specs.Defaults.{default}
 
+-- A directive ends with which nothing is wrong: the first setting that was passed is told.
+abbrev pub fit_ended : Limits → Context → Place → Compilation → Compilation
+fit_ended limits context first w = unit_ended limits context first true nothing_found w
+
 abbrev pub carried_out : Limits → Directive → Context → Place → List Name → Compilation → Compilation
-carried_out limits directive.Include context first names w = passed true (record w { asked = Include (quoted_in w.unit.tokens) first })
+carried_out limits directive.Include context first names w =
+    fit_ended limits context first (record w { asked = Include (quoted_in w.unit.tokens) first })
 carried_out limits directive.Message context first names w =
-    passed true (record w { report = with_words (location context.names first) (weight_of names) (words_of context.set w.unit) w.report })
-carried_out limits directive.End context first names w = passed true (record w { asked = End })
+    fit_ended limits context first
+    (record w { report = with_words (location context.names first) (weight_of names) (words_of context.set w.unit) w.report })
+carried_out limits directive.End context first names w = fit_ended limits context first (record w { asked = End })
 carried_out limits directive.Constant context first names w = constant limits context first names w
 carried_out limits directive.Replace context first names w = replace limits context first names w
 carried_out limits directive.Stub context first names w = stub limits context first names w
@@ -27,13 +34,13 @@ carried_out limits directive.Attribute context first names w = attribute limits 
 carried_out limits directive.Property context first names w = property limits context first names w
 carried_out limits directive.Global context first names w = global_variable limits context first names w
 carried_out limits directive.FakeAction context first names w = fake_action limits context first names w
-carried_out limits directive.SystemFile context first names w = passed true (record w { is_system = true })
+carried_out limits directive.SystemFile context first names w = fit_ended limits context first (record w { is_system = true })
 
--- a directive ends, which begins with the name of its word; code begins with it, unless it has begun
+-- A directive ends, which begins with the name of its word. Code begins with it, unless it has begun.
 abbrev pub directive_of_names : Limits → Context → Place → List Name → Compilation → Compilation
 directive_of_names limits context first [] w = passed true w
 directive_of_names limits context first (word ∷ names) w =
-    begun_at limits context.names first (carried_out limits (directive_of (directive_word w.unit.tokens)) context first names w)
+    carried_out limits (directive_of (directive_word w.unit.tokens)) context first names (code_begun limits w)
 
 abbrev pub directive_end : Limits → Context → Place → Compilation → Compilation
 directive_end limits context place w = directive_of_names limits context (first_place w.unit.tokens place) (names_in w.unit.tokens) w

@@ -7,7 +7,7 @@ use Rattle.inf_compilation.specs.Context.{Context}
 use Rattle.inf_syntax.specs.declared.words.Keyword.{Keyword}
 use Rattle.inf_syntax.specs.declared.words.Keyword.TheVariants as keyword
 use Rattle.inf_unit.specs.Units.{directive_word, first_place, names_in}
-use Rattle.inf_compilation.specs.Actions.{Compilation, passed}
+use Rattle.inf_compilation.specs.Actions.{Compilation, code_begun, passed}
 use Rattle.inf_bodies.specs.Objects.{class_header, object_header}
 use Rattle.inf_verb_lines.specs.Verbs.{extend_header, verb_header}
 use Rattle.inf_actions.specs.declared.headers.Heading.{Heading}
@@ -37,5 +37,7 @@ abbrev pub header_of : Limits → Context → Place → List Name → Compilatio
 header_of limits context first [] w = passed false w
 header_of limits context first (word ∷ names) w = header_as limits (heading_of (directive_word w.unit.tokens)) context first names w
 
+-- Code begins with a header, unless it has begun.
 abbrev pub header_ended : Limits → Context → Place → Compilation → Compilation
-header_ended limits context place w = header_of limits context (first_place w.unit.tokens place) (names_in w.unit.tokens) w
+header_ended limits context place w =
+    header_of limits context (first_place w.unit.tokens place) (names_in w.unit.tokens) (code_begun limits w)

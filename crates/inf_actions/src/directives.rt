@@ -10,6 +10,7 @@ ghost use Rattle.inf_compilation.specs.Works.{work};
 
 use inf_compilation::compilation::Compilation;
 use inf_compilation::context::Context;
+use inf_compilation::findings::Findings;
 use inf_declarations::declarations::attribute;
 use inf_declarations::directives::{constant, default, inclusion, message, replace, stub};
 use inf_declarations::globals::global_variable;
@@ -21,7 +22,7 @@ use inf_unit::directives::{Directive, Request, directive_of};
 use inf_verb_lines::verbs::fake_action;
 use std::alloc::AllocError;
 
-/// A directive ends, before a token at a place.
+/// A directive ends, before a token at a place. Code begins with it, unless it has begun.
 pub(crate) fn end_directive<B: Bounds>(
     compilation: &mut Compilation<B>,
     context: &Context<'_>,
@@ -36,8 +37,8 @@ pub(crate) fn end_directive<B: Bounds>(
     };
     let first = compilation.unit.first_place(place);
     let directive = directive_of(compilation.unit.tokens.directive_word());
-    carry_out(compilation, directive, context, first, names)?;
-    compilation.begin(context.files, first)
+    compilation.output.begin();
+    carry_out(compilation, directive, context, first, names)
 }
 
 /// Carries out a directive that begins at a place, with these names behind its word.
@@ -65,6 +66,5 @@ fn carry_out<B: Bounds>(
         Directive::FakeAction => return fake_action(compilation, context, first, names),
         Directive::SystemFile => compilation.is_system = true,
     }
-    compilation.pass(true);
-    Ok(())
+    compilation.end_unit(context, first, true, &Findings::none())
 }

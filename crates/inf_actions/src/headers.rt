@@ -40,7 +40,7 @@ fn heading_of(word: Option<Keyword>) -> Heading
     }
 }
 
-/// The header of a directive with entries ends, before a token at a place.
+/// The header of a directive with entries ends, before a token at a place. Code begins with it, unless it has begun.
 pub(crate) fn end_directive_header<B: Bounds>(
     compilation: &mut Compilation<B>,
     context: &Context<'_>,
@@ -50,6 +50,7 @@ pub(crate) fn end_directive_header<B: Bounds>(
 {
     let names = compilation.unit.tokens.names(compilation.alloc)?;
     let first = compilation.unit.first_place(place);
+    compilation.output.begin();
     header_of(compilation, context, first, names.as_slice())
 }
 

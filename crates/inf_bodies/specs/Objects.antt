@@ -1,6 +1,6 @@
 -- Objects and classes: their headers. Designer's Manual, fourth edition, sections 3.1 to 3.8.
-use Rattle.std.specs.Prelude.{ℕ, ◌+◌, ◌-◌, ◌%◌, ◌==◌, nat_lt, List, [], ◌∷◌, ◌++◌, length, codes, Bool, false, if◌then◌else◌, Option, Some}
-use Rattle.std.specs.Prelude.{None, unwrap_or, Result, Ok, Err}
+use Rattle.std.specs.Prelude.{ℕ, ◌+◌, ◌-◌, ◌%◌, ◌==◌, nat_le, nat_lt, List, [], ◌∷◌, ◌++◌, length, codes, Bool, false, if◌then◌else◌}
+use Rattle.std.specs.Prelude.{Option, Some, None, unwrap_or, Result, Ok, Err}
 use Rattle.std.specs.Str.{str_eq_ignore_ascii_case}
 use Rattle.inf_settings.specs.Bounds.{Limits}
 use Rattle.inf_characters.specs.Reading.{text_of}
@@ -37,12 +37,12 @@ use Rattle.inf_world.specs.declared.faults.Setting.{Setting as WorldSetting}
 use Rattle.inf_world.specs.declared.faults.Setting.TheVariants as world_setting
 use Rattle.inf_world.specs.declared.kinds.Parent.{Parent}
 use Rattle.inf_world.specs.declared.kinds.Parent.TheVariants as parent
-use Rattle.inf_world.specs.Objects.{parent_of}
+use Rattle.inf_world.specs.Objects.{class_count, parent_of}
 use Rattle.inf_world.specs.World.{class_header_fault, class_of_fault, lost_header_fault, object_header_fault, with_class_header}
 use Rattle.inf_world.specs.World.{with_class_of, with_lost_header, with_object_header}
 use Rattle.inf_compilation.specs.Actions.{Compilation, unit_ended}
 use Rattle.inf_declarations.specs.Declarations.{declared_ended, plainly_known, with_world}
-use Rattle.inf_compilation.specs.Findings.{found_alone}
+use Rattle.inf_compilation.specs.Findings.{found_alone, many_finding}
 use Rattle.inf_declarations.specs.declared.declarations.Declared.{Declared}
 use Rattle.inf_bodies.specs.declared.headers.Header.{Header}
 
@@ -253,6 +253,15 @@ short_name context h name w = short_by context (header_text context h.text w) na
 abbrev pub class_of_word : Compilation → Option ℕ
 class_of_word w = class_of (found_at (word_place w.unit.tokens) w)
 
+-- An object that it heads has that class and all that are its classes: of classes an object has 32 at most.
+abbrev pub has_most_classes : Option ℕ → Out → Bool
+has_most_classes None o = false
+has_most_classes (Some number) o = nat_le 32 (class_count number o.tables.world.objects)
+
+-- what is wrong with the class that heads an object, and with where the object is to stand
+abbrev pub headed_finding : Header → Compilation → Option Finding
+headed_finding h w = least_of_both (many_finding (has_most_classes (class_of_word w) w.output)) (parent_finding h w)
+
 abbrev pub joined_by : Limits → Option AddFault → ℕ → Code
 joined_by limits None number o = with_world (with_class_of number o.tables.world) o
 joined_by limits (Some f) number o = noted limits f o
@@ -298,19 +307,19 @@ abbrev pub object_opened : Limits → Context → Option Finding → Header → 
 object_opened limits context None h name w = object_new limits context h name w
 object_opened limits context (Some f) h name w = record w { output = object_lost limits name w.output }
 
--- what is known of it: what is wrong with its name, and with where it is to stand
+-- what is known of it: what is wrong with its name, with its class, and with where it is to stand
 abbrev pub named_known : Context → Header → ℕ → Name → Compilation → Declared
 named_known context h at name w =
     let d = plainly_known name (order at) w in
-    record { found = d.found; finding = least_of_both d.finding (parent_finding h w) }
+    record { found = d.found; finding = least_of_both d.finding (headed_finding h w) }
 
 abbrev pub object_known : Context → Header → Option Name → Compilation → Declared
-object_known context h None w = record { found = found.Unknown; finding = parent_finding h w }
+object_known context h None w = record { found = found.Unknown; finding = headed_finding h w }
 object_known context h (Some name) w = named_known context h (unwrap_or h.own 0) name w
 
 abbrev pub object_ended : Limits → Context → Place → Option Name → Declared → Compilation → Compilation
 object_ended limits context first None d w = entry_told limits context first d.finding w
-object_ended limits context first (Some name) d w = declared_ended limits context first false name countable.Globals d w
+object_ended limits context first (Some name) d w = declared_ended limits context first false name countable.Values d w
 
 abbrev pub object_with_known : Limits → Context → Place → Header → Option Name → Declared → Compilation → Compilation
 object_with_known limits context first h name d w =

@@ -5,12 +5,13 @@ ghost use Rattle.inf_characters.specs.Reading.{text_of as read_in};
 ghost use Rattle.inf_names.specs.Spellings.{as_name};
 ghost use Rattle.inf_unit.specs.Texts.{fit_characters};
 ghost use Rattle.inf_bodies.specs.Objects.{above_finding, bracketed, class_begun, class_declared, class_header, class_lost, class_of};
-ghost use Rattle.inf_bodies.specs.Objects.{class_of_word, class_opened, class_refused, class_with, entry_told, found_at, header_in};
-ghost use Rattle.inf_bodies.specs.Objects.{header_text, hung_finding, in_brackets, joined, joined_fault, joined_some, lost_begun};
-ghost use Rattle.inf_bodies.specs.Objects.{named_known, named_parent_finding, noted, object_begun, object_declared, object_ended};
-ghost use Rattle.inf_bodies.specs.Objects.{object_header, object_in, object_known, object_lost, object_named, object_new, object_of};
-ghost use Rattle.inf_bodies.specs.Objects.{object_opened, object_refused, object_with, own_name, packed_name, parent_finding, parent_fit};
-ghost use Rattle.inf_bodies.specs.Objects.{parent_in, refused_finding, setting_of, short_name, shown_name, word_place};
+ghost use Rattle.inf_bodies.specs.Objects.{class_of_word, class_opened, class_refused, class_with, entry_told, found_at};
+ghost use Rattle.inf_bodies.specs.Objects.{has_most_classes, headed_finding, header_in, header_text, hung_finding, in_brackets, joined};
+ghost use Rattle.inf_bodies.specs.Objects.{joined_fault, joined_some, lost_begun, named_known, named_parent_finding, noted, object_begun};
+ghost use Rattle.inf_bodies.specs.Objects.{object_declared, object_ended, object_header, object_in, object_known, object_lost};
+ghost use Rattle.inf_bodies.specs.Objects.{object_named, object_new, object_of, object_opened, object_refused, object_with, own_name};
+ghost use Rattle.inf_bodies.specs.Objects.{packed_name, parent_finding, parent_fit, parent_in, refused_finding, setting_of, short_name};
+ghost use Rattle.inf_bodies.specs.Objects.{shown_name, word_place};
 ghost use Rattle.inf_world.specs.World.{class_of_fault};
 ghost use Rattle.inf_unit.specs.Units.{name_at};
 ghost use Rattle.inf_compilation.specs.Works.{work};
@@ -18,7 +19,7 @@ ghost use Rattle.inf_compilation.specs.Works.{work};
 use crate::headers::{Header, header_in, word_place};
 use inf_compilation::compilation::Compilation;
 use inf_compilation::context::Context;
-use inf_compilation::findings::{Findings, TOO_MANY};
+use inf_compilation::findings::{Findings, TOO_MANY, many_finding};
 use inf_declarations::declarations::{Declared, end_declared, plainly_known};
 use inf_expressions::{Finding, least_of_both};
 use inf_lexer::Place;
@@ -36,6 +37,9 @@ use inf_unit::unit::order;
 use inf_unit::unit_tokens::UnitTokens;
 use inf_world::Setting as WorldSetting;
 use std::alloc::{AllocError, Global};
+
+/// The most classes of an object: their list is a property like any other (Z-Machine Standard 1.1, section 12.4.2.1).
+const MOST_CLASSES: usize = 32;
 
 /// What is wrong with an entry of a body that the world refuses. What passes a setting is no error of the unit.
 pub(crate) fn refused_finding(fault: Option<WorldFault>, name: u32) -> Option<Finding>
@@ -452,6 +456,16 @@ fn class_of_word<B: Bounds>(compilation: &Compilation<B>) -> Option<usize>
     class_of(found_at(compilation, word_place(&compilation.unit.tokens)))
 }
 
+/// Whether a class has as many classes as an object may have. With that class an object that it heads has one more.
+fn has_most_classes<B: Bounds>(class: Option<usize>, out: &Output<B>) -> bool
+    ensures { result ≡ has_most_classes class out.now }
+{
+    match class {
+        Some(number) => out.tables.world.class_count(number) >= MOST_CLASSES,
+        None => false,
+    }
+}
+
 /// What is wrong with the arrows of a header: no object stands above them.
 fn above_finding<B: Bounds>(compilation: &Compilation<B>, header: Header) -> Option<Finding>
     ensures { result ≡ above_finding header.arrow header.arrows (work compilation.now) }
@@ -480,6 +494,17 @@ fn parent_finding<B: Bounds>(compilation: &Compilation<B>, header: Header) -> Op
     least_of_both(
         above_finding(compilation, header),
         named_parent_finding(compilation, header),
+    )
+}
+
+/// What is wrong with the class that a header names, and with where it puts its object.
+fn headed_finding<B: Bounds>(compilation: &Compilation<B>, header: Header) -> Option<Finding>
+    ensures { result ≡ headed_finding header (work compilation.now) }
+{
+    let class = class_of_word(compilation);
+    least_of_both(
+        many_finding(has_most_classes(class, &compilation.output)),
+        parent_finding(compilation, header),
     )
 }
 
@@ -555,7 +580,7 @@ fn named_known<B: Bounds>(
     let declared = plainly_known(compilation, name, order(at));
     Declared {
         found: declared.found,
-        finding: least_of_both(declared.finding, parent_finding(compilation, header)),
+        finding: least_of_both(declared.finding, headed_finding(compilation, header)),
     }
 }
 
@@ -572,7 +597,7 @@ fn object_known<B: Bounds>(
         Some(name) => named_known(compilation, context, header, header.own.unwrap_or(0), name),
         None => Declared {
             found: Found::Unknown,
-            finding: parent_finding(compilation, header),
+            finding: headed_finding(compilation, header),
         },
     }
 }
@@ -629,7 +654,7 @@ fn end_object<B: Bounds>(
                 first,
                 false,
                 name,
-                FixedLimit::Globals,
+                FixedLimit::Values,
                 declared,
             )
         }

@@ -28,7 +28,8 @@ use Rattle.inf_gathering.specs.declared.gathering.Leaf.{Leaf as UnitLeaf}
 use Rattle.inf_gathering.specs.declared.gathering.Leaf.TheVariants as leaf
 use Rattle.inf_cells.specs.declared.scale.Scale.TheVariants as scale
 use Rattle.inf_code.specs.Code.{fault_closed, labels as labels_of, no_routines, place_behind, with_none_open}
-use Rattle.inf_names.specs.Symbols.{Table, declare_fault, found_in, no_names, refer_fault, with_used}
+use Rattle.inf_names.specs.NameSets.{is_among, with_name}
+use Rattle.inf_names.specs.Symbols.{Table, declare_fault, found_in, no_names}
 use Rattle.inf_names.specs.declared.symbols.DeclareFault.{DeclareFault}
 use Rattle.inf_names.specs.declared.symbols.Found.{Found}
 use Rattle.inf_names.specs.declared.symbols.Found.TheVariants as found
@@ -48,6 +49,7 @@ use Rattle.inf_unit.specs.Tokens.{SourceToken, number_of}
 use Rattle.inf_unit.specs.Units.{Unit, bytes_at, first_place, kind_at, long_at, name_order, names_in, no_unit, outer_tokens, over}
 use Rattle.inf_unit.specs.Units.{quoted_in, taken as unit_taken}
 use Rattle.inf_output.specs.Strings.{no_strings}
+use Rattle.inf_output.specs.Texts.{no_texts}
 use Rattle.inf_tables.specs.Tables.{no_tables}
 use Rattle.inf_output.specs.Output.{Code, Out, begun, closed, declared, full, opened, referred}
 use Rattle.inf_compilation.specs.Findings.{Again, Findings, again_by, again_finding, found_alone, header_findings, nothing_found, told_as}
@@ -70,6 +72,7 @@ no_output = record {
   strings = no_strings scale.Four;
   tables = no_tables;
   names = no_symbols;
+  texts = no_texts;
   seen = no_names false;
   first = nowhere;
   next = 0;
@@ -97,7 +100,7 @@ pub record Compilation : Type 0 where
   pub output : Out
   pub report : Reported
   pub asked : Request
-  pub replaced : Table Place
+  pub replaced : List (List ℕ)
   pub is_system : Bool
   pub is_replaced : Bool
   pub listing : Listing
@@ -120,7 +123,7 @@ no_work settings = record {
   output = no_output;
   report = nothing_reported;
   asked = Nothing;
-  replaced = no_symbols;
+  replaced = [];
   is_system = false;
   is_replaced = false;
   listing = record { is_lost = false; has_entries = false };
@@ -153,7 +156,11 @@ unit_ended limits context first has_last found w = record w {
 abbrev pub laid : Place → Code → Compilation → Compilation
 laid first code w = record w { output = code (record w.output { first = first }) }
 
--- Code begins with the first unit that is finished.
+-- Code begins with the first unit that is finished, before anything comes of that unit.
+abbrev pub code_begun : Limits → Compilation → Compilation
+code_begun limits w = record w { output = begun limits w.output }
+
+-- A conditional directive at a place, or the source, is finished: code begins with it, and the first limit that was passed is told.
 abbrev pub begun_at : Limits → FileNames → Place → Compilation → Compilation
 begun_at limits files first w =
     let o = begun limits w.output in record w {
@@ -284,14 +291,9 @@ header_with limits context first name h w =
     opened_with limits context first h (header_findings 1 (again_by name (declare_fault limits name.bytes w.output.names)) h)
     (routine_declared limits name w)
 
--- a name that is kept among those of routines that are to be replaced
-abbrev pub is_kept : Found Place → Bool
-is_kept found.Used = true
-is_kept _ = false
-
 -- In a file that is marked a routine gives nothing which is to be replaced: it is passed over.
 abbrev pub is_to_be_replaced : Name → Compilation → Bool
-is_to_be_replaced n w = w.is_system && is_kept (found_in n.bytes w.replaced)
+is_to_be_replaced n w = w.is_system && is_among n.bytes w.replaced
 
 -- behind its bracket a header has the name of its routine; its locals are kept apart
 abbrev pub header_named : Limits → Context → Place → Name → Compilation → Compilation
@@ -434,14 +436,11 @@ constant limits context first (name ∷ names) w =
     (finding_at 0 wanted.Constant w) w
 
 -- The routine of a name is to be replaced where it stands in a file that is marked. That is a use of the name.
-abbrev pub used_name : Limits → Name → Table Place → Table Place
-used_name limits n names = if is_some (refer_fault limits n.bytes names) then names else with_used n.bytes n.place names
-
 abbrev pub replace : Limits → Context → Place → List Name → Compilation → Compilation
 replace limits context first [] w = passed true w
 replace limits context first (name ∷ names) w =
     unit_ended limits context first true nothing_found
-    (record w { output = referred limits name.bytes name.place w.output; replaced = used_name limits name w.replaced })
+    (record w { output = referred limits name.bytes name.place w.output; replaced = with_name name.bytes w.replaced })
 
 -- A stub is a routine of so many locals, four at most, that returns 0. It is one where the name is not declared.
 abbrev pub stub_locals_by : Option TokenKind → ℕ

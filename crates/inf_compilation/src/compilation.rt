@@ -17,8 +17,9 @@ use inf_lexer::{Place, Stack};
 use inf_names::hashing::NameHashing;
 use inf_names::locals::Locals;
 use inf_names::meanings::Meaning;
+use inf_names::name_sets::NameSet;
 use inf_names::symbols::{Found, Symbols};
-use inf_output::{Output, Strings};
+use inf_output::{Output, Strings, Texts};
 use inf_report::messages::Message;
 use inf_scanner::{Mark, TokenKind};
 use inf_settings::bounds::{Bounds, Unbounded};
@@ -64,7 +65,7 @@ pub struct Compilation<B: Bounds> {
     /// What the directive that was finished last asks of the reading.
     pub asked: Request,
     /// The names of routines that are to be replaced.
-    pub replaced: Symbols<Place, B>,
+    pub replaced: NameSet,
     /// Whether routines of the file at hand may be replaced.
     pub is_system: bool,
     /// Whether the routine at hand is passed over, since it is to be replaced.
@@ -106,6 +107,7 @@ fn no_output<B: Bounds>(
         strings,
         tables,
         no_symbols(alloc, settings, hashing),
+        Texts::new(alloc),
         Symbols::new(alloc, u32::MAX, false, hashing),
         NOWHERE,
     ))
@@ -173,7 +175,7 @@ impl<B: Bounds> Compilation<B> {
             tasks: Tasks::new(alloc),
             report: Diagnostics::new(alloc, true),
             asked: Request::Nothing,
-            replaced: no_symbols(alloc, settings, hashing),
+            replaced: NameSet::new(alloc, hashing),
             is_system: false,
             is_replaced: false,
             listing: Listing {
@@ -227,8 +229,8 @@ impl<B: Bounds> Compilation<B> {
         self.locals = Locals::new();
     }
 
-    /// A unit that begins at a place is finished, with which code begins, unless it has begun. Where that would pass a setting, it
-    /// ends the compilation.
+    /// A conditional directive at a place, or the source, is finished: code begins with it, unless it has begun. The first setting
+    /// that was passed ends the compilation.
     pub fn begin(&mut self, files: &Stack, first: Place) -> Result<(), AllocError>
         ensures { OnOk result (work self.new ≡ begun_at B.most files.now.names first (work self.old)) }
     {

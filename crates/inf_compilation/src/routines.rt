@@ -17,7 +17,7 @@ use inf_lexer::Place;
 use inf_names::locals::{Headed, Locals};
 use inf_names::meanings::Meaning;
 use inf_names::spellings::Name;
-use inf_names::symbols::{DeclareFault, Found};
+use inf_names::symbols::DeclareFault;
 use inf_report::messages::Message;
 use inf_settings::bounds::Bounds;
 use inf_unit::messages::{Diagnostics, location};
@@ -132,7 +132,7 @@ impl<B: Bounds> Compilation<B> {
     fn is_to_be_replaced(&self, name: &Name) -> bool
         ensures { result ≡ is_to_be_replaced (as_name name.now) (work self.now) }
     {
-        self.is_system && matches!(self.replaced.look(name.bytes()), Found::Used)
+        self.is_system && self.replaced.has(name.bytes())
     }
 
     /// Opens the routine of a header that begins at a place. Its code begins with the number of its

@@ -2,6 +2,7 @@
 ghost use Rattle.inf_compilation.specs.Context.{handed};
 ghost use Rattle.std.specs.Prelude.{IfOk, OnOk, length, map, option_map, ◌≡◌, ◌≤◌};
 ghost use Rattle.inf_expressions.specs.Forests.{trees_in as rooted_in};
+ghost use Rattle.inf_names.specs.NameSets.{with_name};
 ghost use Rattle.inf_names.specs.Symbols.{found_in};
 ghost use Rattle.inf_constructs.specs.Roots.{tree_in};
 ghost use Rattle.inf_names.specs.Spellings.{as_name};
@@ -11,7 +12,7 @@ ghost use Rattle.inf_unit.specs.Units.{quoted_in};
 ghost use Rattle.inf_compilation.specs.Actions.{as_constant, constant, constant_ended, constant_finding, constant_findings};
 ghost use Rattle.inf_compilation.specs.Actions.{constant_meaning, constant_of, constant_with, declared_meaning, is_declared};
 ghost use Rattle.inf_compilation.specs.Actions.{is_first_declared, leaf_meaning, named_leaf, new_stub, replace, stub, stub_locals, stubbed};
-ghost use Rattle.inf_compilation.specs.Actions.{used_name, words_of};
+ghost use Rattle.inf_compilation.specs.Actions.{words_of};
 ghost use Rattle.inf_statements.specs.Operands.{leaf_added};
 ghost use Rattle.inf_unit.specs.Directives.{Include, asked, weight_of};
 ghost use Rattle.inf_declarations.specs.Defaults.{default};
@@ -28,7 +29,7 @@ use inf_gathering::gathering::Leaf;
 use inf_lexer::Place;
 use inf_names::meanings::Meaning;
 use inf_names::spellings::Name;
-use inf_names::symbols::{DeclareFault, Found, ReferFault, Symbols};
+use inf_names::symbols::{DeclareFault, Found};
 use inf_report::messages::FixedLimit;
 use inf_report::own_words::OwnWords;
 use inf_settings::bounds::Bounds;
@@ -64,11 +65,11 @@ pub fn replace<B: Bounds>(
 fn keep_replaced<B: Bounds>(compilation: &mut Compilation<B>, name: &Name) -> Result<(), AllocError>
     ensures { let before = work compilation.old in OnOk result (work compilation.new ≡ record before {
       output = referred B.most (as_name name.now).bytes name.now.place before.output;
-      replaced = used_name B.most (as_name name.now) before.replaced;
+      replaced = with_name (as_name name.now).bytes before.replaced;
     }) }
 {
     compilation.output.refer(name.bytes(), name.place)?;
-    use_name(&mut compilation.replaced, name)
+    compilation.replaced.add(name.bytes())
 }
 
 /// Declares the first of these names as a routine of so many locals as the number behind it says, which returns 0, unless the name is
@@ -333,16 +334,6 @@ fn is_declared(found: Found<Place>) -> bool
     match found {
         Found::System(_) | Found::Declared(..) => true,
         Found::Used | Found::Unknown => false,
-    }
-}
-
-/// Uses a name, unless it would be one too many.
-fn use_name<B: Bounds>(names: &mut Symbols<Place, B>, name: &Name) -> Result<(), AllocError>
-    ensures { OnOk result (names.new ≡ used_name B.most (as_name name.now) names.old) }
-{
-    match names.refer(name.bytes(), name.place) {
-        Ok(_) | Err(ReferFault::Full) => Ok(()),
-        Err(ReferFault::Memory) => Err(AllocError),
     }
 }
 

@@ -1,5 +1,5 @@
 -- The references and the bytes of the areas of a story.
-use Rattle.std.proofs.Common.{◌≡◌, ◌∙◌, ◌+◌, ◌-◌, ◌≤◌, ℕ, List, [], ◌∷◌, ◌++◌, cond, length, true, refl, sym, ap, arith}
+use Rattle.std.proofs.Common.{◌≡◌, ◌∙◌, ◌+◌, ◌-◌, ◌≤◌, ℕ, zero, suc, List, [], ◌∷◌, ◌++◌, cond, length, map, true, refl, sym, ap, arith}
 use Rattle.std.proofs.Math.Nat.{min-eq_left}
 use Rattle.std.proofs.lemmas.List.Sums.{sum_by-cons}
 use Rattle.std.specs.Prelude.{sum_by}
@@ -9,10 +9,13 @@ use Rattle.inf_arrays.specs.Arrays.{all_of, arrays_laters}
 use Rattle.inf_arrays.specs.Kinds.{laters}
 use Rattle.inf_arrays.proofs.Sizes.{globals_later, laters_written as arrays_written}
 use Rattle.inf_cells.specs.Cells.{later_count, size_of}
+use Rattle.inf_cells.specs.declared.cells.Cell.{Cell}
+use Rattle.inf_cells.specs.declared.cells.Cell.TheVariants as cell
 use Rattle.inf_code.specs.Code.{Routines, code_cells, known, reference_count}
 use Rattle.inf_dictionary.specs.Words.{dictionary_bytes}
 use Rattle.inf_link.specs.Areas.{order}
 use Rattle.inf_objects.specs.Objects.{ended, head_fixups, object_fixups}
+use Rattle.inf_objects.proofs.Written.{later_joined}
 use Rattle.inf_objects.specs.declared.objects.Object.{Object}
 use Rattle.inf_properties.specs.Sizes.{bytes_of, fixups_of, size_of as property_size, total, with_table}
 use Rattle.inf_properties.specs.declared.sizes.Owner.{Owner}
@@ -32,9 +35,29 @@ later_known : (bytes : List ℕ) → later_count (known bytes) ≡ 0
 later_known [] = refl
 later_known (byte ∷ bytes) = later_known bytes
 
-no_abbreviations : later_count story.abbreviations ≡ 0
+-- an abbreviation that is declared is known later, and no other
+later_undeclared : (n : ℕ) → later_count (story.undeclared n) ≡ 0
+later_undeclared zero = refl
+later_undeclared (suc n) = later_undeclared n
+
+later_declared : (places : List ℕ) → later_count (map story.declared_at places) ≡ length places
+later_declared [] = refl
+later_declared (place ∷ places) = omega (arith, later_declared places)
+
+later_abbreviations : (places : List ℕ) → later_count (story.abbreviations places) ≡ length places
 unfolding story.abbreviations
-no_abbreviations = refl
+later_abbreviations places =
+    let front = story.undeclared 32 in
+    let declared = map story.declared_at places in
+    let rest = story.undeclared (64 - length places) in
+    omega (
+      arith,
+      later_joined (front ++ declared) rest,
+      later_joined front declared,
+      later_undeclared 32,
+      later_declared places,
+      later_undeclared (64 - length places),
+    )
 
 -- what belongs to nothing has none
 nothing_sum : (f : Property → ℕ) (ps : List Property) → ((p : Property) → f p ≡ 0) → sum_by f ps ≡ 0
@@ -57,15 +80,16 @@ added : (a b : ℕ) → a + b ≤ 18446744073709551615 → more a b ≡ a + b
 unfolding more
 added a b few = min-eq_left few
 
-all_added : (n w g a v r p : ℕ) → n + (w + (g + (a + (v + (r + p))))) ≤ 18446744073709551615
-    → more n (more (more (more w g) a) (more v (more r p))) ≡ n + (w + (g + (a + (v + (r + p)))))
-all_added n w g a v r p few =
-    ap (λ x. more n (more (more x a) (more v (more r p)))) (added w g (omega (arith, few)))
-    ∙ ap (λ x. more n (more x (more v (more r p)))) (added (w + g) a (omega (arith, few)))
-    ∙ ap (λ x. more n (more (w + g + a) (more v x))) (added r p (omega (arith, few)))
-    ∙ ap (λ x. more n (more (w + g + a) x)) (added v (r + p) (omega (arith, few)))
-    ∙ ap (λ x. more n x) (added (w + g + a) (v + (r + p)) (omega (arith, few)))
-    ∙ added n (w + g + a + (v + (r + p))) (omega (arith, few))
+all_added : (n w g a v r p b : ℕ) → n + (w + (g + (a + (v + (r + (p + b)))))) ≤ 18446744073709551615
+    → more n (more (more (more w g) a) (more (more v (more r p)) b)) ≡ n + (w + (g + (a + (v + (r + (p + b))))))
+all_added n w g a v r p b few =
+    ap (λ x. more n (more (more x a) (more (more v (more r p)) b))) (added w g (omega (arith, few)))
+    ∙ ap (λ x. more n (more x (more (more v (more r p)) b))) (added (w + g) a (omega (arith, few)))
+    ∙ ap (λ x. more n (more (w + g + a) (more (more v x) b))) (added r p (omega (arith, few)))
+    ∙ ap (λ x. more n (more (w + g + a) (more x b))) (added v (r + p) (omega (arith, few)))
+    ∙ ap (λ x. more n (more (w + g + a) x)) (added (v + (r + p)) b (omega (arith, few)))
+    ∙ ap (λ x. more n x) (added (w + g + a) (v + (r + p) + b) (omega (arith, few)))
+    ∙ added n (w + g + a + (v + (r + p) + b)) (omega (arith, few))
     ∙ omega arith
 
 -- the references of the areas of a world are counted
@@ -84,11 +108,12 @@ limits_count_the_story tables counted code main strings begun closed few =
     let none : object_fixups (ended world.body) ≡ 0 = none_open (ended world.body) closed in
     let in_world : fixups_now world - 4 ≡ sum_by object_fixups world.objects + later_defaults world.declared = omega (arith, none) in
     let all : 5 + later_count finished + ((fixups_now world - 4) + (laters tables.globals + (arrays_laters (all_of tables.arrays)
-    + (verbs_laters tables.verbs.list + (length tables.actions.routines + length tables.parsing))))) ≡ later_in order
+    + (verbs_laters tables.verbs.list + (length tables.actions.routines + (length tables.parsing
+    + length tables.low_strings.abbreviations)))))) ≡ later_in order
     (story.areas main finished strings tables) = omega (
       arith,
       later_known (story.three_spaces ++ tables.low_strings.bytes),
-      no_abbreviations,
+      later_abbreviations tables.low_strings.abbreviations,
       counted,
       in_world,
       globals_later tables.globals,
@@ -104,7 +129,7 @@ limits_count_the_story tables counted code main strings begun closed few =
       references = ap (λ b. references_with (cond b 5 4 + later_count finished) tables) begun
           ∙ all_added (5 + later_count finished) (fixups_now world - 4) (laters tables.globals) (arrays_laters (all_of tables.arrays))
           (verbs_laters tables.verbs.list)
-          (length tables.actions.routines) (length tables.parsing) (omega (arith, few, all))
+          (length tables.actions.routines) (length tables.parsing) (length tables.low_strings.abbreviations) (omega (arith, few, all))
           ∙ all;
       bytes = ap (λ b. cond b 8 0 + size_of finished) begun ∙ sym of_size;
     }

@@ -76,7 +76,21 @@ fn finish_told<B: Bounds>(
 ) -> Result<Outcome, AllocError>
     ensures { IfOk result (λ t. seen t ≡ begun serial.now files.now.names work.output work.report (main_of work.output.names)) }
 {
-    match main_of(&work.output.names) {
+    let main = main_of(&work.output.names);
+    finish_at(alloc, files, serial, main, work)
+}
+
+/// Ends a compilation of which all is told, whose first routine is at this place in the code, or not there.
+fn finish_at<B: Bounds>(
+    alloc: Global,
+    files: &Stack,
+    serial: &[u8; 6],
+    main: Option<usize>,
+    work: Compilation<B>,
+) -> Result<Outcome, AllocError>
+    ensures { IfOk result (λ t. seen t ≡ begun serial.now files.now.names work.output work.report main) }
+{
+    match main {
         Some(main) => finish_from(alloc, files, serial, main, work),
         None => failed(files, report_of(work), &Message::NoMain),
     }

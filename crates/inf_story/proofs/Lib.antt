@@ -3,3 +3,4 @@ pub mod Areas
 pub mod Plain
 pub mod Told
 pub mod Linked
+pub mod Undeclared

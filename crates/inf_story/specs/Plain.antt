@@ -60,7 +60,7 @@ dictionary = known (3 ∷ codes ".,\"" ++ 9 ∷ 0 ∷ 0 ∷ [])
 abbrev pub plain_areas : ℕ → List Cell → List ℕ → Areas (List Cell)
 plain_areas main finished strings = record {
   low_strings = low_strings [];
-  abbreviations = abbreviations;
+  abbreviations = abbreviations [];
   property_defaults = property_defaults;
   objects = objects;
   property_tables = property_tables;

@@ -1,5 +1,5 @@
 -- The areas of a story. Z-Machine Standard 1.1, section 1.1 and the sections named below.
-use Rattle.std.specs.Prelude.{ℕ, ◌%◌, List, [], ◌++◌, map, replicate, codes}
+use Rattle.std.specs.Prelude.{ℕ, ◌-◌, ◌%◌, List, [], ◌++◌, length, map, replicate, codes}
 use Rattle.inf_area.specs.declared.targets.AreaName.TheVariants as area
 use Rattle.inf_area.specs.declared.targets.Target.TheVariants as target
 use Rattle.inf_area.specs.declared.targets.Value.{Value}
@@ -7,6 +7,7 @@ use Rattle.inf_area.specs.declared.targets.Value.TheVariants as value
 use Rattle.inf_arrays.specs.Arrays.{all_of, arrays_cells}
 use Rattle.inf_arrays.specs.Globals.{globals_cells}
 use Rattle.inf_cells.specs.declared.cells.Cell.{Cell}
+use Rattle.inf_cells.specs.declared.cells.Cell.TheVariants as cell
 use Rattle.inf_cells.specs.Cells.{values_cells}
 use Rattle.inf_characters.specs.declared.texts.TextItem.TheVariants.{Character}
 use Rattle.inf_code.specs.Code.{code_cells, known}
@@ -29,16 +30,24 @@ three_spaces = packed (map Character (codes "   ")) []
 abbrev pub low_strings : List ℕ → List Cell
 low_strings behind = known (three_spaces ++ behind)
 
--- Each of 96 abbreviations that is not declared is the first low string, whose address in words is 32 (section 3.3).
-unfoldable pub abbreviations : List Cell
-abbreviations = values_cells (replicate 96 (value.Known 32))
+-- An abbreviation that is not declared is the first low string, whose address in words is 32 (section 3.3). One that is declared is known
+-- by the place of its own.
+abbrev pub undeclared : ℕ → List Cell
+undeclared count = values_cells (replicate count (value.Known 32))
+
+abbrev pub declared_at : ℕ → Cell
+declared_at place = cell.Later (target.Place area.LowStrings place)
+
+-- The 96 abbreviations: behind a bank of 32 those that are declared at these places, and the rest.
+unfoldable pub abbreviations : List ℕ → List Cell
+abbreviations places = undeclared 32 ++ map declared_at places ++ undeclared (64 - length places)
 
 -- All areas: those of the tables of a source, the finished routines, of which the first routine calls the one at a place, and the bytes of
 -- the strings.
 abbrev pub areas : ℕ → List Cell → List ℕ → AllTables → Areas (List Cell)
 areas main finished strings tables = record {
   low_strings = low_strings tables.low_strings.bytes;
-  abbreviations = abbreviations;
+  abbreviations = abbreviations tables.low_strings.abbreviations;
   property_defaults = area_cells world_area.PropertyDefaults tables.world;
   objects = area_cells world_area.Objects tables.world;
   property_tables = area_cells world_area.PropertyTables tables.world;

@@ -1,15 +1,15 @@
 //! The areas of a story, one by one.
-ghost use Rattle.std.specs.Prelude.{◌≡◌, ◌++◌, [], IfOk, OnOk};
+ghost use Rattle.std.specs.Prelude.{◌≡◌, ◌-◌, ◌++◌, [], IfOk, OnOk};
 ghost use Rattle.inf_area.specs.Fixups.{with_fixups};
 ghost use Rattle.inf_arrays.specs.Arrays.{all_of, arrays_cells};
 ghost use Rattle.inf_arrays.specs.Globals.{globals_cells};
-ghost use Rattle.inf_cells.specs.Cells.{bytes_of, fixups_of};
+ghost use Rattle.inf_cells.specs.Cells.{bytes_of, fixups_of, values_cells};
 ghost use Rattle.inf_code.specs.Code.{code_cells, known};
 ghost use Rattle.inf_dictionary.specs.Words.{dictionary_bytes};
 ghost use Rattle.inf_link.specs.Areas.{by_name};
 ghost use Rattle.inf_link.specs.FillingLaws.{cells_contents, cells_fixups};
 ghost use Rattle.inf_link.specs.Targets.{lookup};
-ghost use Rattle.inf_story.specs.Tables.{abbreviations, areas, looked_up, low_strings};
+ghost use Rattle.inf_story.specs.Tables.{abbreviations, areas, looked_up, low_strings, undeclared};
 ghost use Rattle.inf_verbs.specs.Routines.{routines_cells};
 ghost use Rattle.inf_verbs.specs.Verbs.{grammar_cells};
 ghost use Rattle.inf_world.specs.Areas.{area_cells, name_of};
@@ -44,15 +44,36 @@ fn low_strings<B: Bounds>(alloc: Global, behind: &LowStrings<B>) -> Result<Paged
     Ok(area)
 }
 
-/// The abbreviations, none of which is declared.
+/// The entries of a table that are not declared behind so many that are; there are 64 of both.
+#[tactic(auto, using(crate::proofs::Undeclared::left_taken, crate::proofs::Undeclared::left_of))]
+fn undeclared(declared: usize) -> &'static [Value]
+    ensures { values_cells result.now ≡ undeclared (64 - declared) }
+{
+    const ALL: [Value; 64] = [NO_ABBREVIATION; 64];
+    &ALL[declared.min(64)..]
+}
+
+/// The table of abbreviations, of which those are declared whose low strings begin at these places.
 #[tactic(auto, unfolding(crate::specs::Tables::abbreviations))]
-fn abbreviations(alloc: Global, refs: &mut Refs) -> Result<PagedArea, AllocError>
-    ensures bytes { IfOk result (λ area. area ≡ bytes_of abbreviations) }
-    ensures fixups { OnOk result (refs.new
-        ≡ with_fixups (refs.old.list ++ fixups_of AreaName.Abbreviations 0 abbreviations) refs.old) }
+fn abbreviation_cells(alloc: Global, places: &[usize]) -> Result<Cells, AllocError>
+    ensures { IfOk result (λ cells. cells ≡ abbreviations places.now) }
 {
     let mut cells = Cells::new(alloc);
-    cells.values(&[NO_ABBREVIATION; 96])?;
+    cells.values(&[NO_ABBREVIATION; 32])?;
+    for place in places {
+        cells.later(Target::Place(AreaName::LowStrings, *place))?;
+    }
+    cells.values(undeclared(places.len()))?;
+    Ok(cells)
+}
+
+/// The abbreviations, whose low strings begin at these places.
+fn abbreviations(alloc: Global, places: &[usize], refs: &mut Refs) -> Result<PagedArea, AllocError>
+    ensures bytes { IfOk result (λ area. area ≡ bytes_of (abbreviations places.now)) }
+    ensures fixups { OnOk result (refs.new
+        ≡ with_fixups (refs.old.list ++ fixups_of AreaName.Abbreviations 0 (abbreviations places.now)) refs.old) }
+{
+    let cells = abbreviation_cells(alloc, places)?;
     let mut area = PagedArea::new(alloc);
     if append_cells(
         alloc,
@@ -288,7 +309,7 @@ pub(crate) fn areas<B: Bounds>(
 {
     let mut areas = no_areas(alloc);
     areas.low_strings = low_strings(alloc, &tables.low_strings)?;
-    areas.abbreviations = abbreviations(alloc, refs)?;
+    areas.abbreviations = abbreviations(alloc, tables.low_strings.abbreviation_places(), refs)?;
     put_world(alloc, &tables.world, &mut areas, refs)?;
     put_lists(alloc, tables, &mut areas, refs)?;
     areas.code = code(routines, main, refs)?;

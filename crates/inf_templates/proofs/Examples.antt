@@ -21,6 +21,7 @@ use Rattle.inf_expressions.specs.declared.operators.Unary.TheVariants as unary
 use Rattle.inf_expressions.specs.declared.operators.Binary.TheVariants as binary
 use Rattle.inf_expressions.specs.Trees.{Tree, Leaf, One, Two}
 use Rattle.inf_output.specs.Strings.{no_strings}
+use Rattle.inf_output.specs.Texts.{no_texts}
 use Rattle.inf_output.specs.Output.{Code, Out, behind, full, instruction, jumped, laid, marked, naming, routine, used, with_label, ◌▸◌}
 use Rattle.inf_settings.specs.Bounds.{Limits, limits_of}
 use Rattle.inf_settings.specs.declared.setting.Setting.TheVariants as setting
@@ -41,6 +42,7 @@ begun locals =
       strings = no_strings Four;
       tables = no_tables;
       names = no_names false;
+      texts = no_texts;
       seen = no_names false;
       first = record { file = 0; line = 1 };
       next = 0;

@@ -16,7 +16,7 @@ use inf_expressions::{Forest, Root};
 use inf_names::hashing::NameHashing;
 use inf_names::symbols::Symbols;
 use inf_opcode::Opcode;
-use inf_output::{Output, Simple, Strings, Veneer};
+use inf_output::{Output, Simple, Strings, Texts, Veneer};
 use inf_scanner::Place;
 use inf_settings::bounds::Bounds;
 use inf_tables::{LowStrings, Tables};
@@ -323,7 +323,8 @@ fn output_for<B: Bounds>(
     let code = Code::new(alloc, limits, Scale::Four)?;
     let strings = Strings::new(alloc, 262_144, Scale::Four);
     let seen = Symbols::new(alloc, u32::MAX, false, NameHashing::new(b""));
-    Ok(Output::new(code, strings, tables::<B>(alloc), names, seen, HERE))
+    let texts = Texts::new(alloc);
+    Ok(Output::new(code, strings, tables::<B>(alloc), names, texts, seen, HERE))
 }
 
 /// What comes of some expressions that are laid in a way.

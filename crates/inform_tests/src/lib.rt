@@ -8,8 +8,6 @@ mod conditionals;
 #[cfg(test)]
 mod faults;
 #[cfg(test)]
-mod given;
-#[cfg(test)]
 mod including;
 #[cfg(test)]
 mod reading;
@@ -17,5 +15,3 @@ mod reading;
 mod replacing;
 #[cfg(test)]
 mod running;
-#[cfg(test)]
-mod steps;

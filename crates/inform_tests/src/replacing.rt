@@ -6,7 +6,7 @@ use std::process::Abort;
 use std::test::Fail;
 
 /// Files of a folder, with all messages of `t.inf` among them.
-static FOLDERS: [(&[(&str, &[u8])], &str); 8] = [
+static FOLDERS: [(&[(&str, &[u8])], &str); 9] = [
     // A routine of a file that is marked gives nothing: no name, no error, no warning.
     (
         &[
@@ -64,6 +64,11 @@ static FOLDERS: [(&[(&str, &[u8])], &str); 8] = [
     (
         &[("t.inf", b"Replace;\nReplace R S;\n[ Main; ];")],
         "t.inf(1): Error: Syntax error at \";\"\nt.inf(2): Error: Syntax error at \"S\"\nErrors: 2, warnings: 0 (no output)\n",
+    ),
+    // The language may have the name.
+    (
+        &[("t.inf", b"System_file; Replace true; [ True; ]; [ Main; ];")],
+        "Errors: 0, warnings: 0\n",
     ),
     // A file that is entered again is not marked yet.
     (

@@ -3,7 +3,6 @@ ghost use Rattle.inf_settings.specs.Bounds.{AreSet};
 ghost use Rattle.std.specs.Prelude.{◌≡◌, ◌<◌, IfOk, OnOk, length, false};
 ghost use Rattle.inf_session.specs.Standing.{IsSet};
 
-use crate::running::assert_written;
 use inf_compile::{Fault, NameHashing, Status};
 use inf_files::memory_files::MemoryFiles;
 use inf_session::compiled::Compiled;
@@ -104,7 +103,7 @@ impl<'a, B: Bounds> Run<'a, B> {
     {
         let came = self.go_on()?;
         assert!(rt; came == wanted, "{lines:?}");
-        assert_written(rt, self.messages.bytes(), lines.as_bytes());
+        assert_told(rt, self.messages.bytes(), lines.as_bytes());
         assert_held(rt, self.session.held(), counts, tables);
         Ok(())
     }
@@ -128,7 +127,7 @@ impl<'a, B: Bounds> Run<'a, B> {
         requires is_open { length self.session.open_files.outer < length self.files.openings.open_places }
     {
         let (compiled, messages) = self.close();
-        assert_written(rt, messages.bytes(), lines);
+        assert_told(rt, messages.bytes(), lines);
         assert_refused(rt, compiled?);
         Ok(())
     }
@@ -211,6 +210,11 @@ type Wanted = (Step, &'static str, [usize; 6], [usize; 9]);
 /// What there is of the last nine without a directive or a statement for them: four objects, whose property tables have 30 bytes, and a low
 /// string of two bytes.
 const BARE: [usize; 9] = [0, 4, 0, 0, 0, 30, 0, 2, 0];
+
+/// Asserts that these and no more messages were written.
+fn assert_told(rt: &impl Abort, messages: &[u8], lines: &[u8]) {
+    assert_eq!(rt; messages, lines);
+}
 
 /// Asserts how much there is of all that the settings bound.
 fn assert_held(rt: &impl Abort, held: [usize; 15], counts: [usize; 6], tables: [usize; 9]) {
@@ -450,6 +454,13 @@ fn words_and_entries_are_counted(rt: HostRuntime) -> Result<(), Fail> {
     let source = b"[ Main; ]; Array a --> 'xa' 'xb' 'xa';";
     let held = [2, 1, 2, 0, 2, 4, 0, 0, 0, 30, 6, 2, 12, 0, 8];
     count_under::<Brand>(&rt, rt.alloc(), &usual(), source, held)
+}
+
+/// Code has begun behind the header of an array, which is the first unit: a semicolon alone is none.
+#[test]
+fn code_begins_with_the_header_of_an_array(rt: HostRuntime) -> Result<(), Fail> {
+    let held = [0, 1, 1, 0, 0, 4, 0, 0, 0, 30, 4, 2, 8, 0, 5];
+    count_under::<Brand>(&rt, rt.alloc(), &usual(), b";Array a --> 1 2;", held)
 }
 
 /// Reads two parts of a source with these settings, behind which there is so much.
