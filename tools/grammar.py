@@ -34,7 +34,6 @@ MARKS = {
     "?": "Question", "@": "At",
 }
 LITERALS = ["NUMBER", "CHAR", "WORD", "TEXT"]
-LATER = "later"
 
 
 # Reading the page
@@ -52,10 +51,7 @@ def clauses(text):
 
 
 class Page:
-    """What the page says: words, classes (name -> how it is made), rules (name -> rows), preferences (rule -> class).
-
-    Rows that come later are in no rule, but `parts` has those of all rows, so numbers and names stay when a row comes.
-    """
+    """What the page says: words, classes (name -> how it is made), rules (name -> rows), preferences (rule -> class), parts of rows."""
 
     def __init__(self, text):
         self.classes, self.rules, self.preferences = {}, {}, {}
@@ -68,8 +64,7 @@ class Page:
                 self.classes[clause[0]] = clause[2:]
             else:
                 self.add_rule(clause[0], clause[2:])
-        self.parts = [part for rows in self.rules.values() for row in rows for part in row if part != LATER]
-        self.rules = {rule: [row for row in rows if row[:1] != [LATER]] for rule, rows in self.rules.items()}
+        self.parts = [part for rows in self.rules.values() for row in rows for part in row]
 
     def add_rule(self, name, words):
         self.groups = 0

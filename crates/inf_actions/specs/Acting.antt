@@ -22,6 +22,7 @@ use Rattle.inf_constructs.specs.declared.constructs.Kind.{Kind}
 use Rattle.inf_constructs.specs.declared.constructs.Kind.TheVariants as kind
 use Rattle.inf_constructs.specs.declared.constructs.Over.TheVariants as over
 use Rattle.inf_compilation.specs.Actions.{Compilation, body_ended, close, cut, finding_at, header_end, is_deep, nested, sized}
+use Rattle.inf_declarations.specs.Abbreviations.{abbreviation}
 use Rattle.inf_actions.specs.Directives.{directive_end}
 use Rattle.inf_listings.specs.Arrays.{entry_ended}
 use Rattle.inf_actions.specs.Headers.{header_ended}
@@ -80,6 +81,7 @@ ended limits context place ending.Attribute w = attribute_read limits context pl
 ended limits context place ending.Property w = property_read limits context place w
 ended limits context place ending.Value w = value_read limits context place w
 ended limits context place ending.Line w = line_ended limits context place w
+ended limits context place ending.Abbreviation w = abbreviation limits context place w
 ended limits context place ending.Entry w = entry_ended limits context place false w
 ended limits context place ending.Alone w = entry_ended limits context place true w
 ended limits context place ending.Statement w = part_ended limits context place (part.Statement (statement_at w)) w

@@ -14,6 +14,9 @@ use Rattle.inf_compilation.specs.Findings.{nothing_found}
 use Rattle.inf_declarations.specs.Declarations.{attribute, global_variable, property}
 use Rattle.inf_verb_lines.specs.Verbs.{fake_action}
 use Rattle.inf_declarations.specs.Defaults.{default}
+use Rattle.inf_declarations.specs.Switches.{switches}
+use Rattle.inf_declarations.specs.Abbreviations.{low_string}
+use Rattle.inf_declarations.specs.Headers.{release, serial}
 
 -- A directive ends with which nothing is wrong: the first setting that was passed is told.
 abbrev pub fit_ended : Limits → Context → Place → Compilation → Compilation
@@ -34,13 +37,22 @@ carried_out limits directive.Attribute context first names w = attribute limits 
 carried_out limits directive.Property context first names w = property limits context first names w
 carried_out limits directive.Global context first names w = global_variable limits context first names w
 carried_out limits directive.FakeAction context first names w = fake_action limits context first names w
+carried_out limits directive.Switches context first names w = switches limits context first names w
+carried_out limits directive.Lowstring context first names w = low_string limits context first names w
+carried_out limits directive.Release context first names w = release limits context first w
+carried_out limits directive.Serial context first names w = serial limits context first w
 carried_out limits directive.SystemFile context first names w = fit_ended limits context first (record w { is_system = true })
 
--- A directive ends, which begins with the name of its word. Code begins with it, unless it has begun.
+-- Code begins with a directive, unless it has begun. With `Switches` it does not.
+abbrev pub code_begun_by : Limits → Directive → Compilation → Compilation
+code_begun_by limits directive.Switches w = w
+code_begun_by limits _ w = code_begun limits w
+
+-- a directive ends, which begins with the name of its word
 abbrev pub directive_of_names : Limits → Context → Place → List Name → Compilation → Compilation
 directive_of_names limits context first [] w = passed true w
 directive_of_names limits context first (word ∷ names) w =
-    carried_out limits (directive_of (directive_word w.unit.tokens)) context first names (code_begun limits w)
+    let d = directive_of (directive_word w.unit.tokens) in carried_out limits d context first names (code_begun_by limits d w)
 
 abbrev pub directive_end : Limits → Context → Place → Compilation → Compilation
 directive_end limits context place w = directive_of_names limits context (first_place w.unit.tokens place) (names_in w.unit.tokens) w

@@ -1,4 +1,4 @@
--- The headers of directives that have entries, bodies or lines.
+-- The headers of directives that have entries, bodies, lines or texts.
 use Rattle.std.specs.Prelude.{List, [], ◌∷◌, false, Option, Some}
 use Rattle.inf_settings.specs.Bounds.{Limits}
 use Rattle.inf_scanner.specs.declared.tokens.Place.{Place}
@@ -9,6 +9,7 @@ use Rattle.inf_syntax.specs.declared.words.Keyword.TheVariants as keyword
 use Rattle.inf_unit.specs.Units.{directive_word, first_place, names_in}
 use Rattle.inf_compilation.specs.Actions.{Compilation, code_begun, passed}
 use Rattle.inf_bodies.specs.Objects.{class_header, object_header}
+use Rattle.inf_declarations.specs.Abbreviations.{abbreviate_header}
 use Rattle.inf_verb_lines.specs.Verbs.{extend_header, verb_header}
 use Rattle.inf_actions.specs.declared.headers.Heading.{Heading}
 use Rattle.inf_actions.specs.declared.headers.Heading.TheVariants as heading
@@ -24,6 +25,7 @@ heading_of (Some keyword.Array) = heading.Array
 heading_of (Some keyword.Class) = heading.Class
 heading_of (Some keyword.Verb) = heading.Verb
 heading_of (Some keyword.Extend) = heading.Extend
+heading_of (Some keyword.Abbreviate) = heading.Abbreviate
 heading_of _ = heading.Object
 
 abbrev pub header_as : Limits → Heading → Context → Place → List Name → Compilation → Compilation
@@ -32,6 +34,7 @@ header_as limits heading.Class context first names w = class_named limits contex
 header_as limits heading.Object context first names w = object_header limits context first w
 header_as limits heading.Verb context first names w = verb_header limits context first w
 header_as limits heading.Extend context first names w = extend_header limits context first w
+header_as limits heading.Abbreviate context first names w = abbreviate_header limits context first w
 
 abbrev pub header_of : Limits → Context → Place → List Name → Compilation → Compilation
 header_of limits context first [] w = passed false w

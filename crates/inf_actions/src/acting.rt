@@ -15,6 +15,7 @@ use inf_compilation::compilation::Compilation;
 use inf_compilation::context::Context;
 use inf_compilation::parts::Part;
 use inf_constructs::constructs::{Case, Kind, Over};
+use inf_declarations::abbreviations::abbreviation;
 use inf_expressions::Wanted;
 use inf_lexer::Place;
 use inf_listings::arrays::end_entry;
@@ -43,7 +44,7 @@ fn kind_of(opening: Opening) -> Kind
     }
 }
 
-/// A bad token at a place cuts the unit at hand. An entry of an array that waited for what follows it is whole before it.
+/// Cuts the unit at hand before a bad token at `place`. An entry of an array that waited for what follows it is whole before that token.
 pub fn cut<B: Bounds>(
     compilation: &mut Compilation<B>,
     context: &Context<'_>,
@@ -143,9 +144,9 @@ fn is_tall<B: Bounds>(compilation: &Compilation<B>, context: &Context<'_>) -> bo
     compilation.unit.last() > context.settings.of(Setting::Objects) as usize
 }
 
-/// Something is noted of the unit at hand, by which its outermost expression may be too long. Of texts that are printed, and of arrows
-/// before an object's name, so many are kept, and of operands none where they are too many; of the tokens of a line of grammar
-/// that is too long those that matter.
+/// Makes `note` of the unit at hand, by which its outermost expression may be too long. Only some of the texts that are printed, and of the
+/// arrows before an object's name, are kept, and no operands where these are too many; of the tokens of a line of grammar that is too long,
+/// those that matter.
 fn note<B: Bounds>(
     compilation: &mut Compilation<B>,
     context: &Context<'_>,
@@ -194,7 +195,7 @@ fn pass_operands<B: Bounds>(compilation: &mut Compilation<B>) -> Result<(), Allo
     compilation.unit.pass_operands(finding)
 }
 
-/// The same of what is kept.
+/// Makes `note`, which is kept, of the unit at hand.
 fn keep_note<B: Bounds>(
     compilation: &mut Compilation<B>,
     context: &Context<'_>,
@@ -230,6 +231,7 @@ fn end<B: Bounds>(
         Ending::Property => property_of_body(compilation, context, place),
         Ending::Value => value_of_body(compilation, context, place),
         Ending::Line => end_line(compilation, context, place),
+        Ending::Abbreviation => abbreviation(compilation, context, place),
         Ending::Entry => end_entry(compilation, context, place, false),
         Ending::Alone => end_entry(compilation, context, place, true),
         Ending::Statement => compilation.end_statement(context, place),

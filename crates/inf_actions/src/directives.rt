@@ -4,17 +4,20 @@ ghost use Rattle.std.specs.Prelude.{OnOk, map, ◌≡◌};
 ghost use Rattle.inf_names.specs.Spellings.{as_name};
 ghost use Rattle.inf_unit.specs.Directives.{Include, asked};
 ghost use Rattle.inf_compilation.specs.Actions.{constant, replace, stub};
-ghost use Rattle.inf_actions.specs.Directives.{carried_out, directive_end};
+ghost use Rattle.inf_actions.specs.Directives.{carried_out, code_begun_by, directive_end};
 ghost use Rattle.inf_declarations.specs.Defaults.{default};
 ghost use Rattle.inf_compilation.specs.Works.{work};
 
 use inf_compilation::compilation::Compilation;
 use inf_compilation::context::Context;
 use inf_compilation::findings::Findings;
+use inf_declarations::abbreviations::low_string;
 use inf_declarations::declarations::attribute;
 use inf_declarations::directives::{constant, default, inclusion, message, replace, stub};
 use inf_declarations::globals::global_variable;
+use inf_declarations::headers::{release, serial};
 use inf_declarations::properties::property;
+use inf_declarations::switches::switches;
 use inf_lexer::Place;
 use inf_names::spellings::Name;
 use inf_settings::bounds::Bounds;
@@ -22,7 +25,7 @@ use inf_unit::directives::{Directive, Request, directive_of};
 use inf_verb_lines::verbs::fake_action;
 use std::alloc::AllocError;
 
-/// A directive ends, before a token at a place. Code begins with it, unless it has begun.
+/// A directive ends, before a token at a place. Code begins with it, unless it has begun or these are letters.
 pub(crate) fn end_directive<B: Bounds>(
     compilation: &mut Compilation<B>,
     context: &Context<'_>,
@@ -37,8 +40,18 @@ pub(crate) fn end_directive<B: Bounds>(
     };
     let first = compilation.unit.first_place(place);
     let directive = directive_of(compilation.unit.tokens.directive_word());
-    compilation.output.begin();
+    begin_code(compilation, directive);
     carry_out(compilation, directive, context, first, names)
+}
+
+/// Code begins with a directive, unless it has begun. With `Switches` it does not, whose letters say how code is laid.
+fn begin_code<B: Bounds>(compilation: &mut Compilation<B>, directive: Directive)
+    ensures { work compilation.new ≡ code_begun_by B.most directive (work compilation.old) }
+{
+    match directive {
+        Directive::Switches => {}
+        _ => compilation.output.begin(),
+    }
 }
 
 /// Carries out a directive that begins at a place, with these names behind its word.
@@ -64,6 +77,10 @@ fn carry_out<B: Bounds>(
         Directive::Property => return property(compilation, context, first, names),
         Directive::Global => return global_variable(compilation, context, first, names),
         Directive::FakeAction => return fake_action(compilation, context, first, names),
+        Directive::Switches => return switches(compilation, context, first, names),
+        Directive::Lowstring => return low_string(compilation, context, first, names),
+        Directive::Release => return release(compilation, context, first),
+        Directive::Serial => return serial(compilation, context, first),
         Directive::SystemFile => compilation.is_system = true,
     }
     compilation.end_unit(context, first, true, &Findings::none())

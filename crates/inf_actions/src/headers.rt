@@ -1,4 +1,4 @@
-//! The headers of directives that have entries, bodies or lines: each is told by its word.
+//! The headers of directives that have entries, bodies, lines or texts: each is told by its word.
 ghost use Rattle.inf_compilation.specs.Context.{handed};
 ghost use Rattle.std.specs.Prelude.{OnOk, false, map, ◌≡◌};
 ghost use Rattle.inf_names.specs.Spellings.{as_name};
@@ -9,6 +9,7 @@ ghost use Rattle.inf_compilation.specs.Works.{work};
 use inf_bodies::objects::{class_header, object_header};
 use inf_compilation::compilation::Compilation;
 use inf_compilation::context::Context;
+use inf_declarations::abbreviations::abbreviate_header;
 use inf_lexer::Place;
 use inf_listings::arrays::array_named;
 use inf_names::spellings::Name;
@@ -17,7 +18,7 @@ use inf_syntax::Keyword;
 use inf_verb_lines::verbs::{extend_header, verb_header};
 use std::alloc::AllocError;
 
-/// What a directive with a header declares.
+/// A declaration by a directive with a header.
 #[derive(Clone, Copy, Debug, PartialEq, Eq)]
 pub enum Heading {
     Array,
@@ -25,9 +26,10 @@ pub enum Heading {
     Object,
     Verb,
     Extend,
+    Abbreviate,
 }
 
-/// What a directive with a header declares, told by its word. An object may have the name of a class for it.
+/// Returns what a directive with a header declares, by its `word`. An object may have the name of a class for it.
 fn heading_of(word: Option<Keyword>) -> Heading
     ensures { result ≡ heading_of word }
 {
@@ -36,11 +38,12 @@ fn heading_of(word: Option<Keyword>) -> Heading
         Some(Keyword::Class) => Heading::Class,
         Some(Keyword::Verb) => Heading::Verb,
         Some(Keyword::Extend) => Heading::Extend,
+        Some(Keyword::Abbreviate) => Heading::Abbreviate,
         _ => Heading::Object,
     }
 }
 
-/// The header of a directive with entries ends, before a token at a place. Code begins with it, unless it has begun.
+/// Ends the header of a directive with entries, before a token at `place`. Code begins with it, unless it has begun.
 pub(crate) fn end_directive_header<B: Bounds>(
     compilation: &mut Compilation<B>,
     context: &Context<'_>,
@@ -54,7 +57,7 @@ pub(crate) fn end_directive_header<B: Bounds>(
     header_of(compilation, context, first, names.as_slice())
 }
 
-/// The same, where it has these names, the first of them its word.
+/// Ends the header of a directive that begins at `first` and has `names`, the first of which is its word.
 fn header_of<B: Bounds>(
     compilation: &mut Compilation<B>,
     context: &Context<'_>,
@@ -76,7 +79,7 @@ fn header_of<B: Bounds>(
     }
 }
 
-/// The header of a directive that declares this, with these names behind its word.
+/// Ends the header of a directive that declares `heading`, begins at `first` and has `names` behind its word.
 fn header_as<B: Bounds>(
     compilation: &mut Compilation<B>,
     heading: Heading,
@@ -93,6 +96,7 @@ fn header_as<B: Bounds>(
         Heading::Object => object_header(compilation, context, first),
         Heading::Verb => verb_header(compilation, context, first),
         Heading::Extend => extend_header(compilation, context, first),
+        Heading::Abbreviate => abbreviate_header(compilation, context, first),
     }
 }
 

@@ -1,3 +1,4 @@
+pub mod ShortNames
 pub mod Objects
 pub mod Bodies
 pub mod Values

@@ -3,10 +3,6 @@ use Rattle.std.specs.Prelude.{ℕ, ◌+◌, ◌-◌, ◌%◌, ◌==◌, nat_le, 
 use Rattle.std.specs.Prelude.{Option, Some, None, unwrap_or, Result, Ok, Err}
 use Rattle.std.specs.Str.{str_eq_ignore_ascii_case}
 use Rattle.inf_settings.specs.Bounds.{Limits}
-use Rattle.inf_characters.specs.Reading.{text_of}
-use Rattle.inf_characters.specs.declared.characters.CharSet.{CharSet}
-use Rattle.inf_characters.specs.declared.reading.Mode.TheVariants as mode
-use Rattle.inf_characters.specs.declared.texts.TextItem.{TextItem}
 use Rattle.inf_expressions.specs.declared.findings.Finding.{Finding}
 use Rattle.inf_expressions.specs.Findings.{least_of_both, wrong_kind}
 use Rattle.inf_names.specs.Symbols.{found_in}
@@ -22,12 +18,9 @@ use Rattle.inf_scanner.specs.declared.tokens.TokenKind.{TokenKind}
 use Rattle.inf_scanner.specs.declared.tokens.TokenKind.TheVariants as kind
 use Rattle.inf_settings.specs.declared.setting.Setting.{Setting}
 use Rattle.inf_settings.specs.declared.setting.Setting.TheVariants as setting
-use Rattle.inf_statements.specs.Printing.{text_at}
 use Rattle.inf_names.specs.Spellings.{Name}
-use Rattle.inf_text.specs.Packing.{packed}
 use Rattle.inf_unit.specs.Messages.{Diagnostic}
 use Rattle.inf_compilation.specs.Context.{Context}
-use Rattle.inf_unit.specs.Texts.{fit_characters}
 use Rattle.inf_unit.specs.Tokens.{SourceToken}
 use Rattle.inf_unit.specs.Units.{bytes_at, name_at, name_order, next_place, order}
 use Rattle.inf_world.specs.declared.faults.AddFault.{AddFault}
@@ -45,6 +38,7 @@ use Rattle.inf_declarations.specs.Declarations.{declared_ended, plainly_known, w
 use Rattle.inf_compilation.specs.Findings.{found_alone, many_finding}
 use Rattle.inf_declarations.specs.declared.declarations.Declared.{Declared}
 use Rattle.inf_bodies.specs.declared.headers.Header.{Header}
+use Rattle.inf_bodies.specs.ShortNames.{bracketed, name_packed, packed_name, short_text}
 
 -- What the world refuses
 
@@ -147,25 +141,6 @@ header_in tokens =
     let word = word_place tokens in
     if is_nearby (bytes_at tokens word) then below word (header_of word tokens) else header_of word tokens
 
--- Short names
-
-abbrev pub packed_name : Option (List TextItem) → List ℕ
-packed_name None = []
-packed_name (Some items) = packed items []
-
--- a name in round brackets
-abbrev pub in_brackets : List ℕ → List ℕ
-in_brackets name = 40 ∷ (name ++ 41 ∷ [])
-
--- the short name of what has no text for it
-abbrev pub bracketed : CharSet → List ℕ → List ℕ
-bracketed set name = packed_name (fit_characters (text_of set mode.Text (in_brackets name)))
-
--- what has no name, either, is shown as a question mark
-abbrev pub shown_name : Option Name → List ℕ
-shown_name None = codes "?"
-shown_name (Some n) = n.bytes
-
 -- Classes
 
 -- a body is open that belongs to nothing, since something is wrong with its header
@@ -196,7 +171,9 @@ abbrev pub class_begun : Limits → List ℕ → Name → Code
 class_begun limits short name o = class_begun_by limits (class_header_fault limits short o.tables.world) short name o
 
 abbrev pub class_opened : Limits → Context → Option Finding → Name → Compilation → Compilation
-class_opened limits context None name w = record w { output = class_begun limits (bracketed context.set name.bytes) name w.output }
+class_opened limits context None name w =
+    let text = bracketed context.set name.bytes in
+    record w { output = class_begun limits (packed_name text w.output.texts) name (name_packed text w.output) }
 class_opened limits context (Some f) name w = record w { output = class_lost limits name w.output }
 
 abbrev pub class_with : Limits → Context → Place → Name → Declared → Compilation → Compilation
@@ -237,17 +214,6 @@ parent_in (Some at) arrows w = parent.Object (unwrap_or (object_of (found_at at 
 abbrev pub own_name : Option ℕ → Compilation → Option Name
 own_name None w = None
 own_name (Some at) w = name_at w.unit.tokens at
-
-abbrev pub header_text : Context → Option ℕ → Compilation → Option (List TextItem)
-header_text context None w = None
-header_text context (Some at) w = text_at context.set w.unit.tokens at
-
-abbrev pub short_by : Context → Option (List TextItem) → Option Name → Compilation → List ℕ
-short_by context None name w = bracketed context.set (shown_name name)
-short_by context (Some items) name w = packed_name (Some items)
-
-abbrev pub short_name : Context → Header → Option Name → Compilation → List ℕ
-short_name context h name w = short_by context (header_text context h.text w) name w
 
 -- the class that the word of the header names, if it does
 abbrev pub class_of_word : Compilation → Option ℕ
@@ -301,7 +267,10 @@ object_begun limits p short class name o = object_begun_by limits (object_header
 
 abbrev pub object_new : Limits → Context → Header → Option Name → Compilation → Compilation
 object_new limits context h name w =
-    record w { output = object_begun limits (parent_in h.parent h.arrows w) (short_name context h name w) (class_of_word w) name w.output }
+    let text = short_text context h name w in record w {
+      output = object_begun limits (parent_in h.parent h.arrows w) (packed_name text w.output.texts) (class_of_word w) name
+          (name_packed text w.output);
+    }
 
 abbrev pub object_opened : Limits → Context → Option Finding → Header → Option Name → Compilation → Compilation
 object_opened limits context None h name w = object_new limits context h name w

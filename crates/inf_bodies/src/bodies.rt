@@ -1,4 +1,4 @@
-//! What stands in the bodies of objects and classes: classes, attributes and properties.
+//! The entries in the bodies of objects and classes: classes, attributes and properties.
 ghost use Rattle.inf_compilation.specs.Context.{handed};
 ghost use Rattle.std.specs.Prelude.{IfOk, OnOk, option_map, ◌≡◌};
 ghost use Rattle.inf_names.specs.Spellings.{as_name};
@@ -52,7 +52,7 @@ fn property_in(meaning: Meaning) -> Option<usize>
     }
 }
 
-/// The same, by what looking for the name found.
+/// Returns the number of the property that a name stands for, by `found`, what looking for the name found.
 pub(crate) fn property_of(found: Found<Place>) -> Option<usize>
     ensures { result ≡ property_of found }
 {
@@ -74,7 +74,8 @@ pub(crate) fn is_words(number: Option<usize>) -> bool
 
 // Classes and attributes
 
-/// What is wrong with the name of a class at a place, by what the world says of the class.
+/// Returns the finding about the name of `class`, which stands at `at`: that the world refused the class by `fault`, or that there is no
+/// such class.
 fn class_finding(class: Option<usize>, fault: Option<WorldFault>, at: usize) -> Option<Finding>
     ensures { result ≡ class_finding class fault at }
 {
@@ -118,7 +119,7 @@ fn set_attribute<B: Bounds>(
     }
 }
 
-/// The same, if there is such an attribute.
+/// Has the open body give attribute `number`, or take it away unless `is_given`. Nothing happens where there is no such attribute.
 fn set_some<B: Bounds>(
     number: Option<usize>,
     is_given: bool,
@@ -132,7 +133,7 @@ fn set_some<B: Bounds>(
     }
 }
 
-/// What is wrong with the name of an attribute at a place.
+/// Returns the finding about the name at `at` that it is that of no attribute, which has a `number`.
 fn attribute_finding(number: Option<usize>, at: usize) -> Option<Finding>
     ensures { result ≡ attribute_finding number at }
 {
@@ -243,14 +244,14 @@ fn end_world<B: Bounds>(out: &mut Output<B>) -> Result<(), AllocError>
     }
 }
 
-/// The body of an object or class ends, if one is open.
+/// Ends the body of an object or class, if one is open.
 pub fn end_body<B: Bounds>(compilation: &mut Compilation<B>) -> Result<(), AllocError>
     ensures { OnOk result (work compilation.new ≡ body_ended (work compilation.old)) }
 {
     end_world(&mut compilation.output)
 }
 
-/// A class of the open body, which the last token names.
+/// Adds to the open body the class that the last token names.
 pub fn class_of_body<B: Bounds>(
     compilation: &mut Compilation<B>,
     context: &Context<'_>,
@@ -265,7 +266,7 @@ pub fn class_of_body<B: Bounds>(
     tell_entry(compilation, context, first, class_finding(class, fault, at))
 }
 
-/// An attribute of the open body, which the last token names, and which `~` before it takes away.
+/// Gives the open body the attribute that the last token names, or takes it away if `~` stands before it.
 pub fn attribute_of_body<B: Bounds>(
     compilation: &mut Compilation<B>,
     context: &Context<'_>,
@@ -286,7 +287,7 @@ pub fn attribute_of_body<B: Bounds>(
 
 // Where values go
 
-/// What is wrong with a property with a number, if its name at a place has one, and with this first value.
+/// Returns the finding about property `number`, if its name at `at` has one, with the first value `value`.
 fn number_finding<B: Bounds>(
     compilation: &Compilation<B>,
     number: Option<usize>,
@@ -304,7 +305,8 @@ fn number_finding<B: Bounds>(
     }
 }
 
-/// What is wrong with a property whose name stands at a place, with this first value. A name that is not declared is that of a new one.
+/// Returns the finding about a property whose name stands at `at`, with the first value `value`. A name that is not declared is that of a
+/// new property.
 fn property_finding<B: Bounds>(
     compilation: &Compilation<B>,
     at: usize,
@@ -320,14 +322,14 @@ fn property_finding<B: Bounds>(
     }
 }
 
-/// What is wrong with a further value.
+/// Returns the finding about `value` as a further value of the property that was given last.
 fn further_finding<B: Bounds>(compilation: &Compilation<B>, value: Value) -> Option<Finding>
     ensures { result ≡ further_finding B.most value (work compilation.now) }
 {
     refused_finding(compilation.output.tables.world.value_fault(value), 0)
 }
 
-/// What is wrong with where a value goes: to the property whose name stands before it, or to the one that was given last.
+/// Returns the finding about the property to which `value` goes: the one whose `name` stands before it, or the one that was given last.
 pub(crate) fn place_finding<B: Bounds>(
     compilation: &Compilation<B>,
     name: Option<usize>,
@@ -436,7 +438,7 @@ pub(crate) fn placed<B: Bounds>(
     }
 }
 
-/// A property without values, which the last token names.
+/// Adds to the open body the property without values that the last token names.
 pub fn property_of_body<B: Bounds>(
     compilation: &mut Compilation<B>,
     context: &Context<'_>,

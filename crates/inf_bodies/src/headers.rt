@@ -1,4 +1,4 @@
-//! What the header of an object has: its name, its arrows, its text and its parent.
+//! The header of an object: its name, its arrows, its text and its parent.
 ghost use Rattle.std.specs.Prelude.{◌≡◌};
 ghost use Rattle.inf_bodies.specs.Objects.{arrow_at, below, header_in, header_of, header_step, header_with, is_nearby, named_at};
 ghost use Rattle.inf_bodies.specs.Objects.{word_place};
@@ -8,7 +8,7 @@ use inf_text::Text;
 use inf_unit::unit::next_place;
 use inf_unit::unit_tokens::UnitTokens;
 
-/// Where in the header of an object its own name, its short name and its parent stand among the tokens of the unit.
+/// The header of an object: the places of its own name, its short name and its parent among the tokens of the unit.
 #[derive(Clone, Copy)]
 pub struct Header {
     pub own: Option<usize>,
@@ -30,7 +30,7 @@ fn arrow_at(header: Header, at: usize) -> Header
     }
 }
 
-/// One name more: the object's own, unless one stands there already, or a text does; else that of its parent.
+/// Adds the name at `at` to `header`: as the object's own, unless one stands there already, or a text does; else as that of its parent.
 pub fn named_at(header: Header, at: usize) -> Header
     ensures { result ≡ named_at at header }
 {
@@ -46,7 +46,7 @@ pub fn named_at(header: Header, at: usize) -> Header
     }
 }
 
-/// One token more.
+/// Adds a token of `kind`, which stands at `at`, to `header`.
 pub fn header_with(header: Header, at: usize, kind: TokenKind) -> Header
     ensures { result ≡ header_with at kind header }
 {
@@ -60,7 +60,7 @@ pub fn header_with(header: Header, at: usize, kind: TokenKind) -> Header
     }
 }
 
-/// The same, where only what stands behind the word counts.
+/// Adds a token of `kind`, if there is one at `at`, to `header`, where that place is behind `word`.
 fn header_step(header: Header, word: usize, at: usize, kind: Option<TokenKind>) -> Header
     ensures { result ≡ header_step word at kind header }
 {
@@ -70,7 +70,7 @@ fn header_step(header: Header, word: usize, at: usize, kind: Option<TokenKind>) 
     }
 }
 
-/// The header of an object whose word stands at a place among these tokens.
+/// Returns the header of an object that `tokens` are, whose word stands at `word` among them.
 #[tactic(auto, using(crate::proofs::KindSteps::header_goes))]
 pub fn header_of(tokens: &UnitTokens, word: usize) -> Header
     ensures { result ≡ header_of word tokens.now }

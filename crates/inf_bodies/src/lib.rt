@@ -4,4 +4,5 @@
 pub mod bodies;
 pub mod headers;
 pub mod objects;
+pub mod short_names;
 pub mod values;

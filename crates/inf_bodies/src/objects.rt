@@ -1,29 +1,26 @@
 //! The headers of classes and objects.
 ghost use Rattle.inf_compilation.specs.Context.{handed};
 ghost use Rattle.std.specs.Prelude.{IfOk, OnOk, option_map, ◌≡◌};
-ghost use Rattle.inf_characters.specs.Reading.{text_of as read_in};
 ghost use Rattle.inf_names.specs.Spellings.{as_name};
-ghost use Rattle.inf_unit.specs.Texts.{fit_characters};
-ghost use Rattle.inf_bodies.specs.Objects.{above_finding, bracketed, class_begun, class_declared, class_header, class_lost, class_of};
+ghost use Rattle.inf_bodies.specs.Objects.{above_finding, class_begun, class_declared, class_header, class_lost, class_of};
 ghost use Rattle.inf_bodies.specs.Objects.{class_of_word, class_opened, class_refused, class_with, entry_told, found_at};
-ghost use Rattle.inf_bodies.specs.Objects.{has_most_classes, headed_finding, header_in, header_text, hung_finding, in_brackets, joined};
+ghost use Rattle.inf_bodies.specs.Objects.{has_most_classes, headed_finding, header_in, hung_finding, joined};
 ghost use Rattle.inf_bodies.specs.Objects.{joined_fault, joined_some, lost_begun, named_known, named_parent_finding, noted, object_begun};
 ghost use Rattle.inf_bodies.specs.Objects.{object_declared, object_ended, object_header, object_in, object_known, object_lost};
 ghost use Rattle.inf_bodies.specs.Objects.{object_named, object_new, object_of, object_opened, object_refused, object_with, own_name};
-ghost use Rattle.inf_bodies.specs.Objects.{packed_name, parent_finding, parent_fit, parent_in, refused_finding, setting_of, short_name};
-ghost use Rattle.inf_bodies.specs.Objects.{shown_name, word_place};
+ghost use Rattle.inf_bodies.specs.Objects.{parent_finding, parent_fit, parent_in, refused_finding, setting_of, word_place};
 ghost use Rattle.inf_world.specs.World.{class_of_fault};
 ghost use Rattle.inf_unit.specs.Units.{name_at};
 ghost use Rattle.inf_compilation.specs.Works.{work};
 
 use crate::headers::{Header, header_in, word_place};
+use crate::short_names::{bracketed, pack_name, short_text};
 use inf_compilation::compilation::Compilation;
 use inf_compilation::context::Context;
 use inf_compilation::findings::{Findings, TOO_MANY, many_finding};
 use inf_declarations::declarations::{Declared, end_declared, plainly_known};
 use inf_expressions::{Finding, least_of_both};
 use inf_lexer::Place;
-use inf_listings::arrays::text_at;
 use inf_names::meanings::Meaning;
 use inf_names::spellings::Name;
 use inf_names::symbols::Found;
@@ -32,16 +29,15 @@ use inf_report::messages::FixedLimit;
 use inf_settings::bounds::Bounds;
 use inf_settings::setting::Setting;
 use inf_tables::{Misfit, Parent, ShortName, WorldFault};
-use inf_text::{CharSet, Mode, Text, TextFault, pack, read_text};
 use inf_unit::unit::order;
 use inf_unit::unit_tokens::UnitTokens;
 use inf_world::Setting as WorldSetting;
-use std::alloc::{AllocError, Global};
+use std::alloc::AllocError;
 
 /// The most classes of an object: their list is a property like any other (Z-Machine Standard 1.1, section 12.4.2.1).
 const MOST_CLASSES: usize = 32;
 
-/// What is wrong with an entry of a body that the world refuses. What passes a setting is no error of the unit.
+/// Returns the finding about an entry of a body that the world refuses by `fault`. That a setting is passed is no error of the unit.
 pub(crate) fn refused_finding(fault: Option<WorldFault>, name: u32) -> Option<Finding>
     ensures { result ≡ refused_finding fault name }
 {
@@ -75,7 +71,7 @@ fn object_in(meaning: Meaning) -> Option<usize>
     }
 }
 
-/// The same, by what looking for the name found.
+/// Returns the number of the object that a name stands for, by `found`, what looking for the name found.
 fn object_of(found: Found<Place>) -> Option<usize>
     ensures { result ≡ object_of found }
 {
@@ -97,7 +93,7 @@ pub(crate) fn class_of(found: Found<Place>) -> Option<usize>
 
 // The header of an object
 
-/// What is wrong with a header's arrows, the first of which stands at a place, by what the world says of them.
+/// Returns the finding about a header's arrows, the first of which stands at `at`, by `hung`, what the world says of them.
 fn hung_finding(hung: Result<usize, Misfit>, at: usize) -> Option<Finding>
     ensures { result ≡ hung_finding hung at }
 {
@@ -107,71 +103,13 @@ fn hung_finding(hung: Result<usize, Misfit>, at: usize) -> Option<Finding>
     }
 }
 
-/// What is wrong with the name of a parent at a place: it is that of no object, or an arrow stands before it, too.
+/// Returns the finding about the name of a parent at `at`: it is that of no object, which has a `number`, or there is an `arrow`, too.
 fn parent_fit(number: Option<usize>, arrow: Option<usize>, at: usize) -> Option<Finding>
     ensures { result ≡ parent_fit number arrow at }
 {
     match (number, arrow) {
         (Some(_), None) => None,
         _ => Some(Finding::wrong_kind(order(at))),
-    }
-}
-
-// Short names
-
-/// The characters of bytes in a character set, where they have no fault.
-pub(crate) fn text_in(
-    alloc: Global,
-    set: CharSet,
-    mode: Mode,
-    bytes: &[u8],
-) -> Result<Option<Text>, AllocError>
-    ensures { IfOk result (λ text. text ≡ fit_characters (read_in set mode bytes.now)) }
-{
-    match read_text(alloc, bytes, set, mode) {
-        Ok(text) => Ok(Some(text)),
-        Err(TextFault::Memory) => Err(AllocError),
-        Err(TextFault::UnknownEscape | TextFault::NoZscii | TextFault::BadCode) => Ok(None),
-    }
-}
-
-/// A short name of these characters.
-fn packed_name(alloc: Global, text: Option<Text>) -> Result<ShortName, AllocError>
-    ensures { IfOk result (λ short. short ≡ packed_name text) }
-{
-    match text {
-        Some(text) => Ok(ShortName::new(pack(alloc, &text, None)?)),
-        None => Ok(ShortName::empty(alloc)),
-    }
-}
-
-/// A name in round brackets.
-fn in_brackets(alloc: Global, name: &[u8]) -> Result<Vec<u8>, AllocError>
-    ensures { IfOk result (λ bytes. bytes.items ≡ in_brackets name.now) }
-{
-    let mut bytes = Vec::new(alloc);
-    bytes.push(b'(')?;
-    bytes.extend_from_slice(name)?;
-    bytes.push(b')')?;
-    Ok(bytes)
-}
-
-/// The short name of what has no text for it: its name, in round brackets.
-fn bracketed(alloc: Global, set: CharSet, name: &[u8]) -> Result<ShortName, AllocError>
-    ensures { IfOk result (λ short. short ≡ bracketed set name.now) }
-{
-    let bytes = in_brackets(alloc, name)?;
-    let text = text_in(alloc, set, Mode::Text, bytes.as_slice())?;
-    packed_name(alloc, text)
-}
-
-/// How an object is shown that has no text for it: by its name, or a question mark.
-fn shown_name(name: &Option<Name>) -> &[u8]
-    ensures { result.now ≡ shown_name (option_map as_name name.now) }
-{
-    match name {
-        Some(name) => name.bytes(),
-        None => b"?",
     }
 }
 
@@ -187,7 +125,7 @@ fn begin_lost<B: Bounds>(out: &mut Output<B>) -> Result<(), AllocError>
     }
 }
 
-/// What the world refuses does nothing; where it would pass a setting, that is passed.
+/// Passes the setting that `fault` would pass. Nothing else comes of what the world refuses.
 fn note<B: Bounds>(fault: WorldFault, out: &mut Output<B>) -> Result<(), AllocError>
     ensures { OnOk result (out.new ≡ noted B.most fault out.old) }
 {
@@ -311,7 +249,8 @@ fn join<B: Bounds>(number: usize, out: &mut Output<B>) -> Result<Option<WorldFau
     }
 }
 
-/// The same, if there is such a class.
+/// Has the open body be of class number `class`, and returns the fault by which the world refuses that. Nothing happens where there is no
+/// such class.
 pub(crate) fn join_some<B: Bounds>(
     class: Option<usize>,
     out: &mut Output<B>,
@@ -325,7 +264,7 @@ pub(crate) fn join_some<B: Bounds>(
     }
 }
 
-/// What is left to do for an object with a number: it is of the class that its word names, and its name is declared.
+/// Finishes the header of object `number`: the object is of `class`, which its word names, and its `name` is declared.
 fn name_object<B: Bounds>(
     class: Option<usize>,
     name: &Option<Name>,
@@ -366,7 +305,7 @@ fn begin_object<B: Bounds>(
     }
 }
 
-/// What looking for the name at a place of the unit finds.
+/// Looks for the name at `at` of the unit.
 pub(crate) fn found_at<B: Bounds>(compilation: &Compilation<B>, at: usize) -> Found<Place>
     ensures { result ≡ found_at at (work compilation.now) }
 {
@@ -390,7 +329,7 @@ pub(crate) fn tell_entry<B: Bounds>(
 
 // Classes
 
-/// The header of a class of this name.
+/// Ends the header of a class with `name`, which begins at `first`.
 pub fn class_header<B: Bounds>(
     compilation: &mut Compilation<B>,
     context: &Context<'_>,
@@ -405,7 +344,7 @@ pub fn class_header<B: Bounds>(
     class_with(compilation, context, first, name, declared)
 }
 
-/// The same, where so much is known of its name.
+/// Ends the header of a class with `name`, which begins at `first`, where `declared` is known of the name.
 fn class_with<B: Bounds>(
     compilation: &mut Compilation<B>,
     context: &Context<'_>,
@@ -441,7 +380,8 @@ fn open_class<B: Bounds>(
     match found {
         Some(_) => lose_class(name, &mut compilation.output),
         None => {
-            let short = bracketed(compilation.alloc, context.set, name.bytes())?;
+            let text = bracketed(compilation.alloc, context.set, name.bytes())?;
+            let short = pack_name(compilation.alloc, text, &mut compilation.output)?;
             begin_class(name, short, &mut compilation.output)
         }
     }
@@ -466,7 +406,7 @@ fn has_most_classes<B: Bounds>(class: Option<usize>, out: &Output<B>) -> bool
     }
 }
 
-/// What is wrong with the arrows of a header: no object stands above them.
+/// Returns the finding about the arrows of `header` that no object stands above them.
 fn above_finding<B: Bounds>(compilation: &Compilation<B>, header: Header) -> Option<Finding>
     ensures { result ≡ above_finding header.arrow header.arrows (work compilation.now) }
 {
@@ -477,7 +417,7 @@ fn above_finding<B: Bounds>(compilation: &Compilation<B>, header: Header) -> Opt
     }
 }
 
-/// What is wrong with the parent that a header names.
+/// Returns the finding about the parent that `header` names.
 fn named_parent_finding<B: Bounds>(compilation: &Compilation<B>, header: Header) -> Option<Finding>
     ensures { result ≡ named_parent_finding header.parent header.arrow (work compilation.now) }
 {
@@ -487,7 +427,7 @@ fn named_parent_finding<B: Bounds>(compilation: &Compilation<B>, header: Header)
     }
 }
 
-/// What is wrong with where a header puts its object.
+/// Returns the finding about the place in the tree where `header` puts its object.
 fn parent_finding<B: Bounds>(compilation: &Compilation<B>, header: Header) -> Option<Finding>
     ensures { result ≡ parent_finding header (work compilation.now) }
 {
@@ -497,7 +437,7 @@ fn parent_finding<B: Bounds>(compilation: &Compilation<B>, header: Header) -> Op
     )
 }
 
-/// What is wrong with the class that a header names, and with where it puts its object.
+/// Returns the finding about the class that `header` names, and about the place in the tree where it puts its object.
 fn headed_finding<B: Bounds>(compilation: &Compilation<B>, header: Header) -> Option<Finding>
     ensures { result ≡ headed_finding header (work compilation.now) }
 {
@@ -538,36 +478,7 @@ fn own_name<B: Bounds>(compilation: &Compilation<B>, header: Header) -> Option<N
     }
 }
 
-/// The characters of the text of a header.
-fn header_text<B: Bounds>(
-    compilation: &Compilation<B>,
-    context: &Context<'_>,
-    header: Header,
-) -> Result<Option<Text>, AllocError>
-    ensures { IfOk result (λ text. text ≡ header_text (handed context.now) header.text (work compilation.now)) }
-{
-    match header.text {
-        Some(at) => text_at(compilation, context, at),
-        None => Ok(None),
-    }
-}
-
-/// The short name of an object: its text, or its name in round brackets.
-fn short_name<B: Bounds>(
-    compilation: &Compilation<B>,
-    context: &Context<'_>,
-    header: Header,
-    name: &Option<Name>,
-) -> Result<ShortName, AllocError>
-    ensures { IfOk result (λ short. short ≡ short_name (handed context.now) header (option_map as_name name.now) (work compilation.now)) }
-{
-    match header_text(compilation, context, header)? {
-        Some(text) => packed_name(compilation.alloc, Some(text)),
-        None => bracketed(compilation.alloc, context.set, shown_name(name)),
-    }
-}
-
-/// What is known of an object with a name.
+/// Looks for `name`, that of an object with `header`, which stands at `at`.
 fn named_known<B: Bounds>(
     compilation: &Compilation<B>,
     context: &Context<'_>,
@@ -584,7 +495,7 @@ fn named_known<B: Bounds>(
     }
 }
 
-/// What is known of an object by its header.
+/// Looks for the name of an object with `header`, if it has a `name`.
 fn object_known<B: Bounds>(
     compilation: &Compilation<B>,
     context: &Context<'_>,
@@ -629,9 +540,10 @@ fn new_object<B: Bounds>(
     ensures { OnOk result (work compilation.new ≡ object_new B.most (handed context.now) header (option_map as_name name.now)
         (work compilation.old)) }
 {
-    let short = short_name(compilation, context, header, name)?;
+    let text = short_text(compilation, context, header, name)?;
     let class = class_of_word(compilation);
     let parent = parent(compilation, header);
+    let short = pack_name(compilation.alloc, text, &mut compilation.output)?;
     begin_object(parent, short, class, name, &mut compilation.output)
 }
 
@@ -678,7 +590,7 @@ fn object_with<B: Bounds>(
     end_object(compilation, context, first, name, declared)
 }
 
-/// The header of an object, which may be one of a class that its word names.
+/// Ends the header of an object, which begins at `first` and may be one of a class that its word names.
 pub fn object_header<B: Bounds>(
     compilation: &mut Compilation<B>,
     context: &Context<'_>,

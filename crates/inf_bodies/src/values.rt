@@ -12,7 +12,8 @@ ghost use Rattle.inf_compilation.specs.Meant.{found_as};
 ghost use Rattle.inf_compilation.specs.Works.{work};
 
 use crate::bodies::{is_words, last_at, place_finding, placed, property_of};
-use crate::objects::{found_at, tell_entry, text_in};
+use crate::objects::{found_at, tell_entry};
+use crate::short_names::text_in;
 use inf_area::{AreaName, Target, Value};
 use inf_compilation::compilation::Compilation;
 use inf_compilation::context::Context;
@@ -108,7 +109,7 @@ fn bracket_in(tokens: &UnitTokens) -> usize
     bracket
 }
 
-/// What there are too many of, where there are too many of something: the locals of a routine, or else the values of its property.
+/// Returns the limit that is passed, where one is: that of locals of a routine if `are_locals`, or else that of values of a property.
 fn many_by(are_locals: bool) -> FixedLimit
     ensures { result ≡ many_by are_locals }
 {
@@ -119,7 +120,8 @@ fn many_by(are_locals: bool) -> FixedLimit
     }
 }
 
-/// What is wrong with where a routine goes, or with its locals.
+/// Returns the findings about a routine that is a value: `own`, that about the property to which it goes, that it has too many locals if
+/// `are_locals`, or those of its `header`.
 fn embedded_findings(own: Option<Finding>, are_locals: bool, header: Findings) -> Findings
     ensures { found_as result ≡ embedded_findings own are_locals (found_as header) }
 {
@@ -295,7 +297,7 @@ fn place_value<B: Bounds>(
     }
 }
 
-/// A value of a property: its first, with the property's name before it, or a further one.
+/// Ends a value of a property, before a token at `place`: its first, with the property's name before it, or a further one.
 pub fn value_of_body<B: Bounds>(
     compilation: &mut Compilation<B>,
     context: &Context<'_>,
@@ -363,7 +365,7 @@ fn begin_embedded<B: Bounds>(
     open_embedded(compilation, context, first, headed, found)
 }
 
-/// What is wrong with a routine as a value, of which the locals stand behind the tokens of its unit.
+/// Returns the findings about a routine as a value of the property whose `name` stands before it, if one does, with the locals of `headed`.
 fn found_embedded<B: Bounds>(
     compilation: &Compilation<B>,
     name: Option<usize>,
@@ -393,7 +395,8 @@ fn embed<B: Bounds>(
     begin_embedded(compilation, context, first, name, headed, &found)
 }
 
-/// The header of a routine that is a value: its first, with the property's name before its bracket, or a further one.
+/// Ends the header of a routine that is a value, before a token at `place`: the first value, with the property's name before its bracket,
+/// or a further one.
 pub fn routine_of_body<B: Bounds>(
     compilation: &mut Compilation<B>,
     context: &Context<'_>,

@@ -27,6 +27,8 @@ use Rattle.inf_expressions.specs.Units.{judged, trees_of}
 use Rattle.inf_gathering.specs.declared.gathering.Leaf.{Leaf as UnitLeaf}
 use Rattle.inf_gathering.specs.declared.gathering.Leaf.TheVariants as leaf
 use Rattle.inf_cells.specs.declared.scale.Scale.TheVariants as scale
+use Rattle.inf_letters.specs.Letters.{abbreviates, debugs, none_spoken, scale_of, warns}
+use Rattle.inf_letters.specs.declared.letters.Letters.{Letters}
 use Rattle.inf_code.specs.Code.{fault_closed, labels as labels_of, no_routines, place_behind, with_none_open}
 use Rattle.inf_names.specs.NameSets.{is_among, with_name}
 use Rattle.inf_names.specs.Symbols.{Table, declare_fault, found_in, no_names}
@@ -42,7 +44,7 @@ use Rattle.inf_names.specs.Locals.{Local, Headed}
 use Rattle.inf_compilation.specs.Context.{Context}
 use Rattle.inf_unit.specs.Directives.{Request, Nothing}
 use Rattle.inf_unit.specs.Messages.{FileNames, Diagnostic, Reported, location, nothing_reported, with_error, with_fatal, with_fault}
-use Rattle.inf_unit.specs.Messages.{with_full, with_warning}
+use Rattle.inf_unit.specs.Messages.{warnings_chosen, with_full, with_warning}
 use Rattle.inf_compilation.specs.Context.{Context, longest}
 use Rattle.inf_unit.specs.Names.{no_symbols}
 use Rattle.inf_unit.specs.Tokens.{SourceToken, number_of}
@@ -51,11 +53,12 @@ use Rattle.inf_unit.specs.Units.{quoted_in, taken as unit_taken}
 use Rattle.inf_output.specs.Strings.{no_strings}
 use Rattle.inf_output.specs.Texts.{no_texts}
 use Rattle.inf_tables.specs.Tables.{no_tables}
-use Rattle.inf_output.specs.Output.{Code, Out, begun, closed, declared, full, opened, referred}
+use Rattle.inf_output.specs.Output.{Code, Out, begun, closed, declared, full, opened, referred, with_scale}
 use Rattle.inf_compilation.specs.Findings.{Again, Findings, again_by, again_finding, found_alone, header_findings, nothing_found, told_as}
 use Rattle.inf_arrays.specs.Arrays.{AllArrays, no_arrays}
 use Rattle.inf_compilation.specs.declared.compilation.Listing.{Listing}
 use Rattle.inf_compilation.specs.declared.compilation.Extending.{Extending}
+use Rattle.inf_compilation.specs.declared.compilation.Header.{Header}
 use Rattle.inf_compilation.specs.Words.{nowhere}
 use Rattle.inf_verbs.specs.declared.verbs.Place.TheVariants as line_place
 use Rattle.inf_constructs.specs.Constructs.{depth, ended}
@@ -87,7 +90,8 @@ no_output = record {
 -- the open routine; the code and the names of the source; the messages; what a directive asks of the reading; the names of
 -- routines that are to be replaced, and whether those of the file at hand may be; whether the
 -- routine at hand is passed over for that; the array whose entries are read, and where they go if its header had an error; whether the
--- values that are read are those of the property `name`, and whether the open routine is a value of a property.
+-- values that are read are those of the property `name`, and whether the open routine is a value of a property; the verb whose lines are
+-- read; what letters said so far; and what directives tell of the header of the story.
 pub record Compilation : Type 0 where
   pub most_tokens : ℕ
   pub most_labels : ℕ
@@ -108,6 +112,8 @@ pub record Compilation : Type 0 where
   pub is_name : Bool
   pub is_embedded : Bool
   pub extending : Extending
+  pub letters : Letters
+  pub told : Header
 
 -- before the first unit of a source
 abbrev pub no_work : Settings → Compilation
@@ -131,7 +137,24 @@ no_work settings = record {
   is_name = false;
   is_embedded = false;
   extending = record { verb = None; place = line_place.Last };
+  letters = none_spoken;
+  told = record { release = 1; serial = None };
 }
+
+-- Letters
+
+-- All that were said so far hold from now on: the next routine and the next string are filled up as the version wants it, texts are packed
+-- with abbreviations or without them, the language has the name `DEBUG` or has it not, and warnings are told or not.
+abbrev pub letters_chosen : Letters → Compilation → Compilation
+letters_chosen letters w =
+    let o = with_scale (scale_of letters) w.output in record w {
+      letters = letters;
+      output = record o {
+        names = record o.names { is_debugging = debugs letters };
+        texts = record o.texts { are_used = abbreviates letters };
+      };
+      report = warnings_chosen (warns letters) w.report;
+    }
 
 -- Units
 

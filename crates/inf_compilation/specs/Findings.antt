@@ -5,8 +5,9 @@ use Rattle.inf_expressions.specs.declared.findings.Finding.{Finding}
 use Rattle.inf_expressions.specs.Findings.{least_of_both}
 use Rattle.inf_names.specs.declared.symbols.DeclareFault.{DeclareFault}
 use Rattle.inf_names.specs.declared.symbols.DeclareFault.TheVariants as declaring
-use Rattle.inf_report.specs.Messages.{ConstantOutOfRange, Declared, End, LabelTwice, Message, MisplacedDefault, NotConstant, NothingToLeave}
-use Rattle.inf_report.specs.Messages.{SystemName, Told, TooMany, TooManyArguments, UsedBefore, WrongKind, WrongOpcode, WrongVerb}
+use Rattle.inf_report.specs.Messages.{ConstantOutOfRange, Declared, End, LabelTwice, Message, MisplacedDefault, MisplacedSwitches}
+use Rattle.inf_report.specs.Messages.{NotConstant, NothingToLeave, NoZscii, NumberOutOfRange, SystemName, Told, TooMany}
+use Rattle.inf_report.specs.Messages.{TooManyArguments, UnknownEscape, UsedBefore, WrongAbbreviation, WrongKind, WrongOpcode, WrongVerb}
 use Rattle.inf_report.specs.declared.messages.FixedLimit.{FixedLimit}
 use Rattle.inf_report.specs.declared.messages.FixedLimit.TheVariants as countable
 use Rattle.inf_names.specs.Spellings.{Name}
@@ -20,6 +21,9 @@ use Rattle.inf_compilation.specs.Words.{nowhere}
 -- the message of a finding at a token with these bytes, by its number in the table of errors
 abbrev pub message_of : ℕ → Told → List ℕ → Message
 message_of number t bytes =
+    if number == 4 then NumberOutOfRange else
+    if number == 5 then UnknownEscape else
+    if number == 7 then NoZscii else
     if number == 9 then WrongKind t else
     if number == 11 then UsedBefore bytes else
     if number == 12 then NotConstant else
@@ -27,6 +31,8 @@ message_of number t bytes =
     if number == 15 then WrongOpcode bytes else
     if number == 16 then LabelTwice bytes else
     if number == 17 then NothingToLeave else
+    if number == 20 then MisplacedSwitches else
+    if number == 21 then WrongAbbreviation else
     if number == 22 then WrongVerb t else
     if number == 24 then MisplacedDefault else TooManyArguments
 

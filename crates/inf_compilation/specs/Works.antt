@@ -26,4 +26,6 @@ work w = record {
   is_name = w.is_name;
   is_embedded = w.is_embedded;
   extending = w.extending;
+  letters = w.letters;
+  told = w.told;
 }

@@ -13,6 +13,7 @@ use inf_cells::Scale;
 use inf_code::code::{Code, CodeLimits};
 use inf_constructs::constructs::Constructs;
 use inf_constructs::labels::Labels;
+use inf_letters::Letters;
 use inf_lexer::{Place, Stack};
 use inf_names::hashing::NameHashing;
 use inf_names::locals::Locals;
@@ -36,11 +37,10 @@ use inf_verbs::Place as LinePlace;
 use std::alloc::{AllocError, Global};
 use std::mem;
 
-/// How deep brackets, braces and compound statements may stand in one another.
+/// The most brackets, braces and compound statements that may stand in one another.
 const MOST_NESTED: usize = 64;
 
-/// What was compiled so far.
-#[derive(Drop)]
+/// All that was compiled so far.
 pub struct Compilation<B: Bounds> {
     pub alloc: Global,
     /// The most tokens that an expression had so far.
@@ -52,17 +52,17 @@ pub struct Compilation<B: Bounds> {
     pub constructs: Constructs,
     /// How many that the next token ends, whatever it is, were closed before it, since a conditional stands before it.
     closed: usize,
-    /// Where the last token is, if it is the word of a compound statement where a case may stand, too.
+    /// The place of the last token, if it is the word of a compound statement where a case may stand, too.
     pub opening: Option<Place>,
     /// The labels with names of the routine that was opened last.
     pub(crate) labels: Labels,
     /// Its locals.
     pub locals: Locals,
     pub output: Output<B>,
-    /// What is left to be laid of a tree: nothing, between the calls that lay.
+    /// The rest of a tree that is still to be laid: nothing, between the calls that lay.
     pub(crate) tasks: Tasks,
     pub report: Diagnostics,
-    /// What the directive that was finished last asks of the reading.
+    /// The request to the reading of the directive that was finished last.
     pub asked: Request,
     /// The names of routines that are to be replaced.
     pub replaced: NameSet,
@@ -79,6 +79,17 @@ pub struct Compilation<B: Bounds> {
     pub is_embedded: bool,
     /// The verb whose lines are read.
     pub extending: Extending,
+    /// All that letters said so far.
+    pub letters: Letters,
+    /// The entries of the header of the story, as directives told them so far.
+    pub told: Header,
+}
+
+/// One call at each exit of a function that owns one, in place of a call for each part of each part.
+impl<B: Bounds> Drop for Compilation<B> {
+    fn drop(self) {
+        let _parts = self.into_parts();
+    }
 }
 
 /// No code and no names, of which there may be as many as the settings say.
@@ -113,7 +124,7 @@ fn no_output<B: Bounds>(
     ))
 }
 
-/// How many tokens an expression may have.
+/// Returns the number of tokens that an expression may have.
 fn longest(context: &Context<'_>) -> usize
     ensures { result ≡ longest (handed context.now) }
 {
@@ -135,6 +146,14 @@ pub struct Extending {
     pub place: LinePlace,
 }
 
+/// The entries of the header of a story that directives tell (Z-Machine Standard 1.1, section 11.1).
+#[derive(Clone, Copy, Debug, PartialEq, Eq)]
+pub struct Header {
+    pub release: u16,
+    /// The digits of its serial number; nothing, where that is the date.
+    pub serial: Option<[u8; 6]>,
+}
+
 /// The array whose entries are read.
 #[derive(Clone, Copy)]
 pub struct Listing {
@@ -146,13 +165,46 @@ pub struct Listing {
 
 impl<B: Bounds> Compilation<B> {
     ghost use Rattle.inf_unit.specs.Directives.{Nothing, asked, asks};
-    ghost use Rattle.inf_compilation.specs.Actions.{begun_at, is_class, is_deep, labels_counted, nested, no_work, opening_checked, passed};
-    ghost use Rattle.inf_compilation.specs.Actions.{piece_begun, sized, token_checked, took, unit_ended};
+    ghost use Rattle.inf_compilation.specs.Actions.{begun_at, is_class, is_deep, labels_counted, letters_chosen, nested, no_work};
+    ghost use Rattle.inf_compilation.specs.Actions.{opening_checked, passed, piece_begun, sized, token_checked, took, unit_ended};
     ghost use Rattle.inf_compilation.specs.Meant.{found_as};
     ghost use Rattle.inf_compilation.specs.Parts.{closed_ahead, construct_closed};
     ghost use Rattle.inf_compilation.specs.Works.{work};
 
-    /// Before the first unit of sources in a character set, of which names are hashed so.
+    /// Returns what was laid and the messages.
+    pub fn into_parts(self) -> (Output<B>, Diagnostics)
+        ensures output { result.0 ≡ self.output }
+        ensures report { result.1 ≡ self.report }
+    {
+        let Compilation {
+            alloc: _,
+            most_tokens: _,
+            most_labels: _,
+            unit: _,
+            constructs: _,
+            closed: _,
+            opening: _,
+            labels: _,
+            locals: _,
+            output,
+            tasks: _,
+            report,
+            asked: _,
+            replaced: _,
+            is_system: _,
+            is_replaced: _,
+            listing: _,
+            lost: _,
+            is_name: _,
+            is_embedded: _,
+            extending: _,
+            letters: _,
+            told: _,
+        } = self;
+        (output, report)
+    }
+
+    /// Makes a compilation before the first unit, whose areas are bounded by `settings` and whose names are hashed by `hashing`.
     pub fn new(
         alloc: Global,
         settings: &Settings,
@@ -189,10 +241,28 @@ impl<B: Bounds> Compilation<B> {
                 verb: None,
                 place: LinePlace::Last,
             },
+            letters: Letters::none(),
+            told: Header {
+                release: 1,
+                serial: None,
+            },
         })
     }
 
-    /// Whether a token with these bytes is the name of a class. A name has at most 32 bytes.
+    /// Has `letters` hold from now on, which are all that were said so far: warnings are told or not, the next routine and the next string
+    /// are filled up as the version wants it, texts are packed with abbreviations or without them, and the language has the name `DEBUG` or
+    /// has it not.
+    pub fn choose(&mut self, letters: Letters)
+        ensures { work self.new ≡ letters_chosen letters (work self.old) }
+    {
+        self.letters = letters;
+        self.output.set_scale(letters.scale());
+        self.output.texts.set_used(letters.abbreviates());
+        self.output.names.set_debugging(letters.debugs());
+        self.report.set_warnings(letters.warns());
+    }
+
+    /// Tells whether a token of `kind` with `bytes` is the name of a class. A name has at most 32 bytes.
     pub fn is_class(&self, kind: TokenKind, bytes: &[u8]) -> bool
         requires { is_short kind bytes.now ≡ true }
         ensures { result ≡ is_class kind bytes.now (work self.now) }
@@ -203,7 +273,7 @@ impl<B: Bounds> Compilation<B> {
         }
     }
 
-    /// Whether a directive asks something of the reading.
+    /// Tells whether a directive asks something of the reading.
     pub fn asks(&self) -> bool
         ensures { result ≡ asks (work self.now).asked }
     {
@@ -218,7 +288,7 @@ impl<B: Bounds> Compilation<B> {
         mem::replace(&mut self.asked, Request::Nothing)
     }
 
-    /// A piece begins. No locals of a routine before it are known in it.
+    /// Begins a piece. No locals of a routine before it are known in it.
     pub fn begin_piece(&mut self)
         ensures { work self.new ≡ piece_begun (work self.old) }
     {
@@ -229,8 +299,8 @@ impl<B: Bounds> Compilation<B> {
         self.locals = Locals::new();
     }
 
-    /// A conditional directive at a place, or the source, is finished: code begins with it, unless it has begun. The first setting
-    /// that was passed ends the compilation.
+    /// Finishes a conditional directive at `first`, or the source: code begins with it, unless it has begun. The first setting that was
+    /// passed ends the compilation.
     pub fn begin(&mut self, files: &Stack, first: Place) -> Result<(), AllocError>
         ensures { OnOk result (work self.new ≡ begun_at B.most files.now.names first (work self.old)) }
     {
@@ -246,7 +316,7 @@ impl<B: Bounds> Compilation<B> {
         self.most_labels = self.most_labels.max(self.output.code.labels());
     }
 
-    /// So many of the innermost statements are over, whatever the next token is, and a conditional stands before it: they are closed now.
+    /// Closes the `count` innermost statements, which are over whatever the next token is, since a conditional stands before it.
     pub fn close_ahead(&mut self, count: usize) -> Result<(), AllocError>
         ensures { OnOk result (work self.new ≡ closed_ahead B.most count (work self.old)) }
     {
@@ -256,7 +326,7 @@ impl<B: Bounds> Compilation<B> {
         Ok(())
     }
 
-    /// The innermost statement is over. It may have been closed before.
+    /// Closes the innermost statement, which is over, unless it was closed before.
     pub fn close_construct(&mut self) -> Result<(), AllocError>
         ensures { OnOk result (work self.new ≡ construct_closed B.most (work self.old)) }
     {
@@ -267,7 +337,7 @@ impl<B: Bounds> Compilation<B> {
         self.constructs.end(&mut self.output)
     }
 
-    /// A token is taken.
+    /// Takes `token` into the unit. An expression that is too long by it, or a bracket or brace that stands too deep, ends the compilation.
     pub fn take(&mut self, context: &Context<'_>, token: &SourceToken<'_>) -> Result<(), AllocError>
         ensures { OnOk result (work self.new ≡ took (handed context.now) (spelled token.now) (work self.old)) }
     {
@@ -276,7 +346,7 @@ impl<B: Bounds> Compilation<B> {
         self.check_token(context, token)
     }
 
-    /// The word of a compound statement that was taken last may stand too deep.
+    /// Ends the compilation where the word of a compound statement, if that was taken last, stands too deep.
     pub fn check_opening(&mut self, context: &Context<'_>) -> Result<(), AllocError>
         ensures { OnOk result (work self.new ≡ opening_checked (handed context.now) (work self.old)) }
     {
@@ -287,7 +357,7 @@ impl<B: Bounds> Compilation<B> {
         self.nest(context, place, is_deep)
     }
 
-    /// An expression of more tokens than it may have ends the compilation, at the first token too many.
+    /// Ends the compilation where an expression has more tokens than it may have, at the first token too many.
     pub fn size(&mut self, context: &Context<'_>) -> Result<(), AllocError>
         ensures { OnOk result (work self.new ≡ sized (handed context.now) (work self.old)) }
     {
@@ -301,7 +371,7 @@ impl<B: Bounds> Compilation<B> {
         Ok(())
     }
 
-    /// Whether brackets, braces and compound statements, with so many more, stand too deep in one another.
+    /// Tells whether brackets, braces and compound statements stand too deep in one another, with `more` more of these.
     pub fn is_deep(&self, more: usize) -> bool
         requires { more ≤ 1 }
         ensures { result ≡ is_deep (work self.now) more }
@@ -311,7 +381,7 @@ impl<B: Bounds> Compilation<B> {
         constructs > room || constructs + more > room || self.unit.depth as usize > MOST_NESTED
     }
 
-    /// What stands too deep ends the compilation at a place.
+    /// Ends the compilation at `place` by a fatal error if `is_deep`.
     pub fn nest(
         &mut self,
         context: &Context<'_>,
@@ -343,7 +413,8 @@ impl<B: Bounds> Compilation<B> {
         self.nest(context, token.place, is_deep)
     }
 
-    /// The end of a unit that begins at a place: the least of what is wrong with it is told, and then the first limit that was passed.
+    /// Ends a unit that begins at `first`, whose last token is still to come if `has_last`: the least of `found` is told, and then the
+    /// first limit that was passed.
     pub fn end_unit(
         &mut self,
         context: &Context<'_>,
@@ -360,7 +431,7 @@ impl<B: Bounds> Compilation<B> {
         self.report.full(context.files, first, self.output.full())
     }
 
-    /// Nothing comes of a unit.
+    /// Ends a unit of which nothing comes, whose last token is still to come if `has_last`.
     pub fn pass(&mut self, has_last: bool)
         ensures { work self.new ≡ passed has_last (work self.old) }
     {

@@ -1,10 +1,10 @@
-//! What is handed down to all that is compiled.
+//! The context that is handed down to all that is compiled.
 
 use inf_lexer::Stack;
 use inf_settings::settings::Settings;
 use inf_text::CharSet;
 
-/// What is handed down to all that is compiled.
+/// The context that is handed down to all that is compiled.
 #[derive(Clone, Copy)]
 pub struct Context<'a> {
     /// The files that were opened, by which places are told.

@@ -1,4 +1,4 @@
-//! What is told of what is wrong with a unit.
+//! The findings about a unit, and the messages by which they are told.
 ghost use Rattle.std.specs.Prelude.{option_map, ◌≡◌};
 ghost use Rattle.inf_report.specs.Meant.{meant, named};
 ghost use Rattle.inf_names.specs.LocalList.{headed as as_headed, repeated as repeated_of};
@@ -18,6 +18,14 @@ use inf_statements::effects::{GIVEN_TWICE, MISPLACED_DEFAULT, NOTHING_TO_LEAVE, 
 use inf_unit::messages::{Diagnostic, location};
 use inf_unit::unit_tokens::UnitTokens;
 
+/// The numbers of the messages about the characters of a text: a code out of its range, an unknown escape, and a character that a story
+/// cannot print.
+pub const NUMBER_OUT_OF_RANGE: u8 = 4;
+
+pub const UNKNOWN_ESCAPE: u8 = 5;
+
+pub const NO_ZSCII: u8 = 7;
+
 /// The number of the message that a name was declared before, and of the one that it is used before its declaration.
 pub const DECLARED: u8 = 8;
 
@@ -25,6 +33,12 @@ pub const USED_BEFORE: u8 = 11;
 
 /// The number of the message that there are too many of something.
 pub const TOO_MANY: u8 = 19;
+
+/// The number of the message that `Switches` comes too late, or has letters that are unknown.
+pub const MISPLACED_SWITCHES: u8 = 20;
+
+/// The number of the message that an abbreviation comes too late, is declared already or is too short.
+pub const WRONG_ABBREVIATION: u8 = 21;
 
 /// The number of the message that a word is, or is not, one of a verb.
 pub const WRONG_VERB: u8 = 22;
@@ -37,11 +51,16 @@ fn message_of<'t>(number: u8, token: Told<'t>, bytes: &'t [u8]) -> Message<'t>
     ensures { meant result ≡ message_of number (named token.entry) bytes.now }
 {
     match number {
+        NUMBER_OUT_OF_RANGE => Message::NumberOutOfRange,
+        UNKNOWN_ESCAPE => Message::UnknownEscape,
+        NO_ZSCII => Message::NoZscii,
         WRONG_KIND => Message::WrongKind(token),
         USED_BEFORE => Message::UsedBefore(bytes),
         NOT_CONSTANT => Message::NotConstant,
         OUT_OF_RANGE => Message::ConstantOutOfRange,
         WRONG_OPCODE => Message::WrongOpcode(bytes),
+        MISPLACED_SWITCHES => Message::MisplacedSwitches,
+        WRONG_ABBREVIATION => Message::WrongAbbreviation,
         WRONG_VERB => Message::WrongVerb(token),
         GIVEN_TWICE => Message::LabelTwice(bytes),
         NOTHING_TO_LEAVE => Message::NothingToLeave,
@@ -50,7 +69,7 @@ fn message_of<'t>(number: u8, token: Told<'t>, bytes: &'t [u8]) -> Message<'t>
     }
 }
 
-/// What a finding of a unit with these tokens is told as.
+/// Returns the message and the place by which `finding` is told, of a unit with `tokens`.
 pub fn blame_of<'t>(tokens: &'t UnitTokens, finding: Finding) -> Diagnostic<'t>
     ensures { blamed result ≡ blame_of tokens.now finding }
 {
@@ -74,17 +93,17 @@ pub struct Again {
     pub first: Option<Place>,
 }
 
-/// What is wrong with a unit. Of all that was found the least is told, by the order of its token and then by its number.
+/// Findings about a unit. Of all that was found the least is told, by the order of its token and then by its number.
 #[derive(Debug, Drop)]
 pub struct Findings {
     pub least: Option<Finding>,
-    /// What there are too many of, where that is the least.
+    /// The limit that is passed, where that is the least.
     pub many: FixedLimit,
     /// The name that stands already, where that is the least.
     pub again: Option<Again>,
 }
 
-/// What is wrong with declaring a name, by what the names refuse. That there are too many is no error of the unit.
+/// Returns `name` as one that stands already, if `refused` says so. That there are too many names is no error of the unit.
 pub fn again_by(name: &Name, refused: Option<DeclareFault<Place>>) -> Option<Again>
     ensures { option_map again_as result ≡ again_by (as_name name.now) refused }
 {
@@ -97,7 +116,7 @@ pub fn again_by(name: &Name, refused: Option<DeclareFault<Place>>) -> Option<Aga
     }
 }
 
-/// The same as a finding, at the order of the name.
+/// Returns the finding that `again` stands already, at `order`, which is that of the name.
 pub fn again_finding(order: u32, again: &Option<Again>) -> Option<Finding>
     ensures { result ≡ again_finding order (option_map again_as again.now) }
 {
@@ -110,7 +129,7 @@ pub fn again_finding(order: u32, again: &Option<Again>) -> Option<Finding>
     }
 }
 
-/// That there is one more than there may be, which is told of the first token.
+/// Returns the finding that there is one more than there may be, if `are_many`. It is told of the first token.
 pub fn many_finding(are_many: bool) -> Option<Finding>
     ensures { result ≡ many_finding are_many }
 {
@@ -137,8 +156,8 @@ fn again_local(repeated: &Option<Repeated>) -> Option<Again>
     }
 }
 
-/// What is wrong with the header of a routine: that there are too many locals, its name, which stands at an order, or a local
-/// that is named again.
+/// Returns the findings about the header of a routine: that `headed` has too many locals, that its name stands already by `of_name`, at
+/// `order`, or that a local of `headed` is named again.
 pub fn header_findings(order: u32, of_name: Option<Again>, headed: &Headed) -> Findings
     ensures { found_as result ≡ header_findings order (option_map again_as of_name) (as_headed headed.now) }
 {
@@ -157,7 +176,7 @@ pub fn header_findings(order: u32, of_name: Option<Again>, headed: &Headed) -> F
 }
 
 impl Findings {
-    /// What is wrong with a unit in which nothing but this may be wrong.
+    /// Returns the findings about a unit in which nothing but `least` may be wrong.
     pub fn alone(least: Option<Finding>) -> Findings
         ensures { found_as result ≡ found_alone least }
     {
@@ -168,7 +187,7 @@ impl Findings {
         }
     }
 
-    /// Nothing is wrong.
+    /// Returns the findings about a unit in which nothing is wrong.
     pub fn none() -> Findings
         ensures { found_as result ≡ nothing_found }
     {

@@ -1,4 +1,4 @@
-//! What was compiled so far, and what routines and their statements add to it.
+//! All that was compiled so far, and what routines and their statements add to it.
 #![tactic(auto)]
 
 pub mod compilation;

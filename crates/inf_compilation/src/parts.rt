@@ -20,19 +20,19 @@ use inf_unit::items::Item;
 use inf_unit::unit::order;
 use std::alloc::AllocError;
 
-/// What a unit of a routine is that has expressions.
+/// A unit of a routine that has expressions.
 #[derive(Clone, Copy, Debug, PartialEq, Eq)]
 pub enum Part {
     Statement(Statement),
     /// The condition of an `if` or of a loop.
     Condition,
-    /// What a `for` begins with.
+    /// The expression with which a `for` begins.
     Start,
-    /// What a `for` does behind each turn.
+    /// The expression that a `for` computes behind each turn.
     Step,
-    /// What a loop over objects goes over.
+    /// The objects over which a loop goes.
     Loop,
-    /// What is switched on.
+    /// The expression that is switched on.
     Switched,
     /// The values of a case, or a default.
     Case,
@@ -46,7 +46,7 @@ impl Part {
         matches!(self, Part::Statement(_))
     }
 
-    /// What it wants of its expressions.
+    /// Returns what this unit takes as its expressions.
     fn wanted(self) -> Wanted
         ensures { result ≡ wanted_of self }
     {
@@ -74,7 +74,7 @@ impl<B: Bounds> Compilation<B> {
     ghost use Rattle.inf_compilation.specs.Parts.{statement_laid_in};
     ghost use Rattle.inf_compilation.specs.Works.{work};
 
-    /// What the leaves of the unit's expressions stand for, where their names are only looked up.
+    /// Returns the operands of the leaves of the unit's expressions, whose names are only looked up.
     pub fn operands(&self) -> Result<Vec<Operand>, AllocError>
         ensures { IfOk result (λ operands. operands.items ≡ operands_of (work self.now)) }
     {
@@ -87,7 +87,8 @@ impl<B: Bounds> Compilation<B> {
         )
     }
 
-    /// The least of what is wrong with the unit's expressions, where its first token has an order.
+    /// Returns the least finding about the unit's expressions, which have `operands` and are to be `wanted`, where its first token has the
+    /// order `first`.
     pub fn finding(
         &self,
         first: u32,
@@ -145,7 +146,7 @@ impl<B: Bounds> Compilation<B> {
         )
     }
 
-    /// What a statement goes by beside its trees.
+    /// Returns the site of the statement at hand.
     fn site(&self, context: &Context<'_>) -> Site<'_>
         ensures { site result ≡ site_of (handed context.now) (work self.now) }
     {
@@ -170,7 +171,7 @@ impl<B: Bounds> Compilation<B> {
         }
     }
 
-    /// Where the unit begins, before a token at a place.
+    /// Returns the place in the source where the unit begins, before a token at `place`.
     fn part_place(&self, part: Part, place: Place) -> Place
         ensures { result ≡ place_of part place (work self.now) }
     {
@@ -180,7 +181,7 @@ impl<B: Bounds> Compilation<B> {
         }
     }
 
-    /// What is wrong with an assembly line beside its expressions.
+    /// Returns the finding about an assembly line beside its expressions, which have `operands`.
     fn line_finding(
         &self,
         context: &Context<'_>,
@@ -202,7 +203,7 @@ impl<B: Bounds> Compilation<B> {
         Ok(least_of_both(self.unit.passed, found))
     }
 
-    /// What is wrong with the unit beside its expressions.
+    /// Returns the finding about the unit, which is `part`, beside its expressions, which have `operands`.
     fn own_finding(
         &self,
         context: &Context<'_>,
@@ -246,7 +247,7 @@ impl<B: Bounds> Compilation<B> {
         }
     }
 
-    /// What a statement with these trees does.
+    /// Lays the code of `statement`, with the trees of `forest`.
     fn lay_statement(
         &mut self,
         context: &Context<'_>,
@@ -274,7 +275,7 @@ impl<B: Bounds> Compilation<B> {
         )
     }
 
-    /// What a unit with these trees does.
+    /// Has the unit, which is `part`, take effect, with the trees of `forest`.
     #[tactic(auto, unfolding(crate::specs::Parts::part_effect))]
     fn take_effect(
         &mut self,
@@ -345,7 +346,7 @@ impl<B: Bounds> Compilation<B> {
         }
     }
 
-    /// A unit of a routine ends, before a token at a place. In a routine that is passed over nothing has an effect.
+    /// Ends `part`, a unit of a routine, before a token at `place`. In a routine that is passed over nothing has an effect.
     pub fn end_part(
         &mut self,
         context: &Context<'_>,
@@ -367,7 +368,7 @@ impl<B: Bounds> Compilation<B> {
         self.carry_out_part(context, first, part, finding)
     }
 
-    /// A statement ends, before a token at a place.
+    /// Ends a statement, before a token at `place`.
     pub fn end_statement(&mut self, context: &Context<'_>, place: Place) -> Result<(), AllocError>
         ensures { let before = work self.old in
             OnOk result (work self.new ≡ part_ended B.most (handed context.now) place (Part.Statement (statement_at before)) before) }
@@ -376,7 +377,7 @@ impl<B: Bounds> Compilation<B> {
         self.end_part(context, place, Part::Statement(statement))
     }
 
-    /// A statement of a kind that holds others begins, before a token at a place.
+    /// Opens a statement of `kind`, which holds others, before a token at `place`.
     pub fn open_construct(
         &mut self,
         context: &Context<'_>,

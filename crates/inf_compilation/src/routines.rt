@@ -1,4 +1,4 @@
-//! Where routines begin and end.
+//! The beginnings and ends of routines.
 ghost use Rattle.inf_compilation.specs.Context.{handed};
 ghost use Rattle.std.specs.Prelude.{IfOk, None, OnOk, is_some, option_map, ◌≡◌};
 ghost use Rattle.inf_names.specs.Symbols.{declare_fault};
@@ -86,7 +86,7 @@ impl<B: Bounds> Compilation<B> {
     ghost use Rattle.inf_compilation.specs.Actions.{opened_with, routine_declared};
     ghost use Rattle.inf_compilation.specs.Works.{work};
 
-    /// The header of a routine ends, before a token at a place.
+    /// Ends the header of a routine, before a token at `place`.
     pub fn end_header(&mut self, context: &Context<'_>, place: Place) -> Result<(), AllocError>
         ensures { OnOk result (work self.new ≡ header_end B.most (handed context.now) place (work self.old)) }
     {
@@ -152,7 +152,7 @@ impl<B: Bounds> Compilation<B> {
         self.open_code(context, first, headed, &found)
     }
 
-    /// A routine of this name begins behind those that are finished. Answers what is wrong with the name, if anything is.
+    /// Declares `name` as a routine that begins behind those that are finished. Returns the fault of the name, if it has one.
     pub fn declare_routine(
         &mut self,
         name: &Name,

@@ -3,6 +3,7 @@ use Rattle.std.specs.Prelude.{◌≡◌, ℕ, ◌<◌, ◌==◌, List, length, t
 use Rattle.inf_files.specs.Files.{Sources}
 use Rattle.inf_sinks.specs.Sinks.{Takes}
 use Rattle.inf_words.specs.Directories.{directories_of}
+use Rattle.inf_words.specs.Spoken.{settings_of}
 use Rattle.inf_words.specs.Words.{Choice}
 use Rattle.inf_session.specs.Choices.{Choices}
 use Rattle.inf_session.specs.Ending.{Outcome}
@@ -15,7 +16,7 @@ use Rattle.inf_session.specs.declared.compiled.Status.{Status}
 -- what the words of a command choose of the reading
 abbrev pub chosen_by : Choice → Choices
 chosen_by c =
-    record { set = c.letters.set; has_warnings = c.letters.has_warnings; settings = c.settings; directories = directories_of c.path }
+    record { letters = c.letters; settings = settings_of c.settings; directories = directories_of c.path }
 
 -- An empty word names no file: with it no source is there.
 abbrev pub no_sources : Sources

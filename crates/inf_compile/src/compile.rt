@@ -76,10 +76,10 @@ fn compile_named<F: Files, M: Sink, S: Sink>(
 {
     let name = source_name(alloc, options)?;
     let directories = options.directories(alloc)?;
+    let settings = options.settings();
     let setup = Setup {
-        set: options.set(),
-        has_warnings: options.has_warnings(),
-        settings: options.settings(),
+        letters: options.letters(),
+        settings: &settings,
         directories: directories.as_slice(),
         hashing,
     };

@@ -1,6 +1,6 @@
 -- Directives that have no conditional to turn or to end.
 use Rattle.std.proofs.Common.{◌≡◌, ℕ, List, [], ◌∷◌, ◌++◌, cond, not, ◌&&◌, Bool, true, false, Option, Some, None, unwrap_or, refl, sym, ap}
-use Rattle.std.proofs.Common.{◌∙◌}
+use Rattle.std.proofs.Common.{subst, ◌∙◌}
 use Rattle.inf_settings.specs.Bounds.{Limits}
 use Rattle.inf_output.specs.Output.{Out}
 use Rattle.inf_scanner.specs.declared.tokens.Mark.TheVariants as mark
@@ -22,9 +22,10 @@ use Rattle.inf_conditionals.specs.declared.pending.Effect.TheVariants as effect
 use Rattle.inf_conditionals.specs.declared.pending.Pending.{Pending}
 use Rattle.inf_conditionals.specs.declared.words.ConditionalWord.{ConditionalWord}
 use Rattle.inf_conditionals.specs.declared.words.ConditionalWord.TheVariants as word
-use Rattle.inf_conditionals.specs.Judging.{Behind, asked, asked_first, asking, at_front, awaited, begun, behind_front, behind_sign, decided}
-use Rattle.inf_conditionals.specs.Judging.{effected, given_up, held, is_none_pending, judged, judged_by, kept, unmatched, named, offered}
-use Rattle.inf_conditionals.specs.Judging.{offered_to, passed, passed_by, saying, taken, tokens_counted, unfit, went_on}
+use Rattle.inf_conditionals.specs.Judging.{Behind, asked, asked_first, asked_on, asking, at_front, awaited, begun, behind_front}
+use Rattle.inf_conditionals.specs.Judging.{behind_sign, decided, effected, hash, held, is_none_pending, judged, judged_by, kept, unmatched}
+use Rattle.inf_conditionals.specs.Judging.{named, offered, offered_to, passed, passed_by, saying, sign_asked, sign_awaited, sign_offered}
+use Rattle.inf_conditionals.specs.Judging.{taken, tokens_counted, unfit, went_on}
 use Rattle.inf_conditionals.specs.Open.{Conditions, closed, closed_by, is_none_open, is_second, latest, latest_among, opened, turned}
 use Rattle.inf_conditionals.specs.Open.{turned_by}
 use Rattle.inf_conditionals.specs.Words.{awaits_of, word_of}
@@ -354,12 +355,46 @@ no_end (kind.Mark x) last end = cc
 no_end (kind.Bad x) last end = cc
 no_end kind.End last end = cc
 
--- behind a `#` that was held back nothing is being read any more
+-- behind a `#` that was held back nothing is being read any more, or a condition
+abbrev AsksOn : List Pending → Type 0
+AsksOn [] = Unit {0}
+AsksOn (p ∷ pending) = (wanted : Bool) × (p.awaits ≡ awaits.Condition wanted)
+
+asked_on_is : (ks : List Condition) (wanted : Bool) (at : Place) (site : Site) (p : Pending) (c : Conditions) →
+    AsksOn (sign_asked ks wanted at site p c).now.pending
+asked_on_is [] wanted at site p c = tt
+asked_on_is (k ∷ ks) wanted at site p c =
+    let rest : Conditions = record c { conditions = ks } in
+    of_both (λ (b : Behind). AsksOn b.now.pending) (fits grammar known (atom_of (hash at)) k.stack)
+    (asked_on wanted site (hash at) (condition_took (hash at) k) p rest) (unfit rest) (λ _. (wanted, refl)) (λ _. tt)
+
+sign_awaits : (a : Awaits) (at : Place) (site : Site) (p : Pending) (c : Conditions) → AsksOn (sign_awaited a at site p c).now.pending
+sign_awaits awaits.Word at site p c = tt
+sign_awaits (awaits.Name if_declared) at site p c = tt
+sign_awaits (awaits.Condition wanted) at site p c = asked_on_is c.conditions wanted at site p c
+sign_awaits (awaits.End e) at site p c = tt
+
+sign_asks : (pending : List Pending) (at : Place) (site : Site) (c : Conditions) → AsksOn (sign_offered pending at site c).now.pending
+sign_asks [] at site c = tt
+sign_asks (p ∷ pending) at site c = sign_awaits p.awaits at site p (record c { pending = pending })
+
+no_lone_asks : (w : ConditionalWord) (wanted : Bool) (open_sides : List Bool) → awaits.Condition wanted ≡ awaits_of w →
+    is_lone w open_sides ≡ true → ⊥
+no_lone_asks word.Ifdef wanted open_sides waits lone = cc
+no_lone_asks word.Ifndef wanted open_sides waits lone = cc
+no_lone_asks word.Iftrue wanted open_sides waits lone = cc
+no_lone_asks word.Iffalse wanted open_sides waits lone = cc
+no_lone_asks word.Ifnot wanted open_sides waits lone = cc
+no_lone_asks word.Endif wanted open_sides waits lone = cc
+
 sign_lone : (o : Option ConditionalWord) (at : Place) (site : Site) (out : Out) (t : SourceToken) (c : Conditions) (place : Place) →
     (behind_sign o at site out t c).judged.unmatched ≡ Some place → ⊥
 sign_lone None at site out t c place told =
-    let found = offered_lone false site out t (given_up (record c { sign = None })) place told in
-    let never : [] ≡ found.directive ∷ found.others = found.is_read in cc
+    let here : Conditions = record c { sign = None } in
+    let now = (sign_offered c.pending at site here).now in
+    let found = offered_lone false site out t now place told in
+    let asks = subst AsksOn found.is_read (sign_asks c.pending at site here) in
+    no_lone_asks found.word asks.0 (sides now) (sym asks.1 ∙ found.waits) found.has_none
 sign_lone (Some w) at site out t c place told = none_some place (sym (begun_lone w t at true (record c { sign = None })) ∙ told)
 
 pub only_lones_are : OnlyLonesAre

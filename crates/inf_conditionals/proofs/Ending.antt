@@ -5,7 +5,8 @@ use Rattle.inf_scanner.specs.declared.tokens.TokenKind.TheVariants as kind
 use Rattle.inf_output.specs.Output.{Out}
 use Rattle.inf_unit.specs.Tokens.{SourceToken}
 use Rattle.inf_conditionals.specs.Condition.{Condition, condition_took}
-use Rattle.inf_conditionals.specs.Judging.{asked, awaited, judged, judged_by, offered_condition, offered_to, unfit, went_on}
+use Rattle.inf_conditionals.specs.Judging.{asked, awaited, judged, judged_by, offered_condition, offered_to, sign_offered, unfit}
+use Rattle.inf_conditionals.specs.Judging.{went_on}
 use Rattle.inf_conditionals.specs.Open.{Conditions}
 use Rattle.inf_conditionals.specs.declared.filtered.Forwarded.{Forwarded}
 use Rattle.inf_conditionals.specs.declared.filtered.Forwarded.TheVariants as handed
@@ -72,7 +73,9 @@ end_by : (side : Option LeftOut) (sign : Option Place) (site : Site) (out : Out)
     → IsForwarded (judged_by side sign site out (end_of bytes place named) c).judged
 end_by (Some side) sign site out bytes place named c =
     to_offered c.pending false site out bytes place named (record c { left_out = None; sign = None })
-end_by None (Some at) site out bytes place named c = as_kept _ refl
+end_by None (Some at) site out bytes place named c =
+    let here = (sign_offered c.pending at site (record c { sign = None })).now in
+    let f = to_offered here.pending false site out bytes place named here in record { handed = f.handed; is = f.is; on = f.on }
 end_by None None site out bytes place named c = to_offered c.pending _ site out bytes place named c
 
 pub end_is_handed : (site : Site) (out : Out) (bytes : List ℕ) (place : Place) (named : Bool) (c : Conditions) →

@@ -1,8 +1,8 @@
 -- What becomes of a token. Between directives a conditional directive stands as any other does, with a `#` before it or not; inside
 -- a directive it has a `#`, and may stand at any token. Its own tokens are not kept; those of a condition are read by the grammar. One
 -- that does not fit is the bad token of the directive around it. In a side that is left out only the words of conditionals are looked at.
-use Rattle.std.specs.Prelude.{ℕ, max, ◌&&◌, ◌||◌, ◌==◌, List, [], ◌∷◌, Bool, true, false, not, if◌then◌else◌, Option, Some, None, is_none}
-use Rattle.std.specs.Prelude.{unwrap_or}
+use Rattle.std.specs.Prelude.{ℕ, codes, max, ◌&&◌, ◌||◌, ◌==◌, List, [], ◌∷◌, Bool, true, false, not, if◌then◌else◌, Option, Some, None}
+use Rattle.std.specs.Prelude.{is_none, unwrap_or}
 use Rattle.inf_scanner.specs.declared.tokens.Mark.TheVariants as mark
 use Rattle.inf_scanner.specs.declared.tokens.Place.{Place}
 use Rattle.inf_scanner.specs.declared.tokens.TokenKind.{TokenKind}
@@ -14,7 +14,9 @@ use Rattle.inf_output.specs.Output.{Out}
 use Rattle.inf_unit.specs.Tokens.{SourceToken, atom_of, is_end, is_mark, keyword}
 use Rattle.inf_unit.specs.Units.{outer_tokens}
 use Rattle.inf_conditionals.specs.declared.condition.Verdict.{Verdict}
+use Rattle.inf_conditionals.specs.declared.filtered.Forwarded.{Forwarded}
 use Rattle.inf_conditionals.specs.declared.filtered.Forwarded.TheVariants as handed
+use Rattle.inf_conditionals.specs.declared.filtered.Sign.{Sign}
 use Rattle.inf_conditionals.specs.declared.filtered.Filtered.{Filtered}
 use Rattle.inf_conditionals.specs.declared.filtered.Site.{Site}
 use Rattle.inf_conditionals.specs.declared.open.LeftOut.{LeftOut}
@@ -146,11 +148,15 @@ abbrev pub decided : Verdict → Bool → Bool → Condition → Pending → Con
 decided v wanted is_quiet k p c =
     effected (effect.Opens (if wanted then v.is_true else not v.is_true)) is_quiet p (saying is_quiet (told_by p.place k v.finding) c)
 
--- behind a token the directive is whole, or goes on
+-- behind a token the directive goes on
+abbrev pub asked_on : Bool → Site → SourceToken → Condition → Pending → Conditions → Behind
+asked_on wanted site t k p c =
+    taken (asking p.place p.is_inner wanted k (saying site.is_quiet (too_much site.longest t k) (tokens_counted site.is_quiet k c)))
+
+-- or it is whole
 abbrev pub went_on : Bool → Site → Out → SourceToken → Condition → Pending → Conditions → Behind
 went_on wanted site o t k p c =
-    if is_whole k then decided (verdict_of c.declared o k) wanted site.is_quiet k p c
-    else taken (asking p.place p.is_inner wanted k (saying site.is_quiet (too_much site.longest t k) (tokens_counted site.is_quiet k c)))
+    if is_whole k then decided (verdict_of c.declared o k) wanted site.is_quiet k p c else asked_on wanted site t k p c
 
 abbrev pub offered_condition : Bool → Site → Out → SourceToken → Condition → Pending → Conditions → Behind
 offered_condition wanted site o t k p c =
@@ -194,21 +200,39 @@ abbrev pub is_none_pending : List Pending → Bool
 is_none_pending [] = true
 is_none_pending (p ∷ pending) = false
 
--- A token behind a `#` that was held back inside a directive. Where it is no word of a conditional the `#` is kept, or does not
--- fit the conditional directive in which it stands.
+-- a `#` at a place
+abbrev pub hash : Place → SourceToken
+hash place = record { kind = kind.Mark mark.Hash; bytes = codes "#"; place = place; is_class = false }
+
+-- The condition of the innermost directive takes one that fits, and goes on behind it: no directive ends with a `#`.
+abbrev pub sign_asked : List Condition → Bool → Place → Site → Pending → Conditions → Behind
+sign_asked [] wanted place site p c = unfit c
+sign_asked (k ∷ conditions) wanted place site p c =
+    let rest = record c { conditions = conditions } in
+    if fits grammar known (atom_of (hash place)) k.stack
+    then asked_on wanted site (hash place) (condition_took (hash place) k) p rest else unfit rest
+
+-- A `#` that was held back inside a directive, and stands before no word of a conditional, is kept where no conditional directive is being
+-- read. It may belong to the condition of the innermost one; it fits no other part of one.
+abbrev pub sign_awaited : Awaits → Place → Site → Pending → Conditions → Behind
+sign_awaited (awaits.Condition wanted) place site p c = sign_asked c.conditions wanted place site p c
+sign_awaited _ place site p c = unfit c
+
+abbrev pub sign_offered : List Pending → Place → Site → Conditions → Behind
+sign_offered [] place site c = kept (given_up c)
+sign_offered (p ∷ pending) place site c = sign_awaited p.awaits place site p (record c { pending = pending })
+
+abbrev pub sign_handed : Place → Option Forwarded → Option Sign
+sign_handed place None = None
+sign_handed place (Some h) = Some (record { place = place; handed = h })
+
+-- A token behind such a `#`
 abbrev pub behind_sign : Option ConditionalWord → Place → Site → Out → SourceToken → Conditions → Behind
 behind_sign (Some word) place site o t c = begun word t place true (record c { sign = None })
 behind_sign None place site o t c =
-    let b = offered false site o t (given_up (record c { sign = None })) in
-    record b {
-      judged = record b.judged {
-        sign = Some (record {
-          place = place;
-          handed = if is_none_pending c.pending then handed.Kept else
-              handed.Unfit;
-        });
-      };
-    }
+    let s = sign_offered c.pending place site (record c { sign = None }) in
+    let b = offered false site o t s.now in
+    record b { judged = record b.judged { sign = sign_handed place s.judged.token } }
 
 -- A token of a side that is left out
 

@@ -2,6 +2,7 @@
 use Rattle.std.specs.Prelude.{ℕ, List, [], ◌∷◌, ◌++◌, false, if◌then◌else◌, Option, Some, None}
 use Rattle.inf_settings.specs.Bounds.{Limits}
 use Rattle.inf_area.specs.declared.targets.Target.TheVariants as target
+use Rattle.inf_cells.specs.declared.scale.Scale.{Scale}
 use Rattle.inf_scanner.specs.declared.tokens.Place.{Place}
 use Rattle.inf_expressions.specs.declared.operators.Function.{Function}
 use Rattle.inf_expressions.specs.declared.operators.Function.TheVariants as function
@@ -12,7 +13,7 @@ use Rattle.inf_gathering.specs.declared.gathering.Leaf.TheVariants as leaf
 use Rattle.inf_names.specs.Symbols.{Table, declared_before, found_in, no_names}
 use Rattle.inf_output.specs.Actions.{action_of}
 use Rattle.inf_output.specs.Output.{Code, Out}
-use Rattle.inf_statements.specs.Operands.{looked_action}
+use Rattle.inf_statements.specs.Operands.{looked_action, system_operand}
 use Rattle.inf_names.specs.declared.meanings.Function.{Function as NamedFunction}
 use Rattle.inf_names.specs.declared.meanings.Function.TheVariants as named
 use Rattle.inf_names.specs.declared.meanings.Meaning.{Meaning}
@@ -21,7 +22,7 @@ use Rattle.inf_names.specs.declared.symbols.Found.{Found}
 use Rattle.inf_names.specs.declared.symbols.Found.TheVariants as found
 use Rattle.inf_names.specs.Spellings.{Name}
 use Rattle.inf_unit.specs.Tokens.{SourceToken}
-use Rattle.inf_unit.specs.Units.{name_at}
+use Rattle.inf_unit.specs.Units.{bytes_at, name_at}
 
 -- Every other name is known later: no code asks for its number.
 abbrev pub later : Operand
@@ -67,20 +68,21 @@ abbrev pub bytes_of : Option Name → List ℕ
 bytes_of None = []
 bytes_of (Some n) = n.bytes
 
-abbrev pub leaf_operand : ℕ → Table Place → List SourceToken → Leaf → Operand
-leaf_operand declared names tokens (leaf.Name at) = name_operand declared names (bytes_of (name_at tokens at))
-leaf_operand declared names tokens (leaf.Alone at) = name_operand declared names (bytes_of (name_at tokens at))
-leaf_operand declared names tokens (leaf.Number number) = operand.Known number
-leaf_operand declared names tokens (leaf.Char zscii) = operand.Known zscii
-leaf_operand declared names tokens (leaf.Word word) = later
-leaf_operand declared names tokens (leaf.Text at) = later
-leaf_operand declared names tokens (leaf.Action at) = operand.Unknown
-leaf_operand declared names tokens (leaf.System at) = operand.Unknown
+-- in a story of a version
+abbrev pub leaf_operand : ℕ → Table Place → Scale → List SourceToken → Leaf → Operand
+leaf_operand declared names scale tokens (leaf.Name at) = name_operand declared names (bytes_of (name_at tokens at))
+leaf_operand declared names scale tokens (leaf.Alone at) = name_operand declared names (bytes_of (name_at tokens at))
+leaf_operand declared names scale tokens (leaf.Number number) = operand.Known number
+leaf_operand declared names scale tokens (leaf.Char zscii) = operand.Known zscii
+leaf_operand declared names scale tokens (leaf.Word word) = later
+leaf_operand declared names scale tokens (leaf.Text at) = later
+leaf_operand declared names scale tokens (leaf.Action at) = operand.Unknown
+leaf_operand declared names scale tokens (leaf.System at) = system_operand (bytes_at tokens at) scale
 
 -- an action has its number: one that did not appear is the next, behind new ones of its condition
 abbrev pub operand_behind : ℕ → Out → List SourceToken → Leaf → Table Place → Table Place × Operand
 operand_behind declared o tokens (leaf.Action at) ahead = looked_action (name_at tokens at) o ahead
-operand_behind declared o tokens l ahead = (ahead, leaf_operand declared o.names tokens l)
+operand_behind declared o tokens l ahead = (ahead, leaf_operand declared o.names o.code.scale tokens l)
 
 -- behind others
 abbrev pub operands_from : ℕ → Out → List SourceToken → List Leaf → Table Place → List Operand → List Operand

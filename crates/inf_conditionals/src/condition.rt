@@ -24,14 +24,14 @@ use std::alloc::{AllocError, Global};
 #[derive(Drop)]
 pub struct Condition {
     alloc: Global,
-    /// What of it is still to be read.
+    /// The rest of it that is still to be read.
     machine: Machine,
     pub(crate) unit: Unit,
     /// The actions on the way to the token at hand.
     actions: Vec<Action>,
 }
 
-/// What a condition comes to.
+/// The result of a condition.
 #[derive(Clone, Copy, Debug, PartialEq, Eq)]
 pub struct Verdict {
     /// With an error it is not.
@@ -41,7 +41,7 @@ pub struct Verdict {
 }
 
 impl Condition {
-    /// It takes no memory until one begins.
+    /// Makes a condition of which nothing was read. Memory is taken only when a condition begins.
     pub(crate) fn new(alloc: Global) -> Condition {
         Condition {
             alloc,
@@ -82,7 +82,7 @@ impl Condition {
         self.machine.is_done()
     }
 
-    /// What it comes to, where so many names were declared by the directives before.
+    /// Returns the verdict on this condition, where `declared` names were declared by the directives before.
     pub(crate) fn judge<B: Bounds>(
         &self,
         declared: usize,
@@ -141,7 +141,7 @@ fn number_of(forest: &Forest) -> Option<u16>
     }
 }
 
-/// What is wrong with a condition: also that it is no known number.
+/// Returns the finding about a condition: `found`, or else that its `number` is not known.
 fn finding_of(number: Option<u16>, found: Option<Finding>) -> Option<Finding>
     ensures { result ≡ finding_by number found }
 {

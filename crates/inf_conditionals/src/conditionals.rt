@@ -1,5 +1,6 @@
 //! The conditionals of the file that is read.
 ghost use Rattle.std.specs.Prelude.{◌≡◌, ◌≤◌, [], length, IfOk, OnOk, IsSome, Some, false, is_none, not, option_map, reverse, true};
+ghost use Rattle.inf_conditionals.specs.Judging.{hash, sign_handed};
 ghost use Rattle.inf_conditionals.specs.Open.{turned_first};
 ghost use Rattle.inf_conditionals.specs.Words.{word_of};
 ghost use Rattle.inf_unit.specs.Tokens.{keyword};
@@ -41,11 +42,11 @@ pub struct Conditionals {
     left_out: Option<LeftOut>,
     /// A `#` that is held back until the token behind it is known.
     sign: Option<Place>,
-    /// How many names were declared before the directive at hand.
+    /// The number of names that were declared before the directive at hand.
     declared: usize,
     /// The most tokens that a condition had so far.
     pub most_tokens: usize,
-    /// What there is to tell of a condition.
+    /// All that is to be told of a condition.
     said: Option<Said>,
     /// One that was read, whose memory the next one has.
     spare: Option<Condition>,
@@ -71,18 +72,36 @@ impl Model for Conditionals {
     } };
 }
 
+/// A `#` at a place.
+fn hash(place: Place) -> SourceToken<'static>
+    ensures { spelled result ≡ hash place }
+{
+    SourceToken::new(TokenKind::Mark(Mark::Hash), b"#", place, false)
+}
+
+/// Returns the `#` at `place` as it is handed on, if it is by `handed`.
+fn sign_handed(place: Place, handed: Option<Forwarded>) -> Option<Sign>
+    ensures { result ≡ sign_handed place handed }
+{
+    match handed {
+        Some(handed) => Some(Sign { place, handed }),
+        None => None,
+    }
+}
+
 impl Conditionals {
     ghost use Rattle.inf_conditionals.specs.Ends.{file_ended, file_told, piece_ended, piece_told, with_among};
-    ghost use Rattle.inf_conditionals.specs.Judging.{asked, asked_first, asking, awaited, awaiting, begun, behind_front, behind_sign};
-    ghost use Rattle.inf_conditionals.specs.Judging.{decided, effected, held, in_side, is_behind_side, is_none_pending, judged, kept};
-    ghost use Rattle.inf_conditionals.specs.Judging.{may_part, offered, saying, tokens_counted, unfit, word_passed};
+    ghost use Rattle.inf_conditionals.specs.Judging.{asked, asked_first, asked_on, asking, awaited, awaiting, begun, behind_front};
+    ghost use Rattle.inf_conditionals.specs.Judging.{behind_sign, decided, effected, held, in_side, is_behind_side, is_none_pending};
+    ghost use Rattle.inf_conditionals.specs.Judging.{judged, kept, may_part, offered, saying, sign_asked, sign_offered, tokens_counted};
+    ghost use Rattle.inf_conditionals.specs.Judging.{unfit, word_passed};
     ghost use Rattle.inf_output.specs.Output.{Out};
     ghost use Rattle.inf_conditionals.specs.Condition.{verdict_of};
     ghost use Rattle.inf_conditionals.specs.Meant.{condition as condition_of, said_of};
     ghost use Rattle.inf_conditionals.specs.Open.{closed, is_none_open, is_second, latest, no_conditions, opened, silent, turned};
     ghost use Rattle.inf_conditionals.specs.Said.{told_by, with_right, with_said};
 
-    /// None. It takes no memory until one is read.
+    /// Makes the conditionals of a source of which none was read. Memory is taken only when one is read.
     pub fn new(alloc: Global) -> Conditionals
         ensures { result ≡ no_conditions }
     {
@@ -153,7 +172,7 @@ impl Conditionals {
         Ok(())
     }
 
-    /// What there was to tell of a condition was told. The next one has its memory.
+    /// Forgets what was to be told of a condition, since it was told. The next condition has its memory.
     fn silence(&mut self)
         ensures { self.new ≡ silent self.old }
     {
@@ -162,14 +181,14 @@ impl Conditionals {
         }
     }
 
-    /// Whether no conditional directive is being read.
+    /// Tells whether no conditional directive is being read.
     pub fn is_resting(&self) -> bool
         ensures { result ≡ is_none_pending self.now.pending }
     {
         self.pending.is_empty()
     }
 
-    /// Whether a part of the reading may end here: behind a whole directive, and behind the side that it leaves out. The word that
+    /// Tells whether a part of the reading may end here: behind a whole directive, and behind the side that it leaves out. The word that
     /// ends this side is the first token of the next part.
     pub fn may_part(&self) -> bool
         ensures { result ≡ may_part self.now }
@@ -202,7 +221,7 @@ impl Conditionals {
         self.among = among;
     }
 
-    /// The innermost file has ended: tells the conditionals that are open in it, and forgets them.
+    /// Ends the innermost file: tells the conditionals that are open in it, and forgets them.
     pub fn end_file(&mut self, files: &Stack, report: &mut Diagnostics) -> Result<(), AllocError>
         ensures told { OnOk result (report.new ≡ file_told files.now.names self.old report.old) }
         ensures ended { OnOk result (self.new ≡ file_ended self.old) }
@@ -214,8 +233,8 @@ impl Conditionals {
         Ok(())
     }
 
-    /// The directive at hand has ended: tells the conditionals that are open in it, and forgets them. So many names were
-    /// declared.
+    /// Ends the directive at hand, behind which `declared` names are declared: tells the conditionals that are open in it, and forgets
+    /// them.
     pub fn end_piece(
         &mut self,
         declared: usize,
@@ -302,18 +321,26 @@ impl Conditionals {
         if let Some(word) = word_of(token.keyword()) {
             return self.begin(word, token, place, true);
         }
-        let handed = if self.pending.is_empty() {
-            Forwarded::Kept
-        } else {
-            Forwarded::Unfit
-        };
-        self.pending.clear();
-        self.conditions.clear();
+        let sign = self.offer_sign(place, site)?;
         let judged = self.offer(false, site, out, token)?;
         Ok(Filtered {
-            sign: Some(Sign { place, handed }),
+            sign: sign_handed(place, sign.token),
             ..judged
         })
+    }
+
+    /// A `#` that was held back inside a directive, and stands before no word of a conditional: a condition may take it.
+    fn offer_sign(&mut self, place: Place, site: Site) -> Result<Filtered, AllocError>
+        ensures { IfOk result (λ j. record { now = self.new; judged = j } ≡ sign_offered self.old.pending place site self.old) }
+    {
+        let Some(pending) = self.pending.pop() else {
+            self.conditions.clear();
+            return Ok(KEPT);
+        };
+        match pending.awaits {
+            Awaits::Condition(wanted) => self.ask_sign(wanted, pending, site, place),
+            Awaits::Word | Awaits::Name(_) | Awaits::End(_) => Ok(self.give_up()),
+        }
     }
 
     /// A token where no side is left out and no `#` is held back, at the front of a piece or not.
@@ -459,6 +486,42 @@ impl Conditionals {
         if condition.is_whole() {
             return self.decide(wanted, directive, site.is_quiet, out, condition);
         }
+        self.ask_on(wanted, directive, site, token, condition)
+    }
+
+    /// A `#` at a place, which was held back, comes to the innermost condition. No directive ends with it.
+    fn ask_sign(
+        &mut self,
+        wanted: bool,
+        directive: Pending,
+        site: Site,
+        place: Place,
+    ) -> Result<Filtered, AllocError>
+        ensures { IfOk result (λ j. record { now = self.new; judged = j } ≡
+            sign_asked self.old.conditions wanted place site directive self.old) }
+    {
+        let Some(mut condition) = self.conditions.pop() else {
+            return Ok(self.give_up());
+        };
+        let sign = hash(place);
+        if !condition.take(&sign)? {
+            return Ok(self.give_up());
+        }
+        self.ask_on(wanted, directive, site, &sign, condition)
+    }
+
+    /// A conditional directive goes on behind a token that its condition took.
+    fn ask_on(
+        &mut self,
+        wanted: bool,
+        directive: Pending,
+        site: Site,
+        token: &SourceToken<'_>,
+        condition: Condition,
+    ) -> Result<Filtered, AllocError>
+        ensures { let k = condition_of condition in IfOk result (λ j. record { now = self.new; judged = j } ≡
+            asked_on wanted site (spelled token.now) k directive self.old) }
+    {
         self.count_tokens(site.is_quiet, &condition);
         self.say(too_much(site.is_quiet, site.longest, token, &condition));
         self.ask(directive.place, directive.is_inner, wanted, condition)?;
@@ -492,7 +555,8 @@ impl Conditionals {
         self.carry_out(effect, is_quiet, directive)
     }
 
-    /// What is wrong with the condition of a directive is to be told, or that nothing is, unless it is passed over.
+    /// Notes that `finding` is to be told of `condition`, or that nothing is, unless the directive is passed over, as `is_quiet` says. It
+    /// begins at `directive`.
     fn found(
         &mut self,
         is_quiet: bool,

@@ -1,4 +1,4 @@
-//! What is told of conditionals that have no other end.
+//! The messages about conditionals that have no other end.
 ghost use Rattle.std.specs.Prelude.{◌≡◌, OnOk};
 ghost use Rattle.inf_conditionals.specs.Ends.{with_all_lone, with_lone};
 

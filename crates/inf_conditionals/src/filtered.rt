@@ -1,8 +1,8 @@
-//! What becomes of a token.
+//! The results of tokens.
 
 use inf_scanner::Place;
 
-/// How a token is handed on to the machine of the grammar.
+/// The way in which a token is handed on to the machine of the grammar.
 #[derive(Clone, Copy, Debug, PartialEq, Eq)]
 pub enum Forwarded {
     /// As one that is kept.
@@ -20,8 +20,8 @@ pub struct Sign {
     pub handed: Forwarded,
 }
 
-/// What a token comes to: what is handed on, first the `#` before it and then the token itself; where a directive begins
-/// that ends or turns a conditional which is not there; and where a conditional directive begins that has ended.
+/// The result of a token: what is handed on, first the `#` before it and then the token itself; where a directive begins that ends or turns
+/// a conditional which is not there; and where a conditional directive begins that has ended.
 #[derive(Clone, Copy, Debug, PartialEq, Eq)]
 pub struct Filtered {
     pub sign: Option<Sign>,
@@ -30,7 +30,7 @@ pub struct Filtered {
     pub ended: Option<Place>,
 }
 
-/// Where a token comes to the reading.
+/// The site at which a token comes to the reading.
 #[derive(Clone, Copy, Debug, PartialEq, Eq)]
 pub struct Site {
     /// Between the pieces of a source.

@@ -5,6 +5,6 @@
 pub struct LeftOut {
     /// Whether its conditional was opened inside the directive at hand.
     pub is_inner: bool,
-    /// How many conditionals are open in it.
+    /// The number of conditionals that are open in it.
     pub levels: u32,
 }

@@ -1,10 +1,11 @@
-//! What the names of a condition stand for.
+//! The operands that the names of a condition stand for.
 ghost use Rattle.std.specs.Prelude.{◌≡◌, ◌≤◌, IfOk, IfSome, OnOk, length, option_map};
 ghost use Rattle.inf_unit.specs.NameTokens.{named};
 ghost use Rattle.inf_conditionals.specs.Operands.{action_added, actions_added, appeared_by, bytes_of, found_operand, function_of};
 ghost use Rattle.inf_conditionals.specs.Operands.{leaf_operand, name_operand, operand_behind, operand_of, operands_of};
 
 use inf_area::Target;
+use inf_cells::Scale;
 use inf_expressions::{Function, Operand};
 use inf_gathering::gathering::Leaf;
 use inf_names::meanings::{Function as NamedFunction, Meaning};
@@ -12,7 +13,7 @@ use inf_names::symbols::{Found, Symbols};
 use inf_output::Output;
 use inf_scanner::Place;
 use inf_settings::bounds::{Bounds, Unbounded};
-use inf_statements::operands::looked_action;
+use inf_statements::operands::{looked_action, system_operand};
 use inf_unit::unit_tokens::{NameToken, UnitTokens};
 use std::alloc::{AllocError, Global};
 
@@ -32,7 +33,7 @@ fn function_of(function: NamedFunction) -> Function
     }
 }
 
-/// What a name is in a condition that was declared so.
+/// Returns the operand in a condition of a name that stands for `meaning`.
 fn operand_of(meaning: Meaning) -> Operand
     ensures { result ≡ operand_of meaning }
 {
@@ -65,7 +66,7 @@ fn found_operand(found: Found<Place>) -> Operand
     }
 }
 
-/// What a name stands for, where so many names were declared by the directives before.
+/// Returns the operand in a condition of `name`, where `declared` names were declared by the directives before.
 fn name_operand<B: Bounds>(declared: usize, names: &Symbols<Place, B>, name: &[u8]) -> Operand
     requires { length name.now ≤ 35 }
     ensures { result ≡ name_operand declared names.now name.now }
@@ -89,14 +90,15 @@ fn bytes_of<'t>(name: Option<NameToken<'t>>) -> &'t [u8]
     }
 }
 
-/// What a leaf stands for of a condition with these tokens.
+/// Returns the operand of `leaf`, a leaf of a condition with `tokens`, where `declared` names were declared by the directives before.
 fn leaf_operand<B: Bounds>(
     declared: usize,
     names: &Symbols<Place, B>,
+    scale: Scale,
     tokens: &UnitTokens,
     leaf: Leaf,
 ) -> Operand
-    ensures { result ≡ leaf_operand declared names.now tokens.now leaf }
+    ensures { result ≡ leaf_operand declared names.now scale tokens.now leaf }
 {
     match leaf {
         Leaf::Name(at) | Leaf::Alone(at) => {
@@ -105,11 +107,12 @@ fn leaf_operand<B: Bounds>(
         Leaf::Number(number) => Operand::Known(number),
         Leaf::Char(zscii) => Operand::Known(u16::from(zscii.code())),
         Leaf::Word(_) | Leaf::Text(_) => LATER,
-        Leaf::Action(_) | Leaf::System(_) => Operand::Unknown,
+        Leaf::Action(_) => Operand::Unknown,
+        Leaf::System(at) => system_operand(tokens.bytes_at(at), scale),
     }
 }
 
-/// What a leaf stands for of a condition with these tokens, behind other leaves with new actions.
+/// Returns the operand of `leaf`, a leaf of a condition with `tokens`, behind other leaves with the new actions of `ahead`.
 fn operand_behind<B: Bounds>(
     declared: usize,
     out: &Output<B>,
@@ -121,11 +124,12 @@ fn operand_behind<B: Bounds>(
 {
     match leaf {
         Leaf::Action(at) => looked_action(tokens.name_at(at), out, ahead),
-        _ => Ok(leaf_operand(declared, &out.names, tokens, leaf)),
+        _ => Ok(leaf_operand(declared, &out.names, out.code.scale(), tokens, leaf)),
     }
 }
 
-/// What the leaves stand for of a condition with these tokens.
+/// Returns the operands of `leaves`, the leaves of a condition with `tokens`, where `declared` names were declared by the directives
+/// before.
 pub(crate) fn operands_of<B: Bounds>(
     alloc: Global,
     declared: usize,

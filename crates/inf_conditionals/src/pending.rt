@@ -4,10 +4,10 @@ ghost use Rattle.inf_conditionals.specs.Judging.{has_acted};
 
 use inf_scanner::Place;
 
-/// What a conditional directive does when its semicolon is read.
+/// The effect of a conditional directive when its semicolon is read.
 #[derive(Clone, Copy, Debug, PartialEq, Eq)]
 pub enum Effect {
-    /// It opens a conditional, whose first side is kept if this is so.
+    /// A conditional is opened, whose first side is kept if the argument is true.
     Opens(bool),
     /// The other side of the latest conditional begins.
     Turns,
@@ -17,7 +17,7 @@ pub enum Effect {
     Nothing,
 }
 
-/// What a directive that is being read waits for.
+/// The next thing for which a directive that is being read waits.
 #[derive(Clone, Copy, Debug, PartialEq, Eq)]
 pub enum Awaits {
     /// Its word, behind a `#` at the front of a piece.
@@ -31,7 +31,7 @@ pub enum Awaits {
 }
 
 impl Awaits {
-    /// Whether the word of the directive has acted already.
+    /// Tells whether the word of the directive has acted already.
     pub fn has_acted(self) -> bool
         ensures { result ≡ has_acted self }
     {

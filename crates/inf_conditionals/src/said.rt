@@ -1,4 +1,4 @@
-//! What is told of a condition.
+//! The messages about a condition.
 ghost use Rattle.std.specs.Prelude.{◌≡◌, OnOk, None, Some, if◌then◌else◌, option_map};
 ghost use Rattle.inf_report.specs.Meant.{meant, named};
 ghost use Rattle.inf_unit.specs.Diagnostics.{blamed};
@@ -20,15 +20,15 @@ use inf_unit::messages::{Diagnostic, Diagnostics, location};
 use inf_unit::tokens::SourceToken;
 use std::alloc::AllocError;
 
-/// How deep brackets may stand in one another.
+/// The most brackets that may stand in one another.
 const MOST_NESTED: u32 = 64;
 
-/// What there is to tell of a condition.
+/// All that is to be told of a condition.
 #[derive(Drop)]
 pub enum Said {
     /// That nothing is wrong with it.
     Right(Condition),
-    /// What is wrong with it. Its directive begins at this place.
+    /// The finding about it. Its directive begins at the place.
     Wrong(Place, Condition, Finding),
     /// That it has too many tokens, of which the first stands here.
     Long(Place),
@@ -77,7 +77,8 @@ impl Said {
     }
 }
 
-/// What there is to tell behind a token that a condition took, which may have so many, unless it is passed over.
+/// Returns what is to be told behind `token`, which `condition` took and which may be the last of `longest`. It is nothing where the
+/// condition is passed over, as `is_quiet` says.
 pub(crate) fn too_much(
     is_quiet: bool,
     longest: usize,
@@ -98,7 +99,7 @@ pub(crate) fn too_much(
     None
 }
 
-/// What a finding of a condition is told as, whose directive begins at a place.
+/// Returns the message and the place by which `finding`, about `condition`, is told. Its directive begins at `directive`.
 fn blame_of<'t>(directive: Place, condition: &'t Condition, finding: Finding) -> Diagnostic<'t>
     ensures { blamed result ≡ blame_of directive (condition_of condition.now) finding }
 {

@@ -17,7 +17,7 @@ pub enum ConditionalWord {
     Endif,
 }
 
-/// The word of a conditional directive that a word of the grammar is, if it is one.
+/// Returns the word of a conditional directive that `keyword` is, if it is one.
 pub fn word_of(keyword: Option<Keyword>) -> Option<ConditionalWord>
     ensures { result ≡ word_of keyword }
 {
@@ -33,7 +33,7 @@ pub fn word_of(keyword: Option<Keyword>) -> Option<ConditionalWord>
 }
 
 impl ConditionalWord {
-    /// What a directive with this word waits for next.
+    /// Returns the thing for which a directive with this word waits next.
     pub(crate) fn awaits(self) -> Awaits
         ensures { result ≡ awaits_of self }
     {
@@ -48,7 +48,7 @@ impl ConditionalWord {
     }
 }
 
-/// How many levels are open in a side that is left out, behind a word.
+/// Returns the number of levels that are open in a side that is left out, behind `word`, before which `levels` were.
 pub(crate) fn levels_behind(word: ConditionalWord, levels: u32) -> u32
     ensures { result ≡ levels_behind word levels }
 {

@@ -1,2 +1,5 @@
 pub mod Declarations
 pub mod Defaults
+pub mod Switches
+pub mod Abbreviations
+pub mod Headers

@@ -34,7 +34,7 @@ use inf_unit::unit::order;
 use inf_unit::unit_tokens::UnitTokens;
 use std::alloc::AllocError;
 
-/// What is known of a declaration: what looking for its name found, and the least of what is wrong with it.
+/// A declaration, as far as it is known: what looking for its name found, and the least of what is wrong with it.
 #[derive(Clone, Copy)]
 pub struct Declared {
     pub found: Found<Place>,
@@ -76,7 +76,8 @@ fn names_itself(tokens: &UnitTokens, name: &[u8], leaves: &[Leaf]) -> bool
     found
 }
 
-/// Whether a name was used before its declaration, by what looking for it found, or is used by it.
+/// Tells whether a name was used before its declaration, by `found`, what looking for it found, or is used by the declaration, by
+/// `names_itself`.
 pub fn is_late(found: Found<Place>, names_itself: bool) -> bool
     ensures { result ≡ is_late found names_itself }
 {
@@ -101,7 +102,8 @@ fn late_finding(order: u32, is_late: bool) -> Option<Finding>
     }
 }
 
-/// What is wrong with a declaration beside its expression.
+/// Returns the finding about a declaration beside its expression: at `order`, that its name stands already or is late, or that `are_many`
+/// of its kind are declared.
 fn declared_finding(
     order: u32,
     again: &Option<Again>,
@@ -123,7 +125,7 @@ pub(crate) fn is_alias(names: &[Name], leaves: &[Leaf]) -> bool
     !names.is_empty() && leaves.is_empty()
 }
 
-/// What a name stands for that is another one of its kind.
+/// Returns what a name of `kind` stands for that is another name of one, by `found`, what looking for that one found.
 fn alias_meaning(kind: FixedLimit, found: Found<Place>) -> Option<Meaning>
     ensures { result ≡ alias_meaning kind found }
 {
@@ -161,7 +163,7 @@ fn alias_meaning(kind: FixedLimit, found: Found<Place>) -> Option<Meaning>
     }
 }
 
-/// What a name of this kind stands for whose declaration has an error.
+/// Returns what a name of `kind` stands for whose declaration has an error.
 pub(crate) fn nothing_of(kind: FixedLimit) -> Meaning
     ensures { result ≡ nothing_of kind }
 {
@@ -185,7 +187,7 @@ fn alias_finding(tokens: &UnitTokens, meaning: Option<Meaning>) -> Option<Findin
     }
 }
 
-/// What an alias stands for: nothing of its kind, where something is wrong with it.
+/// Returns what an alias stands for: `meaning`, or nothing of its `kind` where `found` is an error.
 fn aliased(kind: FixedLimit, meaning: Option<Meaning>, found: Option<Finding>) -> Meaning
     ensures { result ≡ aliased kind meaning found }
 {
@@ -195,7 +197,7 @@ fn aliased(kind: FixedLimit, meaning: Option<Meaning>, found: Option<Finding>) -
     }
 }
 
-/// The value of an expression, which is 0 where there is none.
+/// Returns the value of the expression in `forest`, which is 0 where there is none.
 pub fn value_in(forest: &Forest) -> Value
     ensures { result ≡ value_in (map tree_in (rooted_in forest.now)) }
 {
@@ -205,7 +207,8 @@ pub fn value_in(forest: &Forest) -> Value
     }
 }
 
-/// What is known of a name that has an order and is declared, whether it was used before or not.
+/// Looks for `name`, which is declared by a token of `order`. The finding is that it stands already; whether it was used before does not
+/// matter.
 pub fn plainly_known<B: Bounds>(compilation: &Compilation<B>, name: &Name, order: u32) -> Declared
     ensures { result ≡ plainly_known (as_name name.now) order (work compilation.now) }
 {
@@ -217,7 +220,7 @@ pub fn plainly_known<B: Bounds>(compilation: &Compilation<B>, name: &Name, order
     }
 }
 
-/// What is wrong with a declaration of a kind.
+/// Returns the findings about the declaration of `name`, of `kind`, as `declared` shows them.
 fn declared_findings(name: &Name, kind: FixedLimit, declared: Declared) -> Findings
     ensures { found_as result ≡ declared_findings (as_name name.now) kind declared }
 {
@@ -228,7 +231,8 @@ fn declared_findings(name: &Name, kind: FixedLimit, declared: Declared) -> Findi
     }
 }
 
-/// The end of the header of a declaration, or of a whole one, that begins at a place: what is wrong with it is told.
+/// Ends the header of a declaration, or a whole one, of `name` and `kind`, which begins at `first`. The error that `declared` shows is
+/// told.
 pub fn end_declared<B: Bounds>(
     compilation: &mut Compilation<B>,
     context: &Context<'_>,
@@ -260,7 +264,8 @@ pub(crate) fn end_declaration<B: Bounds>(
     end_declared(compilation, context, first, true, name, kind, declared)
 }
 
-/// What is wrong with a declaration of a name that has an order, beside its expression, where there are so many of its kind or not.
+/// Looks for `name`, which is declared by a token of `order`. The finding is the error of the declaration beside its expression, where
+/// there are as many of its kind as there may be if `are_many`.
 pub(crate) fn name_known<B: Bounds>(
     compilation: &Compilation<B>,
     name: &Name,
@@ -332,7 +337,7 @@ fn one_attribute<B: Bounds>(
     end_attribute(compilation, context, first, name, declared)
 }
 
-/// The end of the declaration of an attribute, of which so much is known.
+/// Ends the declaration of `name` as an attribute, which begins at `first` and of which `declared` is known.
 fn end_attribute<B: Bounds>(
     compilation: &mut Compilation<B>,
     context: &Context<'_>,
@@ -394,7 +399,8 @@ fn new_attribute<B: Bounds>(compilation: &mut Compilation<B>) -> Result<(), Allo
     }
 }
 
-/// What is wrong with a declaration of a name that has an order, and with its expression.
+/// Looks for `name`, which is declared by a token of `order`. The finding is the error of the declaration or of its expression, where there
+/// are as many of its kind as there may be if `are_many`.
 pub(crate) fn valued<B: Bounds>(
     compilation: &Compilation<B>,
     name: &Name,
@@ -412,7 +418,7 @@ pub(crate) fn valued<B: Bounds>(
     })
 }
 
-/// The value of the unit's expression, whose names are used.
+/// Returns the value of the unit's expression, whose names are used.
 pub fn value<B: Bounds>(
     compilation: &mut Compilation<B>,
     context: &Context<'_>,
@@ -439,7 +445,7 @@ pub fn value<B: Bounds>(
     Ok(value_in(&forest))
 }
 
-/// What the last name of the unit stands for, where that is one of this kind.
+/// Returns what the last name of the unit stands for, where that is of `kind`.
 fn last_meaning<B: Bounds>(compilation: &Compilation<B>, kind: FixedLimit) -> Option<Meaning>
     ensures { result ≡ last_meaning kind (work compilation.now) }
 {

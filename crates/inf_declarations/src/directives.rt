@@ -72,7 +72,7 @@ fn keep_replaced<B: Bounds>(compilation: &mut Compilation<B>, name: &Name) -> Re
     compilation.replaced.add(name.bytes())
 }
 
-/// Declares the first of these names as a routine of so many locals as the number behind it says, which returns 0, unless the name is
+/// Declares the first of `names` as a routine that returns 0 and has as many locals as the number behind it says, unless the name is
 /// declared.
 pub fn stub<B: Bounds>(
     compilation: &mut Compilation<B>,
@@ -182,7 +182,7 @@ pub fn constant<B: Bounds>(
     declare_constant(compilation, context, first, name, meaning, found)
 }
 
-/// That the file is read whose name is the text of the unit.
+/// Returns the request that the file is read whose name is the text of the unit, for a directive that begins at `unit`.
 pub fn inclusion<B: Bounds>(
     compilation: &Compilation<B>,
     unit: Place,
@@ -216,9 +216,8 @@ pub fn message<B: Bounds>(
         .words(location(context.files, first), weight_of(names), words)
 }
 
-/// What a constant stands for, by the tree of its expression: a known number, 0 where it has none, a string, a word, or what a name
-/// stands for
-/// that was declared before.
+/// Returns what a constant stands for, by the tree of its expression in `forest`: a known number, 0 where it has none, a string, a word, or
+/// what a name stands for that was declared before.
 fn constant_of<B: Bounds>(compilation: &Compilation<B>, forest: &Forest) -> Option<Meaning>
     ensures { result ≡ constant_of (map tree_in (rooted_in forest.now)) (work compilation.now) }
 {
@@ -231,7 +230,8 @@ fn constant_of<B: Bounds>(compilation: &Compilation<B>, forest: &Forest) -> Opti
     }
 }
 
-/// What the leaf stands for that a constant's expression is: a text is the next string, and a word of the dictionary stands for itself.
+/// Returns what a constant stands for whose expression is one leaf: a text is the next string, and a word of the dictionary stands for
+/// itself.
 fn leaf_constant<B: Bounds>(compilation: &Compilation<B>) -> Option<Meaning>
     ensures { let w = work compilation.now in result ≡ leaf_meaning w.unit.gathering.leaves w }
 {
@@ -242,7 +242,7 @@ fn leaf_constant<B: Bounds>(compilation: &Compilation<B>) -> Option<Meaning>
     }
 }
 
-/// What the name stands for that a constant's expression is, where it was declared before.
+/// Returns what a constant stands for whose expression is one name, where that was declared before.
 fn named_constant<B: Bounds>(compilation: &Compilation<B>) -> Option<Meaning>
     ensures { let w = work compilation.now in
         result ≡ declared_meaning (found_in (named_leaf w.unit.tokens w.unit.gathering.leaves) w.output.names) }
@@ -297,7 +297,7 @@ fn end_constant<B: Bounds>(
     compilation.end_unit(context, first, true, &found)
 }
 
-/// What is wrong with a constant: its name, which stands at an order, or its expression.
+/// Returns the findings about a constant: that its name, at `order`, stands already by `again`, or `finding`, that about its expression.
 fn constant_findings(order: u32, again: Option<Again>, finding: Option<Finding>) -> Findings
     ensures { found_as result ≡ constant_findings order (option_map again_as again) finding }
 {
@@ -308,8 +308,8 @@ fn constant_findings(order: u32, again: Option<Again>, finding: Option<Finding>)
     }
 }
 
-/// Adds the text or the word that a constant's expression is.
-fn add_leaf<B: Bounds>(
+/// Adds the text or the word that a constant's expression is, and the actions that it names.
+pub(crate) fn add_leaf<B: Bounds>(
     compilation: &mut Compilation<B>,
     context: &Context<'_>,
 ) -> Result<(), AllocError>
@@ -348,7 +348,8 @@ fn named_leaf<'t>(tokens: &'t UnitTokens, leaves: &[Leaf]) -> &'t [u8]
     }
 }
 
-/// What a constant stands for that is what something else stands for: one that is a routine is none itself.
+/// Returns what a constant stands for that has the value of a name with `meaning`: a constant with the address of a routine is no routine
+/// itself.
 fn as_constant(meaning: Meaning) -> Meaning
     ensures { result ≡ as_constant meaning }
 {
@@ -358,7 +359,7 @@ fn as_constant(meaning: Meaning) -> Meaning
     }
 }
 
-/// What is wrong with a constant's expression: also that it stands for nothing.
+/// Returns the finding about a constant's expression: `found`, or else that there is no `meaning` for which it stands.
 fn constant_finding(meaning: Option<Meaning>, found: Option<Finding>) -> Option<Finding>
     ensures { result ≡ constant_finding meaning found }
 {
@@ -368,7 +369,7 @@ fn constant_finding(meaning: Option<Meaning>, found: Option<Finding>) -> Option<
     }
 }
 
-/// What a constant stands for: 0, where something is wrong with it.
+/// Returns what a constant stands for: `meaning`, or 0 where `found` is an error.
 fn constant_meaning(meaning: Option<Meaning>, found: Option<Finding>) -> Meaning
     ensures { result ≡ constant_meaning meaning found }
 {
@@ -378,7 +379,7 @@ fn constant_meaning(meaning: Option<Meaning>, found: Option<Finding>) -> Meaning
     }
 }
 
-/// How many locals a `Stub` gives its routine: the number that is its last token.
+/// Returns the number of locals that a `Stub` gives its routine: that which is the last of `tokens`.
 fn stub_locals(tokens: &UnitTokens) -> u16
     ensures { result ≡ stub_locals tokens.now }
 {

@@ -63,7 +63,7 @@ fn one_global<B: Bounds>(
     end_global(compilation, context, first, name, declared)
 }
 
-/// The end of the declaration of a global variable, of which so much is known.
+/// Ends the declaration of `name` as a global variable, which begins at `first` and of which `declared` is known.
 fn end_global<B: Bounds>(
     compilation: &mut Compilation<B>,
     context: &Context<'_>,

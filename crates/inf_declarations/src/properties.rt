@@ -136,7 +136,8 @@ fn one_property<B: Bounds>(
     end_property(compilation, context, first, is_additive, name, declared)
 }
 
-/// The end of the declaration of a property, of which so much is known.
+/// Ends the declaration of `name` as a property, which begins at `first` and of which `declared` is known. The property is additive if
+/// `is_additive`.
 fn end_property<B: Bounds>(
     compilation: &mut Compilation<B>,
     context: &Context<'_>,

@@ -56,6 +56,21 @@ action_builds order place sign atom s o p more =
       place = s.place + 1;
     })
 
+pub system_builds : (order place sign atom : ℕ) →
+    Builds (λ more. Took sign ∷ Took atom ∷ Did does.System ∷ more) order place 2 (Leaf order (suc order) place)
+system_builds order place sign atom s o p more =
+    let first : ((s.order + 1) + 1) - 2 ≡ order = omega (arith, o) in
+    let own : ((s.order + 1) + 1) - 1 ≡ suc order = omega (arith, o) in
+    let next : (s.order + 1) + 1 ≡ s.order + 2 = omega arith in
+    ap (built more) (λ i. record {
+      sources = Leaf (first i) (own i) (p i) ∷ s.sources;
+      counts = s.counts;
+      brackets = s.brackets;
+      order =
+          next i;
+      place = s.place + 1;
+    })
+
 pub front_builds : (op : Unary) (x : Action) →
     ((s : State) → stepped (step_of x) s ≡ record s { sources = over_one (in_front_of op) s.sources }) →
     (order place sign n : ℕ) (a : Source) (events : List (Event Action) → List (Event Action)) → first_of a ≡ suc order → Builds events

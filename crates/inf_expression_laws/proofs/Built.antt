@@ -61,6 +61,7 @@ abbrev pub stepped : Option Step → State → State
 stepped None s = s
 stepped (Some step.Leaf) s = record s { sources = Leaf (s.order - 1) (s.order - 1) s.place ∷ s.sources; place = s.place + 1 }
 stepped (Some step.Action) s = record s { sources = Leaf (s.order - 2) (s.order - 1) s.place ∷ s.sources; place = s.place + 1 }
+stepped (Some step.System) s = record s { sources = Leaf (s.order - 2) (s.order - 1) s.place ∷ s.sources; place = s.place + 1 }
 stepped (Some (step.Prefix op)) s = record s { sources = over_one (in_front_of op) s.sources }
 stepped (Some (step.Suffix op)) s = record s { sources = over_one (Suffix op) s.sources }
 stepped (Some (step.Two op)) s = record s { sources = over_two (Two op) s.sources }

@@ -25,7 +25,7 @@ use Rattle.inf_expression_laws.specs.Gathered.{AreSeen, IsSeen, read_by}
 use Rattle.inf_expression_laws.specs.Laws.{ExpressionsAreRead}
 use Rattle.inf_expression_laws.proofs.ActionSteps.{acted_step}
 use Rattle.inf_expression_laws.proofs.Items.{Item, Whole}
-use Rattle.inf_expression_laws.proofs.Leaves.{At, action_stands, leaf_stands, opened_stands}
+use Rattle.inf_expression_laws.proofs.Leaves.{At, action_stands, leaf_stands, opened_stands, system_stands}
 use Rattle.inf_expression_laws.proofs.Standing.{Frame, gained, Known, Stands, moved, read, start, weakened, whole}
 use Rattle.inf_expression_laws.proofs.Steps.{assign_stands, bracketed_stands, call_stands, closed_stands, closing_stands, comma_stands}
 use Rattle.inf_expression_laws.proofs.Steps.{front_stands, list_stands, more_stands, one_stands, suffix_stands, test_stands, two_stands}
@@ -102,6 +102,9 @@ stepped_stands rest step.Leaf c (later m) u tokens r = elim m [ ]
 stepped_stands rest step.Action c first u tokens r =
     record { stands = action_stands u tokens r.at r.stands; at = at_gathered _ r.at }
 stepped_stands rest step.Action c (later m) u tokens r = elim m [ ]
+stepped_stands rest step.System c first u tokens r =
+    record { stands = system_stands u tokens r.at r.stands; at = at_gathered _ r.at }
+stepped_stands rest step.System c (later m) u tokens r = elim m [ ]
 stepped_stands rest (step.Prefix op) c m u tokens r =
     record { stands = front_by rest op c (sign_in_front op) refl m r.stands; at = at_gathered _ r.at }
 stepped_stands rest (step.Suffix op) c m u tokens r =

@@ -14,13 +14,14 @@ use Rattle.inf_syntax.specs.Atoms.{mark_atom, of_mark}
 use Rattle.inf_syntax.specs.Classes.{operand as operand_names}
 use Rattle.inf_expressions.specs.declared.symbols.Symbol.TheVariants as symbol
 use Rattle.inf_expressions.specs.Sources.{Leaf}
+use Rattle.inf_gathering.specs.declared.gathering.Leaf.{Leaf as Gathered}
 use Rattle.inf_gathering.specs.declared.gathering.Leaf.TheVariants as leaf
 use Rattle.inf_gathering.specs.Gatherings.{with_bracket, with_leaf}
 use Rattle.inf_unit.specs.Tokens.{SourceToken}
 use Rattle.inf_unit.specs.Units.{Unit, is_alone, is_first, is_sign, is_some_mark, kind_at, last_leaf, leaf_of, marked_from, order}
 use Rattle.inf_unit.specs.Units.{told_leaf, with_last}
-use Rattle.inf_expression_laws.specs.Precedence.{operand, action, opening_sign, operands, primaries}
-use Rattle.inf_expression_laws.specs.Gathered.{kind_in, leaf_read}
+use Rattle.inf_expression_laws.specs.Precedence.{Written, operand, action, system, opening_sign, operands, primaries}
+use Rattle.inf_expression_laws.specs.Gathered.{kind_in, leaf_behind, leaf_read}
 use Rattle.inf_expression_laws.proofs.Items.{Item, Sign, Whole, Opened}
 use Rattle.inf_expression_laws.proofs.Standing.{Frame, gained, Stands, read, whole, opened}
 use Rattle.inf_expression_laws.proofs.Steps.{placed}
@@ -65,7 +66,8 @@ leaf_is : (f : Frame) (n : ℕ) (k : TokenKind) → kind_at f.all n ≡ Some k �
     leaf_read f.outer f.begun f.all n n ≡ told_leaf (is_first n f.outer && is_some_mark mark.At (kind_at f.all f.begun)) (leaf_of n k)
 leaf_is f n k e =
     let told = is_first n f.outer && is_some_mark mark.At (kind_at f.all f.begun) in
-    cond-true (n == n) (told_leaf told (leaf_of n (kind_in (kind_at f.all n)))) (leaf.Action n) (eq-eqb n n refl)
+    cond-true (n == n) (told_leaf told (leaf_of n (kind_in (kind_at f.all n)))) (leaf_behind (kind_at f.all n) n)
+    (eq-eqb n n refl)
     ∙ ap (λ o. told_leaf told (leaf_of n (kind_in o))) e
 
 pub leaf_stands : {f : Frame} {rest : List Item} {seen : List ℕ} (u : Unit) (tokens : List SourceToken) → At f u (length seen) tokens →
@@ -96,7 +98,7 @@ leaf_stands {f} u tokens a (read seen atom s h k) =
     ∙ (λ i. with_leaf (order_last i) (order_last i) (told_leaf (told i) (leaf_of (last i) k.seen)) g) in
     placed refl (one ∙ sym other) (whole seen (atom ∷ []) (Leaf n n (length g.leaves)) g s (operand h))
 
--- the sign before the name of an action
+-- the sign before the name of an action or a system constant
 only_mark : (m : Mark) (atom : ℕ) → has (of_mark m) atom ≡ true → atom ≡ mark_atom m
 only_mark m atom h = by_test (atom == mark_atom m) refl
   where
@@ -105,11 +107,16 @@ only_mark m atom h = by_test (atom == mark_atom m) refl
     by_test false e = absurd (both_ways (has (of_mark m) atom) (ap (λ b. b == 1) (bit_at-pow_other (mark_atom m) atom
         (eqb-false atom (mark_atom m) e))) h)
 
-pub action_stands : {f : Frame} {rest : List Item} {seen : List ℕ} (u : Unit) (tokens : List SourceToken) → At f u (length seen) tokens →
-    Stands f (Sign operand_names ∷ Sign (of_mark mark.DoubleHash) ∷ rest) seen u.gathering →
+-- a name behind a sign of which it is known what leaf it makes
+signed_stands : (m : Mark) (made : ℕ → Gathered) → ((at : ℕ) → leaf_behind (Some (kind.Mark m)) at ≡ made at) →
+    is_sign (Some (kind.Mark m)) ≡ true →
+    ((order place sign atom : ℕ) → has (of_mark m) sign ≡ true → has operand_names atom ≡ true →
+    Written primaries order place (sign ∷ atom ∷ []) (Leaf order (suc order) place)) →
+    {f : Frame} {rest : List Item} {seen : List ℕ} (u : Unit) (tokens : List SourceToken) → At f u (length seen) tokens →
+    Stands f (Sign operand_names ∷ Sign (of_mark m) ∷ rest) seen u.gathering →
     Stands f (Whole primaries ∷ rest) seen (with_leaf (order (marked_from u.tokens (last_leaf u))) (order (last_leaf u))
-    (leaf.Action (last_leaf u)) u.gathering)
-action_stands {f} u tokens a (read _ atom (read seen sign s l j) h k) =
+    (made (last_leaf u)) u.gathering)
+signed_stands m made makes signs written {f} u tokens a (read _ atom (read seen sign s l j) h k) =
     let g = u.gathering in
     let n = f.order + length seen in
     let at = last_leaf u in
@@ -119,18 +126,21 @@ action_stands {f} u tokens a (read _ atom (read seen sign s l j) h k) =
     let before : at - 1 ≡ n = omega (arith, last) in
     let order_last : order at ≡ suc n =
     order_is at (omega (arith, within_all f u (length ((seen ++ sign ∷ []) ++ atom ∷ [])) tokens a)) ∙ last in
-    let hash : kind_at u.tokens (at - 1) ≡ Some (kind.Mark mark.DoubleHash) =
+    let mark_is : kind_at f.all n ≡ Some (kind.Mark m) = j.is ∙ ap Some (j.mark m (only_mark m sign l)) in
+    let hash : kind_at u.tokens (at - 1) ≡ Some (kind.Mark m) =
     kind_kept f u (length ((seen ++ sign ∷ []) ++ atom ∷ [])) tokens a (at - 1) (omega (arith, a.long, count))
     ∙ ap (kind_at f.all) before
-    ∙ j.is
-    ∙ ap Some (j.mark mark.DoubleHash (only_mark mark.DoubleHash sign l)) in
-    let begun : marked_from u.tokens at ≡ n = cond-true (is_sign (kind_at u.tokens (at - 1))) (at - 1) at (ap is_sign hash) ∙ before in
+    ∙ mark_is in
+    let begun : marked_from u.tokens at ≡ n =
+    cond-true (is_sign (kind_at u.tokens (at - 1))) (at - 1) at (ap is_sign hash ∙ signs) ∙ before in
     let order_first : order (marked_from u.tokens at) ≡ n =
     ap order begun ∙ order_is n (omega (arith, last, within_all f u (length ((seen ++ sign ∷ []) ++ atom ∷ [])) tokens a)) in
-    let leaf_of_name : leaf_read f.outer f.begun f.all n (suc n) ≡ leaf.Action at =
+    let leaf_of_name : leaf_read f.outer f.begun f.all n (suc n) ≡ made at =
     cond-false (n == suc n) (told_leaf (is_first (suc n) f.outer && is_some_mark mark.At (kind_at f.all f.begun))
-    (leaf_of (suc n) (kind_in (kind_at f.all (suc n))))) (leaf.Action (suc n)) (ne_eqb n (suc n) (omega arith))
-    ∙ ap leaf.Action (sym last) in
+    (leaf_of (suc n) (kind_in (kind_at f.all (suc n))))) (leaf_behind (kind_at f.all n) (suc n)) (ne_eqb n (suc n) (omega arith))
+    ∙ ap (λ o. leaf_behind o (suc n)) mark_is
+    ∙ makes (suc n)
+    ∙ ap made (sym last) in
     placed (sym (append_assoc seen (sign ∷ []) (atom ∷ []))) (λ i. record {
       leaves = g.leaves ++ leaf_of_name i ∷ [];
       symbols = g.symbols ++ symbol.Leaf (sym order_first i) (sym order_last i) (length g.leaves) ∷ [];
@@ -138,7 +148,21 @@ action_stands {f} u tokens a (read _ atom (read seen sign s l j) h k) =
       counts = g.counts;
       brackets = g.brackets;
     })
-    (whole seen (sign ∷ atom ∷ []) (Leaf n (suc n) (length g.leaves)) g s (action l h))
+    (whole seen (sign ∷ atom ∷ []) (Leaf n (suc n) (length g.leaves)) g s (written n (length g.leaves) sign atom l h))
+
+pub action_stands : {f : Frame} {rest : List Item} {seen : List ℕ} (u : Unit) (tokens : List SourceToken) → At f u (length seen) tokens →
+    Stands f (Sign operand_names ∷ Sign (of_mark mark.DoubleHash) ∷ rest) seen u.gathering →
+    Stands f (Whole primaries ∷ rest) seen (with_leaf (order (marked_from u.tokens (last_leaf u))) (order (last_leaf u))
+    (leaf.Action (last_leaf u)) u.gathering)
+action_stands u tokens a s =
+    signed_stands mark.DoubleHash leaf.Action (λ at. refl) refl (λ order place sign atom l h. action l h) u tokens a s
+
+pub system_stands : {f : Frame} {rest : List Item} {seen : List ℕ} (u : Unit) (tokens : List SourceToken) → At f u (length seen) tokens →
+    Stands f (Sign operand_names ∷ Sign (of_mark mark.Hash) ∷ rest) seen u.gathering →
+    Stands f (Whole primaries ∷ rest) seen (with_leaf (order (marked_from u.tokens (last_leaf u))) (order (last_leaf u))
+    (leaf.System (last_leaf u)) u.gathering)
+system_stands u tokens a s =
+    signed_stands mark.Hash leaf.System (λ at. refl) refl (λ order place sign atom l h. system l h) u tokens a s
 
 pub opened_stands : {f : Frame} {rest : List Item} {seen : List ℕ} (u : Unit) (tokens : List SourceToken) → At f u (length seen) tokens →
     Stands f (Sign opening_sign ∷ rest) seen u.gathering → Stands f (Opened ∷ rest) seen

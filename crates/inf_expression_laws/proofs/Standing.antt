@@ -12,8 +12,8 @@ use Rattle.inf_expressions.specs.Sources.{Source, Leaf, Brackets, Prefix, Suffix
 use Rattle.inf_gathering.specs.Gatherings.{Gathering, with_bracket, with_list}
 use Rattle.inf_unit.specs.Tokens.{SourceToken}
 use Rattle.inf_unit.specs.Units.{kind_at}
-use Rattle.inf_expression_laws.specs.Precedence.{Written, operand, action, brackets, tighter, in_front, behind, between, assigned, tested}
-use Rattle.inf_expression_laws.specs.Precedence.{called, alone, Listed, one, more, commas, leaf_count, leaf_count_of_all, list_of}
+use Rattle.inf_expression_laws.specs.Precedence.{Written, operand, action, system, brackets, tighter, in_front, behind, between, assigned}
+use Rattle.inf_expression_laws.specs.Precedence.{tested, called, alone, Listed, one, more, commas, leaf_count, leaf_count_of_all, list_of}
 use Rattle.inf_expression_laws.specs.Precedence.{opening_sign}
 use Rattle.inf_expression_laws.specs.Gathered.{first_of, is_open, joints, leaves_of, symbols_of, with_source}
 use Rattle.inf_expression_laws.proofs.Items as it
@@ -96,6 +96,7 @@ weakened (nothing s) (it.item it.any w) = nothing (weakened s (it.item it.none_y
 pub begins : {level order place : ℕ} {atoms : List ℕ} {a : Source} → Written level order place atoms a → first_of a ≡ order
 begins (operand h) = refl
 begins (action h k) = refl
+begins (system h k) = refl
 begins (brackets right atoms l w r) = refl
 begins (tighter w) = begins w
 begins (in_front signs e h w) = refl
@@ -109,6 +110,7 @@ begins (alone left right atoms w l r) = begins w
 pub is_no_list : {level order place : ℕ} {atoms : List ℕ} {a : Source} → Written level order place atoms a → joints a ≡ 0
 is_no_list (operand h) = refl
 is_no_list (action h k) = refl
+is_no_list (system h k) = refl
 is_no_list (brackets right atoms l w r) = refl
 is_no_list (tighter w) = is_no_list w
 is_no_list (in_front signs e h w) = refl
@@ -170,6 +172,7 @@ listed_moved {level} {signs} {order} {other_order} {place} {other_place} {atoms}
 some_tokens : {level order place : ℕ} {atoms : List ℕ} {a : Source} → Written level order place atoms a → 0 < length atoms
 some_tokens (operand h) = omega arith
 some_tokens (action h k) = omega arith
+some_tokens (system h k) = omega arith
 some_tokens (brackets right atoms l w r) = omega arith
 some_tokens (tighter w) = some_tokens w
 some_tokens (in_front signs e h w) = omega arith

@@ -26,7 +26,7 @@ use Rattle.inf_expression_laws.specs.Laws.{ExpressionsAreTexts, TextsAreOneExpre
 use Rattle.inf_expression_laws.proofs.Standing.{begins, loosened}
 use Rattle.inf_expression_laws.proofs.OneText.{same_events}
 use Rattle.inf_expression_laws.proofs.Building.{Lists, action_builds, alone_builds, brackets_build, call_builds, front_builds, leaf_builds}
-use Rattle.inf_expression_laws.proofs.Building.{more_lists, one_lists, suffix_builds, test_builds, two_builds}
+use Rattle.inf_expression_laws.proofs.Building.{more_lists, one_lists, suffix_builds, system_builds, test_builds, two_builds}
 use Rattle.inf_expression_laws.proofs.Built.{Builds, State, built}
 use Rattle.inf_expression_laws.proofs.OperatorRows.{NotCalled, apart, begin, behind_entry, between_entry, free, in_front_entry, loop}
 use Rattle.inf_expression_laws.proofs.OperatorRows.{no_address_tail, no_array_tail, no_assign_tail, no_call_1, no_call_2}
@@ -157,6 +157,7 @@ climb (suc (suc (suc (suc (suc (suc (suc (suc (suc (suc (suc (suc (suc (suc n)))
 level_bound : {level order place : ℕ} {atoms : List ℕ} {a : Source} → Written level order place atoms a → level ≤ 14
 level_bound (written.operand h) = omega arith
 level_bound (written.action h k) = omega arith
+level_bound (written.system h k) = omega arith
 level_bound (written.brackets right atoms l w r) = omega arith
 level_bound (written.tighter w) = omega (arith, level_bound w)
 level_bound (written.in_front signs e h w) = level_bound w
@@ -222,6 +223,14 @@ action_text : {K : List (Symbol Action)} {rest : List ℕ} {events : List (Event
 unfolding grammar
 action_text sign atom h k l =
     row (later first) (has_zero sign) (row first (has_zero sign) (row (later (later (later first))) (has_zero sign)
+    (token h (token k (action l)))))
+
+system_text : {K : List (Symbol Action)} {rest : List ℕ} {events : List (Event Action)} (sign atom : ℕ) →
+    has (of_mark mark.Hash) sign ≡ true → has operand_names atom ≡ true →
+    IsText grammar K rest events → IsText grammar (prim ∷ K) (sign ∷ atom ∷ rest) (Took sign ∷ Took atom ∷ Did does.System ∷ events)
+unfolding grammar
+system_text sign atom h k l =
+    row (later first) (has_zero sign) (row first (has_zero sign) (row (later (later (later (later first)))) (has_zero sign)
     (token h (token k (action l)))))
 
 bracket_text : {K : List (Symbol Action)} {rest : List ℕ} {events : List (Event Action)} (left : ℕ) → has opening_sign left ≡ true →
@@ -308,6 +317,13 @@ mutual
         events = λ more. Took sign ∷ Took atom ∷ Did does.Action ∷ more;
         leads = action_text sign atom h k l;
         builds = action_builds
+            order place sign atom;
+      }
+  written_text (written.system {order = order} {place = place} {sign = sign} {atom = atom} h k) K rest last q l =
+      record {
+        events = λ more. Took sign ∷ Took atom ∷ Did does.System ∷ more;
+        leads = system_text sign atom h k l;
+        builds = system_builds
             order place sign atom;
       }
   written_text (written.brackets {order = order} {place = place} {left = left} right atoms {a = a} h w k) K rest last q l =

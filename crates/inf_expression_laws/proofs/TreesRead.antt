@@ -11,8 +11,8 @@ use Rattle.inf_expressions.specs.declared.units.Wanted.{Wanted}
 use Rattle.inf_expressions.specs.declared.units.Wanted.TheVariants as wanted
 use Rattle.inf_expressions.specs.Sources.{Source, Leaf, Brackets, Prefix, Suffix, Two, Then, Call, Alone, found_in, meant, opened}
 use Rattle.inf_expressions.specs.Units.{Gathered, acted, call_joined, gathered, listed, nothing_gathered, roots_finding, with_two_of}
-use Rattle.inf_expression_laws.specs.Precedence.{Written, operand, action, brackets, tighter, in_front, behind, between, assigned, tested}
-use Rattle.inf_expression_laws.specs.Precedence.{called, alone, Listed, one, more, list_of, sign_between}
+use Rattle.inf_expression_laws.specs.Precedence.{Written, operand, action, system, brackets, tighter, in_front, behind, between, assigned}
+use Rattle.inf_expression_laws.specs.Precedence.{tested, called, alone, Listed, one, more, list_of, sign_between}
 use Rattle.inf_expression_laws.specs.Gathered.{joints, symbols_behind, symbols_of}
 use Rattle.inf_expression_laws.specs.Laws.{SymbolsComeToTheirTree, joins_commas}
 use Rattle.inf_expression_laws.proofs.Standing.{list_joints}
@@ -142,6 +142,7 @@ mutual
       {level order place : ℕ} {atoms : List ℕ} {a : Source} → Written level order place atoms a → IsRead w in_brackets unit operands a
   written_read w in_brackets unit operands j (operand h) rest g = refl
   written_read w in_brackets unit operands j (action h k) rest g = refl
+  written_read w in_brackets unit operands j (system h k) rest g = refl
   written_read w in_brackets unit operands j (brackets {order = order} right atoms {a = a} l v r) rest g =
       behind_one w true unit operands a (written_read w true unit operands refl v) (symbol.Bracketed order ∷ []) rest g
   written_read w in_brackets unit operands j (tighter v) rest g = written_read w in_brackets unit operands j v rest g

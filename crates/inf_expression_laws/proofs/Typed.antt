@@ -70,6 +70,7 @@ abbrev pub step_changes : Option Step → List Change
 step_changes None = []
 step_changes (Some step.Leaf) = change (Sign operands ∷ []) (Whole primaries ∷ []) ∷ []
 step_changes (Some step.Action) = change (Sign operand ∷ Sign (of_mark mark.DoubleHash) ∷ []) (Whole primaries ∷ []) ∷ []
+step_changes (Some step.System) = change (Sign operand ∷ Sign (of_mark mark.Hash) ∷ []) (Whole primaries ∷ []) ∷ []
 step_changes (Some (step.Prefix op)) = front_changes (sign_in_front op)
 step_changes (Some (step.Suffix op)) = suffix_changes (sign_behind op)
 step_changes (Some (step.Two op)) = two_changes op

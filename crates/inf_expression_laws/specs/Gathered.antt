@@ -71,16 +71,20 @@ first_of (Then a b) = first_of a
 first_of (Call f list) = first_of f
 first_of (Alone f) = first_of f
 
--- What a leaf is, by the tokens of its unit: the name of an action behind its sign, else by its own token. An operand of an assembly line
--- that is a name by itself is told apart.
+-- What a leaf is, by the tokens of its unit: the name of an action or of a system constant behind its sign, else by its own token. An
+-- operand of an assembly line that is a name by itself is told apart.
 abbrev pub kind_in : Option TokenKind → TokenKind
 kind_in None = kind.Name
 kind_in (Some k) = k
 
+abbrev pub leaf_behind : Option TokenKind → ℕ → Gathered
+leaf_behind (Some (kind.Mark mark.Hash)) at = leaf.System at
+leaf_behind _ at = leaf.Action at
+
 abbrev pub leaf_read : Option ℕ → ℕ → List SourceToken → ℕ → ℕ → Gathered
 leaf_read outer begun tokens first at =
     if first == at then told_leaf (is_first at outer && is_some_mark mark.At (kind_at tokens begun))
-    (leaf_of at (kind_in (kind_at tokens at))) else leaf.Action at
+    (leaf_of at (kind_in (kind_at tokens at))) else leaf_behind (kind_at tokens first) at
 
 -- The leaves of an expression or a list, in the order of their tokens
 abbrev pub leaves_of : Option ℕ → ℕ → List SourceToken → Source → List Gathered

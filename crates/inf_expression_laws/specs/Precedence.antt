@@ -157,6 +157,8 @@ mutual
     operand : {order place atom : ℕ} → has operands atom ≡ true → Written primaries order place (atom ∷ []) (Leaf order order place)
     action : {order place sign atom : ℕ} → has (of_mark mark.DoubleHash) sign ≡ true → has operand_names atom ≡ true →
         Written primaries order place (sign ∷ atom ∷ []) (Leaf order (suc order) place)
+    system : {order place sign atom : ℕ} → has (of_mark mark.Hash) sign ≡ true → has operand_names atom ≡ true →
+        Written primaries order place (sign ∷ atom ∷ []) (Leaf order (suc order) place)
     brackets : {order place left : ℕ} (right : ℕ) (atoms : List ℕ) {a : Source} → has opening_sign left ≡ true →
         Written commas (suc order) place atoms a → has closing_sign right ≡ true →
         Written primaries order place (left ∷ (atoms ++ right ∷ [])) (Brackets order a)

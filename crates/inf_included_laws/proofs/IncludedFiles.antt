@@ -6,11 +6,15 @@ use Rattle.inf_settings.specs.Bounds.{Limits}
 use Rattle.inf_scanner.specs.declared.tokens.Mark.TheVariants as mark
 use Rattle.inf_scanner.specs.declared.tokens.Place.{Place}
 use Rattle.inf_files.specs.Files.{Sources}
+use Rattle.inf_characters.specs.declared.characters.CharSet.{CharSet}
+use Rattle.inf_sources.specs.Choosing.{waiting_with}
 use Rattle.inf_sources.specs.Inclusions.{Inclusion, Opens, OpensNone, Waiting, inclusion}
 use Rattle.inf_sources.specs.declared.open_files.Included.{Included}
 use Rattle.inf_sources.specs.declared.open_files.Included.TheVariants as answer
-use Rattle.inf_unit.specs.Directives.{Request, End, Include, Nothing}
-use Rattle.inf_unit.specs.Tokens.{SourceToken, is_end, is_mark, keyword}
+use Rattle.inf_unit.specs.Directives.{Request, Characters, End, Include, Nothing}
+use Rattle.inf_machine.specs.Machine.{fits}
+use Rattle.inf_grammar.specs.Language.{grammar, known}
+use Rattle.inf_unit.specs.Tokens.{SourceToken, atom_of, is_end, is_mark, keyword}
 use Rattle.inf_conditionals.specs.declared.filtered.Forwarded.{Forwarded}
 use Rattle.inf_conditionals.specs.declared.filtered.Forwarded.TheVariants as handed
 use Rattle.inf_conditionals.specs.declared.filtered.Filtered.{Filtered}
@@ -20,11 +24,15 @@ use Rattle.inf_conditionals.specs.declared.words.ConditionalWord.{ConditionalWor
 use Rattle.inf_output.specs.Output.{Out}
 use Rattle.inf_sources.specs.declared.open_file.Conditional.{Conditional}
 use Rattle.inf_conditionals.specs.declared.open.LeftOut.{LeftOut}
+use Rattle.inf_conditionals.specs.declared.pending.Awaits.{Awaits}
+use Rattle.inf_conditionals.specs.declared.pending.Awaits.TheVariants as awaits
 use Rattle.inf_conditionals.specs.declared.pending.Pending.{Pending}
 use Rattle.inf_conditionals.specs.Ends.{file_ended, with_all_lone, with_among}
-use Rattle.inf_conditionals.specs.Judging.{Behind, behind_sign, judged, judged_by, is_none_pending, kept, none_handed, offered, passed}
-use Rattle.inf_conditionals.specs.Judging.{passed_by}
+use Rattle.inf_conditionals.specs.Condition.{Condition, condition_took}
+use Rattle.inf_conditionals.specs.Judging.{Behind, asked_on, behind_sign, judged, judged_by, is_none_pending, kept, none_handed, offered}
+use Rattle.inf_conditionals.specs.Judging.{passed, passed_by, sign_asked, sign_awaited, sign_handed, sign_offered, unfit}
 use Rattle.inf_conditionals.specs.Open.{Conditions, most_levels, silent}
+use Rattle.inf_conditionals.specs.Said.{Said, too_much}
 use Rattle.inf_conditionals.specs.Words.{word_of}
 use Rattle.inf_unit.proofs.Cases.{of_both}
 use Rattle.inf_reader.specs.Handing.{hash, site_of}
@@ -33,6 +41,7 @@ use Rattle.inf_session.specs.Choices.{Choices}
 use Rattle.inf_session.specs.Session.{State, answered, asked_nothing, carried_out, included_by, left, left_by, file_closed, has_ended}
 use Rattle.inf_session.specs.Session.{is_resting, none_included, piece_closed, rested, stepped, token_of, turn}
 use Rattle.inf_included_laws.specs.IncludedFiles.{Alone, AreFiles, AreOfAFile, Breaking, Cut, CutHashLast, CutHashThen, CutHashesLeft}
+use Rattle.inf_included_laws.specs.IncludedFiles.{CutTakenLast}
 use Rattle.inf_included_laws.specs.IncludedFiles.{Enters, Files, FilesKeepSides, FilesTellUnended, HashLast, HashThen, HashesLeft}
 use Rattle.inf_included_laws.specs.IncludedFiles.{Including, Leaves, Nested, Stays, Step, TurnsKeepFiles, all_unended, around_behind}
 use Rattle.inf_included_laws.specs.IncludedFiles.{around_broken, around_included, asked_passage, behind_files, end_handed, end_sign}
@@ -45,21 +54,26 @@ use Rattle.inf_side_laws.specs.KeptSides.{all_handed_on, all_kept, all_tokens, a
 use Rattle.inf_side_laws.specs.KeptSides.{declared_tokens, ended_behind, ended_in, ended_places, going_on, handed_as, handed_on}
 use Rattle.inf_side_laws.specs.KeptSides.{handed_sign, handed_token, judged_at, kept_sides, lone_places, missing_in, none_around, places}
 use Rattle.inf_side_laws.specs.KeptSides.{told_parts, unended}
-use Rattle.inf_included_laws.specs.Unfinished.{AreHashes, Request as HasAsked, Bare, Closes, Fronting, FrontingWord, HasWord, Hashed}
+use Rattle.inf_included_laws.specs.Unfinished.{AreCutBySign, AreHashes, AreSignTaken, Outer}
+use Rattle.inf_included_laws.specs.Unfinished.{Request as HasAsked, Bare, BehindSign, Closes, Fronting, FrontingWord, HasWord, Hashed}
 use Rattle.inf_included_laws.specs.Unfinished.{HaveBegun, IsMisfit, Misfit, Named, Turns, Unfinished, Unnamed, all_begun_tokens, as_unfit}
 use Rattle.inf_included_laws.specs.Unfinished.{begun_handed, begun_sign, behind_all_begun, behind_misfit, handed_misfit, misfit_tokens}
 use Rattle.inf_included_laws.specs.Unfinished.{told_all_begun, told_misfit}
 use Rattle.inf_laws.specs.KeptTurns.{given_by, given_in, turned}
 use Rattle.inf_conditional_laws.specs.MissingEnds.{with_all_at}
 use Rattle.inf_side_laws.specs.SideTurns.{at_turn, ends_there, shown}
-use Rattle.inf_side_laws.proofs.KeptSides.{AllStay, CalmLeft, Hands, InnerLeft, Last, OuterLeft, Reader, Reads, Stands, StandsAt}
-use Rattle.inf_side_laws.proofs.KeptSides.{all_handed, all_taken, among_of, are_open, at, calm_at, conditionals, end_is_no_hash}
+use Rattle.inf_side_laws.proofs.KeptSides.{AllStay, CalmLeft, GivesUp, Hands, InnerLeft, Last, OuterLeft, Reader, Reads, Stands, StandsAt}
+use Rattle.inf_side_laws.proofs.KeptSides.{all_handed, all_taken, among_of, are_open, at, calm_at, conditionals, counted}
+use Rattle.inf_side_laws.proofs.KeptSides.{TokenSame, behind_both as behind_of_both, behind_taken, end_is_no_hash, given_up_kept}
+use Rattle.inf_side_laws.proofs.KeptSides.{hands_both as hands_of_both, sign_free, tells_both as tells_of_both}
 use Rattle.inf_side_laws.proofs.KeptSides.{end_kept_so, end_word, ended_told, hands_on, hash_freed, inner_not_kept, inner_of, kept_at}
 use Rattle.inf_side_laws.proofs.KeptSides.{last_at, led, left_at, mid, not_kept, outer, plain_kept, sign_inner, sign_left, stack_of}
 use Rattle.inf_side_laws.proofs.KeptSides.{stands_at, state, told_both, told_places, with_sign}
 use Rattle.inf_conditional_laws.proofs.MissingEnds.{told_at as told_each}
-use Rattle.inf_included_laws.proofs.Unfinished.{AllBegun, all_begun_led, cut_kept, end_cuts, front_end_kept, front_there, given_up_at}
-use Rattle.inf_included_laws.proofs.Unfinished.{left_so, sign_cut, sign_cut_so, unfit_end, unfit_there}
+use Rattle.inf_included_laws.proofs.Signs.{asks_at, behind_unfit, condition_taken}
+use Rattle.inf_included_laws.proofs.Unfinished.{AllBegun, Further, SignTaken, SignUnfit, all_begun_led, behind_end_unfit, cut_kept}
+use Rattle.inf_included_laws.proofs.Unfinished.{end_cuts, front_end_kept, front_there, further_cut, further_taken, given_up_at, left_so}
+use Rattle.inf_included_laws.proofs.Unfinished.{sign_cut, unfit_end, unfit_there}
 use Rattle.inf_side_laws.proofs.SideTurns.{all_shown, rested_conditions}
 
 -- Steps one after the other
@@ -123,16 +137,17 @@ staying_led tokens c given told hands tells = record { hands = hands_staying tok
 
 -- how a file may end: so its end is handed on there, and nothing is left out or read behind it
 record EndsAs (o : Option Sign) (h : Forwarded) (s : Around) (c : Conditions) : Type 0 where
-  base : Conditions
+  base : At → Conditions
+  said : At → Option Said
   stand : Stands
   declared : ℕ
-  none_read : base.pending ≡ []
+  none_read : (end : At) → (base end).pending ≡ []
   stack : stack_of stand ≡ s
   inner : c.inner ≡ inner_of stand
   among : c.among ≡ among_of stand
   at_end : (end : At) → is_end end.token.kind ≡ true
       → judged_at end c ≡ record {
-        now = at base (inner_of stand) (among_of stand) None declared;
+        now = record (at (base end) (inner_of stand) (among_of stand) None declared) { said = said end };
         judged = record none_handed
             { sign = o; token = Some h };
       }
@@ -266,10 +281,11 @@ end_is_kept t c is none no_sign = go c.left_out c.sign refl refl no_sign
 
 ends_kept : (last : Last) (c : Conditions) → StandsAt Hands last c → EndsAs None handed.Kept last.around c
 ends_kept last c e = record {
-  base = e.base;
+  base = λ end. e.base;
+  said = λ end. None;
   stand = e.stand;
   declared = last.declared;
-  none_read = e.holds;
+  none_read = λ end. e.holds;
   stack = e.stack;
   inner = ap (λ (x : Conditions). x.inner) e.is;
   among = ap (λ (x : Conditions). x.among) e.is;
@@ -279,23 +295,24 @@ ends_kept last c e = record {
 }
 
 -- in the midst of a directive
-ends_unfit : (d : Answers) (outer : List Unfinished) (u : Unfinished) (s : Around) (last : Last) (toks : List At) (alone : List Place)
+ends_unfit : (d : Answers) (outer : List Outer) (u : Unfinished) (s : Around) (last : Last) (toks : List At) (alone : List Place)
     (c : Conditions) → HasWord u → AllBegun d outer u s last toks alone c
     → EndsAs None handed.Unfit last.around (all_behind toks c)
 ends_unfit d outer u s last toks alone c so b =
     let e = b.led.ends in
     record {
-      base = given_up_at e.base;
+      base = λ end. given_up_at e.base;
+      said = λ end. None;
       stand = e.stand;
       declared = last.declared;
-      none_read = refl;
+      none_read = λ end. refl;
       stack = e.stack;
       inner = ap (λ (x : Conditions). x.inner) e.is;
       among = ap (λ (x : Conditions). x.among) e.is;
       at_end = λ end is_last. unfit_end d s outer u last toks alone c b end so is_last;
     }
 
-ends_cut : (d : Answers) (outer : List Unfinished) (u : Unfinished) (s : Around) (last : Last) (toks : List At) (alone : List Place)
+ends_cut : (d : Answers) (outer : List Outer) (u : Unfinished) (s : Around) (last : Last) (toks : List At) (alone : List Place)
     (c : Conditions) → AllBegun d outer u s last toks alone c
     → EndsAs (begun_sign u) (begun_handed u) last.around (all_behind toks c)
 ends_cut d outer (Unnamed is_inner if_declared first before) s last toks alone c b =
@@ -313,10 +330,11 @@ ends_cut d outer (FrontingWord sign parts u) s last toks alone c b =
 ends_cut d outer (Fronting sign parts) s last toks alone c b =
     let e = b.led.ends in
     record {
-      base = record e.base { pending = [] };
+      base = λ end. record e.base { pending = [] };
+      said = λ end. None;
       stand = e.stand;
       declared = last.declared;
-      none_read = refl;
+      none_read = λ end. refl;
       stack = e.stack;
       inner = ap (λ (x : Conditions). x.inner) e.is;
       among = ap (λ (x : Conditions). x.among) e.is;
@@ -360,7 +378,8 @@ left_at_end : (t : At) (o : Option Sign) (h : Forwarded) (s inner : Around) (w :
 left_at_end t o h s inner w c e kept_so is_last =
     let ends = e.ends in
     let keeps = ends.at_end t is_last in
-    let at_last = at ends.base (inner_of ends.stand) (among_of ends.stand) None ends.declared in
+    let at_last : Conditions =
+    record (at (ends.base t) (inner_of ends.stand) (among_of ends.stand) None ends.declared) { said = ends.said t } in
     let before = silent (judged_at t c.now).now in
     record {
       hands = ap (λ (b : Behind). handed_on b.judged t.token) keeps;
@@ -375,7 +394,7 @@ left_at_end t o h s inner w c e kept_so is_last =
       begun = subst (λ ws. Begun (around_behind s) (ended_behind t.ended (left_to ws (file_ended before)).now)) (sym e.waits)
           (subst (λ (b : Behind). Begun (around_behind s)
           (ended_behind t.ended (with_among (conditionals s.between) (file_ended (silent b.now))))) (sym keeps)
-          (begun_behind t.ended s ends.base (inner_of ends.stand) (among_of ends.stand) ends.declared kept_so ends.none_read));
+          (begun_behind t.ended s (ends.base t) (inner_of ends.stand) (among_of ends.stand) ends.declared kept_so (ends.none_read t)));
       waits = ap (λ ws. (left_to ws (file_ended before)).waiting) e.waits;
     }
 
@@ -387,17 +406,134 @@ begun_broken : (e : Option ℕ) (s : Around) (base : Conditions) (declared : ℕ
 begun_broken None s base declared si sb none = record { inside_kept = si; between_kept = sb; is = refl; none_read = none }
 begun_broken (Some now) s base declared si sb none = record { inside_kept = refl; between_kept = sb; is = refl; none_read = none }
 
-misfit_kept : (d : Answers) (s : Around) (outer : List Unfinished) (u : Unfinished) (misfit : Misfit) → IsMisfit d s outer u misfit →
+misfit_kept : (d : Answers) (s : Around) (outer : List Outer) (u : Unfinished) (misfit : Misfit) → IsMisfit d s outer u misfit →
     all_kept (behind_all_begun d s outer u) ≡ true
 misfit_kept d s outer u (Bare t) is = is.0
-misfit_kept d s outer u (Hashed sign t) is = is.0
+misfit_kept d s outer u (Hashed taken sign t) is = is.0
+misfit_kept d s outer u (BehindSign taken sign t) is = is.0
+
+-- A `#` is held back, where then these are the conditionals.
+record HeldBack (sign : At) (c then : Conditions) : Type 0 where
+  hands : handed_on (judged_at sign c).judged sign.token ≡ []
+  tells : lone_places (judged_at sign c).judged.unmatched ++ ended_places sign.ended (judged_at sign c).now.inner ≡ []
+  next : going_on sign c ≡ then
+
+held_back : (sign : At) (c now then : Conditions) → judged_at sign c ≡ passed now →
+    (ended_behind sign.ended (silent now) ≡ then) × (ended_places sign.ended now.inner ≡ []) → HeldBack sign c then
+held_back sign c now then e both = record {
+  hands = ap (λ (b : Behind). handed_on b.judged sign.token) e;
+  tells = ap (λ (b : Behind). lone_places b.judged.unmatched ++ ended_places sign.ended b.now.inner) e ∙ both.1;
+  next = ap (λ (b : Behind). ended_behind sign.ended (silent b.now)) e ∙ both.0;
+}
+
+held_same : (sign : At) (c other then : Conditions) → TokenSame sign c other → HeldBack sign other then → HeldBack sign c then
+held_same sign c other then same h = record {
+  hands = same.hands ∙ h.hands;
+  tells =
+      ap (λ o. lone_places o ++ ended_places sign.ended (judged_at sign c).now.inner) same.lone
+      ∙ ap (λ i. lone_places (judged_at sign other).judged.unmatched ++ ended_places sign.ended i) same.inner
+      ∙ h.tells;
+  next = ap (λ x. ended_behind sign.ended x) same.next ∙ h.next;
+}
+
+-- in a directive, perhaps behind some that its condition takes
+record CutHash (p : Pending) (others : List Pending) (taken : List At) (s : Around) (declared : ℕ) (sign : At) (c : Conditions)
+    (is_so : List Conditional → List Conditional → Conditions → List Condition → Type 0) : Type 0 where
+  inside_kept : are_kept s.inside ≡ true
+  between_kept : are_kept s.between ≡ true
+  further : Further p others taken sign c (conditionals s.inside) (conditionals s.between) declared
+      (is_so (conditionals s.inside) (conditionals s.between))
+  held : HeldBack sign (all_behind taken c)
+      (state (record further.taken_so.base { pending = p ∷ others; conditions = further.ks }) (Some sign.token.place)
+      (conditionals s.inside) (conditionals s.between) None declared)
+
+cut_hash : (p : Pending) (others : List Pending) (ks : List Condition) (taken : List At) (last : Last) (sign : At) (c : Conditions)
+    (is_so : List Conditional → List Conditional → Conditions → List Condition → Type 0)
+    → StandsAt (Reads p others ks) last c → all_kept last.around ≡ true → IsSign true sign
+    → ((base : Conditions) (inner among : List Conditional) → c ≡ asks_at p others ks base inner among last.declared
+    → Further p others taken sign c inner among last.declared (is_so inner among))
+    → CutHash p others taken last.around last.declared sign c is_so
+cut_hash p others ks taken last sign c is_so e all is makes =
+    let k = kept_at p others ks last c e all in
+    let inner = conditionals last.around.inside in
+    let among = conditionals last.around.between in
+    let f = makes k.base inner among k.is in
+    let base = record f.taken_so.base { pending = p ∷ others; conditions = f.ks } in
+    let free = at base inner among None last.declared in
+    let then = state base (Some sign.token.place) inner among None last.declared in
+    record {
+      inside_kept = k.inside_kept;
+      between_kept = k.between_kept;
+      further = f;
+      held = held_same sign (all_behind taken c) free then f.taken_so.same
+          (held_back sign free then then (sign_cut sign base p others inner among last.declared refl is.is)
+          (ap (λ e. ended_behind e then) is.goes_on, ap (λ e. ended_places e inner) is.goes_on));
+    }
+
+-- it does not fit there, or a condition takes it
+abbrev UnfitSo : Pending → List Pending → At → ℕ → List Conditional → List Conditional → Conditions → List Condition → Type 0
+UnfitSo p others sign declared inner among = SignUnfit p others sign inner among declared
+
+abbrev TakenSo : Pending → At → (Condition → Type 0) → List Conditional → List Conditional → Conditions → List Condition → Type 0
+TakenSo p sign holds inner among = SignTaken p sign holds
+
+hash_cuts : (d : Answers) (outer : List Outer) (u : Unfinished) (s : Around) (last : Last) (toks : List At) (alone : List Place)
+    (c : Conditions) (taken : List At) (sign : At) (b : AllBegun d outer u s last toks alone c) → all_kept last.around ≡ true
+    → AreHashes true taken → IsSign true sign → AreCutBySign d s outer u taken sign
+    → CutHash b.p b.others taken last.around last.declared sign (all_behind toks c) (UnfitSo b.p b.others sign last.declared)
+hash_cuts d outer u s last toks alone c taken sign b all are is cut =
+    cut_hash b.p b.others b.ks taken last sign (all_behind toks c) (UnfitSo b.p b.others sign last.declared) b.led.ends all is
+    (λ base inner among at_there. further_cut d s outer u last toks alone c b base inner among last.declared taken sign at_there are is.is
+    cut)
+
+hash_taken : (d : Answers) (outer : List Outer) (u : Unfinished) (s : Around) (last : Last) (toks : List At) (alone : List Place)
+    (c : Conditions) (taken : List At) (sign : At) (holds : Condition → Type 0) (b : AllBegun d outer u s last toks alone c)
+    → all_kept last.around ≡ true → AreHashes true taken → IsSign true sign → AreSignTaken d s outer u taken sign holds
+    → CutHash b.p b.others taken last.around last.declared sign (all_behind toks c) (TakenSo b.p sign holds)
+hash_taken d outer u s last toks alone c taken sign holds b all are is so =
+    cut_hash b.p b.others b.ks taken last sign (all_behind toks c) (TakenSo b.p sign holds) b.led.ends all is
+    (λ base inner among at_there. further_taken d s outer u last toks alone c b base inner among last.declared taken sign holds at_there are
+    is.is so)
 
 record MisfitLed (misfit : Misfit) (s : Around) (c : Conditions) : Type 0 where
   hands : all_handed_on (misfit_tokens misfit) c ≡ handed_misfit misfit
   tells : all_told (misfit_tokens misfit) c ≡ told_misfit misfit s
   begun : Begun (behind_misfit misfit s) (all_behind (misfit_tokens misfit) c)
 
-misfit_led : (d : Answers) (outer : List Unfinished) (u : Unfinished) (s : Around) (last : Last) (toks : List At) (alone : List Place)
+-- a token behind the one that is held back
+record BehindHash (taken : List At) (sign t : At) (c : Conditions) (b : Behind) : Type 0 where
+  hands : all_handed_on (taken ++ sign ∷ t ∷ []) c ≡ handed_on b.judged t.token ++ []
+  tells : all_told (taken ++ sign ∷ t ∷ []) c ≡ lone_places b.judged.unmatched ++ (ended_places t.ended b.now.inner ++ [])
+  behind : all_behind (taken ++ sign ∷ t ∷ []) c ≡ ended_behind t.ended (silent b.now)
+
+behind_hash : (taken : List At) (sign t : At) (c then : Conditions) (b : Behind) → all_handed_on taken c ≡ [] → all_told taken c ≡ []
+    → HeldBack sign (all_behind taken c) then → judged_at t then ≡ b → BehindHash taken sign t c b
+behind_hash taken sign t c then b hands tells held is =
+    let here = all_behind taken c in
+    let now = judged_at sign here in
+    let both = sign ∷ t ∷ [] in
+    record {
+      hands =
+          hands_of_both taken both c
+          ∙ ap (λ hs. hs ++ all_handed_on both here) hands
+          ∙ ap (λ hs. hs ++ all_handed_on (t ∷ []) (going_on sign here)) held.hands
+          ∙ ap (all_handed_on (t ∷ [])) held.next
+          ∙ ap (λ (x : Behind). handed_on x.judged t.token ++ []) is;
+      tells =
+          tells_of_both taken both c
+          ∙ ap (λ ps. ps ++ all_told both here) tells
+          ∙ sym (append_assoc (lone_places now.judged.unmatched) (ended_places sign.ended now.now.inner)
+          (all_told (t ∷ []) (going_on sign here)))
+          ∙ ap (λ ps. ps ++ all_told (t ∷ []) (going_on sign here)) held.tells
+          ∙ ap (all_told (t ∷ [])) held.next
+          ∙ ap (λ (x : Behind). lone_places x.judged.unmatched ++ (ended_places t.ended x.now.inner ++ [])) is;
+      behind =
+          behind_of_both taken both c
+          ∙ ap (all_behind (t ∷ [])) held.next
+          ∙ ap (λ (x : Behind). ended_behind t.ended (silent x.now)) is;
+    }
+
+misfit_led : (d : Answers) (outer : List Outer) (u : Unfinished) (s : Around) (last : Last) (toks : List At) (alone : List Place)
     (c : Conditions) (misfit : Misfit) → AllBegun d outer u s last toks alone c → IsMisfit d s outer u misfit
     → all_kept last.around ≡ true → MisfitLed misfit last.around (all_behind toks c)
 misfit_led d outer u s last toks alone c (Bare t) b is all =
@@ -416,50 +552,54 @@ misfit_led d outer u s last toks alone c (Bare t) b is all =
       begun = subst (λ (x : Behind). Begun (ended_in t.ended last.around) (ended_behind t.ended (silent x.now))) (sym cut)
           (begun_broken t.ended last.around (given_up_at k.base) last.declared k.inside_kept k.between_kept refl);
     }
-misfit_led d outer u s last toks alone c (Hashed sign t) b is all =
+misfit_led d outer u s last toks alone c (Hashed taken sign t) b is all =
     let there = all_behind toks c in
-    let k = kept_at b.p b.others b.ks last there b.led.ends all in
+    let k = hash_cuts d outer u s last toks alone c taken sign b all is.1.0 is.1.1.0 is.1.1.1.1 in
+    let f = k.further in
     let inner = conditionals last.around.inside in
     let among = conditionals last.around.between in
-    let told_here : ended_places t.ended inner ≡ missing_in t.ended last.around =
-    ended_told t.ended (AllStay last.around.inside last.around.between k.inside_kept k.between_kept) last.declared k.base in
     let place = sign.token.place in
-    let base = record k.base { pending = b.p ∷ b.others; conditions = b.ks } in
-    let held_so = ap (judged_at sign) k.is ∙ sign_cut sign base b.p b.others inner among last.declared refl is.1.0.is in
-    let held_back = state base (Some place) inner among None last.declared in
-    let goes = ap (λ (x : Behind). ended_behind sign.ended (silent x.now)) held_so ∙ ap (λ e. ended_behind e held_back) is.1.0.goes_on in
-    let cut = ap (judged_at t) goes ∙ sign_cut_so place t base b.p b.others inner among last.declared is.1.1 in
+    let base : Conditions = record f.taken_so.base { pending = b.p ∷ b.others; conditions = f.ks } in
+    let plain = is.1.1.1.0 in
+    let now = with_sign handed.Unfit place (kept (at (given_up_at base) inner among None last.declared)) in
+    let m = behind_hash taken sign t there (state base (Some place) inner among None last.declared) now f.taken_so.hands f.taken_so.tells
+    k.held
+    (given_up_kept handed.Unfit place t base inner among last.declared (f.is t.site) plain.no_word plain.no_hash) in
+    let told_here : ended_places t.ended inner ≡ missing_in t.ended last.around =
+    ended_told t.ended (AllStay last.around.inside last.around.between k.inside_kept k.between_kept) last.declared base in
     record {
-      hands =
-          ap (λ (x : Behind). handed_on x.judged sign.token ++ all_handed_on (t ∷ [])
-          (ended_behind sign.ended (silent (judged_at sign there).now))) held_so
-          ∙ ap (λ (x : Behind). handed_on x.judged t.token ++ []) cut;
-      tells =
-          ap (λ (x : Behind). lone_places x.judged.unmatched ++
-          (ended_places sign.ended x.now.inner ++ all_told (t ∷ []) (ended_behind sign.ended (silent (judged_at sign there).now))))
-          held_so
-          ∙ ap (λ e. ended_places e inner ++ all_told (t ∷ []) (ended_behind sign.ended (silent (judged_at sign there).now))) is.1.0.goes_on
-          ∙ ap (λ (x : Behind). lone_places x.judged.unmatched ++ (ended_places t.ended x.now.inner ++ [])) cut
-          ∙ append-nil (ended_places t.ended inner) ∙ told_here;
-      begun = subst (λ (x : Behind). Begun (ended_in t.ended last.around) (ended_behind t.ended (silent x.now))) (sym cut)
-          (begun_broken t.ended last.around (given_up_at k.base) last.declared k.inside_kept k.between_kept refl);
+      hands = m.hands;
+      tells = m.tells ∙ append-nil (ended_places t.ended inner) ∙ told_here;
+      begun = subst (λ (x : Conditions). Begun (ended_in t.ended last.around) x) (sym m.behind)
+          (begun_broken t.ended last.around (given_up_at base) last.declared k.inside_kept k.between_kept refl);
+    }
+misfit_led d outer u s last toks alone c (BehindSign taken sign t) b is all =
+    let there = all_behind toks c in
+    let holds : Condition → Type 0 = λ k. fits grammar known (atom_of t.token) k.stack ≡ false in
+    let k = hash_taken d outer u s last toks alone c taken sign holds b all is.1.0 is.1.1.0 is.1.1.1.1 in
+    let f = k.further in
+    let inner = conditionals last.around.inside in
+    let among = conditionals last.around.between in
+    let place = sign.token.place in
+    let base : Conditions = record f.taken_so.base { pending = b.p ∷ b.others; conditions = f.ks } in
+    let plain = is.1.1.1.0 in
+    let so = condition_taken sign f.is.k in
+    let rest : Conditions = record f.taken_so.base { pending = b.others; conditions = f.is.others } in
+    let now = with_sign handed.Condition place (unfit (behind_taken place t.site so (at rest inner among None last.declared))) in
+    let m = behind_hash taken sign t there (state base (Some place) inner among None last.declared) now f.taken_so.hands f.taken_so.tells
+    k.held
+    (behind_unfit b.p b.others f.ks sign holds f.is t f.taken_so.base inner among last.declared plain.no_word plain.no_hash f.is.is.1) in
+    let told_here : ended_places t.ended inner ≡ missing_in t.ended last.around =
+    ended_told t.ended (AllStay last.around.inside last.around.between k.inside_kept k.between_kept) last.declared base in
+    record {
+      hands = m.hands;
+      tells = m.tells ∙ append-nil (ended_places t.ended inner) ∙ told_here;
+      begun = subst (λ (x : Conditions). Begun (ended_in t.ended last.around) x) (sym m.behind)
+          (begun_broken t.ended last.around (given_up_at (counted t.site.is_quiet so rest)) last.declared k.inside_kept k.between_kept
+          refl);
     }
 
 -- A `#` before another one, or before the end of the file
-
--- it is held back, where then these are the conditionals
-record HeldBack (sign : At) (c then : Conditions) : Type 0 where
-  hands : handed_on (judged_at sign c).judged sign.token ≡ []
-  tells : lone_places (judged_at sign c).judged.unmatched ++ ended_places sign.ended (judged_at sign c).now.inner ≡ []
-  next : going_on sign c ≡ then
-
-held_back : (sign : At) (c now then : Conditions) → judged_at sign c ≡ passed now →
-    (ended_behind sign.ended (silent now) ≡ then) × (ended_places sign.ended now.inner ≡ []) → HeldBack sign c then
-held_back sign c now then e both = record {
-  hands = ap (λ (b : Behind). handed_on b.judged sign.token) e;
-  tells = ap (λ (b : Behind). lone_places b.judged.unmatched ++ ended_places sign.ended b.now.inner) e ∙ both.1;
-  next = ap (λ (b : Behind). ended_behind sign.ended (silent b.now)) e ∙ both.0;
-}
 
 held_led : (sign : At) (more : List Step) (w : List (List Conditional)) (c then : Conditions) (given : List Handing) (told : List Place) →
     HeldBack sign c then → StepsLed more (nested_in w then) given told → StepsLed (staying sign ∷ more) (nested_in w c) given told
@@ -481,10 +621,10 @@ led_on : (h : Forwarded) (place : Place) (more : List Step) (w : List (List Cond
     (told : List Place)
     → ((next : At) → is_mark mark.Hash next.token.kind ≡ true → next.site.is_between ≡ false
     → (judged_at next held ≡ with_sign h place (judged_at next free)) × ((judged_at next free).judged ≡ none_handed))
-    → Follows true true (first_step more) → StepsLed more (nested_in w free) given told → LedOn h place more w held free given told
+    → Follows true true false (first_step more) → StepsLed more (nested_in w free) given told → LedOn h place more w held free given told
 led_on h place [] w held free given told frees follows rest = absurd follows
 led_on h place (x ∷ more) w held free given told frees follows rest =
-    let both = frees x.at follows.0 follows.1 in
+    let both = frees x.at follows.0 (follows.1 refl) in
     let free_so = step_behind x (nested_in w free) in
     let same : step_behind x (nested_in w held) ≡ free_so =
     ap (λ (b : Behind). behind_passage x (nested_in w (silent b.now))) both.0 in
@@ -506,16 +646,67 @@ led_on h place (x ∷ more) w held free given told frees follows rest =
     }
 
 -- where reading stands makes no difference to it
-behind_sign_same : (word : Option ConditionalWord) (place : Place) (site other : Site) (out : Out) (t : SourceToken) (c : Conditions) →
-    behind_sign word place site out t c ≡ behind_sign word place other out t c
-behind_sign_same None place site other out t c = refl
-behind_sign_same (Some word) place site other out t c = refl
+abbrev stands_so : Bool → Site → Site
+stands_so is_between site = record site { is_between = is_between }
+
+abbrev SignSame : Bool → Place → Site → Out → SourceToken → Behind → Type 0
+SignSame is_between place site out t s =
+    let signed : Behind → Behind = λ b. record b { judged = record b.judged { sign = sign_handed place s.judged.token } } in
+    signed (offered false (stands_so is_between site) out t s.now) ≡ signed (offered false site out t s.now)
+
+asked_same : (is_between : Bool) (ks : List Condition) (wanted : Bool) (place : Place) (site : Site) (out : Out) (t : SourceToken)
+    (p : Pending) (c : Conditions) → SignSame is_between place site out t (sign_asked ks wanted place site p c)
+asked_same is_between [] wanted place site out t p c = refl
+asked_same is_between (k ∷ ks) wanted place site out t p c =
+    let rest : Conditions = record c { conditions = ks } in
+    of_both (SignSame is_between place site out t) (fits grammar known (atom_of (hash place)) k.stack)
+    (asked_on wanted site (hash place) (condition_took (hash place) k) p rest) (unfit rest) (λ _. refl) (λ _. refl)
+
+awaited_same : (is_between : Bool) (a : Awaits) (place : Place) (site : Site) (out : Out) (t : SourceToken) (p : Pending) (c : Conditions) →
+    SignSame is_between place site out t (sign_awaited a place site p c)
+awaited_same is_between awaits.Word place site out t p c = refl
+awaited_same is_between (awaits.Name if_declared) place site out t p c = refl
+awaited_same is_between (awaits.Condition wanted) place site out t p c = asked_same is_between c.conditions wanted place site out t p c
+awaited_same is_between (awaits.End e) place site out t p c = refl
+
+sign_same : (is_between : Bool) (pending : List Pending) (place : Place) (site : Site) (out : Out) (t : SourceToken) (c : Conditions) →
+    SignSame is_between place site out t (sign_offered pending place site c)
+sign_same is_between [] place site out t c = refl
+sign_same is_between (p ∷ pending) place site out t c =
+    awaited_same is_between p.awaits place site out t p (record c { pending = pending })
+
+asks_same : (is_between : Bool) (ks : List Condition) (wanted : Bool) (place : Place) (site : Site) (p : Pending) (c : Conditions) →
+    sign_asked ks wanted place (stands_so is_between site) p c ≡ sign_asked ks wanted place site p c
+asks_same is_between [] wanted place site p c = refl
+asks_same is_between (k ∷ ks) wanted place site p c = refl
+
+awaits_same : (is_between : Bool) (a : Awaits) (place : Place) (site : Site) (p : Pending) (c : Conditions) →
+    sign_awaited a place (stands_so is_between site) p c ≡ sign_awaited a place site p c
+awaits_same is_between awaits.Word place site p c = refl
+awaits_same is_between (awaits.Name if_declared) place site p c = refl
+awaits_same is_between (awaits.Condition wanted) place site p c = asks_same is_between c.conditions wanted place site p c
+awaits_same is_between (awaits.End e) place site p c = refl
+
+offers_same : (is_between : Bool) (pending : List Pending) (place : Place) (site : Site) (c : Conditions) →
+    sign_offered pending place (stands_so is_between site) c ≡ sign_offered pending place site c
+offers_same is_between [] place site c = refl
+offers_same is_between (p ∷ pending) place site c = awaits_same is_between p.awaits place site p (record c { pending = pending })
+
+behind_sign_same : (is_between : Bool) (word : Option ConditionalWord) (place : Place) (site : Site) (out : Out) (t : SourceToken)
+    (c : Conditions) → behind_sign word place (stands_so is_between site) out t c ≡ behind_sign word place site out t c
+behind_sign_same is_between None place site out t c =
+    let here : Conditions = record c { sign = None } in
+    let signed : Behind → Behind = λ s.
+    let b = offered false (stands_so is_between site) out t s.now in
+    record b { judged = record b.judged { sign = sign_handed place s.judged.token } } in
+    ap signed (offers_same is_between c.pending place site here) ∙ sign_same is_between c.pending place site out t here
+behind_sign_same is_between (Some word) place site out t c = refl
 
 stands_same : (is_between : Bool) (x : Step) (place : Place) (c : Conditions) (inner among : List Conditional) (declared : ℕ) →
     (let held = state c (Some place) inner among None declared in
     judged (record x.at.site { is_between = is_between }) x.at.out x.at.token held ≡ judged_at x.at held)
 stands_same is_between x place c inner among declared =
-    behind_sign_same (word_of (keyword x.at.token)) place (record x.at.site { is_between = is_between }) x.at.site x.at.out x.at.token
+    behind_sign_same is_between (word_of (keyword x.at.token)) place x.at.site x.at.out x.at.token
     (state c (Some place) inner among None declared)
 
 standing_led : (is_between : Bool) (more : List Step) (w : List (List Conditional)) (c : Conditions) (place : Place)
@@ -553,47 +744,34 @@ frees_kept : (place : Place) (c : Conditions) (inner among : List Conditional) (
     (judged_at next (at (given_up_at c) inner among None declared)))
     × ((judged_at next (at (given_up_at c) inner among None declared)).judged ≡ none_handed)
 frees_kept place c inner among declared none next hash inside = (
-  hash_freed place next c [] inner among declared none hash inside,
+  hash_freed handed.Kept place next c inner among declared (sign_free place next.site c inner among declared none) hash inside,
   ap (λ (b : Behind). b.judged) (sign_inner next (given_up_at c) inner among declared (ap (λ b. b && true) inside) hash),
 )
 
-frees_unfit : (place : Place) (c : Conditions) (p : Pending) (others : List Pending) (inner among : List Conditional) (declared : ℕ) →
-    c.pending ≡ p ∷ others → (next : At) → is_mark mark.Hash next.token.kind ≡ true
+frees_unfit : (place : Place) (c : Conditions) (inner among : List Conditional) (declared : ℕ) →
+    ((site : Site) → GivesUp handed.Unfit place site c inner among declared) → (next : At) → is_mark mark.Hash next.token.kind ≡ true
     → next.site.is_between ≡ false
     → (judged_at next (state c (Some place) inner among None declared) ≡ with_sign handed.Unfit place
     (judged_at next (at (given_up_at c) inner among None declared)))
     × ((judged_at next (at (given_up_at c) inner among None declared)).judged ≡ none_handed)
-frees_unfit place c p others inner among declared some next hash inside = (
-  hash_freed place next c (p ∷ others) inner among declared some hash inside,
+frees_unfit place c inner among declared gives next hash inside = (
+  hash_freed handed.Unfit place next c inner among declared (gives next.site) hash inside,
   ap (λ (b : Behind). b.judged) (sign_inner next (given_up_at c) inner among declared (ap (λ b. b && true) inside) hash),
 )
 
 -- the end of the file hands it on
-end_frees : (place : Place) (end : At) (c : Conditions) (ps : List Pending) (inner among : List Conditional) (declared : ℕ) →
-    c.pending ≡ ps → is_end end.token.kind ≡ true
+end_frees : (h : Forwarded) (place : Place) (end : At) (c : Conditions) (inner among : List Conditional) (declared : ℕ) →
+    GivesUp h place end.site c inner among declared → is_end end.token.kind ≡ true
     → judged_at end (state c (Some place) inner among None declared)
     ≡ record {
       now = at (given_up_at c) inner among None declared;
       judged = record none_handed {
-        sign = Some (record { place = place; handed = cond (is_none_pending ps) handed.Kept handed.Unfit });
+        sign = Some (record { place = place; handed = h });
         token = Some handed.Kept;
       };
     }
-end_frees place end c ps inner among declared read is_last =
-    let here = at (given_up_at c) inner among None declared in
-    let signed : List Pending → Behind → Behind = λ ps b.
-    record b {
-      judged = record b.judged {
-        sign = Some (record {
-          place = place;
-          handed = cond (is_none_pending ps) handed.Kept handed.Unfit;
-        });
-      };
-    } in
-    ap (λ o. behind_sign o place end.site end.out end.token (state c (Some place) inner among None declared))
-    (end_word end.token is_last)
-    ∙ ap (signed c.pending) (end_kept_so false end.site end.out end.token here is_last refl)
-    ∙ ap (λ ps. signed ps (kept here)) read
+end_frees h place end c inner among declared gives is_last =
+    given_up_kept h place end c inner among declared gives (end_word end.token is_last) (end_is_no_hash end.token.kind is_last)
 
 record HashEnds (s : Around) (o : Sign) (sign : At) (c : Conditions) : Type 0 where
   then : Conditions
@@ -615,14 +793,16 @@ hash_last s sign c st outside is =
       then = now;
       held = held_back sign c now now e (ap (λ e. ended_behind e now) is.goes_on, ap (λ e. ended_places e inner) is.goes_on);
       ends = record {
-        base = given_up_at st.base;
+        base = λ end. given_up_at st.base;
+        said = λ end. None;
         stand = AllStay s.inside s.between st.inside_kept st.between_kept;
         declared = st.declared;
-        none_read = refl;
+        none_read = λ end. refl;
         stack = refl;
         inner = refl;
         among = refl;
-        at_end = λ end is_last. end_frees place end st.base [] inner among st.declared st.none_read is_last;
+        at_end = λ end is_last. end_frees handed.Kept place end st.base inner among st.declared
+            (sign_free place end.site st.base inner among st.declared st.none_read) is_last;
       };
     }
 
@@ -696,10 +876,11 @@ left_ends r last w c is_inner signs o h e left none are few free none_read offer
     record {
       led = p.led;
       ends = record {
-        base = free;
+        base = λ end. free;
+        said = λ end. None;
         stand = st;
         declared = p.declared;
-        none_read = none_read;
+        none_read = λ end. none_read;
         stack = e.stack;
         inner = ap (λ (x : Conditions). x.inner) p.behind;
         among = ap (λ (x : Conditions). x.among) p.behind;
@@ -709,7 +890,7 @@ left_ends r last w c is_inner signs o h e left none are few free none_read offer
       };
     }
 
-cut_left_unfit : (d : Answers) (outer : List Unfinished) (u : Unfinished) (s : Around) (last : Last) (toks : List At) (alone : List Place)
+cut_left_unfit : (d : Answers) (outer : List Outer) (u : Unfinished) (s : Around) (last : Last) (toks : List At) (alone : List Place)
     (w : List (List Conditional)) (c : Conditions) (is_inner : Bool) (signs : List At) → HasWord u → AllBegun d outer u s last toks alone c
     → all_kept last.around ≡ false → NoneInside is_inner last.around → AreHashes is_inner signs → last.levels + length signs ≤ most_levels
     → LeftEnds None handed.Unfit last.around w signs (all_behind toks c)
@@ -720,7 +901,7 @@ cut_left_unfit d outer u s last toks alone w c is_inner signs so b left none are
     (λ declared end is_last. unfit_there d s outer u last toks alone c b declared false end (end_is_no_hash end.token.kind is_last)
     (end_cuts d s outer u end so is_last))
 
-cut_left : (d : Answers) (outer : List Unfinished) (u : Unfinished) (s : Around) (last : Last) (toks : List At) (alone : List Place)
+cut_left : (d : Answers) (outer : List Outer) (u : Unfinished) (s : Around) (last : Last) (toks : List At) (alone : List Place)
     (w : List (List Conditional)) (c : Conditions) (is_inner : Bool) (signs : List At) → AllBegun d outer u s last toks alone c
     → all_kept last.around ≡ false → NoneInside is_inner last.around → AreHashes is_inner signs → last.levels + length signs ≤ most_levels
     → LeftEnds (begun_sign u) (begun_handed u) last.around w signs (all_behind toks c)
@@ -761,44 +942,11 @@ end_is_handed (HashLast parts sign) end = refl
 end_is_handed (HashThen parts sign more) end = end_is_handed more end
 end_is_handed (HashesLeft parts is_inner signs) end = refl
 end_is_handed (CutHashesLeft parts outer u is_inner signs) end = begun_is_handed u end
-end_is_handed (CutHashLast parts outer u sign) end = refl
-end_is_handed (CutHashThen parts outer u sign is_between more) end = end_is_handed more end
+end_is_handed (CutHashLast parts outer u taken sign) end = refl
+end_is_handed (CutTakenLast parts outer u taken sign) end = refl
+end_is_handed (CutHashThen parts outer u taken sign is_between more) end = end_is_handed more end
 end_is_handed (Breaking parts outer u misfit more) end = end_is_handed more end
 end_is_handed (Including parts t f leaving more) end = end_is_handed more end
-
--- where a `#` cuts a directive
-record CutHash (s : Around) (sign : At) (c : Conditions) : Type 0 where
-  base : Conditions
-  p : Pending
-  others : List Pending
-  declared : ℕ
-  inside_kept : are_kept s.inside ≡ true
-  between_kept : are_kept s.between ≡ true
-  read : base.pending ≡ p ∷ others
-  held : HeldBack sign c (state base (Some sign.token.place) (conditionals s.inside) (conditionals s.between) None declared)
-
-cut_hash : (d : Answers) (outer : List Unfinished) (u : Unfinished) (s : Around) (last : Last) (toks : List At) (alone : List Place)
-    (c : Conditions) (sign : At) → AllBegun d outer u s last toks alone c → IsSign true sign
-    → all_kept last.around ≡ true → CutHash last.around sign (all_behind toks c)
-cut_hash d outer u s last toks alone c sign b is all =
-    let there = all_behind toks c in
-    let k = kept_at b.p b.others b.ks last there b.led.ends all in
-    let inner = conditionals last.around.inside in
-    let among = conditionals last.around.between in
-    let base = record k.base { pending = b.p ∷ b.others; conditions = b.ks } in
-    let then = state base (Some sign.token.place) inner among None last.declared in
-    record {
-      base = base;
-      p = b.p;
-      others = b.others;
-      declared = last.declared;
-      inside_kept = k.inside_kept;
-      between_kept = k.between_kept;
-      read = refl;
-      held =
-          held_back sign there then then (ap (judged_at sign) k.is ∙ sign_cut sign base b.p b.others inner among last.declared refl is.is)
-          (ap (λ e. ended_behind e then) is.goes_on, ap (λ e. ended_places e inner) is.goes_on);
-    }
 
 free_begun : (s : Around) (base : Conditions) (declared : ℕ) → are_kept s.inside ≡ true → are_kept s.between ≡ true
     → Begun s (at (given_up_at base) (conditionals s.inside) (conditionals s.between) None declared)
@@ -809,7 +957,7 @@ record FilesLed (d : Answers) (f : Files) (s : Around) (c : Nested) : Type 0 whe
   ends : EndsIn (end_sign f) (end_handed f) (behind_files d s f) c.waiting (steps_behind (steps f) c)
 
 -- a directive that is not whole, behind parts
-record BrokenLed (d : Answers) (s : Around) (c : Nested) (parts : Parts) (outer : List Unfinished)
+record BrokenLed (d : Answers) (s : Around) (c : Nested) (parts : Parts) (outer : List Outer)
     (u : Unfinished) : Type 0 where
   led : StepsLed (map staying (all_begun_tokens outer u)) (tokens_behind (all_tokens parts) c) []
       (told_all_begun d (behind_parts d s parts) outer u)
@@ -819,7 +967,7 @@ record BrokenLed (d : Answers) (s : Around) (c : Nested) (parts : Parts) (outer 
   begun : AllBegun d outer u (behind_parts d s parts) last (all_begun_tokens outer u) (told_all_begun d (behind_parts d s parts) outer u)
       (all_behind (all_tokens parts) c.now)
 
-broken_led : (d : Answers) (s : Around) (c : Nested) (parts : Parts) (outer : List Unfinished)
+broken_led : (d : Answers) (s : Around) (c : Nested) (parts : Parts) (outer : List Outer)
     (u : Unfinished) → Stretch d s c parts
     → HaveBegun d (behind_parts d s parts) (declared_tokens (all_tokens parts) c.now.declared) (length (all_tokens parts)) outer u
     → BrokenLed d s c parts outer u
@@ -836,6 +984,16 @@ broken_led d s c parts outer u first has =
       levels = refl;
       begun = b;
     }
+
+-- with those behind it that its condition takes
+taken_led : (toks taken : List At) (w : List (List Conditional)) (c : Conditions) (told : List Place) → all_handed_on toks c ≡ []
+    → all_told toks c ≡ told → all_handed_on taken (all_behind toks c) ≡ [] → all_told taken (all_behind toks c) ≡ []
+    → StepsLed (map staying (toks ++ taken)) (nested_in w c) [] told
+taken_led toks taken w c told hands tells none_handed_on none_told =
+    let there = all_behind toks c in
+    staying_led (toks ++ taken) (nested_in w c) [] told
+    (hands_of_both toks taken c ∙ ap (λ hs. hs ++ all_handed_on taken there) hands ∙ none_handed_on)
+    (tells_of_both toks taken c ∙ ap (λ ps. ps ++ all_told taken there) tells ∙ ap (λ ps. told ++ ps) none_told ∙ append-nil told)
 
 files_led : (d : Answers) (f : Files) (s : Around) (c : Nested) → Begun s c.now → AreFiles d s c f → FilesLed d f s c
 files_led d (Alone parts) s c b are =
@@ -979,41 +1137,51 @@ files_led d (CutHashesLeft parts outer u is_inner signs) s c b are =
             waits = refl;
           });
     }
-files_led d (CutHashLast parts outer u sign) s c b are =
+files_led d (CutHashLast parts outer u taken sign) s c b are =
     let w = c.waiting in
     let first = stretch d s c parts b are.0 in
     let broken = broken_led d s c parts outer u first are.1.0 in
     let tokens = all_tokens parts in
-    let toks = all_begun_tokens outer u in
+    let begun_toks = all_begun_tokens outer u in
+    let toks = begun_toks ++ taken in
     let c_here = all_behind tokens c.now in
-    let there = all_behind toks c_here in
+    let before = all_behind begun_toks c_here in
+    let there = all_behind taken before in
     let last = broken.last in
+    let declared = last.declared in
     let here = behind_all_begun d (behind_parts d s parts) outer u in
     let alone = told_all_begun d (behind_parts d s parts) outer u in
-    let k : CutHash here sign there =
-    subst (λ (x : Around). CutHash x sign there) broken.around
-    (cut_hash d outer u (behind_parts d s parts) last toks alone c_here sign broken.begun are.1.1.1
-    (ap all_kept broken.around ∙ are.1.1.0)) in
+    let u_led = broken.begun in
+    let is_so = UnfitSo u_led.p u_led.others sign declared in
+    let k : CutHash u_led.p u_led.others taken here declared sign before is_so =
+    subst (λ (x : Around). CutHash u_led.p u_led.others taken x declared sign before is_so) broken.around
+    (hash_cuts d outer u (behind_parts d s parts) last begun_toks alone c_here taken sign u_led
+    (ap all_kept broken.around ∙ are.1.1.0) are.1.1.1.0 are.1.1.1.1.0 are.1.1.1.1.1) in
+    let f = k.further in
     let inner = conditionals here.inside in
     let among = conditionals here.between in
     let place = sign.token.place in
-    let then = state k.base (Some place) inner among None k.declared in
+    let base : Conditions = record f.taken_so.base { pending = u_led.p ∷ u_led.others; conditions = f.ks } in
+    let then = state base (Some place) inner among None declared in
     let ends : EndsAs (Some (sign_as handed.Unfit sign)) handed.Kept here then =
     record {
-      base = given_up_at k.base;
+      base = λ end. given_up_at base;
+      said = λ end. None;
       stand = AllStay here.inside here.between k.inside_kept k.between_kept;
-      declared = k.declared;
-      none_read = refl;
+      declared = declared;
+      none_read = λ end. refl;
       stack = refl;
       inner = refl;
       among = refl;
-      at_end = λ end is_last. end_frees place end k.base (k.p ∷ k.others) inner among k.declared k.read is_last;
+      at_end = λ end is_last. end_frees handed.Unfit place end base inner among declared (f.is end.site) is_last;
     } in
     let given = map as_kept (kept_sides d s parts) in
     let to_here = behind_staying tokens c in
-    let to_there = behind_staying toks (nested_in w c_here) in
+    let to_there = behind_staying toks (nested_in w c_here) ∙ ap (nested_in w) (behind_of_both begun_toks taken c_here) in
+    let broken_so =
+    taken_led begun_toks taken w c_here alone u_led.led.hands u_led.led.tells f.taken_so.hands f.taken_so.tells in
     let second : StepsLed (map staying toks ++ staying sign ∷ []) (nested_in w c_here) [] (alone ++ []) =
-    joined (map staying toks) (staying sign ∷ []) (nested_in w c_here) [] [] alone [] broken.led
+    joined (map staying toks) (staying sign ∷ []) (nested_in w c_here) [] [] alone [] broken_so
     (subst (λ (x : Nested). StepsLed (staying sign ∷ []) x [] []) (sym to_there)
     (held_led sign [] w there then [] [] k.held (record { hands = refl; tells = refl }))) in
     let both =
@@ -1029,45 +1197,120 @@ files_led d (CutHashLast parts outer u sign) s c b are =
           ∙ ap (steps_behind (staying sign ∷ [])) to_there
           ∙ ap (nested_in w) k.held.next)) (record { ends = ends; waits = refl });
     }
-files_led d (CutHashThen parts outer u sign is_between more) s c b are =
+files_led d (CutTakenLast parts outer u taken sign) s c b are =
     let w = c.waiting in
     let first = stretch d s c parts b are.0 in
     let broken = broken_led d s c parts outer u first are.1.0 in
     let tokens = all_tokens parts in
-    let toks = all_begun_tokens outer u in
+    let begun_toks = all_begun_tokens outer u in
+    let toks = begun_toks ++ taken in
     let c_here = all_behind tokens c.now in
-    let there = all_behind toks c_here in
+    let before = all_behind begun_toks c_here in
+    let there = all_behind taken before in
     let last = broken.last in
+    let declared = last.declared in
     let here = behind_all_begun d (behind_parts d s parts) outer u in
     let alone = told_all_begun d (behind_parts d s parts) outer u in
-    let k : CutHash here sign there =
-    subst (λ (x : Around). CutHash x sign there) broken.around
-    (cut_hash d outer u (behind_parts d s parts) last toks alone c_here sign broken.begun are.1.1.0.is_sign
-    (ap all_kept broken.around ∙ are.1.1.0.is_kept)) in
+    let u_led = broken.begun in
+    let holds : Condition → Type 0 = λ k. Unit {0} in
+    let is_so = TakenSo u_led.p sign holds in
+    let k : CutHash u_led.p u_led.others taken here declared sign before is_so =
+    subst (λ (x : Around). CutHash u_led.p u_led.others taken x declared sign before is_so) broken.around
+    (hash_taken d outer u (behind_parts d s parts) last begun_toks alone c_here taken sign holds u_led
+    (ap all_kept broken.around ∙ are.1.1.0) are.1.1.1.0 are.1.1.1.1.0 are.1.1.1.1.1) in
+    let f = k.further in
     let inner = conditionals here.inside in
     let among = conditionals here.between in
     let place = sign.token.place in
-    let then = state k.base (Some place) inner among None k.declared in
-    let free = at (given_up_at k.base) inner among None k.declared in
+    let base : Conditions = record f.taken_so.base { pending = u_led.p ∷ u_led.others; conditions = f.ks } in
+    let then = state base (Some place) inner among None declared in
+    let now = condition_taken sign f.is.k in
+    let rest : Conditions = record f.taken_so.base { pending = u_led.others; conditions = f.is.others } in
+    let ends : EndsAs (Some (sign_as handed.Condition sign)) handed.Unfit here then =
+    record {
+      base = λ end. given_up_at (counted end.site.is_quiet now rest);
+      said = λ end. cond end.site.is_quiet None (too_much end.site.longest (hash place) now);
+      stand = AllStay here.inside here.between k.inside_kept k.between_kept;
+      declared = declared;
+      none_read = λ end. refl;
+      stack = refl;
+      inner = refl;
+      among = refl;
+      at_end =
+          λ end is_last. behind_end_unfit u_led.p u_led.others f.ks sign holds f.is end f.taken_so.base inner among declared is_last;
+    } in
+    let given = map as_kept (kept_sides d s parts) in
+    let to_here = behind_staying tokens c in
+    let to_there = behind_staying toks (nested_in w c_here) ∙ ap (nested_in w) (behind_of_both begun_toks taken c_here) in
+    let broken_so =
+    taken_led begun_toks taken w c_here alone u_led.led.hands u_led.led.tells f.taken_so.hands f.taken_so.tells in
+    let second : StepsLed (map staying toks ++ staying sign ∷ []) (nested_in w c_here) [] (alone ++ []) =
+    joined (map staying toks) (staying sign ∷ []) (nested_in w c_here) [] [] alone [] broken_so
+    (subst (λ (x : Nested). StepsLed (staying sign ∷ []) x [] []) (sym to_there)
+    (held_led sign [] w there then [] [] k.held (record { hands = refl; tells = refl }))) in
+    let both =
+    joined (map staying tokens) (map staying toks ++ staying sign ∷ []) c given [] (told_parts d s parts) (alone ++ []) first.led
+    (subst (λ (x : Nested). StepsLed (map staying toks ++ staying sign ∷ []) x [] (alone ++ [])) (sym to_here) second) in
+    record {
+      led = record { hands = both.hands ∙ append-nil given; tells = both.tells ∙ ap (λ ps. told_parts d s parts ++ ps) (append-nil alone) };
+      ends = subst (λ (x : Nested). EndsIn (Some (sign_as handed.Condition sign)) handed.Unfit here w x)
+          (sym
+          (behind_both (map staying tokens) (map staying toks ++ staying sign ∷ []) c
+          ∙ ap (steps_behind (map staying toks ++ staying sign ∷ [])) to_here
+          ∙ behind_both (map staying toks) (staying sign ∷ []) (nested_in w c_here)
+          ∙ ap (steps_behind (staying sign ∷ [])) to_there
+          ∙ ap (nested_in w) k.held.next)) (record { ends = ends; waits = refl });
+    }
+files_led d (CutHashThen parts outer u taken sign is_between more) s c b are =
+    let w = c.waiting in
+    let first = stretch d s c parts b are.0 in
+    let broken = broken_led d s c parts outer u first are.1.0 in
+    let tokens = all_tokens parts in
+    let begun_toks = all_begun_tokens outer u in
+    let toks = begun_toks ++ taken in
+    let c_here = all_behind tokens c.now in
+    let before = all_behind begun_toks c_here in
+    let there = all_behind taken before in
+    let last = broken.last in
+    let declared = last.declared in
+    let here = behind_all_begun d (behind_parts d s parts) outer u in
+    let alone = told_all_begun d (behind_parts d s parts) outer u in
+    let u_led = broken.begun in
+    let is_so = UnfitSo u_led.p u_led.others sign declared in
+    let k : CutHash u_led.p u_led.others taken here declared sign before is_so =
+    subst (λ (x : Around). CutHash u_led.p u_led.others taken x declared sign before is_so) broken.around
+    (hash_cuts d outer u (behind_parts d s parts) last begun_toks alone c_here taken sign u_led
+    (ap all_kept broken.around ∙ are.1.1.0.is_kept) are.1.1.1.0.0 are.1.1.0.is_sign are.1.1.1.0.1) in
+    let f = k.further in
+    let inner = conditionals here.inside in
+    let among = conditionals here.between in
+    let place = sign.token.place in
+    let base : Conditions = record f.taken_so.base { pending = u_led.p ∷ u_led.others; conditions = f.ks } in
+    let then = state base (Some place) inner among None declared in
+    let free = at (given_up_at base) inner among None declared in
     let frees : released (going_on sign there) ≡ free = ap released k.held.next in
     let begun =
-    subst (λ (x : Conditions). Begun here x) (sym frees) (free_begun here k.base k.declared k.inside_kept k.between_kept) in
-    let rest = files_led d more here (nested_in w (released (going_on sign there))) begun are.1.1.1 in
+    subst (λ (x : Conditions). Begun here x) (sym frees) (free_begun here base declared k.inside_kept k.between_kept) in
+    let rest = files_led d more here (nested_in w (released (going_on sign there))) begun
+    (subst (λ (x : Conditions). AreFiles d here (nested_in w (released (going_on sign x))) more) (behind_of_both begun_toks taken c_here)
+    are.1.1.1.1) in
     let given = handed_files d here more in
     let others = told_files d here more in
     let on =
-    led_on handed.Unfit place (steps more) w then free given others (frees_unfit place k.base k.p k.others inner among k.declared k.read)
+    led_on handed.Unfit place (steps more) w then free given others (frees_unfit place base inner among declared f.is)
     are.1.1.0.follows
     (subst (λ (x : Conditions). StepsLed (steps more) (nested_in w x) given others) frees rest.led) in
     let coming = standing is_between (steps more) in
     let to_here = behind_staying tokens c in
-    let to_there = behind_staying toks (nested_in w c_here) in
+    let to_there = behind_staying toks (nested_in w c_here) ∙ ap (nested_in w) (behind_of_both begun_toks taken c_here) in
+    let broken_so =
+    taken_led begun_toks taken w c_here alone u_led.led.hands u_led.led.tells f.taken_so.hands f.taken_so.tells in
     let second : StepsLed (map staying toks ++ staying sign ∷ coming) (nested_in w c_here) (as_unfit (hash place) ∷ given)
     (alone ++ others) =
-    joined (map staying toks) (staying sign ∷ coming) (nested_in w c_here) [] (as_unfit (hash place) ∷ given) alone others broken.led
+    joined (map staying toks) (staying sign ∷ coming) (nested_in w c_here) [] (as_unfit (hash place) ∷ given) alone others broken_so
     (subst (λ (x : Nested). StepsLed (staying sign ∷ coming) x (as_unfit (hash place) ∷ given) others) (sym to_there)
     (held_led sign coming w there then (as_unfit (hash place) ∷ given) others k.held
-    (standing_led is_between (steps more) w k.base place inner among k.declared (as_unfit (hash place) ∷ given) others on.led))) in
+    (standing_led is_between (steps more) w base place inner among declared (as_unfit (hash place) ∷ given) others on.led))) in
     record {
       led = joined (map staying tokens) (map staying toks ++ staying sign ∷ coming) c (map as_kept (kept_sides d s parts))
           (as_unfit (hash place) ∷ given) (told_parts d s parts) (alone ++ others) first.led
@@ -1080,7 +1323,7 @@ files_led d (CutHashThen parts outer u sign is_between more) s c b are =
           ∙ behind_both (map staying toks) (staying sign ∷ coming) (nested_in w c_here)
           ∙ ap (steps_behind (staying sign ∷ coming)) to_there
           ∙ ap (λ (x : Conditions). steps_behind coming (nested_in w x)) k.held.next
-          ∙ standing_same is_between (steps more) w k.base place inner among k.declared
+          ∙ standing_same is_between (steps more) w base place inner among declared
           ∙ on.behind
           ∙ ap (λ (x : Conditions). steps_behind (steps more) (nested_in w x)) (sym frees))) rest.ends;
     }
@@ -1255,11 +1498,19 @@ included_nested : (sources : Sources) (o : Choices) (unit : Place) (text : List 
 included_nested sources o unit text (Opens name) s = refl
 included_nested sources o unit text (OpensNone why) s = none_nested unit text why s
 
+-- the character set changes no conditional of the files that wait
+same_conditionals : (set : CharSet) (waiting : List Waiting) →
+    map (λ (w : Waiting). w.conditionals) (map (waiting_with set) waiting) ≡ map (λ (w : Waiting). w.conditionals) waiting
+same_conditionals set [] = refl
+same_conditionals set (w ∷ waiting) = ap (λ (cs : List (List Conditional)). w.conditionals ∷ cs) (same_conditionals set waiting)
+
 asked_nested : (a : Request) (sources : Sources) (o : Choices) (s : State) →
     nested (answered a sources o (asked_nothing s)) ≡ passed_files (asked_passage a sources o s) (nested s)
 asked_nested (Include text unit) sources o s =
     included_nested sources o unit text (inclusion sources o.directories text s.nesting) (asked_nothing s)
 asked_nested End sources o s = refl
+asked_nested (Characters set) sources o s =
+    ap (λ (cs : List (List Conditional)). nested_in cs s.conditions) (same_conditionals set s.nesting.waiting)
 asked_nested Nothing sources o s = refl
 
 left_nested : (ws : List Waiting) (s : State) → s.nesting.waiting ≡ ws

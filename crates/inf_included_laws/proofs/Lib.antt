@@ -1,2 +1,3 @@
 pub mod IncludedFiles
+pub mod Signs
 pub mod Unfinished

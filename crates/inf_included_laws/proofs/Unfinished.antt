@@ -12,6 +12,7 @@ use Rattle.inf_grammar.specs.Language.{grammar, known}
 use Rattle.inf_unit.specs.Tokens.{SourceToken, atom_of, is_end, is_mark, keyword}
 use Rattle.inf_conditionals.specs.Condition.{Condition, condition_begun, condition_took}
 use Rattle.inf_conditionals.specs.declared.filtered.Forwarded.TheVariants as handed
+use Rattle.inf_conditionals.specs.declared.filtered.Site.{Site}
 use Rattle.inf_sources.specs.declared.open_file.Conditional.{Conditional}
 use Rattle.inf_conditionals.specs.declared.pending.Awaits.{Awaits}
 use Rattle.inf_conditionals.specs.declared.pending.Awaits.TheVariants as awaits
@@ -20,30 +21,37 @@ use Rattle.inf_conditionals.specs.declared.pending.Effect.TheVariants as effect
 use Rattle.inf_conditionals.specs.declared.pending.Pending.{Pending}
 use Rattle.inf_conditionals.specs.declared.words.ConditionalWord.{ConditionalWord}
 use Rattle.inf_conditionals.specs.declared.words.ConditionalWord.TheVariants as word
-use Rattle.inf_conditionals.specs.Judging.{Behind, behind_front, behind_sign, begun, is_none_pending, effected, is_kept, kept, held, named}
-use Rattle.inf_conditionals.specs.Judging.{none_handed, awaiting, offered, passed, passed_by, unfit, went_on}
+use Rattle.inf_conditionals.specs.Judging.{Behind, asked_on, awaiting, behind_front, begun, effected, held, is_kept, is_none_pending}
+use Rattle.inf_conditionals.specs.Judging.{named, none_handed, offered, passed, passed_by, unfit, went_on}
 use Rattle.inf_conditionals.specs.Open.{Conditions, most_levels}
 use Rattle.inf_conditionals.specs.Words.{word_of}
 use Rattle.inf_conditionals.specs.declared.open.LeftOut.{LeftOut}
 use Rattle.inf_conditionals.proofs.Misfits.{end_fits_nothing}
-use Rattle.inf_side_laws.specs.KeptSides.{Answers, AreParts, Around, At, First, Follows, IsFirst, IsSignedPlain, NoneInside}
+use Rattle.inf_reader.specs.Handing.{hash}
+use Rattle.inf_side_laws.specs.KeptSides.{Answers, AreParts, Around, At, First, Follows, IsFirst, NoneInside}
 use Rattle.inf_side_laws.specs.KeptSides.{NoneInsideFirst, Parts, all_behind, all_handed_on, all_kept, all_tokens, all_told, are_kept}
 use Rattle.inf_side_laws.specs.KeptSides.{asking, begins, behind_name, behind_parts, closed, declared_behind, declared_first}
 use Rattle.inf_side_laws.specs.KeptSides.{declared_tokens, ended_behind, first_tokens, judged_at, kept_sides, missing_in, opening}
 use Rattle.inf_side_laws.specs.KeptSides.{placed_word, signed_tokens, told_parts, turned}
-use Rattle.inf_included_laws.specs.Unfinished.{Request, AreBegun, AreCutBy, AreHashes, Closes, Fronting, FrontingWord, GoOn, HasWord}
-use Rattle.inf_included_laws.specs.Unfinished.{HashesBefore, IsBegun, IsCutBy, Named, Turns, Unfinished, Unnamed, all_begun_tokens}
-use Rattle.inf_included_laws.specs.Unfinished.{behind_all_begun, behind_begun, begun_tokens, condition_so, told_all_begun, told_begun}
+use Rattle.inf_included_laws.specs.Unfinished.{Request, AreBegun, AreCutBy, AreCutBySign, AreHashes, AreSignTaken, Closes, Fronting}
+use Rattle.inf_included_laws.specs.Unfinished.{FrontingWord, GoOn, HasWord, HashesBefore, IsBegun, IsCutBy, IsSignCut, Named, OfCondition}
+use Rattle.inf_included_laws.specs.Unfinished.{Outer, Takes, TakesSigns, Turns, Unfinished, Unnamed, all_begun_tokens, behind_all_begun}
+use Rattle.inf_included_laws.specs.Unfinished.{behind_begun, begun_tokens, condition_so, first_at, told_all_begun, told_begun}
+use Rattle.inf_included_laws.proofs.Signs.{HasAsked, SignsTaken, asked_unfit, asks_at, behind_asked, behind_signs, behind_unfit}
+use Rattle.inf_included_laws.proofs.Signs.{condition_taken, same_token, signs_declare, signs_taken}
 use Rattle.inf_side_laws.proofs.AskingWords.{asking_fits}
-use Rattle.inf_side_laws.proofs.KeptSides.{AllStay, CalmLeft, Hands, Holds, InnerLeft, Last, Led, LeftLed, OuterLeft, Reader, Reads, Stands}
-use Rattle.inf_side_laws.proofs.KeptSides.{StandsAt, TakesAll, among_of, at, awaits_it, begins_kept, begun_asking, begun_opening}
-use Rattle.inf_side_laws.proofs.KeptSides.{behind_both, both_kept, calm_at, closes_left, conditionals, declared_behind_first, declared_both}
+use Rattle.inf_side_laws.proofs.KeptSides.{AllStay, CalmLeft, GivesUp, Hands, Holds, InnerLeft, Last, Led, LeftLed, OuterLeft, Reader}
+use Rattle.inf_side_laws.proofs.KeptSides.{Reads, Stands, StandsAt, TakesAll, among_of, at, awaits_it, begins_kept, begun_asking}
+use Rattle.inf_side_laws.proofs.KeptSides.{begun_opening}
+use Rattle.inf_side_laws.proofs.KeptSides.{behind_both, behind_taken, both_kept, calm_at, closes_left, conditionals}
+use Rattle.inf_side_laws.proofs.KeptSides.{declared_behind_first, declared_both}
 use Rattle.inf_side_laws.proofs.KeptSides.{directive, end_is_no_hash, end_word, ended_stands, ended_told, fewer, front_led, goes_by}
 use Rattle.inf_side_laws.proofs.KeptSides.{hands_both, inner_not_kept, inner_of, kept_at, last_at, last_behind, led, left_at, left_of}
 use Rattle.inf_side_laws.proofs.KeptSides.{length_both, levels_of, mid, mids_of, name_kept, none_open, not_kept, nothing_handed}
-use Rattle.inf_side_laws.proofs.KeptSides.{outer_front, passes, read_condition, read_on, reading, reads_none, relaxed, same_first}
+use Rattle.inf_side_laws.proofs.KeptSides.{outer_front, passes, read_condition, read_on, reading, reads_none, relaxed, same_behind}
+use Rattle.inf_side_laws.proofs.KeptSides.{same_first, same_hands, same_tells}
 use Rattle.inf_side_laws.proofs.KeptSides.{sign_inner, sign_kept, sign_left, some_open, stack_of, stands_at, state, takes_none, tells_both}
-use Rattle.inf_side_laws.proofs.KeptSides.{turns_left, with_condition, within, within_led}
+use Rattle.inf_side_laws.proofs.KeptSides.{turns_left, with_condition, with_sign, within, within_led}
 
 -- what the innermost one waits for
 abbrev IsAwaited : Unfinished → Awaits → Type 0
@@ -327,10 +335,10 @@ record FirstIs (first : First) (tokens : List At) : Type 0 where
   is : first_tokens first tokens ≡ next ∷ rest
   hash : is_mark mark.Hash next.token.kind ≡ true
 
-first_is : (is_inner : Bool) (first : First) (tokens : List At) → Follows false is_inner first.sign → FirstIs first tokens
+first_is : (is_inner : Bool) (first : First) (tokens : List At) → Follows false is_inner false first.sign → FirstIs first tokens
 first_is is_inner first tokens follows = go first.sign refl follows
   where
-    go : (sign : Option At) → first.sign ≡ sign → Follows false is_inner sign → FirstIs first tokens
+    go : (sign : Option At) → first.sign ≡ sign → Follows false is_inner false sign → FirstIs first tokens
     go None e follows = absurd follows
     go (Some next) e follows =
         record { next = next; rest = first.word ∷ tokens; is = ap (λ o. signed_tokens o (first.word ∷ tokens)) e; hash = follows }
@@ -651,17 +659,104 @@ begun_led d (FrontingWord sign parts u) Hands s declared n c e are few =
       alone = are.1.1.1.1.1.0;
     }
 
+-- The `#`s that a condition takes between one and the next
+
+of_condition : (d : Answers) (s : Around) (u : Unfinished) (p : Pending) (ks : List Condition) (holds : Condition → Type 0)
+    → IsAwaited u p.awaits → HasCondition d s u ks → OfCondition d s u holds → HasAsked p ks holds
+of_condition d s (Request is_inner wanted first parts) p ks holds waits condition is = record {
+  wanted = wanted;
+  waits = waits;
+  k = condition_so first (kept_sides d s parts);
+  others = condition.0;
+  condition = condition.1;
+  is = is;
+}
+of_condition d s (FrontingWord front parts u) p ks holds waits condition is =
+    of_condition d (behind_parts d s parts) u p ks holds waits condition is
+of_condition d s (Unnamed is_inner if_declared first before) p ks holds waits condition is = absurd is
+of_condition d s (Named is_inner if_declared first before name behind) p ks holds waits condition is = absurd is
+of_condition d s (Turns is_inner hashes first parts) p ks holds waits condition is = absurd is
+of_condition d s (Closes is_inner hashes first parts) p ks holds waits condition is = absurd is
+of_condition d s (Fronting front parts) p ks holds waits condition is = absurd is
+
+record Between (p : Pending) (others : List Pending) (signs more : List At) (last : Last) (there : Conditions) : Type 0 where
+  ks : List Condition
+  from : Conditions
+  stands : StandsAt (Reads p others ks) last from
+  hands : all_handed_on (signs ++ more) there ≡ all_handed_on more from
+  tells : all_told (signs ++ more) there ≡ all_told more from
+  behind : all_behind (signs ++ more) there ≡ all_behind more from
+  declares : declared_tokens signs last.declared ≡ last.declared
+
+between_some : (p : Pending) (others : List Pending) (ks : List Condition) (signs : List At) (t : At) (rest : List At) (last : Last)
+    (there : Conditions) → StandsAt (Reads p others ks) last there → all_kept last.around ≡ true → AreHashes true signs
+    → HasAsked p ks (Takes signs (λ k. Unit {0})) → is_mark mark.Hash t.token.kind ≡ true
+    → Between p others signs (t ∷ rest) last there
+between_some p others ks signs t rest last there e all are h is =
+    let k = kept_at p others ks last there e all in
+    let inner = conditionals last.around.inside in
+    let among = conditionals last.around.between in
+    let then = behind_signs signs h.k ∷ h.others in
+    let start = asks_at p others ks k.base inner among last.declared in
+    let g = signs_taken p others ks signs t k.base inner among last.declared (λ k. Unit {0}) h are is in
+    let from = asks_at p others then g.base inner among last.declared in
+    let behind = all_behind signs start in
+    record {
+      ks = then;
+      from = from;
+      stands = record {
+        base = record g.base { pending = p ∷ others; conditions = then };
+        stand = AllStay last.around.inside last.around.between k.inside_kept k.between_kept;
+        holds = (refl, refl);
+        is = refl;
+        stack = refl;
+        few = omega arith;
+      };
+      hands =
+          ap (all_handed_on (signs ++ t ∷ rest)) k.is
+          ∙ hands_both signs (t ∷ rest) start
+          ∙ ap (λ hs. hs ++ all_handed_on (t ∷ rest) behind) g.hands
+          ∙ same_hands t rest behind from g.same;
+      tells =
+          ap (all_told (signs ++ t ∷ rest)) k.is
+          ∙ tells_both signs (t ∷ rest) start
+          ∙ ap (λ ps. ps ++ all_told (t ∷ rest) behind) g.tells
+          ∙ same_tells t rest behind from g.same;
+      behind =
+          ap (all_behind (signs ++ t ∷ rest)) k.is
+          ∙ behind_both signs (t ∷ rest) start
+          ∙ same_behind t rest behind from g.same;
+      declares = signs_declare signs last.declared are;
+    }
+
+between_led : (d : Answers) (u : Unfinished) (s : Around) (last : Last) (toks : List At) (places : List Place) (c : Conditions)
+    (b : Begun d u s last toks places c) (signs more : List At) → last.around ≡ behind_begun d s u
+    → TakesSigns d s u signs (first_at more) → Between b.p b.others signs more last (all_behind toks c)
+between_led d u s last toks places c b [] more stack takes = record {
+  ks = b.ks;
+  from = all_behind toks c;
+  stands = b.led.ends;
+  hands = refl;
+  tells = refl;
+  behind = refl;
+  declares = refl;
+}
+between_led d u s last toks places c b (sign ∷ signs) [] stack takes = absurd takes.1.1.1
+between_led d u s last toks places c b (sign ∷ signs) (t ∷ rest) stack takes =
+    between_some b.p b.others b.ks (sign ∷ signs) t rest last (all_behind toks c) b.led.ends (ap all_kept stack ∙ takes.0) takes.1.0
+    (of_condition d s u b.p b.ks (Takes (sign ∷ signs) (λ k. Unit {0})) b.waits_for b.condition takes.1.1.0) takes.1.1.1.0
+
 -- One in the other
 
-abbrev HasAllCondition : Answers → Around → List Unfinished → Unfinished → List Condition → Type 0
+abbrev HasAllCondition : Answers → Around → List Outer → Unfinished → List Condition → Type 0
 HasAllCondition d s [] u ks = HasCondition d s u ks
-HasAllCondition d s (x ∷ outer) u ks = HasAllCondition d (behind_begun d s x) outer u ks
+HasAllCondition d s (x ∷ outer) u ks = HasAllCondition d (behind_begun d s x.begun) outer u ks
 
-abbrev all_begun_last : Answers → List Unfinished → Unfinished → Around → ℕ → ℕ → Last
+abbrev all_begun_last : Answers → List Outer → Unfinished → Around → ℕ → ℕ → Last
 all_begun_last d outer u s declared n =
     last_at (behind_all_begun d s outer u) (declared_tokens (all_begun_tokens outer u) declared) (n + length (all_begun_tokens outer u))
 
-pub record AllBegun (d : Answers) (outer : List Unfinished) (u : Unfinished) (s : Around) (last : Last) (toks : List At)
+pub record AllBegun (d : Answers) (outer : List Outer) (u : Unfinished) (s : Around) (last : Last) (toks : List At)
     (places : List Place) (c : Conditions) : Type 0 where
   pub p : Pending
   pub others : List Pending
@@ -671,7 +766,7 @@ pub record AllBegun (d : Answers) (outer : List Unfinished) (u : Unfinished) (s 
   pub condition : HasAllCondition d s outer u ks
   pub alone : IsAlone u p others
 
-pub all_begun_led : (d : Answers) (outer : List Unfinished) (u : Unfinished) (r : Reader) (s : Around) (declared n : ℕ)
+pub all_begun_led : (d : Answers) (outer : List Outer) (u : Unfinished) (r : Reader) (s : Around) (declared n : ℕ)
     (c : Conditions) → StandsAt r (last_at s declared n) c → AreBegun d (within r) s declared outer u
     → n + length (all_begun_tokens outer u) ≤ most_levels → AllBegun d outer u s (all_begun_last d outer u s declared n)
     (all_begun_tokens outer u) (told_all_begun d s outer u) c
@@ -679,29 +774,37 @@ all_begun_led d [] u r s declared n c e are few =
     let is = begun_led d u r s declared n c e are few in
     record { p = is.p; others = is.others; ks = is.ks; led = is.led; waits_for = is.waits_for; condition = is.condition; alone = is.alone }
 all_begun_led d (x ∷ outer) u r s declared n c e are few =
-    let toks = begun_tokens x in
+    let toks = begun_tokens x.begun in
+    let signs = x.taken in
     let more = all_begun_tokens outer u in
-    let sum = length_both toks more in
-    let first = begun_led d x r s declared n c e are.0 (omega (arith, few, sum)) in
-    let l = begun_last d x s declared n in
+    let sum = length_both toks (signs ++ more) in
+    let sum_more = length_both signs more in
+    let first = begun_led d x.begun r s declared n c e are.0 (omega (arith, few, sum)) in
+    let l = begun_last d x.begun s declared n in
     let there = all_behind toks c in
-    let rest = all_begun_led d outer u (Reads first.p first.others first.ks) l.around l.declared l.levels there first.led.ends are.1
-    (omega (arith, few, sum)) in
+    let b = between_led d x.begun s l toks (told_begun d s x.begun) c first signs more refl are.1.0 in
+    let rest = all_begun_led d outer u (Reads first.p first.others b.ks) l.around l.declared l.levels b.from b.stands are.1.1
+    (omega (arith, few, sum, sum_more)) in
     let l2 = all_begun_last d outer u l.around l.declared l.levels in
     let q = Reads rest.p rest.others rest.ks in
-    let places = told_begun d s x ++ told_all_begun d l.around outer u in
-    let both : Led q (toks ++ more) c [] places l2 = record {
-      hands = hands_both toks more c ∙ ap (λ hs. hs ++ all_handed_on more there) first.led.hands ∙ rest.led.hands;
+    let places = told_begun d s x.begun ++ told_all_begun d l.around outer u in
+    let all = toks ++ (signs ++ more) in
+    let both : Led q all c [] places l2 = record {
+      hands =
+          hands_both toks (signs ++ more) c ∙ ap (λ hs. hs ++ all_handed_on (signs ++ more) there) first.led.hands
+          ∙ b.hands ∙ rest.led.hands;
       tells =
-          tells_both toks more c ∙ ap (λ ps. ps ++ all_told more there) first.led.tells ∙ ap (λ ps. told_begun d s x ++ ps) rest.led.tells;
-      ends = subst (λ (y : Conditions). StandsAt q l2 y) (sym (behind_both toks more c)) rest.led.ends;
+          tells_both toks (signs ++ more) c ∙ ap (λ ps. ps ++ all_told (signs ++ more) there) first.led.tells
+          ∙ ap (λ ps. told_begun d s x.begun ++ ps) (b.tells ∙ rest.led.tells);
+      ends = subst (λ (y : Conditions). StandsAt q l2 y) (sym (behind_both toks (signs ++ more) c ∙ b.behind)) rest.led.ends;
     } in
     record {
       p = rest.p;
       others = rest.others;
       ks = rest.ks;
-      led = relaxed q (toks ++ more) c [] places l2.around l2.declared (declared_tokens (toks ++ more) declared) l2.levels
-          (n + length (toks ++ more)) (sym (declared_both toks more declared)) (omega (arith, sum)) both;
+      led = relaxed q all c [] places l2.around l2.declared (declared_tokens all declared) l2.levels (n + length all)
+          (sym (declared_both toks (signs ++ more) declared ∙ declared_both signs more l.declared ∙ ap (declared_tokens more) b.declares))
+          (omega (arith, sum, sum_more)) both;
       waits_for = rest.waits_for;
       condition = rest.condition;
       alone = rest.alone;
@@ -798,17 +901,17 @@ cut_one d s (Fronting sign parts) p others ks base inner among declared front t 
 cut_one d s (FrontingWord sign parts u) p others ks base inner among declared front t waits condition no_hash cut =
     cut_one d (behind_parts d s parts) u p others ks base inner among declared front t waits condition no_hash cut
 
-cut_by : (d : Answers) (s : Around) (outer : List Unfinished) (u : Unfinished) (p : Pending) (others : List Pending) (ks : List Condition)
+cut_by : (d : Answers) (s : Around) (outer : List Outer) (u : Unfinished) (p : Pending) (others : List Pending) (ks : List Condition)
     (base : Conditions) (inner among : List Conditional) (declared : ℕ) (front : Bool) (t : At)
     → IsAwaited u p.awaits → HasAllCondition d s outer u ks → is_mark mark.Hash t.token.kind ≡ false → AreCutBy d s outer u t → IsUnfit p
     others ks base inner among declared front t
 cut_by d s [] u p others ks base inner among declared front t waits condition no_hash cut =
     cut_one d s u p others ks base inner among declared front t waits condition no_hash cut
 cut_by d s (x ∷ outer) u p others ks base inner among declared front t waits condition no_hash cut =
-    cut_by d (behind_begun d s x) outer u p others ks base inner among declared front t waits condition no_hash cut
+    cut_by d (behind_begun d s x.begun) outer u p others ks base inner among declared front t waits condition no_hash cut
 
 -- in the midst of directives, whose conditionals stand so
-pub unfit_there : (d : Answers) (s : Around) (outer : List Unfinished) (u : Unfinished) (last : Last) (toks : List At) (places : List Place)
+pub unfit_there : (d : Answers) (s : Around) (outer : List Outer) (u : Unfinished) (last : Last) (toks : List At) (places : List Place)
     (c : Conditions) (b : AllBegun d outer u s last toks places c) (declared : ℕ) (front : Bool) (t : At)
     → is_mark mark.Hash t.token.kind ≡ false → AreCutBy d s outer u t
     → (let e = b.led.ends in let st = e.stand in offered front t.site t.out t.token
@@ -824,7 +927,7 @@ unfit_there d s outer u last toks places c b declared front t no_hash cut =
     ∙ cut_by d s outer u b.p b.others b.ks e.base inner among declared front t b.waits_for b.condition no_hash cut
 
 -- one that is kept there
-pub cut_kept : (d : Answers) (s : Around) (outer : List Unfinished) (u : Unfinished) (last : Last) (toks : List At) (places : List Place)
+pub cut_kept : (d : Answers) (s : Around) (outer : List Outer) (u : Unfinished) (last : Last) (toks : List At) (places : List Place)
     (c : Conditions) (b : AllBegun d outer u s last toks places c) (t : At)
     → all_kept last.around ≡ true → is_mark mark.Hash t.token.kind ≡ false → AreCutBy d s outer u t → (base : Conditions)
     (inner among : List Conditional)
@@ -857,13 +960,13 @@ end_cuts_one d s (Request is_inner wanted first parts) t so is =
 end_cuts_one d s (Turns is_inner hashes first parts) t so is = ap (is_mark mark.Semicolon) (is_the_end t.token.kind is)
 end_cuts_one d s (Closes is_inner hashes first parts) t so is = ap (is_mark mark.Semicolon) (is_the_end t.token.kind is)
 
-pub end_cuts : (d : Answers) (s : Around) (outer : List Unfinished) (u : Unfinished) (t : At) → HasWord u → is_end t.token.kind ≡ true →
+pub end_cuts : (d : Answers) (s : Around) (outer : List Outer) (u : Unfinished) (t : At) → HasWord u → is_end t.token.kind ≡ true →
     AreCutBy d s outer u t
 end_cuts d s [] u t so is = end_cuts_one d s u t so is
-end_cuts d s (x ∷ outer) u t so is = end_cuts d (behind_begun d s x) outer u t so is
+end_cuts d s (x ∷ outer) u t so is = end_cuts d (behind_begun d s x.begun) outer u t so is
 
 -- whatever side is left out
-pub unfit_end : (d : Answers) (s : Around) (outer : List Unfinished) (u : Unfinished) (last : Last) (toks : List At) (places : List Place)
+pub unfit_end : (d : Answers) (s : Around) (outer : List Outer) (u : Unfinished) (last : Last) (toks : List At) (places : List Place)
     (c : Conditions) (b : AllBegun d outer u s last toks places c) (t : At) → HasWord u → is_end t.token.kind ≡ true
     → (let st = b.led.ends.stand in judged_at t (all_behind toks c) ≡ unfit_so
     (at (given_up_at b.led.ends.base) (inner_of st) (among_of st) None last.declared))
@@ -899,7 +1002,7 @@ kept_with sign now = record {
   };
 }
 
-pub front_there : (d : Answers) (s : Around) (outer : List Unfinished) (sign : At) (parts : Parts) (last : Last) (toks : List At)
+pub front_there : (d : Answers) (s : Around) (outer : List Outer) (sign : At) (parts : Parts) (last : Last) (toks : List At)
     (places : List Place) (c : Conditions) (b : AllBegun d outer (Fronting sign parts) s last toks places c)
     (declared : ℕ) (front : Bool) (t : At) → is_end t.token.kind ≡ true
     → (let e = b.led.ends in let st = e.stand in offered front t.site t.out t.token
@@ -917,7 +1020,7 @@ front_there d s outer sign parts last toks places c b declared front t is =
     (behind_front (word_of (keyword t.token)) t.token p cleared)) (end_is_no_hash t.token.kind is)
     ∙ ap (λ o. behind_front o t.token p cleared) (end_word t.token is)
 
-pub front_end_kept : (d : Answers) (s : Around) (outer : List Unfinished) (sign : At) (parts : Parts) (last : Last) (toks : List At)
+pub front_end_kept : (d : Answers) (s : Around) (outer : List Outer) (sign : At) (parts : Parts) (last : Last) (toks : List At)
     (places : List Place) (c : Conditions) (b : AllBegun d outer (Fronting sign parts) s last toks places c) (t : At)
     → is_end t.token.kind ≡ true
     → (let st = b.led.ends.stand in judged_at t (all_behind toks c) ≡ kept_with sign
@@ -948,18 +1051,137 @@ pub sign_cut : (t : At) (base : Conditions) (p : Pending) (others : List Pending
 sign_cut t base p others inner among declared read hash =
     sign_inner t base inner among declared (ap (λ ps. t.site.is_between && is_none_pending ps) read ∙ and-false t.site.is_between) hash
 
-pub sign_cut_so : (place : Place) (t : At) (base : Conditions) (p : Pending) (others : List Pending) (inner among : List Conditional)
-    (declared : ℕ) → IsSignedPlain t
-    → judged_at t (state (record base { pending = p ∷ others }) (Some place) inner among None declared)
-    ≡ record {
-      now = at (given_up_at base) inner among None declared;
-      judged = record none_handed
-          { sign = Some (record { place = place; handed = handed.Unfit }); token = Some handed.Kept };
+abbrev IsSignUnfit : Pending → List Pending → List Condition → Conditions → List Conditional → List Conditional → ℕ → Place → Site → Type 0
+IsSignUnfit p others ks base inner among declared place site =
+    GivesUp handed.Unfit place site (record base { pending = p ∷ others; conditions = ks }) inner among declared
+
+sign_cut_one : (d : Answers) (s : Around) (u : Unfinished) (p : Pending) (others : List Pending) (ks : List Condition) (base : Conditions)
+    (inner among : List Conditional) (declared : ℕ) (sign : At) (site : Site)
+    → IsAwaited u p.awaits → HasCondition d s u ks → IsSignCut d s u sign → IsSignUnfit p others ks base inner among declared
+    sign.token.place site
+sign_cut_one d s (Unnamed is_inner if_declared first before) p others ks base inner among declared sign site waits condition cut =
+    subst (λ (a : Awaits). IsSignUnfit (directive p.is_inner p.place a) others ks base inner among declared sign.token.place site)
+    (sym waits) refl
+sign_cut_one d s (Named is_inner if_declared first before name behind) p others ks base inner among declared sign site waits condition cut =
+    subst (λ (a : Awaits). IsSignUnfit (directive p.is_inner p.place a) others ks base inner among declared sign.token.place site)
+    (sym waits.1) refl
+sign_cut_one d s (Request is_inner wanted first parts) p others ks base inner among declared sign site waits condition cut =
+    let k = condition_so first (kept_sides d s parts) in
+    let place = sign.token.place in
+    let q = directive p.is_inner p.place (awaits.Condition wanted) in
+    let here = at (record base { pending = others; conditions = condition.0 }) inner among None declared in
+    subst (λ (a : Awaits). IsSignUnfit (directive p.is_inner p.place a) others ks base inner among declared place site) (sym waits)
+    (subst (λ (cs : List Condition). IsSignUnfit q others cs base inner among declared place site) (sym condition.1)
+    (ap (λ (b : Bool). cond b (asked_on wanted site (hash place) (condition_took (hash place) k) q here) (unfit here)) cut))
+sign_cut_one d s (Turns is_inner hashes first parts) p others ks base inner among declared sign site waits condition cut =
+    subst (λ (a : Awaits). IsSignUnfit (directive p.is_inner p.place a) others ks base inner among declared sign.token.place site)
+    (sym waits.1) refl
+sign_cut_one d s (Closes is_inner hashes first parts) p others ks base inner among declared sign site waits condition cut =
+    subst (λ (a : Awaits). IsSignUnfit (directive p.is_inner p.place a) others ks base inner among declared sign.token.place site)
+    (sym waits.1) refl
+sign_cut_one d s (Fronting front parts) p others ks base inner among declared sign site waits condition cut =
+    subst (λ (a : Awaits). IsSignUnfit (directive p.is_inner p.place a) others ks base inner among declared sign.token.place site)
+    (sym waits) refl
+sign_cut_one d s (FrontingWord front parts u) p others ks base inner among declared sign site waits condition cut =
+    sign_cut_one d (behind_parts d s parts) u p others ks base inner among declared sign site waits condition cut
+
+-- with those around it
+sign_cut_by : (d : Answers) (s : Around) (outer : List Outer) (u : Unfinished) (p : Pending) (others : List Pending)
+    (ks : List Condition) (base : Conditions) (inner among : List Conditional) (declared : ℕ) (sign : At) (site : Site)
+    → IsAwaited u p.awaits → HasAllCondition d s outer u ks → AreCutBySign d s outer u [] sign → IsSignUnfit p others ks base inner among
+    declared sign.token.place site
+sign_cut_by d s [] u p others ks base inner among declared sign site waits condition cut =
+    sign_cut_one d s u p others ks base inner among declared sign site waits condition cut
+sign_cut_by d s (x ∷ outer) u p others ks base inner among declared sign site waits condition cut =
+    sign_cut_by d (behind_begun d s x.begun) outer u p others ks base inner among declared sign site waits condition cut
+
+abbrev NotTaken : At → Condition → Type 0
+NotTaken sign k = fits grammar known (atom_of (hash sign.token.place)) k.stack ≡ false
+
+cut_asked : (d : Answers) (s : Around) (outer : List Outer) (u : Unfinished) (p : Pending) (ks : List Condition) (x : At) (taken : List At)
+    (sign : At) → IsAwaited u p.awaits → HasAllCondition d s outer u ks → AreCutBySign d s outer u (x ∷ taken) sign
+    → HasAsked p ks (Takes (x ∷ taken) (NotTaken sign))
+cut_asked d s [] u p ks x taken sign waits condition cut = of_condition d s u p ks (Takes (x ∷ taken) (NotTaken sign)) waits condition cut
+cut_asked d s (y ∷ outer) u p ks x taken sign waits condition cut =
+    cut_asked d (behind_begun d s y.begun) outer u p ks x taken sign waits condition cut
+
+taken_asked : (d : Answers) (s : Around) (outer : List Outer) (u : Unfinished) (p : Pending) (ks : List Condition) (taken : List At)
+    (sign : At) (holds : Condition → Type 0) → IsAwaited u p.awaits → HasAllCondition d s outer u ks
+    → AreSignTaken d s outer u taken sign holds → HasAsked p ks (Takes taken (Takes (sign ∷ []) holds))
+taken_asked d s [] u p ks taken sign holds waits condition is =
+    of_condition d s u p ks (Takes taken (Takes (sign ∷ []) holds)) waits condition is
+taken_asked d s (y ∷ outer) u p ks taken sign holds waits condition is =
+    taken_asked d (behind_begun d s y.begun) outer u p ks taken sign holds waits condition is
+
+-- Behind those that are taken a further one comes, of which this is so.
+pub record Further (p : Pending) (others : List Pending) (taken : List At) (sign : At) (c : Conditions) (inner among : List Conditional)
+    (declared : ℕ) (is_so : Conditions → List Condition → Type 0) : Type 0 where
+  pub ks : List Condition
+  pub taken_so : SignsTaken p others ks taken sign c inner among declared
+  pub is : is_so taken_so.base ks
+
+-- it does not fit
+abbrev pub SignUnfit : Pending → List Pending → At → List Conditional → List Conditional → ℕ → Conditions → List Condition → Type 0
+SignUnfit p others sign inner among declared base ks =
+    (site : Site) → GivesUp handed.Unfit sign.token.place site (record base { pending = p ∷ others; conditions = ks }) inner among declared
+
+pub further_cut : (d : Answers) (s : Around) (outer : List Outer) (u : Unfinished) (last : Last) (toks : List At) (places : List Place)
+    (c : Conditions) (b : AllBegun d outer u s last toks places c) (base : Conditions) (inner among : List Conditional) (declared : ℕ)
+    (taken : List At) (sign : At)
+    → all_behind toks c ≡ asks_at b.p b.others b.ks base inner among declared → AreHashes true taken
+    → is_mark mark.Hash sign.token.kind ≡ true → AreCutBySign d s outer u taken sign
+    → Further b.p b.others taken sign (all_behind toks c) inner among declared (SignUnfit b.p b.others sign inner among declared)
+further_cut d s outer u last toks places c b base inner among declared [] sign at_there are is cut = record {
+  ks = b.ks;
+  taken_so = record {
+    base = base;
+    hands = refl;
+    tells = refl;
+    same = same_token sign (all_behind toks c) (asks_at b.p b.others b.ks base inner among declared) at_there;
+  };
+  is = λ site. sign_cut_by d s outer u b.p b.others b.ks base inner among declared sign site b.waits_for b.condition cut;
+}
+further_cut d s outer u last toks places c b base inner among declared (x ∷ taken) sign at_there are is cut =
+    let h = cut_asked d s outer u b.p b.ks x taken sign b.waits_for b.condition cut in
+    let then = behind_signs (x ∷ taken) h.k ∷ h.others in
+    let g = signs_taken b.p b.others b.ks (x ∷ taken) sign base inner among declared (NotTaken sign) h are is in
+    record {
+      ks = then;
+      taken_so = subst (λ (y : Conditions). SignsTaken b.p b.others then (x ∷ taken) sign y inner among declared) (sym at_there) g;
+      is = λ site. asked_unfit b.p b.others then sign (behind_asked b.p b.ks (x ∷ taken) (NotTaken sign) h)
+          (subst (λ (y : Conditions). SignsTaken b.p b.others then (x ∷ taken) sign y inner among declared) (sym at_there) g).base inner
+          among declared site;
     }
-sign_cut_so place t base p others inner among declared is =
-    let c = record base { pending = p ∷ others } in
-    let here = at (given_up_at base) inner among None declared in
-    let signed : Behind → Behind =
-    λ b. record b { judged = record b.judged { sign = Some (record { place = place; handed = handed.Unfit }) } } in
-    ap (λ o. behind_sign o place t.site t.out t.token (state c (Some place) inner among None declared)) is.no_word
-    ∙ ap (λ (b : Bool). signed (cond b (passed (held false t.token.place here)) (kept here))) is.no_hash
+
+-- or the condition takes it, too, of which this holds then
+abbrev pub SignTaken : Pending → At → (Condition → Type 0) → Conditions → List Condition → Type 0
+SignTaken p sign holds base ks = HasAsked p ks (Takes (sign ∷ []) holds)
+
+pub further_taken : (d : Answers) (s : Around) (outer : List Outer) (u : Unfinished) (last : Last) (toks : List At) (places : List Place)
+    (c : Conditions) (b : AllBegun d outer u s last toks places c) (base : Conditions) (inner among : List Conditional) (declared : ℕ)
+    (taken : List At) (sign : At) (holds : Condition → Type 0)
+    → all_behind toks c ≡ asks_at b.p b.others b.ks base inner among declared → AreHashes true taken
+    → is_mark mark.Hash sign.token.kind ≡ true → AreSignTaken d s outer u taken sign holds
+    → Further b.p b.others taken sign (all_behind toks c) inner among declared (SignTaken b.p sign holds)
+further_taken d s outer u last toks places c b base inner among declared taken sign holds at_there are is so =
+    let h = taken_asked d s outer u b.p b.ks taken sign holds b.waits_for b.condition so in
+    let then = behind_signs taken h.k ∷ h.others in
+    let g = signs_taken b.p b.others b.ks taken sign base inner among declared (Takes (sign ∷ []) holds) h are is in
+    record {
+      ks = then;
+      taken_so = subst (λ (y : Conditions). SignsTaken b.p b.others then taken sign y inner among declared) (sym at_there) g;
+      is = behind_asked b.p b.ks taken (Takes (sign ∷ []) holds) h;
+    }
+
+-- and then the end of the file does not fit
+pub behind_end_unfit : (p : Pending) (others : List Pending) (ks : List Condition) (sign : At) (holds : Condition → Type 0)
+    (h : HasAsked p ks (Takes (sign ∷ []) holds)) (t : At) (base : Conditions) (inner among : List Conditional) (declared : ℕ)
+    → is_end t.token.kind ≡ true
+    → judged_at t (state (record base { pending = p ∷ others; conditions = ks }) (Some sign.token.place) inner among None declared)
+    ≡ with_sign handed.Condition sign.token.place (unfit (behind_taken sign.token.place t.site (condition_taken sign h.k)
+    (at (record base { pending = others; conditions = h.others }) inner among None declared)))
+behind_end_unfit p others ks sign holds h t base inner among declared is =
+    let k = condition_taken sign h.k in
+    behind_unfit p others ks sign holds h t base inner among declared (end_word t.token is) (end_is_no_hash t.token.kind is)
+    (ap (λ (x : TokenKind). fits grammar known (atom_of (record t.token { kind = x })) k.stack) (is_the_end t.token.kind is)
+    ∙ end_fits_nothing k.stack)

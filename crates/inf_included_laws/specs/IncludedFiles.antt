@@ -6,7 +6,7 @@ use Rattle.inf_files.specs.Files.{Sources}
 use Rattle.inf_scanner.specs.declared.tokens.Place.{Place}
 use Rattle.inf_sources.specs.Inclusions.{Inclusion, Opens, OpensNone, Waiting, inclusion}
 use Rattle.inf_sources.specs.declared.open_file.Conditional.{Conditional}
-use Rattle.inf_unit.specs.Directives.{Request, End, Include, Nothing}
+use Rattle.inf_unit.specs.Directives.{Request, Characters, End, Include, Nothing}
 use Rattle.inf_unit.specs.Messages.{FileNames, Reported}
 use Rattle.inf_unit.specs.Tokens.{SourceToken, is_end}
 use Rattle.inf_conditionals.specs.declared.filtered.Forwarded.{Forwarded}
@@ -22,9 +22,10 @@ use Rattle.inf_side_laws.specs.KeptSides.{Answers, AreParts, Around, At, Follows
 use Rattle.inf_side_laws.specs.KeptSides.{all_behind, all_kept, all_tokens, as_kept, behind_parts, declared_tokens, ended_behind, ended_in}
 use Rattle.inf_side_laws.specs.KeptSides.{ended_places, going_on, handed_on, handed_sign, judged_at, kept_sides, lone_places, missing_in}
 use Rattle.inf_side_laws.specs.KeptSides.{none_around, places, told_parts, unended}
-use Rattle.inf_included_laws.specs.Unfinished.{AreHashes, HaveBegun, IsMisfit, Misfit, Unfinished, all_begun_tokens, as_unfit, begun_handed}
-use Rattle.inf_included_laws.specs.Unfinished.{begun_sign, behind_all_begun, behind_misfit, handed_misfit, misfit_tokens, told_all_begun}
-use Rattle.inf_included_laws.specs.Unfinished.{told_misfit}
+use Rattle.inf_included_laws.specs.Unfinished.{AreCutBySign, AreHashes, AreSignTaken, HaveBegun, IsMisfit, Misfit, Outer}
+use Rattle.inf_included_laws.specs.Unfinished.{Unfinished}
+use Rattle.inf_included_laws.specs.Unfinished.{all_begun_tokens, as_unfit, begun_handed, begun_sign, behind_all_begun, behind_misfit}
+use Rattle.inf_included_laws.specs.Unfinished.{handed_misfit, misfit_tokens, told_all_begun, told_misfit}
 use Rattle.inf_laws.specs.KeptTurns.{given_by, given_in, turned}
 use Rattle.inf_conditional_laws.specs.MissingEnds.{with_all_at}
 use Rattle.inf_side_laws.specs.SideTurns.{at_turn, shown}
@@ -103,17 +104,20 @@ told_by (x ∷ steps) c = told_at x c ++ told_by steps (step_behind x c)
 -- its
 -- end, and what comes behind. A `#` may stand last, or before another one, with which the rest of the file begins, behind parts or where it
 -- cuts a
--- directive; and some may stand last in a side that is left out.
+-- directive; it may stand last where a condition takes it; some that it takes may stand before it; and some may stand last in a side that
+-- is left out.
 pub data Files : Type 0 where
   Alone : (parts : Parts) → Files
   HashLast : (parts : Parts) (sign : At) → Files
   HashThen : (parts : Parts) (sign : At) (behind : Files) → Files
   HashesLeft : (parts : Parts) (is_inner : Bool) (signs : List At) → Files
-  Cut : (parts : Parts) (outer : List Unfinished) (u : Unfinished) → Files
-  CutHashesLeft : (parts : Parts) (outer : List Unfinished) (u : Unfinished) (is_inner : Bool) (signs : List At) → Files
-  CutHashLast : (parts : Parts) (outer : List Unfinished) (u : Unfinished) (sign : At) → Files
-  CutHashThen : (parts : Parts) (outer : List Unfinished) (u : Unfinished) (sign : At) (is_between : Bool) (behind : Files) → Files
-  Breaking : (parts : Parts) (outer : List Unfinished) (u : Unfinished) (misfit : Misfit) (behind : Files) → Files
+  Cut : (parts : Parts) (outer : List Outer) (u : Unfinished) → Files
+  CutHashesLeft : (parts : Parts) (outer : List Outer) (u : Unfinished) (is_inner : Bool) (signs : List At) → Files
+  CutHashLast : (parts : Parts) (outer : List Outer) (u : Unfinished) (taken : List At) (sign : At) → Files
+  CutTakenLast : (parts : Parts) (outer : List Outer) (u : Unfinished) (taken : List At) (sign : At) → Files
+  CutHashThen : (parts : Parts) (outer : List Outer) (u : Unfinished) (taken : List At) (sign : At) (is_between : Bool) (behind : Files) →
+      Files
+  Breaking : (parts : Parts) (outer : List Outer) (u : Unfinished) (misfit : Misfit) (behind : Files) → Files
   Including : (parts : Parts) (entering : At) (included : Files) (leaving : At) (behind : Files) → Files
 
 -- Where the first one stands behind a `#` that cuts a directive, it is taken as inside another one, whether that was between the others or
@@ -130,9 +134,12 @@ steps (HashThen parts sign behind) = map staying (all_tokens parts) ++ staying s
 steps (HashesLeft parts is_inner signs) = map staying (all_tokens parts) ++ map staying signs
 steps (CutHashesLeft parts outer u is_inner signs) =
     map staying (all_tokens parts) ++ (map staying (all_begun_tokens outer u) ++ map staying signs)
-steps (CutHashLast parts outer u sign) = map staying (all_tokens parts) ++ (map staying (all_begun_tokens outer u) ++ staying sign ∷ [])
-steps (CutHashThen parts outer u sign is_between behind) =
-    map staying (all_tokens parts) ++ (map staying (all_begun_tokens outer u) ++ staying sign ∷ standing is_between (steps behind))
+steps (CutHashLast parts outer u taken sign) =
+    map staying (all_tokens parts) ++ (map staying (all_begun_tokens outer u ++ taken) ++ staying sign ∷ [])
+steps (CutTakenLast parts outer u taken sign) =
+    map staying (all_tokens parts) ++ (map staying (all_begun_tokens outer u ++ taken) ++ staying sign ∷ [])
+steps (CutHashThen parts outer u taken sign is_between behind) =
+    map staying (all_tokens parts) ++ (map staying (all_begun_tokens outer u ++ taken) ++ staying sign ∷ standing is_between (steps behind))
 steps (Breaking parts outer u misfit behind) =
     map staying (all_tokens parts) ++ (map staying (all_begun_tokens outer u) ++ (map staying (misfit_tokens misfit) ++ steps behind))
 steps (Including parts entering included leaving behind) =
@@ -147,7 +154,7 @@ abbrev pub around_behind : Around → Around
 around_behind s = record s { inside = [] }
 
 -- what is open behind a token that cuts a directive: that has not acted
-abbrev pub around_broken : Answers → Around → Parts → List Unfinished → Unfinished → Misfit → Around
+abbrev pub around_broken : Answers → Around → Parts → List Outer → Unfinished → Misfit → Around
 around_broken answers s parts outer u misfit = behind_misfit misfit (behind_all_begun answers (behind_parts answers s parts) outer u)
 
 -- what is open at the end of a file
@@ -158,8 +165,9 @@ behind_files answers s (HashLast parts sign) = behind_parts answers s parts
 behind_files answers s (HashThen parts sign behind) = behind_files answers (behind_parts answers s parts) behind
 behind_files answers s (HashesLeft parts is_inner signs) = behind_parts answers s parts
 behind_files answers s (CutHashesLeft parts outer u is_inner signs) = behind_all_begun answers (behind_parts answers s parts) outer u
-behind_files answers s (CutHashLast parts outer u sign) = behind_all_begun answers (behind_parts answers s parts) outer u
-behind_files answers s (CutHashThen parts outer u sign is_between behind) =
+behind_files answers s (CutHashLast parts outer u taken sign) = behind_all_begun answers (behind_parts answers s parts) outer u
+behind_files answers s (CutTakenLast parts outer u taken sign) = behind_all_begun answers (behind_parts answers s parts) outer u
+behind_files answers s (CutHashThen parts outer u taken sign is_between behind) =
     behind_files answers (behind_all_begun answers (behind_parts answers s parts) outer u) behind
 behind_files answers s (Breaking parts outer u misfit behind) = behind_files answers (around_broken answers s parts outer u misfit) behind
 behind_files answers s (Including parts entering included leaving behind) =
@@ -177,8 +185,9 @@ end_sign (HashThen parts sign behind) = end_sign behind
 end_sign (Cut parts outer u) = begun_sign u
 end_sign (HashesLeft parts is_inner signs) = None
 end_sign (CutHashesLeft parts outer u is_inner signs) = begun_sign u
-end_sign (CutHashLast parts outer u sign) = Some (sign_as handed.Unfit sign)
-end_sign (CutHashThen parts outer u sign is_between behind) = end_sign behind
+end_sign (CutHashLast parts outer u taken sign) = Some (sign_as handed.Unfit sign)
+end_sign (CutTakenLast parts outer u taken sign) = Some (sign_as handed.Condition sign)
+end_sign (CutHashThen parts outer u taken sign is_between behind) = end_sign behind
 end_sign (Breaking parts outer u misfit behind) = end_sign behind
 end_sign (Including parts entering included leaving behind) = end_sign behind
 
@@ -190,8 +199,9 @@ end_handed (HashThen parts sign behind) = end_handed behind
 end_handed (Cut parts outer u) = begun_handed u
 end_handed (HashesLeft parts is_inner signs) = handed.Kept
 end_handed (CutHashesLeft parts outer u is_inner signs) = begun_handed u
-end_handed (CutHashLast parts outer u sign) = handed.Kept
-end_handed (CutHashThen parts outer u sign is_between behind) = end_handed behind
+end_handed (CutHashLast parts outer u taken sign) = handed.Kept
+end_handed (CutTakenLast parts outer u taken sign) = handed.Unfit
+end_handed (CutHashThen parts outer u taken sign is_between behind) = end_handed behind
 end_handed (Breaking parts outer u misfit behind) = end_handed behind
 end_handed (Including parts entering included leaving behind) = end_handed behind
 
@@ -208,8 +218,9 @@ handed_files answers s (HashThen parts sign behind) =
     map as_kept (kept_sides answers s parts) ++ as_kept (hash sign.token.place) ∷ handed_files answers (behind_parts answers s parts) behind
 handed_files answers s (HashesLeft parts is_inner signs) = map as_kept (kept_sides answers s parts)
 handed_files answers s (CutHashesLeft parts outer u is_inner signs) = map as_kept (kept_sides answers s parts)
-handed_files answers s (CutHashLast parts outer u sign) = map as_kept (kept_sides answers s parts)
-handed_files answers s (CutHashThen parts outer u sign is_between behind) =
+handed_files answers s (CutHashLast parts outer u taken sign) = map as_kept (kept_sides answers s parts)
+handed_files answers s (CutTakenLast parts outer u taken sign) = map as_kept (kept_sides answers s parts)
+handed_files answers s (CutHashThen parts outer u taken sign is_between behind) =
     map as_kept (kept_sides answers s parts)
     ++ as_unfit (hash sign.token.place) ∷ handed_files answers (behind_all_begun answers (behind_parts answers s parts) outer u) behind
 handed_files answers s (Breaking parts outer u misfit behind) =
@@ -233,9 +244,11 @@ told_files answers s (HashThen parts sign behind) = told_parts answers s parts +
 told_files answers s (HashesLeft parts is_inner signs) = told_parts answers s parts
 told_files answers s (CutHashesLeft parts outer u is_inner signs) =
     told_parts answers s parts ++ told_all_begun answers (behind_parts answers s parts) outer u
-told_files answers s (CutHashLast parts outer u sign) =
+told_files answers s (CutHashLast parts outer u taken sign) =
     told_parts answers s parts ++ told_all_begun answers (behind_parts answers s parts) outer u
-told_files answers s (CutHashThen parts outer u sign is_between behind) =
+told_files answers s (CutTakenLast parts outer u taken sign) =
+    told_parts answers s parts ++ told_all_begun answers (behind_parts answers s parts) outer u
+told_files answers s (CutHashThen parts outer u taken sign is_between behind) =
     told_parts answers s parts
     ++ (told_all_begun answers (behind_parts answers s parts) outer u
     ++ told_files answers (behind_all_begun answers (behind_parts answers s parts) outer u) behind)
@@ -278,7 +291,7 @@ released c = record c { pending = []; conditions = []; sign = None }
 pub record IsThen (s : Around) (sign : At) (behind : Files) : Type 0 where
   pub is_kept : all_kept s ≡ true
   pub is_sign : IsSign true sign
-  pub follows : Follows true true (first_step (steps behind))
+  pub follows : Follows true true false (first_step (steps behind))
 
 -- where a side is left out, behind so many tokens of the file
 pub record AreLeft (s : Around) (before : ℕ) (is_inner : Bool) (signs : List At) : Type 0 where
@@ -310,18 +323,30 @@ AreFiles answers s c (CutHashesLeft parts outer u is_inner signs) =
     outer u
     × AreLeft (behind_all_begun answers (behind_parts answers s parts) outer u)
     (length (all_tokens parts) + length (all_begun_tokens outer u)) is_inner signs)
-AreFiles answers s c (CutHashLast parts outer u sign) =
+AreFiles answers s c (CutHashLast parts outer u taken sign) =
     AreOfAFile answers s c.now.declared parts
     × (HaveBegun answers (behind_parts answers s parts) (declared_tokens (all_tokens parts) c.now.declared) (length (all_tokens parts))
     outer u
-    × ((all_kept (behind_all_begun answers (behind_parts answers s parts) outer u) ≡ true) × IsSign true sign))
-AreFiles answers s c (CutHashThen parts outer u sign is_between behind) =
+    × ((all_kept (behind_all_begun answers (behind_parts answers s parts) outer u) ≡ true)
+    × (AreHashes true taken × (IsSign true sign × AreCutBySign answers (behind_parts answers s parts) outer u taken sign))))
+AreFiles answers s c (CutTakenLast parts outer u taken sign) =
+    AreOfAFile answers s c.now.declared parts
+    × (HaveBegun answers (behind_parts answers s parts) (declared_tokens (all_tokens parts) c.now.declared) (length (all_tokens parts))
+    outer u
+    × ((all_kept (behind_all_begun answers (behind_parts answers s parts) outer u) ≡ true)
+    × (AreHashes true taken
+    × (IsSign true sign × AreSignTaken answers (behind_parts answers s parts) outer u taken sign (λ k. Unit {0})))))
+AreFiles answers s c (CutHashThen parts outer u taken sign is_between behind) =
     AreOfAFile answers s c.now.declared parts
     × (HaveBegun answers (behind_parts answers s parts) (declared_tokens (all_tokens parts) c.now.declared) (length (all_tokens parts))
     outer u
     × (IsThen (behind_all_begun answers (behind_parts answers s parts) outer u) sign behind
+    × ((AreHashes true taken × AreCutBySign answers (behind_parts answers s parts) outer u taken sign)
     × AreFiles answers (behind_all_begun answers (behind_parts answers s parts) outer u)
-    (record c { now = released (going_on sign (all_behind (all_begun_tokens outer u) (all_behind (all_tokens parts) c.now))) }) behind))
+    (record c {
+      now = released (going_on sign (all_behind (all_begun_tokens outer u ++ taken) (all_behind (all_tokens parts) c.now)));
+    })
+    behind)))
 AreFiles answers s c (Breaking parts outer u misfit behind) =
     AreOfAFile answers s c.now.declared parts
     × (HaveBegun answers (behind_parts answers s parts) (declared_tokens (all_tokens parts) c.now.declared) (length (all_tokens parts))
@@ -371,6 +396,7 @@ opens (OpensNone why) = Stays
 abbrev pub asked_passage : Request → Sources → Choices → State → Passage
 asked_passage (Include text unit) sources o s = opens (inclusion sources o.directories text s.nesting)
 asked_passage End sources o s = Stays
+asked_passage (Characters set) sources o s = Stays
 asked_passage Nothing sources o s = Stays
 
 -- where reading goes behind a token

@@ -83,7 +83,7 @@ AreHashes is_inner (sign ∷ signs) = IsSign is_inner sign × AreHashes is_inner
 
 abbrev pub HashesBefore : Bool → Around → List At → First → Type 0
 HashesBefore is_inner s [] first = Unit {0}
-HashesBefore is_inner s hashes first = (all_kept s ≡ false) × (AreHashes is_inner hashes × Follows false is_inner first.sign)
+HashesBefore is_inner s hashes first = (all_kept s ≡ false) × (AreHashes is_inner hashes × Follows false is_inner false first.sign)
 
 -- whether its word has come
 abbrev pub HasWord : Unfinished → Type 0
@@ -149,59 +149,96 @@ abbrev pub begun_handed : Unfinished → Forwarded
 begun_handed (Fronting sign within) = handed.Kept
 begun_handed u = handed.Unfit
 
+-- A `#` that a condition takes
+
+-- each of them, and then this holds of the condition behind them
+abbrev pub Takes : List At → (Condition → Type 0) → Condition → Type 0
+Takes [] holds k = holds k
+Takes (sign ∷ signs) holds k =
+    (fits grammar known (atom_of (hash sign.token.place)) k.stack ≡ true) × Takes signs holds (condition_took (hash sign.token.place) k)
+
+-- of a directive with a condition, whose condition so far is so
+abbrev pub OfCondition : Answers → Around → Unfinished → (Condition → Type 0) → Type 0
+OfCondition answers s (Request is_inner wanted first within) holds = holds (condition_so first (kept_sides answers s within))
+OfCondition answers s (FrontingWord sign within u) holds = OfCondition answers (behind_parts answers s within) u holds
+OfCondition answers s u holds = ⊥
+
 -- One in the other
 
+-- one around others, and the `#`s that its condition takes before them
+pub record Outer : Type 0 where
+  pub begun : Unfinished
+  pub taken : List At
+
 -- those around it, from the outermost one on
-abbrev pub all_begun_tokens : List Unfinished → Unfinished → List At
+abbrev pub all_begun_tokens : List Outer → Unfinished → List At
 all_begun_tokens [] u = begun_tokens u
-all_begun_tokens (x ∷ outer) u = begun_tokens x ++ all_begun_tokens outer u
+all_begun_tokens (x ∷ outer) u = begun_tokens x.begun ++ (x.taken ++ all_begun_tokens outer u)
 
-abbrev pub behind_all_begun : Answers → Around → List Unfinished → Unfinished → Around
+abbrev pub behind_all_begun : Answers → Around → List Outer → Unfinished → Around
 behind_all_begun answers s [] u = behind_begun answers s u
-behind_all_begun answers s (x ∷ outer) u = behind_all_begun answers (behind_begun answers s x) outer u
+behind_all_begun answers s (x ∷ outer) u = behind_all_begun answers (behind_begun answers s x.begun) outer u
 
-abbrev pub told_all_begun : Answers → Around → List Unfinished → Unfinished → List Place
+abbrev pub told_all_begun : Answers → Around → List Outer → Unfinished → List Place
 told_all_begun answers s [] u = told_begun answers s u
-told_all_begun answers s (x ∷ outer) u = told_begun answers s x ++ told_all_begun answers (behind_begun answers s x) outer u
+told_all_begun answers s (x ∷ outer) u = told_begun answers s x.begun ++ told_all_begun answers (behind_begun answers s x.begun) outer u
 
-abbrev pub AreBegun : Answers → Bool → Around → ℕ → List Unfinished → Unfinished → Type 0
+-- Some `#`s stand where all is kept, before another one.
+abbrev pub first_at : List At → Option At
+first_at [] = None
+first_at (t ∷ tokens) = Some t
+
+abbrev pub TakesSigns : Answers → Around → Unfinished → List At → Option At → Type 0
+TakesSigns answers s u [] next = Unit {0}
+TakesSigns answers s u (sign ∷ signs) next =
+    (all_kept (behind_begun answers s u) ≡ true)
+    × (AreHashes true (sign ∷ signs)
+    × (OfCondition answers s u (Takes (sign ∷ signs) (λ k. Unit {0})) × Follows true true true next))
+
+abbrev pub AreBegun : Answers → Bool → Around → ℕ → List Outer → Unfinished → Type 0
 AreBegun answers is_within s declared [] u = IsBegun answers is_within s declared u
 AreBegun answers is_within s declared (x ∷ outer) u =
-    IsBegun answers is_within s declared x × AreBegun answers true (behind_begun answers s x) (declared_tokens (begun_tokens x) declared)
-    outer u
+    IsBegun answers is_within s declared x.begun
+    × (TakesSigns answers s x.begun x.taken (first_at (all_begun_tokens outer u))
+    × AreBegun answers true (behind_begun answers s x.begun) (declared_tokens (begun_tokens x.begun) declared) outer u)
 
 -- behind so many tokens of its file
-pub record HaveBegun (answers : Answers) (s : Around) (declared before : ℕ) (outer : List Unfinished) (u : Unfinished) : Type 0 where
+pub record HaveBegun (answers : Answers) (s : Around) (declared before : ℕ) (outer : List Outer) (u : Unfinished) : Type 0 where
   pub are : AreBegun answers false s declared outer u
   pub few : before + length (all_begun_tokens outer u) ≤ most_levels
 
 -- The token that does not fit
 
--- alone, or with the `#` before it, which then is the one
+-- alone, or with the `#` before it, which then is the one, or behind a `#` that the condition takes; it may have taken some before
 pub data Misfit : Type 0 where
   Bare : (token : At) → Misfit
-  Hashed : (sign token : At) → Misfit
+  Hashed : (taken : List At) (sign token : At) → Misfit
+  BehindSign : (taken : List At) (sign token : At) → Misfit
 
 abbrev pub misfit_tokens : Misfit → List At
 misfit_tokens (Bare t) = t ∷ []
-misfit_tokens (Hashed sign t) = sign ∷ t ∷ []
+misfit_tokens (Hashed taken sign t) = taken ++ sign ∷ t ∷ []
+misfit_tokens (BehindSign taken sign t) = taken ++ sign ∷ t ∷ []
 
--- It is handed on as one that does not fit, and what is behind it as one that is kept.
+-- It is handed on as one that does not fit, and what is behind it as one that is kept. What a condition takes is not.
 abbrev pub as_unfit : SourceToken → Handing
 as_unfit t = record { handed = handed.Unfit; token = t }
 
 abbrev pub handed_misfit : Misfit → List Handing
 handed_misfit (Bare t) = as_unfit t.token ∷ []
-handed_misfit (Hashed sign t) = as_unfit (hash sign.token.place) ∷ as_kept t.token ∷ []
+handed_misfit (Hashed taken sign t) = as_unfit (hash sign.token.place) ∷ as_kept t.token ∷ []
+handed_misfit (BehindSign taken sign t) = as_unfit t.token ∷ []
 
 abbrev pub behind_misfit : Misfit → Around → Around
 behind_misfit (Bare t) s = ended_in t.ended s
-behind_misfit (Hashed sign t) s = ended_in t.ended s
+behind_misfit (Hashed taken sign t) s = ended_in t.ended s
+behind_misfit (BehindSign taken sign t) s = ended_in t.ended s
 
 -- what is told behind it
 abbrev pub told_misfit : Misfit → Around → List Place
 told_misfit (Bare t) s = missing_in t.ended s
-told_misfit (Hashed sign t) s = missing_in t.ended s
+told_misfit (Hashed taken sign t) s = missing_in t.ended s
+told_misfit (BehindSign taken sign t) s = missing_in t.ended s
 
 -- no name, no semicolon, or not what the grammar takes
 abbrev pub IsCutBy : Answers → Around → Unfinished → At → Type 0
@@ -214,12 +251,41 @@ IsCutBy answers s (Closes is_inner hashes first within) t = is_mark mark.Semicol
 IsCutBy answers s (Fronting sign within) t = ⊥
 IsCutBy answers s (FrontingWord sign within u) t = IsCutBy answers (behind_parts answers s within) u t
 
-abbrev pub AreCutBy : Answers → Around → List Unfinished → Unfinished → At → Type 0
+abbrev pub AreCutBy : Answers → Around → List Outer → Unfinished → At → Type 0
 AreCutBy answers s [] u t = IsCutBy answers s u t
-AreCutBy answers s (x ∷ outer) u t = AreCutBy answers (behind_begun answers s x) outer u t
+AreCutBy answers s (x ∷ outer) u t = AreCutBy answers (behind_begun answers s x.begun) outer u t
+
+-- A `#` belongs to no directive but one with a condition, and there not where the grammar does not take it, perhaps behind some that it
+-- takes.
+abbrev pub IsSignCut : Answers → Around → Unfinished → At → Type 0
+IsSignCut answers s (Request is_inner wanted first within) sign =
+    fits grammar known (atom_of (hash sign.token.place)) (condition_so first (kept_sides answers s within)).stack ≡ false
+IsSignCut answers s (FrontingWord front within u) sign = IsSignCut answers (behind_parts answers s within) u sign
+IsSignCut answers s u sign = Unit {0}
+
+abbrev pub IsCutBySign : Answers → Around → Unfinished → List At → At → Type 0
+IsCutBySign answers s u [] sign = IsSignCut answers s u sign
+IsCutBySign answers s u (x ∷ taken) sign =
+    OfCondition answers s u (Takes (x ∷ taken) (λ k. fits grammar known (atom_of (hash sign.token.place)) k.stack ≡ false))
+
+abbrev pub AreCutBySign : Answers → Around → List Outer → Unfinished → List At → At → Type 0
+AreCutBySign answers s [] u taken sign = IsCutBySign answers s u taken sign
+AreCutBySign answers s (x ∷ outer) u taken sign = AreCutBySign answers (behind_begun answers s x.begun) outer u taken sign
+
+-- Where it does, this holds of the condition behind it.
+abbrev pub AreSignTaken : Answers → Around → List Outer → Unfinished → List At → At → (Condition → Type 0) → Type 0
+AreSignTaken answers s [] u taken sign holds = OfCondition answers s u (Takes taken (Takes (sign ∷ []) holds))
+AreSignTaken answers s (x ∷ outer) u taken sign holds = AreSignTaken answers (behind_begun answers s x.begun) outer u taken sign holds
 
 -- it stands where it is kept
-abbrev pub IsMisfit : Answers → Around → List Unfinished → Unfinished → Misfit → Type 0
+abbrev pub IsMisfit : Answers → Around → List Outer → Unfinished → Misfit → Type 0
 IsMisfit answers s outer u (Bare t) =
     (all_kept (behind_all_begun answers s outer u) ≡ true) × ((is_mark mark.Hash t.token.kind ≡ false) × AreCutBy answers s outer u t)
-IsMisfit answers s outer u (Hashed sign t) = (all_kept (behind_all_begun answers s outer u) ≡ true) × (IsSign true sign × IsSignedPlain t)
+IsMisfit answers s outer u (Hashed taken sign t) =
+    (all_kept (behind_all_begun answers s outer u) ≡ true)
+    × (AreHashes true taken × (IsSign true sign × (IsSignedPlain t × AreCutBySign answers s outer u taken sign)))
+IsMisfit answers s outer u (BehindSign taken sign t) =
+    (all_kept (behind_all_begun answers s outer u) ≡ true)
+    × (AreHashes true taken
+    × (IsSign true sign
+    × (IsSignedPlain t × AreSignTaken answers s outer u taken sign (λ k. fits grammar known (atom_of t.token) k.stack ≡ false))))

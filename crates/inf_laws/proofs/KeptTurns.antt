@@ -7,7 +7,7 @@ use Rattle.inf_files.specs.Files.{Sources}
 use Rattle.inf_sources.specs.Inclusions.{Inclusion, Opens, OpensNone, inclusion}
 use Rattle.inf_sources.specs.declared.open_files.Included.{Included}
 use Rattle.inf_sources.specs.declared.open_files.Included.TheVariants as answer
-use Rattle.inf_unit.specs.Directives.{Request, End, Include, Nothing}
+use Rattle.inf_unit.specs.Directives.{Request, Characters, End, Include, Nothing}
 use Rattle.inf_conditionals.specs.Judging.{judged}
 use Rattle.inf_reader.specs.Handing.{said_told, site_of}
 use Rattle.inf_reader.specs.Reading.{Reading, is_mode_ended}
@@ -34,6 +34,7 @@ included_reading sources o unit text (OpensNone why) s = none_reading unit text 
 answered_reading : (a : Request) (sources : Sources) (o : Choices) (s : State) → (answered a sources o s).reading ≡ s.reading
 answered_reading (Include text unit) sources o s = included_reading sources o unit text (inclusion sources o.directories text s.nesting) s
 answered_reading End sources o s = refl
+answered_reading (Characters set) sources o s = refl
 answered_reading Nothing sources o s = refl
 
 pub carried_out_reading : (sources : Sources) (o : Choices) (s : State) → is_mode_ended s.reading.mode ≡ false →

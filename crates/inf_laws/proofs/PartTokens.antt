@@ -29,10 +29,10 @@ use Rattle.inf_conditionals.specs.declared.pending.Effect.TheVariants as effect
 use Rattle.inf_conditionals.specs.declared.pending.Pending.{Pending}
 use Rattle.inf_conditionals.specs.declared.words.ConditionalWord.{ConditionalWord}
 use Rattle.inf_conditionals.specs.declared.words.ConditionalWord.TheVariants as word
-use Rattle.inf_conditionals.specs.Judging.{Behind, asked, asking, at_front, awaited, awaiting, begun, behind_front, behind_sign, decided}
-use Rattle.inf_conditionals.specs.Judging.{effected, effected_by, given_up, held, in_side, is_none_pending, judged, judged_by, kept}
-use Rattle.inf_conditionals.specs.Judging.{unmatched, named, offered, offered_to, passed, passed_by, saying, taken, tokens_counted, unfit}
-use Rattle.inf_conditionals.specs.Judging.{went_on}
+use Rattle.inf_conditionals.specs.Judging.{Behind, asked, asked_on, asking, at_front, awaited, awaiting, begun, behind_front, behind_sign}
+use Rattle.inf_conditionals.specs.Judging.{decided, effected, effected_by, given_up, hash, held, in_side, is_none_pending, judged}
+use Rattle.inf_conditionals.specs.Judging.{judged_by, kept, unmatched, named, offered, offered_to, passed, passed_by, saying, sign_asked}
+use Rattle.inf_conditionals.specs.Judging.{sign_awaited, sign_handed, sign_offered, taken, tokens_counted, unfit, went_on}
 
 -- whether something is handed on
 abbrev pub gives : Option Forwarded → Bool
@@ -206,23 +206,77 @@ offered_fine is_front site o t c front proper all =
     (λ _. passed_fine (held is_front t.place c) (held_proper is_front t.place c front proper))
     (λ _. to_fine c.pending is_front site o t c refl proper all)
 
--- with a `#` before it that was held back
-abbrev signed : Place → Forwarded → Behind → Behind
-signed place h b = record b { judged = record b.judged { sign = Some (record { place = place; handed = h }) } }
+-- with a `#` before it that was held back, and what became of that
+abbrev signed : Place → Option Forwarded → Behind → Behind
+signed place h b = record b { judged = record b.judged { sign = sign_handed place h } }
+
+abbrev SignFine : Place → Site → Out → SourceToken → Behind → Type 0
+SignFine place site o t s = Fine (signed place s.judged.token (offered false site o t s.now))
 
 signed_fine : (place : Place) (h : Forwarded) (site : Site) (o : Out) (t : SourceToken) (c : Conditions) → c.pending ≡ [] → AllKept c →
-    Fine (signed place h (offered false site o t c))
+    Fine (signed place (Some h) (offered false site o t c))
 signed_fine place h site o t c e all =
-    of_both (λ (b : Behind). Fine (signed place h b)) (is_mark mark.Hash t.kind) (passed (held false t.place c))
+    of_both (λ (b : Behind). Fine (signed place (Some h) b)) (is_mark mark.Hash t.kind) (passed (held false t.place c))
     (offered_to c.pending false site o t c)
     (λ _. record { proper = none_proper c.pending e; clear = inr (e, all) })
-    (λ _. subst (λ ps. Fine (signed place h (offered_to ps false site o t c))) (sym e)
+    (λ _. subst (λ ps. Fine (signed place (Some h) (offered_to ps false site o t c))) (sym e)
     (record { proper = none_proper c.pending e; clear = inr (e, all) }))
+
+-- where a condition takes the `#` that is not handed on
+never_front : (c : Conditions) → false ≡ true → c.pending ≡ []
+never_front c e = cc
+
+second_gives : (first second : Bool) → first || second ≡ false → second ≡ false
+second_gives true second e = cc
+second_gives false second e = e
+
+taken_sign_fine : (place : Place) (site : Site) (o : Out) (t : SourceToken) (c : Conditions) → AreProper c.pending → AllKept c →
+    SignFine place site o t (taken c)
+taken_sign_fine place site o t c proper all =
+    let b = offered false site o t c in
+    let f = offered_fine false site o t c (never_front c) proper all in
+    record {
+      proper = f.proper;
+      clear = elim f.clear [
+        | inl none ↦ inl (second_gives (gives_sign b.judged.sign) (gives b.judged.token) none)
+        | inr both ↦ inr both
+      ];
+    }
+
+unfit_sign_fine : (place : Place) (site : Site) (o : Out) (t : SourceToken) (c : Conditions) → AllKept c →
+    SignFine place site o t (unfit c)
+unfit_sign_fine place site o t c all = signed_fine place handed.Unfit site o t (given_up c) refl all
+
+asked_sign_fine : (ks : List Condition) (wanted : Bool) (place : Place) (site : Site) (o : Out) (t : SourceToken) (p : Pending)
+    (c : Conditions) → AreProper c.pending → AllKept c → SignFine place site o t (sign_asked ks wanted place site p c)
+asked_sign_fine [] wanted place site o t p c proper all = unfit_sign_fine place site o t c all
+asked_sign_fine (k ∷ ks) wanted place site o t p c proper all =
+    let rest : Conditions = record c { conditions = ks } in
+    let next = condition_took (hash place) k in
+    of_both (SignFine place site o t) (fits grammar known (atom_of (hash place)) k.stack)
+    (asked_on wanted site (hash place) next p rest) (unfit rest)
+    (λ _. taken_sign_fine place site o t (asking p.place p.is_inner wanted next
+    (saying site.is_quiet (too_much site.longest (hash place) next) (tokens_counted site.is_quiet next rest))) (tt, proper) all)
+    (λ _. unfit_sign_fine place site o t rest all)
+
+awaited_sign_fine : (a : Awaits) (place : Place) (site : Site) (o : Out) (t : SourceToken) (p : Pending) (c : Conditions) →
+    AreProper c.pending → AllKept c → SignFine place site o t (sign_awaited a place site p c)
+awaited_sign_fine awaits.Word place site o t p c proper all = unfit_sign_fine place site o t c all
+awaited_sign_fine (awaits.Name if_declared) place site o t p c proper all = unfit_sign_fine place site o t c all
+awaited_sign_fine (awaits.Condition wanted) place site o t p c proper all =
+    asked_sign_fine c.conditions wanted place site o t p c proper all
+awaited_sign_fine (awaits.End e) place site o t p c proper all = unfit_sign_fine place site o t c all
+
+offered_sign_fine : (pending : List Pending) (place : Place) (site : Site) (o : Out) (t : SourceToken) (c : Conditions) →
+    AreProper pending → AllKept c → SignFine place site o t (sign_offered pending place site c)
+offered_sign_fine [] place site o t c proper all = signed_fine place handed.Kept site o t (given_up c) refl all
+offered_sign_fine (p ∷ pending) place site o t c proper all =
+    awaited_sign_fine p.awaits place site o t p (record c { pending = pending }) proper.1 all
 
 sign_fine : (w : Option ConditionalWord) (place : Place) (site : Site) (o : Out) (t : SourceToken) (c : Conditions) →
     AreProper c.pending → AllKept c → Fine (behind_sign w place site o t c)
 sign_fine (Some w) place site o t c proper all = begun_fine w t place true (record c { sign = None }) proper all
-sign_fine None place site o t c proper all = signed_fine place _ site o t (given_up (record c { sign = None })) refl all
+sign_fine None place site o t c proper all = offered_sign_fine c.pending place site o t (record c { sign = None }) proper all
 
 -- A token of a side that is left out
 

@@ -17,7 +17,7 @@ use Rattle.inf_syntax.specs.declared.actions.Action.{Action}
 use Rattle.inf_sources.specs.Inclusions.{Inclusion, Opens, OpensNone, Waiting, inclusion}
 use Rattle.inf_sources.specs.declared.open_files.Included.{Included}
 use Rattle.inf_sources.specs.declared.open_files.Included.TheVariants as answer
-use Rattle.inf_unit.specs.Directives.{Request, End, Include, Nothing}
+use Rattle.inf_unit.specs.Directives.{Request, Characters, End, Include, Nothing}
 use Rattle.inf_unit.specs.Tokens.{SourceToken, atom_of, is_end}
 use Rattle.inf_unit.proofs.Cases.{of_both}
 use Rattle.inf_conditionals.specs.declared.filtered.Forwarded.{Forwarded}
@@ -207,6 +207,7 @@ carried_out_same sources o s =
     asked_same : (a : Request) → Same (answered a sources o (asked_nothing s))
     asked_same (Include text unit) = included_same unit text (inclusion sources o.directories text s.nesting)
     asked_same End = (refl, refl)
+    asked_same (Characters set) = (refl, refl)
     asked_same Nothing = (refl, refl)
 
 rested_pending : (s : State) → (rested s).conditions.pending ≡ s.conditions.pending

@@ -24,8 +24,8 @@ const REFUSED: [(&[&str], WordFault); 12] = [
 
 /// Words that begin with `-`, and are unknown.
 const UNKNOWN: [&str; 23] = [
-    "-C", "-C2", "-c0", "-C0C", "-C0Q", "-QC0", "-C0-C1", "-C0 ", "-~C0", "-~", "-C0~S", "-e",
-    "-s", "-W", "-w~", "-w~e", "-wC", "-~~w", "-i", "-D", "-v5", "-E1", "-C01",
+    "-C", "-C2", "-c0", "-C0C", "-C0Q", "-QC0", "-C0-C1", "-C0 ", "-~C0", "-~", "-S", "-d", "-E0",
+    "-v8x", "-~v5", "-~E1", "-W", "-w~", "-wC", "-~~w", "-v", "-v3", "-C01",
 ];
 
 /// Words that begin with `$`, and are no fit settings.
@@ -72,7 +72,7 @@ fn letters_and_settings_are_refused_whole(rt: HostRuntime) {
 }
 
 /// Words of a command, the character set that they choose, and whether warnings are told.
-const LETTERS: [(&[&str], CharSet, bool); 13] = [
+const LETTERS: [(&[&str], CharSet, bool); 14] = [
     (&["t"], CharSet::Latin1, true),
     (&["t", "-C0"], CharSet::Ascii, true),
     (&["-C1", "t"], CharSet::Latin1, true),
@@ -86,6 +86,7 @@ const LETTERS: [(&[&str], CharSet, bool); 13] = [
     (&["-wC0", "t"], CharSet::Ascii, false),
     (&["-wwC0~wC1w", "t"], CharSet::Latin1, false),
     (&["-w", "t", "-~w"], CharSet::Latin1, true),
+    (&["-esiDv8E1C0w~e~s~i~D~Sv5", "t"], CharSet::Ascii, false),
 ];
 
 #[test]
@@ -145,7 +146,7 @@ fn the_last_path_is_chosen(rt: HostRuntime) -> Result<(), Fail> {
 }
 
 /// Words of a command, and the names of its source's file and of its story's.
-const NAMES: [(&[&str], &str, &str); 10] = [
+const NAMES: [(&[&str], &str, &str); 13] = [
     (&["t"], "t.inf", "t.z5"),
     (&["t.inf"], "t.inf", "t.z5"),
     (&["t.txt"], "t.txt", "t.z5"),
@@ -155,6 +156,10 @@ const NAMES: [(&[&str], &str, &str); 10] = [
     (&[""], ".inf", ".z5"),
     (&["a/"], "a/.inf", "a/.z5"),
     (&["t."], "t.", "t.z5"),
+    // The last version that a word chooses is heeded.
+    (&["-v8", "t.inf"], "t.inf", "t.z8"),
+    (&["-v8", "t", "-v5"], "t.inf", "t.z5"),
+    (&["-v8", "t.inf", "out.z5"], "t.inf", "out.z5"),
     // A second word names the story.
     (&["t.inf", "out.story"], "t.inf", "out.story"),
 ];

@@ -14,6 +14,8 @@ mod disk;
 #[cfg(test)]
 mod expecting;
 #[cfg(test)]
+mod heads;
+#[cfg(test)]
 mod memory_files;
 #[cfg(test)]
 mod sinks;

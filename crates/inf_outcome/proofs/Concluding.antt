@@ -2,6 +2,7 @@
 use Rattle.std.proofs.Common.{◌≡◌, ◌⊎◌, ℕ, zero, ◌+◌, ◌-◌, ◌<◌, ◌≤◌, List, [], ◌∷◌, ◌++◌, length, length-append, map, min, reverse, get_or}
 use Rattle.std.proofs.Common.{unwrap_or, cond, drop, Bool, true, false, Option, Some, None, arith, Result, Ok, Err, IfOk, IfErr, OnErr, inl}
 use Rattle.std.proofs.Common.{inr, refl, sym, ap, subst, ◌∙◌, append_assoc}
+use Rattle.inf_letters.specs.Letters.{set_of}
 use Rattle.inf_settings.specs.Bounds.{limits_of, Limits}
 use Rattle.inf_files.specs.Files.{Opening, Openings, Sources, last_count, opened}
 use Rattle.inf_files.specs.declared.files.Files.{Ghosts as Files}
@@ -17,11 +18,13 @@ use Rattle.inf_sources.specs.Open.{cursor_of, files_of, lexers, lexers_of, nesti
 use Rattle.inf_sources.specs.declared.open_file.OpenFile.{OpenFile}
 use Rattle.inf_sources.proofs.Places.{files_are, innermost_of, last_of}
 use Rattle.inf_conditionals.specs.Open.{Conditions, no_conditions}
+use Rattle.inf_compilation.specs.Actions.{Compilation}
+use Rattle.inf_unit.specs.Messages.{FileNames}
 use Rattle.inf_reader.specs.Reading.{ReaderState}
 use Rattle.inf_reader.specs.Standing.{standing}
 use Rattle.inf_session.specs.Choices.{Choices, most_quoted}
 use Rattle.inf_session.specs.Delivered.{Delivers, TakesFront}
-use Rattle.inf_session.specs.Ending.{Outcome, finished}
+use Rattle.inf_session.specs.Ending.{Outcome, finished, missing}
 use Rattle.inf_session.specs.Faults.{Caused, IfRead}
 use Rattle.inf_session.specs.Leading.{CutsShort, GivenUp, IsFront, OpensAll, StopsAtInclusion, StopsFor, StopsInToken, Writes}
 use Rattle.inf_session.specs.Session.{IsRead, State, begun_with, has_ended, run, start, stepped}
@@ -32,31 +35,153 @@ use Rattle.inf_session.specs.declared.faults.Fault.TheVariants as fault
 use Rattle.inf_session.specs.declared.session.Session.{Session}
 use Rattle.inf_session.proofs.Leadings.{end_begins, front_more, front_then, same_end, stops_more, takes_none, takes_then}
 use Rattle.inf_session.proofs.Standings.{if_read_more}
-use Rattle.inf_outcome.specs.Comes.{AreAt, AreNear, Begins, Comes, Concludes, Heard, IsUnread, OpenedBy, OpenedSome, Stops, StopsReading}
+use Rattle.inf_session.proofs.Supplying.{supplied_begins}
+use Rattle.inf_session.specs.Veneer.{supplied}
+use Rattle.inf_outcome.specs.Comes.{AreAt, AreNear, Begins, BreaksOff, BreaksOffAll, Comes, Concludes, Ends, EndsAll, Heard}
+use Rattle.inf_outcome.specs.Comes.{SuppliesAll, SuppliesPart}
+use Rattle.inf_outcome.specs.Comes.{IsUnread, OpenedBy, OpenedSome, Stops, StopsReading}
 use Rattle.inf_outcome.specs.Comes.{WereOpened, numbers_of}
+use Rattle.inf_compilation.specs.Works.{work as work_of}
+use Rattle.std.proofs.Common.{OnOk}
 use Rattle.inf_outcome.specs.Outcome.{IsCompiled, IsOutcomeOf, ending_of}
 
 -- fronts of what follows the same
 front_behind : (xs ys zs : List ℕ) → IsFront ys zs → IsFront (xs ++ ys) (xs ++ zs)
 front_behind xs ys zs f = record { rest = f.rest; is_cut = ap (λ l. xs ++ l) f.is_cut ∙ sym (append_assoc xs ys f.rest) }
 
+-- the end by the names of the files and what was compiled
+pub finished_as : (limits : Limits) (serial : List ℕ) (s : State) (names : FileNames) (w : Compilation) → s.nesting.names ≡ names → s.work ≡ w
+    → finished limits serial s.nesting.names s.work ≡ finished limits serial names w
+finished_as limits serial s names w named made =
+    ap (λ (ns : FileNames). finished limits serial ns s.work) named ∙ ap (λ (x : Compilation). finished limits serial names x) made
+
+-- behind what was read of the veneer, the last messages were written
+pub ends : (limits : Limits) (o : Choices) (serial : List ℕ) (was now : List ℕ → State) (old mid new : Option (List ℕ)) (e : Outcome)
+    (c : Compiled)
+    → Writes (supplied limits o) was now old mid → ((told : List ℕ) → (now told).told ≡ told)
+    → ((told : List ℕ) → finished limits serial (now told).nesting.names (now told).work ≡ e) → Delivers e c mid new
+    → Ends limits o serial was c old new
+ends limits o serial was now old mid new e c w told_is last d =
+    let here = λ (told : List ℕ). now (told ++ w.lines) in
+    let final : (told : List ℕ) → finished limits serial (supplied limits o (was told)).nesting.names
+    (supplied limits o (was told)).work ≡ e =
+    λ told. ap (λ (v : State). finished limits serial v.nesting.names v.work) (sym (w.same told)) ∙ last (told ++ w.lines) in
+    record {
+      lines = w.lines ++ e.messages;
+      takes = takes_then old mid new w.lines e.messages w.takes d.messages;
+      messages = λ told.
+          ap (λ (e : Outcome). (supplied limits o (was told)).told ++ e.messages) (final told)
+          ∙ ap (λ (v : State). v.told ++ e.messages) (sym (w.same told)) ∙ ap (λ l. l ++ e.messages) (told_is (told ++ w.lines))
+          ∙ append_assoc told w.lines e.messages;
+      story = λ told. d.story ∙ ap (λ (e : Outcome). e.story) (sym (final told));
+      status = λ told. d.status ∙ ap (λ (e : Outcome). e.status) (sym (final told));
+    }
+
+-- they were not all written
+pub breaks_off_last : (limits : Limits) (o : Choices) (serial : List ℕ) (was now : List ℕ → State) (old mid new : Option (List ℕ))
+    (e : Outcome)
+    → Writes (supplied limits o) was now old mid → ((told : List ℕ) → (now told).told ≡ told)
+    → ((told : List ℕ) → finished limits serial (now told).nesting.names (now told).work ≡ e) → TakesFront e.messages mid new
+    → BreaksOff limits o serial was old new
+breaks_off_last limits o serial was now old mid new e w told_is last t =
+    let final : (told : List ℕ) → finished limits serial (supplied limits o (was told)).nesting.names
+    (supplied limits o (was told)).work ≡ e =
+    λ told. ap (λ (v : State). finished limits serial v.nesting.names v.work) (sym (w.same told)) ∙ last (told ++ w.lines) in
+    record {
+      front = w.lines ++ t.front;
+      takes = takes_then old mid new w.lines t.front w.takes t.takes;
+      begins = λ told.
+          let whole : (supplied limits o (was told)).told ≡ told ++ w.lines =
+          ap (λ (v : State). v.told) (sym (w.same told)) ∙ told_is (told ++ w.lines) in
+          subst (λ (e : Outcome). IsFront (told ++ (w.lines ++ t.front)) ((supplied limits o (was told)).told ++ e.messages))
+          (sym (final told))
+          (subst (λ l. IsFront (told ++ (w.lines ++ t.front)) (l ++ e.messages)) (sym whole)
+          (subst (λ l. IsFront l ((told ++ w.lines) ++ e.messages)) (append_assoc told w.lines t.front)
+          (front_behind (told ++ w.lines) t.front e.messages t.begins)));
+    }
+
+-- what was read of the veneer was not all written
+pub breaks_off : (limits : Limits) (o : Choices) (serial : List ℕ) (was : List ℕ → State) (old new : Option (List ℕ))
+    → CutsShort (supplied limits o) was old new → BreaksOff limits o serial was old new
+breaks_off limits o serial was old new cut = record {
+  front = cut.front;
+  takes = cut.takes;
+  begins = λ told.
+      let v = supplied limits o (was told) in
+      front_then (told ++ cut.front) v.told (ending_of limits o serial (was told)).messages (cut.begins told)
+      (front_more v.told (finished limits serial v.nesting.names v.work).messages);
+}
+
+-- the same, whatever the files are
+pub supplies_all : {B T E : Type 0} (r : Result T E) (limits : Limits) (o : Choices) (was now : Session B) (old new : Option (List ℕ))
+    → ((sources : Sources) → (start opened : Openings) → OnOk r (Writes (supplied limits o) (state sources start opened was)
+    (state sources start opened now) old new)) → OnOk r (SuppliesAll limits o was now old new)
+unfolding SuppliesAll
+supplies_all (Ok x) limits o was now old new h = h
+supplies_all (Err fault) limits o was now old new h = tt
+
+pub supplies_part : {B T E : Type 0} (r : Result T E) (limits : Limits) (o : Choices) (was : Session B) (old new : Option (List ℕ))
+    → ((sources : Sources) → (start opened : Openings) → OnErr r (CutsShort (supplied limits o) (state sources start opened was) old new))
+    → OnErr r (SuppliesPart limits o was old new)
+unfolding SuppliesPart
+supplies_part (Ok x) limits o was old new h = tt
+supplies_part (Err fault) limits o was old new h = h
+
+pub ends_all : {B : Type 0} (limits : Limits) (o : Choices) (serial : List ℕ) (was now : Session B) (old mid new : Option (List ℕ))
+    (c : Compiled) → SuppliesAll limits o was now old mid
+    → Delivers (finished limits serial now.open_files.nest.names (work_of now.progress.work)) c mid new
+    → EndsAll limits o serial was c old new
+unfolding SuppliesAll EndsAll
+ends_all limits o serial was now old mid new c s d = λ sources start opened.
+    ends limits o serial (state sources start opened was) (state sources start opened now) old mid new
+    (finished limits serial now.open_files.nest.names (work_of now.progress.work)) c (s sources start opened) (λ told. refl)
+    (λ told. finished_as limits serial (state sources start opened now told) now.open_files.nest.names (work_of now.progress.work) refl refl) d
+
+pub breaks_off_all : {B : Type 0} (limits : Limits) (o : Choices) (serial : List ℕ) (was now : Session B) (old mid new : Option (List ℕ))
+    → SuppliesAll limits o was now old mid
+    → TakesFront (finished limits serial now.open_files.nest.names (work_of now.progress.work)).messages mid new
+    → BreaksOffAll limits o serial was old new
+unfolding SuppliesAll BreaksOffAll
+breaks_off_all limits o serial was now old mid new s t = λ sources start opened.
+    breaks_off_last limits o serial (state sources start opened was) (state sources start opened now) old mid new
+    (finished limits serial now.open_files.nest.names (work_of now.progress.work)) (s sources start opened) (λ told. refl)
+    (λ told. finished_as limits serial (state sources start opened now told) now.open_files.nest.names (work_of now.progress.work) refl refl) t
+
+pub breaks_off_part : {B : Type 0} (limits : Limits) (o : Choices) (serial : List ℕ) (was : Session B) (old new : Option (List ℕ))
+    → SuppliesPart limits o was old new → BreaksOffAll limits o serial was old new
+unfolding SuppliesPart BreaksOffAll
+breaks_off_part limits o serial was old new s = λ sources start opened.
+    breaks_off limits o serial (state sources start opened was) old new (s sources start opened)
+
+pub ends_at : {B E : Type 0} (r : Result Compiled E) (limits : Limits) (o : Choices) (serial : List ℕ) (was : Session B)
+    (old new : Option (List ℕ)) (sources : Sources) (start opened : Openings) → IfOk r (λ c. EndsAll limits o serial was c old new)
+    → IfOk r (λ c. Ends limits o serial (state sources start opened was) c old new)
+unfolding EndsAll
+ends_at (Ok c) limits o serial was old new sources start opened h = h sources start opened
+ends_at (Err fault) limits o serial was old new sources start opened h = tt
+
+pub breaks_off_at : {B E : Type 0} (r : Result Compiled E) (limits : Limits) (o : Choices) (serial : List ℕ) (was : Session B)
+    (old new : Option (List ℕ)) (sources : Sources) (start opened : Openings) → OnErr r (BreaksOffAll limits o serial was old new)
+    → OnErr r (BreaksOff limits o serial (state sources start opened was) old new)
+unfolding BreaksOffAll
+breaks_off_at (Ok c) limits o serial was old new sources start opened h = tt
+breaks_off_at (Err fault) limits o serial was old new sources start opened h = h sources start opened
+
 -- behind reading to the end, the ending's messages were written
 pub concludes : (limits : Limits) (sources : Sources) (o : Choices) (serial : List ℕ) (was now : List ℕ → State) (start after : Openings)
     (f : Open)
     (old mid new : Option (List ℕ)) (turns : ℕ) (c : Compiled)
-    → Writes (run limits sources o turns) was now old mid → ((told : List ℕ) → has_ended (now told) ≡ true) →
-    ((told : List ℕ) → (now told).told ≡ told)
+    → Writes (run limits sources o turns) was now old mid → ((told : List ℕ) → has_ended (now told) ≡ true)
     → IsNested start after f → ((told : List ℕ) → (now told).nesting ≡ nesting sources start after f)
-    → ((told : List ℕ) → Delivers (finished limits serial (now told).nesting.names (now told).work) c mid new)
+    → Ends limits o serial now c mid new
     → Concludes limits sources o serial (was []) start after f old new c
-concludes limits sources o serial was now start after f old mid new turns c w over told_is nested files d = record {
+concludes limits sources o serial was now start after f old mid new turns c w over nested files d = record {
   final = now w.lines;
   is_read = record { turns = turns; leads = sym (w.same []); ends = over w.lines };
   delivers = record {
-    messages = takes_then old mid new (now w.lines).told (finished limits serial (now w.lines).nesting.names (now w.lines).work).messages
-        (subst (λ l. Takes old mid l) (sym (told_is w.lines)) w.takes) (d w.lines).messages;
-    story = (d w.lines).story;
-    status = (d w.lines).status;
+    messages = subst (λ l. Takes old new l) (sym (d.messages w.lines)) (takes_then old mid new w.lines d.lines w.takes d.takes);
+    story = d.story w.lines;
+    status = d.status w.lines;
   };
   nested = nested;
   nesting_is = sym (files w.lines);
@@ -74,35 +199,29 @@ stops_reading limits sources o serial was old new turns cut = record {
       let some : IsFront (run limits sources o turns s).told final.told =
       subst (λ (t : State). IsFront (run limits sources o turns s).told t.told) read.leads
       (end_begins limits sources o turns read.turns s (ap has_ended read.leads ∙ read.ends)) in
-      front_then cut.front final.told (ending_of limits serial final).messages
+      let v = supplied limits o final in
+      front_then cut.front final.told (ending_of limits o serial final).messages
       (front_then cut.front (run limits sources o turns s).told final.told (cut.begins []) some)
-      (front_more final.told (finished limits serial final.nesting.names final.work).messages);
+      (front_then final.told v.told (ending_of limits o serial final).messages (supplied_begins limits o final)
+      (front_more v.told (finished limits serial v.nesting.names v.work).messages));
 }
 
--- all was read, and the last messages were not all written
+-- all was read, and what comes behind it was not all written
 pub stops_ending : (limits : Limits) (sources : Sources) (o : Choices) (serial : List ℕ) (was now : List ℕ → State)
     (old mid new : Option (List ℕ))
     (turns : ℕ)
-    → Writes (run limits sources o turns) was now old mid → ((told : List ℕ) → has_ended (now told) ≡ true) →
-    ((told : List ℕ) → (now told).told ≡ told)
-    → ((told : List ℕ) → TakesFront (finished limits serial (now told).nesting.names (now told).work).messages mid new) → Stops limits
-    sources o serial
-    (was []) old new
-stops_ending limits sources o serial was now old mid new turns w over told_is t = record {
-  front = w.lines ++ (t w.lines).front;
-  takes = takes_then old mid new w.lines (t w.lines).front w.takes (t w.lines).takes;
+    → Writes (run limits sources o turns) was now old mid → ((told : List ℕ) → has_ended (now told) ≡ true)
+    → BreaksOff limits o serial now mid new → Stops limits sources o serial (was []) old new
+stops_ending limits sources o serial was now old mid new turns w over t = record {
+  front = w.lines ++ t.front;
+  takes = takes_then old mid new w.lines t.front w.takes t.takes;
   begins = λ final read.
       let s = was [] in
       let here : run limits sources o turns s ≡ now w.lines = sym (w.same []) in
       let same : now w.lines ≡ final =
       sym here ∙ same_end limits sources o turns read.turns s (ap has_ended here ∙ over w.lines) (ap has_ended read.leads ∙ read.ends)
       ∙ read.leads in
-      subst (λ (x : State). IsFront (w.lines ++ (t w.lines).front) (ending_of limits serial x).messages) same
-      (subst (λ l. IsFront (w.lines ++ (t w.lines).front)
-      (l ++ (finished limits serial (now w.lines).nesting.names (now w.lines).work).messages))
-      (sym (told_is w.lines))
-      (front_behind w.lines (t w.lines).front (finished limits serial (now w.lines).nesting.names (now w.lines).work).messages
-      (t w.lines).begins));
+      subst (λ (x : State). IsFront (w.lines ++ t.front) (ending_of limits o serial x).messages) same (t.begins w.lines);
 }
 
 -- a fault that is none of reading
@@ -227,8 +346,8 @@ comes_of s o serial name old now new f was before after c there begun closed giv
     subst (λ (fs : List ℕ). AreAt n (length now.all) f.nest.names now.all (reverse now.open_places) fs)
     (sym (files_are s old now f k.nested)) (at_all s old now f k.nested given) in
     record {
-      ending = ending_of (limits_of o.settings) serial k.final;
-      is_outcome = outcome_of (s name) s o serial name (ending_of (limits_of o.settings) serial k.final) there
+      ending = ending_of (limits_of o.settings) o serial k.final;
+      is_outcome = outcome_of (s name) s o serial name (ending_of (limits_of o.settings) o serial k.final) there
           (record { final = k.final; is_read = read; is_ending = refl });
       delivers = k.delivers;
       opened = opened_of (s name) s o name old new there (record {
@@ -262,21 +381,31 @@ begins_of s o serial name was before after there begun k = record {
 
 -- a session at the front of the main source
 pub begun_is : {B : Type 0} (s : Sources) (o : Choices) (name : List ℕ) (old now : Openings) (x : Session B) →
-    nesting s old now x.open_files ≡ main_opened o.set (most_quoted o) s name
+    nesting s old now x.open_files ≡ main_opened (set_of o.letters) (most_quoted o) s name
     → standing x.progress ≡ begun_with o x.open_files.nest.names → x.is_over ≡ false → x.conditionals ≡ no_conditions → x.quoted
-    ≡ 0 → state s old now x [] ≡ start s o name
-begun_is s o name old now x files at going none unquoted =
-    let main = main_opened o.set (most_quoted o) s name in
+    ≡ 0 → x.passed ≡ 0 → state s old now x [] ≡ start s o name
+begun_is s o name old now x files at going none unquoted unpassed =
+    let main = main_opened (set_of o.letters) (most_quoted o) s name in
     let front = begun_with o main.names in
     let stands : standing x.progress ≡ front = at ∙ ap (λ (n : Nesting). begun_with o n.names) files in
-    ap (λ (n : Nesting). made n x.conditionals (standing x.progress) x.is_over x.quoted) files
-    ∙ ap (λ (p : ReaderState). made main x.conditionals p x.is_over x.quoted) stands
-    ∙ ap (λ (b : Bool). made main x.conditionals front b x.quoted) going
-    ∙ ap (λ (c : Conditions). made main c front false x.quoted) none
-    ∙ ap (λ (n : ℕ). made main no_conditions front false n) unquoted
+    ap (λ (n : Nesting). made n x.conditionals (standing x.progress) x.is_over x.quoted x.passed) files
+    ∙ ap (λ (p : ReaderState). made main x.conditionals p x.is_over x.quoted x.passed) stands
+    ∙ ap (λ (b : Bool). made main x.conditionals front b x.quoted x.passed) going
+    ∙ ap (λ (c : Conditions). made main c front false x.quoted x.passed) none
+    ∙ ap (λ (n : ℕ). made main no_conditions front false n x.passed) unquoted
+    ∙ ap (λ (n : ℕ). made main no_conditions front false 0 n) unpassed
   where
-    made : Nesting → Conditions → ReaderState → Bool → ℕ → State
-    made n c p b q = record { nesting = n; conditions = c; reading = p.reading; work = p.work; told = []; is_over = b; quoted = q }
+    made : Nesting → Conditions → ReaderState → Bool → ℕ → ℕ → State
+    made n c p b q m = record {
+      nesting = n;
+      conditions = c;
+      reading = p.reading;
+      work = p.work;
+      told = [];
+      is_over = b;
+      quoted = q;
+      passed = m;
+    }
 
 -- Where reading was given up
 
@@ -404,6 +533,17 @@ heard_none failed s o name old new before after told cause same e is =
       takes = subst (λ (n : Option (List ℕ)). Takes before n []) (sym e) (takes_none before);
       name_is = is;
     })
+
+-- of a main source that is not there a front of its one message was written
+pub begins_missing : (sources : Sources) (o : Choices) (serial name : List ℕ) (old new : Option (List ℕ)) (lines : List ℕ)
+    → sources name ≡ None → lines ≡ (missing name).messages → TakesFront lines old new → Begins sources o serial name old new
+begins_missing sources o serial name old new lines absent is t = record {
+  front = t.front;
+  takes = t.takes;
+  begins = λ e outcome.
+      let same : e ≡ missing name = subst (λ (x : Option (List ℕ)). IsOutcomeOf x sources o serial name e) absent outcome in
+      subst (λ l. IsFront t.front l) (is ∙ ap (λ (x : Outcome). x.messages) (sym same)) t.begins;
+}
 
 -- what was opened where reading was given up
 pub opened_some : (s : Sources) (o : Choices) (name : List ℕ) (old now new : Openings) (f : Open) (was : List ℕ → State) (turns : ℕ) →

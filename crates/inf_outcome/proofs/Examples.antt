@@ -7,6 +7,7 @@ use Rattle.inf_area.specs.declared.targets.Value.TheVariants as value
 use Rattle.inf_cells.specs.declared.cells.Cell.{Cell}
 use Rattle.inf_cells.specs.declared.scale.Scale.TheVariants as scale
 use Rattle.std.specs.Fmt.{digits}
+use Rattle.inf_veneer.specs.Texts as veneer
 use Rattle.inf_characters.specs.Characters.{accented, zscii_of, zscii_of_unicode}
 use Rattle.inf_text.specs.Packing.{packed, longest, character_zs, punctuation}
 use Rattle.inf_characters.specs.Reading.{escape_piece, piece_at, spelled, spellings, text_of}
@@ -46,45 +47,49 @@ unfolding digits more
 no_source serial = refl
 
 pub empty_source : EmptySource
-unfolding digits more system.system_names
+unfolding digits more system.system_names veneer.all_names
 empty_source serial = record { final = _; is_read = record { turns = 10; leads = refl; ends = refl }; is_ending = refl }
 
 pub text_is_missing : TextIsMissing
 unfolding digits more units.order units.next_place output.laid output.instruction output.behind meaning.call_of parts.calling
     statements.statement_in effects.statement_laid effects.statement_finding work_parts.part_effect language.grammar language.known
     atoms.keyword_of words.keywords
-    system.system_names
+    system.system_names veneer.all_names
 text_is_missing serial = record { final = _; is_read = record { turns = 20; leads = refl; ends = refl }; is_ending = refl }
 
 pub names_are_undeclared : NamesAreUndeclared
 unfolding digits more units.order units.next_place output.laid output.instruction output.behind meaning.call_of parts.calling
     statements.statement_in effects.statement_laid effects.statement_finding work_parts.part_effect language.grammar language.known
     atoms.keyword_of words.keywords
-    system.system_names
+    system.system_names veneer.all_names
 names_are_undeclared serial = record { final = _; is_read = record { turns = 40; leads = refl; ends = refl }; is_ending = refl }
 
 pub files_are_included : FilesAreIncluded
 unfolding digits more text_of piece_at escape_piece spelled spellings zscii_of zscii_of_unicode accented units.order units.next_place
     output.laid output.instruction output.behind meaning.call_of parts.calling statements.statement_in effects.statement_laid
     effects.statement_finding work_parts.part_effect language.grammar language.known atoms.keyword_of words.keywords system.system_names
+    veneer.all_names
 files_are_included serial = record { final = _; is_read = record { turns = 40; leads = refl; ends = refl }; is_ending = refl }
 
 pub conditionals_choose : ConditionalsChoose
 unfolding digits more text_of piece_at escape_piece spelled spellings zscii_of zscii_of_unicode accented units.order units.next_place
     output.laid output.instruction output.behind meaning.call_of parts.calling statements.statement_in effects.statement_laid
     effects.statement_finding work_parts.part_effect language.grammar language.known atoms.keyword_of words.keywords system.system_names
+    veneer.all_names
 conditionals_choose serial = record { final = _; is_read = record { turns = 80; leads = refl; ends = refl }; is_ending = refl }
 
 pub conditions_choose : ConditionsChoose
 unfolding digits more text_of piece_at escape_piece spelled spellings zscii_of zscii_of_unicode accented units.order units.next_place
     output.laid output.instruction output.behind meaning.call_of parts.calling statements.statement_in effects.statement_laid
     effects.statement_finding work_parts.part_effect language.grammar language.known atoms.keyword_of words.keywords system.system_names
+    veneer.all_names
 conditions_choose serial = record { final = _; is_read = record { turns = 80; leads = refl; ends = refl }; is_ending = refl }
 
 pub sixteen_are_open : SixteenAreOpen
 unfolding digits more text_of piece_at escape_piece spelled spellings zscii_of zscii_of_unicode accented units.order units.next_place
     output.laid output.instruction output.behind meaning.call_of parts.calling statements.statement_in effects.statement_laid
     effects.statement_finding work_parts.part_effect language.grammar language.known atoms.keyword_of words.keywords system.system_names
+    veneer.all_names
 sixteen_are_open serial = record { final = _; is_read = record { turns = 120; leads = refl; ends = refl }; is_ending = refl }
 
 -- the code of the routine: no locals, `print`, `rtrue`, and a zero
@@ -111,7 +116,8 @@ unfolding digits more text_of piece_at escape_piece spelled spellings zscii_of z
     punctuation units.order units.next_place output.laid output.instruction output.behind meaning.call_of parts.calling
     statements.statement_in effects.statement_laid effects.statement_finding work_parts.part_effect language.grammar language.known
     atoms.keyword_of words.keywords
-    system.system_names too_long tables.three_spaces tables.abbreviations first_names no_attributes attribute_cells flag_byte all_falling
+    system.system_names veneer.all_names too_long tables.three_spaces tables.abbreviations first_names no_attributes attribute_cells
+    flag_byte all_falling
 hello_is_a_story serial six =
     let says = story_tells (fields serial) 8 (value.Later (target.Place area.Code 8) ∷ []) hello_code [] no_tables six in
     let size : length (hello serial) ≡ 976 = says.as_mapped ∙ hello_size in

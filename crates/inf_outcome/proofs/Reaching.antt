@@ -1,8 +1,8 @@
 -- Reading ends, whatever the sources are: a turn ends it, takes something of the innermost file, leaves that file, or enters another one;
 -- and
 -- no more than sixteen are open.
-use Rattle.std.proofs.Common.{◌≡◌, ◌⊎◌, inl, inr, ℕ, zero, suc, ◌+◌, ◌<◌, ◌≤◌, ◌||◌, List, [], ◌∷◌, length, Bool, true, false, not, nat_le}
-use Rattle.std.proofs.Common.{cond, Option, Some, None, refl, sym, ap, subst, ◌∙◌, arith}
+use Rattle.std.proofs.Common.{◌≡◌, ◌⊎◌, inl, inr, ℕ, zero, suc, ◌+◌, ◌<◌, ◌≤◌, ◌||◌, List, [], ◌∷◌, length, map, Bool, true, false, not}
+use Rattle.std.proofs.Common.{nat_le, cond, Option, Some, None, refl, sym, ap, subst, ◌∙◌, arith}
 use Rattle.std.proofs.lemmas.Bool.{leb-false}
 use Rattle.inf_settings.specs.Bounds.{limits_of, Limits}
 use Rattle.inf_scanner.proofs.TokenLaws.{tokens_take_bytes}
@@ -10,12 +10,14 @@ use Rattle.inf_scanner.specs.declared.tokens.Place.{Place}
 use Rattle.inf_files.specs.Files.{Sources}
 use Rattle.inf_lexer.specs.Entering.{first_there}
 use Rattle.inf_lexer.specs.Names.{can_name, candidates}
-use Rattle.inf_sources.specs.Cursors.{Cursor, read}
+use Rattle.inf_characters.specs.declared.characters.CharSet.{CharSet}
+use Rattle.inf_sources.specs.Choosing.{waiting_with}
+use Rattle.inf_sources.specs.Cursors.{read}
 use Rattle.inf_sources.specs.Inclusions.{Inclusion, Nesting, Opens, OpensNone, Waiting, by_first, inclusion, innermost_name}
 use Rattle.inf_sources.specs.declared.open_files.Included.{Included}
 use Rattle.inf_sources.specs.declared.open_files.Included.TheVariants as included
 use Rattle.inf_unit.proofs.Cases.{of_both}
-use Rattle.inf_unit.specs.Directives.{Request, Nothing, Include, End}
+use Rattle.inf_unit.specs.Directives.{Request, Nothing, Include, End, Characters}
 use Rattle.inf_conditionals.specs.Judging.{judged}
 use Rattle.inf_reader.specs.Handing.{said_told, site_of}
 use Rattle.inf_reader.specs.Reading.{is_mode_ended}
@@ -31,13 +33,25 @@ use Rattle.inf_outcome.specs.OutcomeLaws.{OutcomesExist}
 
 -- A turn
 
+-- what is still to come of files that wait, whatever character set they are read by
+abbrev rests : List Waiting → List (List ℕ)
+rests waiting = map (λ (w : Waiting). w.cursor.rest) waiting
+
+rests_length : (waiting : List Waiting) → length (rests waiting) ≡ length waiting
+rests_length [] = refl
+rests_length (w ∷ waiting) = ap suc (rests_length waiting)
+
+same_rests : (set : CharSet) (waiting : List Waiting) → rests (map (waiting_with set) waiting) ≡ rests waiting
+same_rests set [] = refl
+same_rests set (w ∷ waiting) = ap (λ (rs : List (List ℕ)). w.cursor.rest ∷ rs) (same_rests set waiting)
+
 -- Where it does not end reading, it takes something of the innermost file, leaves it, or enters another one behind taking something.
 data Moves (was now : Nesting) : Type 0 where
-  Stays : now.waiting ≡ was.waiting → length now.cursor.rest < length was.cursor.rest → Moves was now
-  Leaves : (w : Waiting) (waiting : List Waiting) → was.waiting ≡ w ∷ waiting → now.cursor ≡ w.cursor → now.waiting ≡ waiting →
+  Stays : rests now.waiting ≡ rests was.waiting → length now.cursor.rest < length was.cursor.rest → Moves was now
+  Leaves : (w : List ℕ) (others : List (List ℕ)) → rests was.waiting ≡ w ∷ others → now.cursor.rest ≡ w → rests now.waiting ≡ others →
       Moves was now
-  Enters : (w : Waiting) → now.waiting ≡ w ∷ was.waiting → length w.cursor.rest < length was.cursor.rest → length was.waiting < 15 →
-      Moves was now
+  Enters : (w : List ℕ) → rests now.waiting ≡ w ∷ rests was.waiting → length w < length was.cursor.rest
+      → length (rests was.waiting) < 15 → Moves was now
 
 abbrev Goes : Nesting → State → Type 0
 Goes was t = (has_ended t ≡ true) ⊎ Moves was t.nesting
@@ -54,10 +68,10 @@ mode_ends : (s : State) → is_mode_ended s.reading.mode ≡ true → has_ended 
 mode_ends s e = or_second s.is_over _ (or_second s.work.report.counts.is_over _ e)
 
 -- the innermost file is left
-left_goes : (was : Nesting) (waiting : List Waiting) (s : State) → was.waiting ≡ waiting → is_mode_ended s.reading.mode ≡ true →
+left_goes : (was : Nesting) (waiting : List Waiting) (s : State) → rests was.waiting ≡ rests waiting → is_mode_ended s.reading.mode ≡ true →
     Goes was (left_by waiting (file_closed s))
 left_goes was [] s same e = inl (mode_ends (file_closed s) e)
-left_goes was (w ∷ waiting) s same e = inr (Leaves w waiting same refl refl)
+left_goes was (w ∷ waiting) s same e = inr (Leaves w.cursor.rest (rests waiting) same refl refl)
 
 -- a file is entered, or none is
 opens_room : (can deep : Bool) (first : Option (List ℕ)) (name : List ℕ) →
@@ -82,26 +96,27 @@ none_stays unit text included.TooDeep s = refl
 
 included_goes : (was : Nesting) (sources : Sources) (o : Choices) (unit : Place) (text : List ℕ) (i : Inclusion) (s : State) →
     inclusion sources o.directories text s.nesting ≡ i
-    → s.nesting.waiting ≡ was.waiting → length s.nesting.cursor.rest < length was.cursor.rest → Goes was
+    → rests s.nesting.waiting ≡ rests was.waiting → length s.nesting.cursor.rest < length was.cursor.rest → Goes was
     (included_by sources o unit text i s)
 included_goes was sources o unit text (Opens name) s e same less =
     let room = has_room sources o.directories text name s.nesting e in
-    let w : Waiting = record { cursor = s.nesting.cursor; conditionals = s.conditions.among; is_system = s.work.is_system } in
-    inr (Enters w (ap (λ (waiting : List Waiting). w ∷ waiting) same) less
-    (omega (arith, room, ap length same)))
+    let w = s.nesting.cursor.rest in
+    inr (Enters w (ap (λ (rs : List (List ℕ)). w ∷ rs) same) less
+    (omega (arith, room, ap length same, rests_length s.nesting.waiting)))
 included_goes was sources o unit text (OpensNone why) s e same less =
     inr (subst (λ (n : Nesting). Moves was n) (sym (none_stays unit text why s)) (Stays same less))
 
-answered_goes : (was : Nesting) (a : Request) (sources : Sources) (o : Choices) (s : State) → s.nesting.waiting ≡ was.waiting →
+answered_goes : (was : Nesting) (a : Request) (sources : Sources) (o : Choices) (s : State) → rests s.nesting.waiting ≡ rests was.waiting →
     length s.nesting.cursor.rest < length was.cursor.rest
     → Goes was (answered a sources o s)
 answered_goes was (Include text unit) sources o s same less =
     included_goes was sources o unit text (inclusion sources o.directories text s.nesting) s refl same less
 answered_goes was End sources o s same less = inl refl
+answered_goes was (Characters set) sources o s same less = inr (Stays (same_rests set s.nesting.waiting ∙ same) less)
 answered_goes was Nothing sources o s same less = inr (Stays same less)
 
 -- what is asked is done, behind a token that takes something or ends the file
-carried_out_goes : (was : Nesting) (sources : Sources) (o : Choices) (s : State) → s.nesting.waiting ≡ was.waiting
+carried_out_goes : (was : Nesting) (sources : Sources) (o : Choices) (s : State) → rests s.nesting.waiting ≡ rests was.waiting
     → (is_mode_ended s.reading.mode ≡ true) ⊎ (length s.nesting.cursor.rest < length was.cursor.rest) → Goes was (carried_out sources o s)
 carried_out_goes was sources o s same took =
     of_both (Goes was) s.work.report.counts.is_over s _ (λ over. inl (over_ends s over))
@@ -150,21 +165,22 @@ turn_goes limits sources o s =
 -- Turns
 
 -- the innermost file was left for the one around it
-abbrev Popped : List Waiting → State → Type 0
+abbrev Popped : List (List ℕ) → State → Type 0
 Popped [] t = ⊥
-Popped (w ∷ waiting) t = (t.nesting.cursor ≡ w.cursor) × (t.nesting.waiting ≡ waiting)
+Popped (w ∷ others) t = (t.nesting.cursor.rest ≡ w) × (rests t.nesting.waiting ≡ others)
 
 -- some turns end reading, or leave the innermost file
-abbrev Reaches : Limits → Sources → Choices → State → List Waiting → Type 0
+abbrev Reaches : Limits → Sources → Choices → State → List (List ℕ) → Type 0
 Reaches limits sources o s waiting =
     (turns : ℕ) × ((has_ended (run limits sources o turns s) ≡ true) ⊎ Popped waiting (run limits sources o turns s))
 
 -- where so many files more may be open, and less than n bytes are left of the innermost
 abbrev AllReach : Limits → Sources → Choices → ℕ → ℕ → Type 0
 AllReach limits sources o room n =
-    (s : State) → length s.nesting.cursor.rest < n → 15 ≤ length s.nesting.waiting + room → Reaches limits sources o s s.nesting.waiting
+    (s : State) → length s.nesting.cursor.rest < n → 15 ≤ length (rests s.nesting.waiting) + room →
+    Reaches limits sources o s (rests s.nesting.waiting)
 
-reaches_by : (limits : Limits) (sources : Sources) (o : Choices) (s t : State) (a : ℕ) (waiting : List Waiting) →
+reaches_by : (limits : Limits) (sources : Sources) (o : Choices) (s t : State) (a : ℕ) (waiting : List (List ℕ)) →
     run limits sources o a s ≡ t →
     Reaches limits sources o t waiting → Reaches limits sources o s waiting
 reaches_by limits sources o s t a waiting leads r =
@@ -178,29 +194,28 @@ reaches_by limits sources o s t a waiting leads r =
     )
 
 -- behind a file inside it the outer one goes on
-inside_by : (limits : Limits) (sources : Sources) (o : Choices) (room n : ℕ) (s t : State) (w : Waiting) →
+inside_by : (limits : Limits) (sources : Sources) (o : Choices) (room n : ℕ) (s t : State) (w : List ℕ) →
     AllReach limits sources o room n →
-    t.nesting.waiting ≡ w ∷ s.nesting.waiting
-    → length w.cursor.rest < n → 15 ≤ length s.nesting.waiting + room → Reaches limits sources o t (w ∷ s.nesting.waiting) → Reaches limits
-    sources o t
-    s.nesting.waiting
+    rests t.nesting.waiting ≡ w ∷ rests s.nesting.waiting
+    → length w < n → 15 ≤ length (rests s.nesting.waiting) + room → Reaches limits sources o t (w ∷ rests s.nesting.waiting) →
+    Reaches limits sources o t (rests s.nesting.waiting)
 inside_by limits sources o room n s t w later opens less deep r = by r.1
   where
-    by : (has_ended (run limits sources o r.0 t) ≡ true) ⊎ Popped (w ∷ s.nesting.waiting) (run limits sources o r.0 t) →
-        Reaches limits sources o t s.nesting.waiting
+    by : (has_ended (run limits sources o r.0 t) ≡ true) ⊎ Popped (w ∷ rests s.nesting.waiting) (run limits sources o r.0 t) →
+        Reaches limits sources o t (rests s.nesting.waiting)
     by (inl e) = (r.0, inl e)
     by (inr p) =
         let out : State = run limits sources o r.0 t in
-        let on : Reaches limits sources o out out.nesting.waiting =
-        later out (omega (arith, ap (λ (x : Cursor). length x.rest) p.0, less)) (omega (arith, ap length p.1, deep)) in
-        reaches_by limits sources o t out r.0 s.nesting.waiting refl
-        (subst (λ (waiting : List Waiting). Reaches limits sources o out waiting) p.1 on)
+        let on : Reaches limits sources o out (rests out.nesting.waiting) =
+        later out (omega (arith, ap length p.0, less)) (omega (arith, ap length p.1, deep)) in
+        reaches_by limits sources o t out r.0 (rests s.nesting.waiting) refl
+        (subst (λ (waiting : List (List ℕ)). Reaches limits sources o out waiting) p.1 on)
 
 -- one turn, and what comes then
 step_by : (limits : Limits) (sources : Sources) (o : Choices) (room n : ℕ) (s : State) →
     ((inner : ℕ) → room ≡ suc inner → (m : ℕ) → AllReach limits sources o inner m) → AllReach limits sources o room n
-    → length s.nesting.cursor.rest < suc n → 15 ≤ length s.nesting.waiting + room → has_ended s ≡ false → Reaches limits sources o s
-    s.nesting.waiting
+    → length s.nesting.cursor.rest < suc n → 15 ≤ length (rests s.nesting.waiting) + room → has_ended s ≡ false →
+    Reaches limits sources o s (rests s.nesting.waiting)
 step_by limits sources o room n s inside later less deep going = by (turn_goes limits sources o s)
   where
     next : State
@@ -209,28 +224,28 @@ step_by limits sources o room n s inside later less deep going = by (turn_goes l
     one : run limits sources o (suc zero) s ≡ next
     one = run_going limits sources o zero s going
 
-    entered : (room : ℕ) (w : Waiting) → 15 ≤ length s.nesting.waiting + room →
-        ((inner : ℕ) → room ≡ suc inner → (m : ℕ) → AllReach limits sources o inner m) → length s.nesting.waiting < 15
-        → next.nesting.waiting ≡ w ∷ s.nesting.waiting → Reaches limits sources o next (w ∷ s.nesting.waiting)
+    entered : (room : ℕ) (w : List ℕ) → 15 ≤ length (rests s.nesting.waiting) + room →
+        ((inner : ℕ) → room ≡ suc inner → (m : ℕ) → AllReach limits sources o inner m) → length (rests s.nesting.waiting) < 15
+        → rests next.nesting.waiting ≡ w ∷ rests s.nesting.waiting → Reaches limits sources o next (w ∷ rests s.nesting.waiting)
     entered zero w deep inside few opens = absurd (omega (arith, deep, few))
     entered (suc inner) w deep inside few opens =
-        subst (λ (waiting : List Waiting). Reaches limits sources o next waiting) opens
+        subst (λ (waiting : List (List ℕ)). Reaches limits sources o next waiting) opens
         (inside inner refl (suc (length next.nesting.cursor.rest)) next (omega arith) (omega (arith, ap length opens, deep)))
 
-    by : Goes s.nesting next → Reaches limits sources o s s.nesting.waiting
+    by : Goes s.nesting next → Reaches limits sources o s (rests s.nesting.waiting)
     by (inl e) = (suc zero, inl (ap has_ended one ∙ e))
     by (inr (Stays same takes)) =
-        let on : Reaches limits sources o next next.nesting.waiting =
+        let on : Reaches limits sources o next (rests next.nesting.waiting) =
         later next (omega (arith, takes, less)) (omega (arith, ap length same, deep)) in
-        reaches_by limits sources o s next (suc zero) s.nesting.waiting one
-        (subst (λ (waiting : List Waiting). Reaches limits sources o next waiting) same on)
-    by (inr (Leaves w waiting was cursor rest)) = (
+        reaches_by limits sources o s next (suc zero) (rests s.nesting.waiting) one
+        (subst (λ (waiting : List (List ℕ)). Reaches limits sources o next waiting) same on)
+    by (inr (Leaves w others was cursor rest)) = (
       suc zero,
-      inr (subst (λ (ws : List Waiting). Popped ws (run limits sources o (suc zero) s)) (sym was)
-          (subst (λ (x : State). Popped (w ∷ waiting) x) (sym one) (cursor, rest))),
+      inr (subst (λ (ws : List (List ℕ)). Popped ws (run limits sources o (suc zero) s)) (sym was)
+          (subst (λ (x : State). Popped (w ∷ others) x) (sym one) (cursor, rest))),
     )
     by (inr (Enters w opens takes few)) =
-        reaches_by limits sources o s next (suc zero) s.nesting.waiting one
+        reaches_by limits sources o s next (suc zero) (rests s.nesting.waiting) one
         (inside_by limits sources o room n s next w later opens (omega (arith, takes, less)) deep (entered room w deep inside few opens))
 
 by_rest : (limits : Limits) (sources : Sources) (o : Choices) (room : ℕ) →
@@ -239,7 +254,7 @@ by_rest : (limits : Limits) (sources : Sources) (o : Choices) (room : ℕ) →
 by_rest limits sources o room inside zero s less deep = absurd (omega (arith, less))
 by_rest limits sources o room inside (suc n) s less deep = by (has_ended s) refl (by_rest limits sources o room inside n)
   where
-    by : (b : Bool) → has_ended s ≡ b → AllReach limits sources o room n → Reaches limits sources o s s.nesting.waiting
+    by : (b : Bool) → has_ended s ≡ b → AllReach limits sources o room n → Reaches limits sources o s (rests s.nesting.waiting)
     by true e later = (zero, inl e)
     by false going later = step_by limits sources o room n s inside later less deep going
 
@@ -262,7 +277,7 @@ outcome_by (Some source) sources o serial name =
 
     by : Reaches (limits_of o.settings) sources o first [] → (e : Outcome) × IsOutcomeOf (Some source) sources o serial name e
     by (turns, inl e) = (
-      ending_of (limits_of o.settings) serial (run (limits_of o.settings) sources o turns first),
+      ending_of (limits_of o.settings) o serial (run (limits_of o.settings) sources o turns first),
       record {
         final = run (limits_of o.settings) sources o turns first;
         is_read = record { turns = turns; leads = refl; ends = e };

@@ -1,13 +1,13 @@
 -- What a compilation writes, answers and opens.
 use Rattle.std.specs.Prelude.{◌≡◌, ℕ, ◌+◌, ◌-◌, ◌<◌, ◌≤◌, ◌⊎◌, List, [], ◌∷◌, get_or, slice_get, unwrap_or, length, map, drop, false}
-use Rattle.std.specs.Prelude.{Option, Some, None, min}
+use Rattle.std.specs.Prelude.{Option, Some, None, min, option_map, ◌++◌}
 use Rattle.inf_settings.specs.Bounds.{limits_of, Limits}
 use Rattle.inf_files.specs.Files.{Opening, Openings, Rose, Sources, last_count, opened}
 use Rattle.inf_files.specs.declared.files.Files.{Ghosts as Files}
 use Rattle.inf_sinks.specs.Sinks.{Takes}
 use Rattle.inf_session.specs.Choices.{Choices}
 use Rattle.inf_lexer.specs.Unread.{unread_of}
-use Rattle.inf_session.specs.Leading.{IsFront, StopsAtInclusion}
+use Rattle.inf_session.specs.Leading.{CutsShort, IsFront, StopsAtInclusion, Writes}
 use Rattle.inf_sources.specs.Cursors.{Cursor, Unfinished}
 use Rattle.inf_sources.specs.Inclusions.{Nesting, cursors, innermost_name}
 use Rattle.inf_sources.specs.Open.{Each, IsFrontOf, IsGiven, IsNested, Open, nesting, opened_since}
@@ -15,7 +15,10 @@ use Rattle.inf_session.specs.Delivered.{Delivers}
 use Rattle.inf_session.specs.Ending.{Outcome}
 use Rattle.inf_outcome.specs.Outcome.{IsOutcome, ending_of}
 use Rattle.inf_session.specs.Session.{IsRead, State, has_ended, run, start, stepped}
+use Rattle.inf_session.specs.Standing.{state}
+use Rattle.inf_session.specs.Veneer.{supplied}
 use Rattle.inf_session.specs.declared.compiled.Compiled.{Compiled}
+use Rattle.inf_session.specs.declared.session.Session.{Session}
 
 -- Of files that are open, the inner ones first, each is that of an opening behind the first n, under the name of its number; and each was
 -- opened behind those around it.
@@ -85,16 +88,50 @@ pub record Concludes (limits : Limits) (sources : Sources) (o : Choices) (serial
     (before after : Option (List ℕ)) (c : Compiled) : Type 0 where
   pub final : State
   pub is_read : IsRead limits sources o s final
-  pub delivers : Delivers (ending_of limits serial final) c before after
+  pub delivers : Delivers (ending_of limits o serial final) c before after
   pub nested : IsNested start now f
   pub nesting_is : nesting sources start now f ≡ final.nesting
+
+-- Behind the reading of the source these lines were written, and they, story and status are those of its ending.
+pub record Ends (limits : Limits) (o : Choices) (serial : List ℕ) (was : List ℕ → State) (c : Compiled) (before after : Option (List ℕ)) :
+    Type 0 where
+  pub lines : List ℕ
+  pub takes : Takes before after lines
+  pub messages : (told : List ℕ) → (ending_of limits o serial (was told)).messages ≡ told ++ lines
+  pub story : (told : List ℕ) → option_map (λ v. v.items) c.story ≡ (ending_of limits o serial (was told)).story
+  pub status : (told : List ℕ) → c.status ≡ (ending_of limits o serial (was told)).status
+
+-- A front of the ending's was written.
+pub record BreaksOff (limits : Limits) (o : Choices) (serial : List ℕ) (was : List ℕ → State) (before after : Option (List ℕ)) :
+    Type 0 where
+  pub front : List ℕ
+  pub takes : Takes before after front
+  pub begins : (told : List ℕ) → IsFront (told ++ front) (ending_of limits o serial (was told)).messages
+
+-- Whatever the files are, what is left of the veneer was read, and what it tells was written; or a front of that.
+unfoldable pub SuppliesAll : {B : Type 0} → Limits → Choices → Session B → Session B → Option (List ℕ) → Option (List ℕ) → Type 0
+SuppliesAll limits o was now before after = (sources : Sources) → (start opened : Openings) →
+    Writes (supplied limits o) (state sources start opened was) (state sources start opened now) before after
+
+unfoldable pub SuppliesPart : {B : Type 0} → Limits → Choices → Session B → Option (List ℕ) → Option (List ℕ) → Type 0
+SuppliesPart limits o was before after = (sources : Sources) → (start opened : Openings) →
+    CutsShort (supplied limits o) (state sources start opened was) before after
+
+-- whatever the files are, it ends so, or breaks off so
+unfoldable pub EndsAll : {B : Type 0} → Limits → Choices → List ℕ → Session B → Compiled → Option (List ℕ) → Option (List ℕ) → Type 0
+EndsAll limits o serial was c before after = (sources : Sources) → (start opened : Openings) →
+    Ends limits o serial (state sources start opened was) c before after
+
+unfoldable pub BreaksOffAll : {B : Type 0} → Limits → Choices → List ℕ → Session B → Option (List ℕ) → Option (List ℕ) → Type 0
+BreaksOffAll limits o serial was before after = (sources : Sources) → (start opened : Openings) →
+    BreaksOff limits o serial (state sources start opened was) before after
 
 -- It was given up, and wrote a front of what the ending has.
 pub record Stops (limits : Limits) (sources : Sources) (o : Choices) (serial : List ℕ) (s : State) (before after : Option (List ℕ)) : Type 0
   where
     pub front : List ℕ
     pub takes : Takes before after front
-    pub begins : (final : State) → IsRead limits sources o s final → IsFront front (ending_of limits serial final).messages
+    pub begins : (final : State) → IsRead limits sources o s final → IsFront front (ending_of limits o serial final).messages
 
 -- the most bytes that a source may have
 abbrev pub most_source_bytes : ℕ

@@ -1,7 +1,7 @@
 -- Worked examples: what comes of the main source `t.inf` among some sources.
 use Rattle.std.specs.Prelude.{◌≡◌, ℕ, List, [], ◌++◌, length, codes, if◌then◌else◌, true, zero, suc, Some, None}
 use Rattle.std.specs.Str.{bytes_eq}
-use Rattle.inf_characters.specs.declared.characters.CharSet.TheVariants as set
+use Rattle.inf_letters.specs.Letters.{none_spoken}
 use Rattle.inf_link.specs.Header.{number_bytes}
 use Rattle.inf_link.specs.StoryLaws.{HasAt}
 use Rattle.inf_settings.specs.Settings.{defaults}
@@ -25,7 +25,7 @@ only source = with_source name source no_sources
 
 -- where no word chooses anything
 abbrev pub plain : Choices
-plain = record { set = set.Latin1; has_warnings = true; settings = defaults; directories = [] }
+plain = record { letters = none_spoken; settings = defaults; directories = [] }
 
 -- sources with errors: these messages, no story
 abbrev pub Refuses : Sources → List ℕ → Type 0

@@ -5,16 +5,21 @@ use Rattle.inf_files.specs.Files.{Sources}
 use Rattle.inf_session.specs.Choices.{Choices}
 use Rattle.inf_session.specs.Ending.{Outcome, finished, missing}
 use Rattle.inf_session.specs.Session.{IsRead, State, start}
+use Rattle.inf_session.specs.Veneer.{supplied}
 
--- The ending of a compilation whose reading ended so: the messages that were written before come first.
-abbrev pub ending_of : Limits → List ℕ → State → Outcome
-ending_of limits serial s = let e = finished limits serial s.nesting.names s.work in record e { messages = s.told ++ e.messages }
+-- The ending of a compilation whose source was read so: what is used of the veneer is read, and then it ends. The messages that were
+-- written before come first.
+abbrev pub ending_of : Limits → Choices → List ℕ → State → Outcome
+ending_of limits o serial s =
+    let v = supplied limits o s in
+    let e = finished limits serial v.nesting.names v.work in
+    record e { messages = v.told ++ e.messages }
 
 -- What comes of a main source that is there: reading ends, and this is the ending.
 pub record IsCompiled (sources : Sources) (o : Choices) (serial name : List ℕ) (e : Outcome) : Type 0 where
   pub final : State
   pub is_read : IsRead (limits_of o.settings) sources o (start sources o name) final
-  pub is_ending : e ≡ ending_of (limits_of o.settings) serial final
+  pub is_ending : e ≡ ending_of (limits_of o.settings) o serial final
 
 abbrev pub IsOutcomeOf : Option (List ℕ) → Sources → Choices → List ℕ → List ℕ → Outcome → Type 0
 IsOutcomeOf None sources o serial name e = e ≡ missing name

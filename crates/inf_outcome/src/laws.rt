@@ -1,9 +1,9 @@
-//! What the definitions give together.
+//! Laws that follow from the definitions together.
 ghost use Rattle.inf_outcome.specs.Examples.{ConditionalsChoose, ConditionsChoose, EmptySource, FilesAreIncluded, HelloIsAStory};
 ghost use Rattle.inf_outcome.specs.Examples.{NamesAreUndeclared, NoSource, SixteenAreOpen, TextIsMissing};
 ghost use Rattle.inf_outcome.specs.OutcomeLaws.{OutcomesAreUnique, OutcomesExist};
 
-/// The same sources, choices, serial number and name have one outcome.
+/// There is one outcome for equal sources, choices, serial number and name.
 pub fn outcomes_are_unique()
     ensures { OutcomesAreUnique }
 {}
@@ -13,7 +13,7 @@ pub fn sources_have_outcomes()
     ensures { OutcomesExist }
 {}
 
-/// What comes of some sources.
+/// Some sources have the outcomes that these examples state.
 pub fn sources_have_these_outcomes()
     ensures no_source { NoSource }
     ensures empty_source { EmptySource }

@@ -1,16 +1,17 @@
 //! The compilation of a main source with the files that it includes.
-ghost use Rattle.std.specs.Prelude.{◌≡◌, ℕ, ◌<◌, List, [], None, false, IsTrue, IfOk, IfErr, OnErr, length};
+ghost use Rattle.std.specs.Prelude.{◌≡◌, ℕ, ◌<◌, List, [], None, false, IsTrue, IfOk, IfErr, OnErr, OnOk, length};
 ghost use Rattle.inf_files.specs.Files.{Rose};
 ghost use Rattle.inf_sources.specs.Calls.{Honestly, IsUnreadable, Kept, StaysFit, Went};
 ghost use Rattle.inf_sources.specs.Open.{opened_since};
 ghost use Rattle.inf_session.specs.Choices.{chosen};
-ghost use Rattle.inf_session.specs.Delivered.{EndsClean};
+ghost use Rattle.inf_session.specs.Delivered.{Appends, EndsClean};
 ghost use Rattle.inf_session.specs.Standing.{IsSet, state};
 ghost use Rattle.inf_session.specs.Leading.{GivenUp, OpensAll};
 ghost use Rattle.inf_session.specs.Session.{run};
 ghost use Rattle.inf_session.specs.Faults.{Caused, IfRead};
 ghost use Rattle.inf_settings.specs.Bounds.{limits_of};
-ghost use Rattle.inf_outcome.specs.Comes.{Begins, Comes, Concludes, Heard, IsUnread, OpenedPart, Stops};
+ghost use Rattle.inf_outcome.specs.Comes.{Begins, BreaksOffAll, Comes, Concludes, EndsAll, Heard, IsUnread, OpenedPart, Stops};
+ghost use Rattle.inf_outcome.specs.Comes.{SuppliesAll, SuppliesPart};
 
 use inf_files::files::Files;
 use inf_lexer::EnterFault;
@@ -74,7 +75,7 @@ struct MainSource<'n> {
     name: &'n str,
 }
 
-/// The same, where there may be as much of each as the settings say.
+/// Translates the source `main` as `translate` does, where there may be as much of each as the settings of `setup` say.
 fn translate_under<F: Files, M: Sink, B: Bounds>(
     alloc: Global,
     setup: Setup<'_>,
@@ -105,8 +106,9 @@ fn translate_under<F: Files, M: Sink, B: Bounds>(
     ensures fault { IfErr result (λ fault. Caused fault (λ name. IsUnread F.Files files.old files.new)
         (Rose (M.failures messages.old) (M.failures messages.new))) }
 {
+    let set = setup.letters.set();
     let limit = setup.settings.of(Setting::QuotedText);
-    let open_files = match OpenFiles::enter_main(alloc, setup.set, limit, files, main.name) {
+    let open_files = match OpenFiles::enter_main(alloc, set, limit, files, main.name) {
         Ok(open_files) => open_files,
         Err(EnterFault::Absent) => return written(no_file(alloc, main.name.as_bytes())?, messages),
         Err(EnterFault::Memory) => return Err(Fault::Memory),
@@ -161,6 +163,42 @@ fn read_out<F: Files, M: Sink, B: Bounds>(
     ensures is_open { length result.0.outer < F.depth files.new }
 {
     match session.read(files, messages) {
+        Ok(()) => supply_out(session, serial, messages),
+        Err(fault) => (session.open_files, Err(fault)),
+    }
+}
+
+/// Reads what is left of the veneer.
+fn supply_all<M: Sink, B: Bounds>(
+    session: &mut Session<'_, B>,
+    messages: &mut M,
+) -> Result<(), Fault>
+    ensures supplied { OnOk result (SuppliesAll B.most (chosen session.old.setup) session.old session.new (M.taken messages.old)
+        (M.taken messages.new)) }
+    ensures cut { OnErr result (SuppliesPart B.most (chosen session.old.setup) session.old (M.taken messages.old) (M.taken messages.new)) }
+    ensures files { session.new.open_files ≡ session.old.open_files }
+    ensures fault { IfErr result (λ fault. Caused fault (λ name. ⊥) (Rose (M.failures messages.old) (M.failures messages.new))) }
+    ensures wrote { Appends M.Sink messages.old messages.new }
+{
+    session.supply(messages)
+}
+
+/// Reads what is used of the veneer, and ends the compilation. The files that are still open then are given back.
+fn supply_out<M: Sink, B: Bounds>(
+    mut session: Session<'_, B>,
+    serial: &[u8; 6],
+    messages: &mut M,
+) -> (OpenFiles, Result<Compiled, Fault>)
+    ensures ok { IfOk result.1 (λ compiled. EndsAll B.most (chosen session.entry.setup) serial.now session.entry compiled
+        (M.taken messages.old) (M.taken messages.new)) }
+    ensures err { OnErr result.1 (BreaksOffAll B.most (chosen session.entry.setup) serial.now session.entry (M.taken messages.old)
+        (M.taken messages.new)) }
+    ensures files { result.0 ≡ session.entry.open_files }
+    ensures errors { IfOk result.1 (λ compiled. compiled.status ≡ Status.Errors → compiled.story ≡ None) }
+    ensures clean { IfOk result.1 (λ compiled. compiled.status ≡ Status.Success → EndsClean (M.taken messages.old) (M.taken messages.new)) }
+    ensures fault { IfErr result.1 (λ fault. Caused fault (λ name. ⊥) (Rose (M.failures messages.old) (M.failures messages.new))) }
+{
+    match supply_all(&mut session, messages) {
         Ok(()) => session.finish(serial, messages),
         Err(fault) => (session.open_files, Err(fault)),
     }

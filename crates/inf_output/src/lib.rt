@@ -21,7 +21,7 @@ mod veneer;
 pub use actions::key_of as action_key;
 pub use items::{Item, Items, KeptInstruction};
 pub use operands::Simple;
-pub use output::Output;
+pub use output::{Contents, Output};
 pub use past::Past;
 pub use strings::Strings;
 pub use texts::Texts;

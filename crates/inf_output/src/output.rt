@@ -35,7 +35,6 @@ use std::alloc::{AllocError, Global};
 use std::marker::Model;
 
 /// What the units of a routine are laid into.
-#[derive(Drop)]
 pub struct Output<B: Bounds> {
     pub code: Code<B>,
     pub strings: Strings<B>,
@@ -72,6 +71,21 @@ impl<B: Bounds> Model for Output<B> {
       past = o.past;
       kept = o.kept;
     } };
+}
+
+/// One call at each exit of a function that owns one, in place of a call for each part of each part.
+impl<B: Bounds> Drop for Output<B> {
+    fn drop(self) {
+        let _parts = self.into_parts();
+    }
+}
+
+/// What a story has beside its code.
+#[derive(Drop)]
+pub struct Contents<B: Bounds> {
+    pub names: Symbols<Place, B>,
+    pub strings: Strings<B>,
+    pub tables: Tables<B>,
 }
 
 /// How much an instruction takes without its text.
@@ -132,6 +146,31 @@ fn found(found: Found<Place>, number: Option<usize>) -> Simple
 }
 
 impl<B: Bounds> Output<B> {
+    /// Returns the code and what the story has beside it.
+    pub fn into_parts(self) -> (Code<B>, Contents<B>)
+        ensures code { result.0 ≡ self.code }
+        ensures contents { (result.1.names ≡ self.names) × (result.1.strings ≡ self.strings) × (result.1.tables ≡ self.tables) }
+    {
+        let Output {
+            code,
+            strings,
+            tables,
+            names,
+            texts: _,
+            seen: _,
+            first: _,
+            next: _,
+            past: _,
+            kept: _,
+        } = self;
+        let contents = Contents {
+            names,
+            strings,
+            tables,
+        };
+        (code, contents)
+    }
+
     /// An output for some code, strings, tables, names and texts, of which no routine was begun.
     pub fn new(
         code: Code<B>,

@@ -1,8 +1,9 @@
 //! How the texts of a story are packed.
-ghost use Rattle.std.specs.Prelude.{◌≡◌, IfOk, OnErr, OnOk, []};
+ghost use Rattle.std.specs.Prelude.{◌≡◌, IfOk, IsTrue, OnErr, OnOk, []};
 ghost use Rattle.std.specs.Option.{option_copied};
 ghost use Rattle.inf_text.specs.Declaring.{Declares};
 ghost use Rattle.inf_text.specs.Packing.{in_use, packed};
+ghost use Rattle.inf_text.specs.Words.{are_words};
 ghost use Rattle.inf_output.specs.Texts.{late, no_texts, used_in};
 
 use inf_text::{AbbrevFault, Abbreviations, Text, pack};
@@ -57,6 +58,8 @@ impl Texts {
     /// changed.
     pub fn pack(&mut self, alloc: Global, text: &Text) -> Result<Vec<u8>, AllocError>
         ensures bytes { IfOk result (λ bytes. bytes.items ≡ packed text.now (used_in self.old)) }
+        // They are whole words, of which only the last is marked as the end.
+        ensures words { IfOk result (λ bytes. IsTrue (are_words bytes.items)) }
         ensures late { OnOk result (self.new ≡ late self.old) }
         ensures err { OnErr result (self.new ≡ self.old) }
     {
@@ -72,6 +75,8 @@ impl Texts {
     /// is changed.
     pub fn pack_low(&mut self, alloc: Global, text: &Text) -> Result<Vec<u8>, AllocError>
         ensures bytes { IfOk result (λ bytes. bytes.items ≡ packed text.now []) }
+        // They are whole words, of which only the last is marked as the end.
+        ensures words { IfOk result (λ bytes. IsTrue (are_words bytes.items)) }
         ensures late { OnOk result (self.new ≡ late self.old) }
         ensures err { OnErr result (self.new ≡ self.old) }
     {

@@ -8,6 +8,7 @@ use Rattle.inf_scanner.specs.declared.tokens.TokenKind.{TokenKind}
 use Rattle.inf_scanner.specs.declared.tokens.TokenKind.TheVariants as kind
 use Rattle.inf_conditionals.specs.declared.filtered.Filtered.{Filtered}
 use Rattle.inf_conditionals.specs.declared.filtered.Site.{Site}
+use Rattle.inf_letters.specs.Letters.{warns}
 use Rattle.inf_settings.specs.Settings.{number_of}
 use Rattle.inf_settings.specs.declared.setting.Setting.{Setting}
 use Rattle.inf_settings.specs.declared.setting.Setting.TheVariants.{LowStrings, Objects, PropertyTables, References}
@@ -18,7 +19,8 @@ use Rattle.inf_reader.specs.Reading.{ReaderState, has_ended_at}
 use Rattle.inf_reader.specs.Standing.{standing}
 use Rattle.inf_reader.specs.declared.progress.Progress.{Progress}
 use Rattle.inf_session.specs.Choices.{Choices, chosen, most_quoted}
-use Rattle.inf_session.specs.Session.{begun_with, first_place, quoted_behind, quoted_bytes, quoted_of_kind, tables_full}
+use Rattle.inf_session.specs.Session.{begun_with, first_place, tables_full}
+use Rattle.inf_session.specs.Taking.{quoted_behind, quoted_bytes, quoted_of_kind}
 use Rattle.inf_session.specs.Standing.{HasObjects, IsBounded, ended}
 use Rattle.inf_session.specs.declared.session.Session.{Session}
 use Rattle.inf_session.specs.declared.setup.Setup.{Setup}
@@ -88,7 +90,7 @@ first_fits o names going =
     let bytes = number_of PropertyTables o.settings in
     let refs = number_of References o.settings in
     let low = number_of LowStrings o.settings in
-    let none = none_told (tables_full o.settings) names o.has_warnings going in
+    let none = none_told (tables_full o.settings) names (warns o.letters) going in
     let behind_low = cond (nat_lt refs 4) (Some References) None in
     let behind_bytes = cond (nat_lt low 2) (Some LowStrings) behind_low in
     let first = none_then (nat_lt objects 4) Objects (cond (nat_lt bytes 30) (Some PropertyTables) behind_bytes) none in

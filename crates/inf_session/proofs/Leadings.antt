@@ -9,7 +9,7 @@ use Rattle.inf_sources.specs.Inclusions.{Inclusion, Nesting, Opens, OpensNone, O
 use Rattle.inf_sources.specs.Open.{Open, opened_since}
 use Rattle.inf_sources.specs.declared.open_files.Included.{Included}
 use Rattle.inf_sources.specs.declared.open_files.Included.TheVariants as answer
-use Rattle.inf_unit.specs.Directives.{Request, Nothing, Include, End}
+use Rattle.inf_unit.specs.Directives.{Request, Nothing, Include, End, Characters}
 use Rattle.inf_reader.specs.Reading.{is_mode_ended}
 use Rattle.inf_scanner.specs.declared.tokens.Place.{Place}
 use Rattle.inf_session.specs.Choices.{Choices}
@@ -60,6 +60,7 @@ included_told sources o unit text (OpensNone why) s = none_told unit text why s
 answered_told : (asked : Request) (sources : Sources) (o : Choices) (s : State) → SameTold s (answered asked sources o s)
 answered_told (Include text unit) sources o s = included_told sources o unit text (inclusion sources o.directories text s.nesting) s
 answered_told End sources o s = refl
+answered_told (Characters set) sources o s = refl
 answered_told Nothing sources o s = refl
 
 carried_out_told : (sources : Sources) (o : Choices) (s : State) → SameTold s (carried_out sources o s)
@@ -69,7 +70,7 @@ carried_out_told sources o s =
     (λ _. left_told s)
     (λ _. answered_told s.work.asked sources o (asked_nothing s)))
 
-rested_told : (s : State) → SameTold s (rested s)
+pub rested_told : (s : State) → SameTold s (rested s)
 rested_told s =
     of_both (SameTold s) (has_ended s) s _ (λ _. refl) (λ _. of_both (SameTold s) (is_resting s) (piece_closed s) s (λ _. refl) (λ _. refl))
 

@@ -1,6 +1,7 @@
 pub mod Endings
 pub mod Leadings
 pub mod Opening
+pub mod Turning
 pub mod Weighing
 pub mod Shown
 pub mod Standings
@@ -8,3 +9,6 @@ pub mod Stepping
 pub mod Taking
 pub mod Bounds
 pub mod Delivering
+pub mod Supplying
+pub mod TextTurns
+pub mod Parting

@@ -5,7 +5,7 @@ use Rattle.inf_files.specs.Files.{Openings, Sources}
 use Rattle.inf_characters.specs.declared.characters.CharSet.{CharSet}
 use Rattle.inf_scanner.specs.declared.tokens.Place.{Place}
 use Rattle.inf_unit.proofs.Cases.{of_both}
-use Rattle.inf_unit.specs.Directives.{Request, Include}
+use Rattle.inf_unit.specs.Directives.{Request, Characters, Include}
 use Rattle.inf_reader.specs.Reading.{is_mode_ended}
 use Rattle.inf_reader.specs.declared.recovery.Recovery.{Recovery}
 use Rattle.inf_reader.specs.declared.recovery.Recovery.TheVariants as mode
@@ -74,6 +74,15 @@ pub heeds : (sources : Sources) (o : Choices) (unit : Place) (text : List ℕ) (
     is_mode_ended s.reading.mode ≡ false
     → s.work.asked ≡ Include text unit → included sources o unit text (asked_nothing s) ≡ carried_out sources o s
 heeds sources o unit text s going reads asks =
+    sym (ap (λ b. cond b s (cond (is_mode_ended s.reading.mode) (left s) (answered s.work.asked sources o (asked_nothing s)))) going
+    ∙ ap (λ b. cond b (left s) (answered s.work.asked sources o (asked_nothing s))) reads
+    ∙ ap (λ (a : Request). answered a sources o (asked_nothing s)) asks)
+
+-- all sources are read by another character set
+pub turns : (sources : Sources) (o : Choices) (set : CharSet) (s : State) → s.work.report.counts.is_over ≡ false →
+    is_mode_ended s.reading.mode ≡ false
+    → s.work.asked ≡ Characters set → answered (Characters set) sources o (asked_nothing s) ≡ carried_out sources o s
+turns sources o set s going reads asks =
     sym (ap (λ b. cond b s (cond (is_mode_ended s.reading.mode) (left s) (answered s.work.asked sources o (asked_nothing s)))) going
     ∙ ap (λ b. cond b (left s) (answered s.work.asked sources o (asked_nothing s))) reads
     ∙ ap (λ (a : Request). answered a sources o (asked_nothing s)) asks)

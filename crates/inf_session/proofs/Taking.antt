@@ -1,5 +1,5 @@
 -- What a token does, by what each call of its turn says.
-use Rattle.std.proofs.Common.{◌≡◌, ℕ, List, Bool, ap, ◌∙◌}
+use Rattle.std.proofs.Common.{◌≡◌, ◌≤◌, ℕ, List, Bool, true, length, refl, ap, ◌∙◌}
 use Rattle.inf_settings.specs.Bounds.{Limits}
 use Rattle.inf_scanner.specs.declared.tokens.Place.{Place}
 use Rattle.inf_scanner.specs.declared.tokens.TokenKind.{TokenKind}
@@ -13,18 +13,27 @@ use Rattle.inf_output.specs.Output.{Out}
 use Rattle.inf_reader.specs.Handing.{is_between, judged_taken, said_told, site_of}
 use Rattle.inf_reader.specs.Reading.{ReaderState}
 use Rattle.inf_session.specs.Choices.{Choices}
-use Rattle.inf_session.specs.Session.{State, context_of, quoted_behind, stand_of, stepped, token_at, token_of}
+use Rattle.inf_compilation.specs.Context.{Context}
+use Rattle.inf_conditionals.specs.declared.filtered.Site.{Site}
+use Rattle.inf_reader.specs.Reading.{is_mode_ended}
+use Rattle.inf_scanner.specs.declared.tokens.TokenKind.TheVariants as kind
+use Rattle.inf_session.proofs.Bounds.{quoted_within}
+use Rattle.inf_session.proofs.Stepping.{end_ends}
+use Rattle.inf_session.specs.Session.{State, context_of, stand_of, stepped, token_of}
+use Rattle.inf_session.specs.Taking.{Taken, quoted_behind, token_at, token_taken}
+use Rattle.inf_sources.specs.Quoted.{is_quoted_kind}
 
 -- the state behind a token
-abbrev pub with_all : State → Nesting → Conditions → ReaderState → ℕ → State
-with_all s n c x quoted = record {
+abbrev pub with_taken : State → Nesting → Taken → State
+with_taken s n x = record {
   nesting = n;
-  conditions = c;
-  reading = x.reading;
-  work = x.work;
+  conditions = x.conditions;
+  reading = x.stand.reading;
+  work = x.stand.work;
   told = s.told;
   is_over = s.is_over;
-  quoted = quoted;
+  quoted = x.quoted;
+  passed = s.passed;
 }
 
 abbrev pub moved : State → Nesting
@@ -34,33 +43,57 @@ moved s = record s.nesting { cursor = behind s.nesting.cursor (read s.nesting.cu
 abbrev pub reporting : ReaderState → Reported → Out → ReaderState
 reporting s r o = record s { work = record s.work { report = r; output = o } }
 
--- behind what there is to tell of a condition
-abbrev pub told_stand : Limits → Choices → State → Behind → ReaderState
-told_stand limits o s b = said_told limits b.now.said (context_of o s) (stand_of s)
+abbrev pub taken_as : Conditions → ReaderState → ℕ → Taken
+taken_as c x quoted = record { conditions = c; stand = x; quoted = quoted }
 
--- what it is by what becomes of the token among conditionals
-abbrev by_behind : Limits → Choices → State → SourceToken → Behind → State
-by_behind limits o s t b =
-    with_all s (moved s) (silent b.now) (judged_taken limits (context_of o s) t b.judged (told_stand limits o s b))
-    (quoted_behind (site_of o.settings s.reading) b.judged t s.quoted)
+-- by what becomes of it among conditionals
+abbrev by_behind : Limits → Context → SourceToken → Site → ReaderState → ℕ → Behind → Taken
+by_behind limits context t site s quoted b =
+    taken_as (silent b.now) (judged_taken limits context t b.judged (said_told limits b.now.said context s))
+    (quoted_behind site b.judged t quoted)
 
-abbrev by_token : Limits → Choices → State → SourceToken → State
-by_token limits o s t = by_behind limits o s t (judged (site_of o.settings s.reading) s.work.output t s.conditions)
+abbrev by_site : Limits → Context → SourceToken → Conditions → ReaderState → ℕ → Site → Taken
+by_site limits context t c s quoted site = by_behind limits context t site s quoted (judged site s.work.output t c)
 
-pub step_is : (limits : Limits) (o : Choices) (s : State) (n : Nesting) (b : Behind) (c : Conditions) (x : ReaderState) (quoted : ℕ)
-    (t : SourceToken)
-    → n ≡ moved s → t ≡ token_of s → b ≡ judged (site_of o.settings s.reading) s.work.output t s.conditions
-    → c ≡ silent b.now → x ≡ judged_taken limits (context_of o s) t b.judged (told_stand limits o s b) → quoted ≡ quoted_behind
-    (site_of o.settings s.reading) b.judged
-    t s.quoted
-    → with_all s n c x quoted ≡ stepped limits o s
-step_is limits o s n b c x quoted t goes is behind_it quiet taken longest =
-    ap (λ n. with_all s n c x quoted) goes
-    ∙ ap (λ c. with_all s (moved s) c x quoted) quiet
-    ∙ ap (λ x. with_all s (moved s) (silent b.now) x quoted) taken
-    ∙ ap (λ q. with_all s (moved s) (silent b.now) (judged_taken limits (context_of o s) t b.judged (told_stand limits o s b)) q) longest
-    ∙ ap (by_behind limits o s t) behind_it
-    ∙ ap (by_token limits o s) is
+pub taken_is : (limits : Limits) (context : Context) (t u : SourceToken) (c : Conditions) (s : ReaderState) (quoted : ℕ) (site : Site)
+    (b : Behind) (now : Conditions) (x : ReaderState) (longest : ℕ)
+    → site ≡ site_of context.settings s.reading → u ≡ t → b ≡ judged site s.work.output u c → now ≡ silent b.now
+    → x ≡ judged_taken limits context u b.judged (said_told limits b.now.said context s) → longest ≡ quoted_behind site b.judged u quoted
+    → taken_as now x longest ≡ token_taken limits context t c s quoted
+taken_is limits context t u c s quoted site b now x longest at is behind_it quiet taken most =
+    ap (λ (c : Conditions). taken_as c x longest) quiet
+    ∙ ap (λ (x : ReaderState). taken_as (silent b.now) x longest) taken
+    ∙ ap (λ q. taken_as (silent b.now) (judged_taken limits context u b.judged (said_told limits b.now.said context s)) q) most
+    ∙ ap (by_behind limits context u site s quoted) behind_it
+    ∙ ap (λ (site : Site). by_site limits context u c s quoted site) at
+    ∙ ap (λ (t : SourceToken). by_site limits context t c s quoted (site_of context.settings s.reading)) is
+
+pub step_is : (limits : Limits) (o : Choices) (s : State) (n : Nesting) (x : Taken) (context : Context) (t : SourceToken)
+    → n ≡ moved s → context ≡ context_of o s → t ≡ token_of s
+    → x ≡ token_taken limits context t s.conditions (stand_of s) s.quoted
+    → with_taken s n x ≡ stepped limits o s
+step_is limits o s n x context t goes same is taken =
+    ap (λ (n : Nesting). with_taken s n x) goes
+    ∙ ap (λ (x : Taken). with_taken s (moved s) x) taken
+    ∙ ap (λ (c : Context). with_taken s (moved s) (token_taken limits c t s.conditions (stand_of s) s.quoted)) same
+    ∙ ap (λ (t : SourceToken). with_taken s (moved s) (token_taken limits (context_of o s) t s.conditions (stand_of s) s.quoted)) is
+
+-- the longest quoted token stays as short as it may be
+pub taken_within : (limits : Limits) (context : Context) (t : SourceToken) (c : Conditions) (s : ReaderState) (quoted most : ℕ)
+    → (is_quoted_kind t.kind ≡ true → length t.bytes ≤ most) → quoted ≤ most
+    → (token_taken limits context t c s quoted).quoted ≤ most
+taken_within limits context t c s quoted most few before =
+    let site = site_of context.settings s.reading in
+    quoted_within site (judged site s.work.output t c).judged t quoted most few before
+
+-- at the end of a file reading ends
+pub taken_ends : (limits : Limits) (context : Context) (t : SourceToken) (c : Conditions) (s : ReaderState) (quoted : ℕ) → t.kind ≡ kind.End
+    → is_mode_ended (token_taken limits context t c s quoted).stand.reading.mode ≡ true
+taken_ends limits context t c s quoted is =
+    let site = site_of context.settings s.reading in
+    let b = judged site s.work.output t c in
+    end_ends limits context t.kind t.bytes t.place t.is_class s.work.output c (said_told limits b.now.said context s) site b.now b.judged
+    refl is
 
 pub token_is : (s : State) (front : Bool) (k : TokenKind) (bytes : List ℕ) (place : Place) → front ≡ is_between s.reading →
     k ≡ (read s.nesting.cursor).kind

@@ -1,10 +1,12 @@
 -- Each turn ends reading, or lessens how far it can still go.
-use Rattle.std.proofs.Common.{◌≡◌, ◌⊎◌, inl, inr, ℕ, suc, zero, ◌+◌, ◌-◌, ◌*◌, ◌<◌, ◌≤◌, List, [], ◌∷◌, ◌++◌, length, cond, Bool, true}
-use Rattle.std.proofs.Common.{false, sym, ap, subst, ◌∙◌, arith, refl, length-append}
+use Rattle.std.proofs.Common.{◌≡◌, ◌⊎◌, inl, inr, ℕ, suc, zero, ◌+◌, ◌-◌, ◌*◌, ◌<◌, ◌≤◌, List, [], ◌∷◌, ◌++◌, length, map, cond, Bool}
+use Rattle.std.proofs.Common.{true, false, sym, ap, subst, ◌∙◌, arith, refl, length-append}
+use Rattle.inf_characters.specs.declared.characters.CharSet.{CharSet}
 use Rattle.inf_lexer.specs.Readers.{Reader}
+use Rattle.inf_sources.specs.Choosing.{file_with, open_with, reader_with}
 use Rattle.inf_sources.specs.Open.{Open, lexers_of}
 use Rattle.inf_sources.specs.declared.open_file.OpenFile.{OpenFile}
-use Rattle.inf_session.specs.Weights.{Enters, GoesOn, Leaves, Stays, room, scale, weigh_from, weight}
+use Rattle.inf_session.specs.Weights.{Enters, GoesOn, Leaves, Stays, Turns, room, scale, weigh_from, weight}
 
 -- scales are linear, so the larger weighs more
 scale_sum : (n a b : ℕ) → scale n (a + b) ≡ scale n a + scale n b
@@ -64,6 +66,18 @@ stays_less before mid after outer less same =
     let more = scale_more (15 - length (lexers_of before.outer)) (room mid.lexer) (room before.lexer) less in
     omega (arith, was, now, more)
 
+-- it goes on by another character set, which weighs nothing
+set_weighs : (set : CharSet) (n : ℕ) (files : List OpenFile) (r : Reader) →
+    weigh_from n (lexers_of (map (file_with set) files) ++ reader_with set r ∷ []) ≡ weigh_from n (lexers_of files ++ r ∷ [])
+set_weighs set n [] r = refl
+set_weighs set n (f ∷ files) r = ap (λ w. scale (15 - n) (room f.lexer) + w) (set_weighs set (suc n) files r)
+
+turns_less : (before mid after : Open) (set : CharSet) → lexers_of mid.outer ≡ lexers_of before.outer
+    → room mid.lexer < room before.lexer → after ≡ open_with set mid → Falls before after
+turns_less before mid after set outer less turned =
+    let same : weight after ≡ weight mid = ap weight turned ∙ set_weighs set 0 mid.outer mid.lexer in
+    subst (λ n. n < weight before) (sym same) (stays_less before mid mid outer less refl)
+
 -- it was left, with all that it could still have
 leaves_less : (before mid after : Open) → lexers_of mid.outer ≡ lexers_of before.outer →
     lexers_of mid.outer ≡ lexers_of after.outer ++ after.lexer ∷ [] → Falls before after
@@ -106,8 +120,11 @@ pub falls : (before mid after : Open) (is_at_end : Bool) → mid.outer ≡ befor
     → (is_at_end ≡ true) ⊎ (room mid.lexer < room before.lexer) → GoesOn is_at_end mid after → Falls before after
 falls before mid after is_at_end outer moved (Leaves is) = leaves_less before mid after (ap lexers_of outer) is
 falls before mid after is_at_end outer (inl at_end) (Stays going same) = let never : true ≡ false = sym at_end ∙ going in cc
+falls before mid after is_at_end outer (inl at_end) (Turns set going turned) = let never : true ≡ false = sym at_end ∙ going in cc
 falls before mid after is_at_end outer (inl at_end) (Enters going none empty is deep) = let never : true ≡ false = sym at_end ∙ going in cc
 falls before mid after is_at_end outer (inr less) (Stays going same) = stays_less before mid after (ap lexers_of outer) less same
+falls before mid after is_at_end outer (inr less) (Turns set going turned) =
+    turns_less before mid after set (ap lexers_of outer) less turned
 falls before mid after is_at_end outer (inr less) (Enters going none empty is deep) =
     enters_less before mid after (ap lexers_of outer) less none empty is (omega (arith, deep, lexers_length mid.outer))
 

@@ -1,15 +1,14 @@
 -- What the words of a command choose for a compilation.
-use Rattle.std.specs.Prelude.{Bool, ℕ, List, map}
-use Rattle.inf_characters.specs.declared.characters.CharSet.{CharSet}
+use Rattle.std.specs.Prelude.{ℕ, List, map}
+use Rattle.inf_letters.specs.declared.letters.Letters.{Letters}
 use Rattle.inf_settings.specs.Settings.{number_of}
 use Rattle.inf_settings.specs.declared.setting.Setting.TheVariants.{QuotedText}
 use Rattle.inf_settings.specs.declared.settings.Settings.{Settings}
 use Rattle.inf_session.specs.declared.setup.Setup.{Setup}
 
--- the character set of the sources, whether warnings are told, the settings, and the directories of included files
+-- what letters say, the settings, and the directories of included files
 pub record Choices : Type 0 where
-  pub set : CharSet
-  pub has_warnings : Bool
+  pub letters : Letters
   pub settings : Settings
   pub directories : List (List ℕ)
 
@@ -20,4 +19,4 @@ most_quoted o = number_of QuotedText o.settings
 -- what the code's setup stands for
 abbrev pub chosen : Setup → Choices
 chosen s =
-    record { set = s.set; has_warnings = s.has_warnings; settings = s.settings.now; directories = map (λ d. d.now) s.directories.now }
+    record { letters = s.letters; settings = s.settings.now; directories = map (λ d. d.now) s.directories.now }

@@ -1,6 +1,8 @@
 pub mod Choices
 pub mod Faults
+pub mod Taking
 pub mod Session
+pub mod Veneer
 pub mod Standing
 pub mod Leading
 pub mod Ending

@@ -2,41 +2,39 @@
 -- the grammar sees. A directive may ask for another file, which is read before what follows it, or that reading ends. Where the
 -- end of an included file was read, reading goes on in the file that includes it.
 -- Designer's Manual, fourth edition, sections 38 and 39.
-use Rattle.std.specs.Prelude.{◌≡◌, ℕ, List, [], ◌∷◌, ◌++◌, length, nat_lt, is_none, Option, Some, None, Bool, true, false, ◌&&◌, ◌||◌}
+use Rattle.std.specs.Prelude.{◌≡◌, ℕ, List, [], ◌∷◌, ◌++◌, nat_lt, Option, Some, None, Bool, true, false, ◌&&◌, ◌||◌}
 use Rattle.std.specs.Prelude.{if◌then◌else◌, zero, suc}
 use Rattle.inf_settings.specs.Bounds.{Limits}
-use Rattle.inf_scanner.specs.declared.tokens.BadToken.TheVariants as bad
 use Rattle.inf_scanner.specs.declared.tokens.Place.{Place}
-use Rattle.inf_scanner.specs.declared.tokens.TokenKind.{TokenKind}
-use Rattle.inf_scanner.specs.declared.tokens.TokenKind.TheVariants as kind
 use Rattle.inf_files.specs.Files.{Sources}
 use Rattle.inf_conditionals.specs.Ends.{file_ended, file_told, piece_ended, piece_told, with_among}
-use Rattle.inf_conditionals.specs.Judging.{is_none_pending, judged, may_part}
-use Rattle.inf_conditionals.specs.Open.{Conditions, no_conditions, silent}
-use Rattle.inf_conditionals.specs.declared.filtered.Filtered.{Filtered}
-use Rattle.inf_conditionals.specs.declared.filtered.Site.{Site}
+use Rattle.inf_conditionals.specs.Judging.{is_none_pending, may_part}
+use Rattle.inf_conditionals.specs.Open.{Conditions, no_conditions}
 use Rattle.inf_report.specs.Messages.{Message, NoInclude, TooManyFiles}
-use Rattle.inf_sources.specs.Cursors.{Cursor, behind, read}
+use Rattle.inf_letters.specs.Letters.{set_of}
+use Rattle.inf_sources.specs.Choosing.{nesting_with}
+use Rattle.inf_sources.specs.Cursors.{behind, read}
 use Rattle.inf_sources.specs.Inclusions.{Inclusion, Nesting, Opens, OpensNone, Waiting, inclusion, main_opened, resumed, with_opened}
 use Rattle.inf_sources.specs.declared.open_files.Included.{Included}
 use Rattle.inf_sources.specs.declared.open_files.Included.TheVariants as answer
-use Rattle.inf_compilation.specs.Actions.{Compilation, is_class}
+use Rattle.inf_compilation.specs.Actions.{Compilation, letters_chosen}
 use Rattle.inf_compilation.specs.Context.{Context}
-use Rattle.inf_unit.specs.Directives.{Request, Nothing, Include, End}
+use Rattle.inf_unit.specs.Directives.{Request, Nothing, Include, End, Characters}
 use Rattle.inf_settings.specs.Settings.{number_of}
 use Rattle.inf_settings.specs.declared.setting.Setting.{Setting}
 use Rattle.inf_settings.specs.declared.settings.Settings.{Settings}
 use Rattle.inf_settings.specs.declared.setting.Setting.TheVariants.{LowStrings, Objects, PropertyTables, References}
-use Rattle.inf_unit.specs.Messages.{FileNames, flushed, location, none_reported, with_fatal, with_full}
+use Rattle.inf_unit.specs.Messages.{FileNames, flushed, location, with_fatal, with_full}
 use Rattle.inf_unit.specs.Tokens.{SourceToken}
-use Rattle.inf_reader.specs.Handing.{is_between, judged_taken, said_told, site_of}
+use Rattle.inf_reader.specs.Handing.{is_between}
 use Rattle.inf_reader.specs.Reading.{Reading, ReaderState, begun_stand, has_ended_at, is_mode_ended}
 use Rattle.inf_reader.specs.declared.recovery.Recovery.TheVariants as mode
 use Rattle.inf_session.specs.Choices.{Choices, most_quoted}
+use Rattle.inf_session.specs.Taking.{token_at, token_taken}
 
 -- The files that are open with what is still to come of each; the conditionals; how the next token is read; what was compiled,
--- with the messages that are not written yet; the messages that are; whether a directive has ended all reading; and how many bytes
--- the longest quoted token has.
+-- with the messages that are not written yet; the messages that are; whether all reading has ended but for the veneer's; how many bytes
+-- the longest quoted token has; and the number of the last routine of the veneer that was read.
 pub record State : Type 0 where
   pub nesting : Nesting
   pub conditions : Conditions
@@ -45,6 +43,7 @@ pub record State : Type 0 where
   pub told : List ℕ
   pub is_over : Bool
   pub quoted : ℕ
+  pub passed : ℕ
 
 -- Messages about a whole source stand at its first line.
 abbrev pub first_place : Place
@@ -60,16 +59,17 @@ tables_full settings =
     if nat_lt (number_of LowStrings settings) 2 then Some LowStrings else
     if nat_lt (number_of References settings) 4 then Some References else None
 
--- how the first token of a main source is read, and what there is before it
+-- how the first token of a main source is read, and what there is before it: the letters that were chosen hold
 abbrev pub begun_with : Choices → FileNames → ReaderState
 begun_with o names =
     let s = begun_stand o.settings in
-    record s { work = record s.work { report = with_full names first_place (tables_full o.settings) (none_reported o.has_warnings) } }
+    let w = letters_chosen o.letters s.work in
+    record s { work = record w { report = with_full names first_place (tables_full o.settings) w.report } }
 
 -- before the first token of the main source of this name
 abbrev pub start : Sources → Choices → List ℕ → State
 start sources o name =
-    let main = main_opened o.set (most_quoted o) sources name in
+    let main = main_opened (set_of o.letters) (most_quoted o) sources name in
     let s = begun_with o main.names in
     record {
       nesting = main;
@@ -78,26 +78,21 @@ start sources o name =
       work = s.work;
       told = [];
       is_over = false;
-      quoted =
-          0;
+      quoted = 0;
+      passed = 0;
     }
 
 -- how it is read and what was compiled
 abbrev pub stand_of : State → ReaderState
 stand_of s = record { reading = s.reading; work = s.work }
 
--- what is handed down to all that is compiled
+-- what is handed down to all that is compiled: the character set is the one by which the innermost file is read
 abbrev pub context_of : Choices → State → Context
-context_of o s = record { names = s.nesting.names; set = o.set; settings = o.settings }
+context_of o s = record { names = s.nesting.names; set = s.nesting.cursor.set; settings = o.settings }
 
 -- Nothing is read behind the end of the main source, a fatal message, or a directive that ends all.
 abbrev pub has_ended : State → Bool
 has_ended s = s.is_over || has_ended_at (stand_of s)
-
--- a token that comes to a place of the reading: at the front of a piece a name may be that of a class
-abbrev pub token_at : Bool → TokenKind → List ℕ → Place → Compilation → SourceToken
-token_at is_between kind bytes place w =
-    record { kind = kind; bytes = bytes; place = place; is_class = is_between && is_class kind bytes w }
 
 -- the next token of the innermost file
 abbrev pub token_of : State → SourceToken
@@ -105,41 +100,19 @@ token_of s =
     let r = read s.nesting.cursor in
     token_at (is_between s.reading) r.kind r.kept.bytes (record { file = s.nesting.cursor.file; line = r.line }) s.work
 
--- how many bytes stand between the quotes of a token that has such: of one that is too long as many as it may have
-abbrev pub quoted_of_kind : TokenKind → List ℕ → ℕ
-quoted_of_kind kind.Text bytes = length bytes
-quoted_of_kind (kind.Char c) bytes = length bytes
-quoted_of_kind (kind.Word w) bytes = length bytes
-quoted_of_kind (kind.Bad bad.Unclosed) bytes = length bytes
-quoted_of_kind (kind.Bad bad.EmptyQuote) bytes = length bytes
-quoted_of_kind (kind.Bad bad.UnknownEscape) bytes = length bytes
-quoted_of_kind (kind.Bad bad.NoZscii) bytes = length bytes
-quoted_of_kind (kind.Bad bad.BadCode) bytes = length bytes
-quoted_of_kind (kind.Bad bad.TooLong) bytes = length bytes
-quoted_of_kind _ bytes = 0
-
-abbrev pub quoted_bytes : SourceToken → ℕ
-quoted_bytes t = quoted_of_kind t.kind t.bytes
-
--- those of the longest one behind a token: one that is not handed on, or passed over behind a bad one, is not among them
-abbrev pub quoted_behind : Site → Filtered → SourceToken → ℕ → ℕ
-quoted_behind site j t quoted =
-    if site.is_quiet || is_none j.token then quoted else if nat_lt quoted (quoted_bytes t) then quoted_bytes t else quoted
-
--- the conditionals say what becomes of it, and what there is to tell of a condition, and the reader takes what is handed on
+-- it is taken
 abbrev pub stepped : Limits → Choices → State → State
 stepped limits o s =
-    let t = token_of s in
-    let b = judged (site_of o.settings s.reading) s.work.output t s.conditions in
-    let n = judged_taken limits (context_of o s) t b.judged (said_told limits b.now.said (context_of o s) (stand_of s)) in
+    let n = token_taken limits (context_of o s) (token_of s) s.conditions (stand_of s) s.quoted in
     record {
       nesting = record s.nesting { cursor = behind s.nesting.cursor (read s.nesting.cursor) };
-      conditions = silent b.now;
-      reading = n.reading;
-      work = n.work;
+      conditions = n.conditions;
+      reading = n.stand.reading;
+      work = n.stand.work;
       told = s.told;
       is_over = s.is_over;
-      quoted = quoted_behind (site_of o.settings s.reading) b.judged t s.quoted;
+      quoted = n.quoted;
+      passed = s.passed;
     }
 
 -- At the end of a file the conditionals are told that are open in it.
@@ -177,11 +150,11 @@ none_included unit text answer.TooDeep s = refused_with unit TooManyFiles s
 abbrev pub file_begun : State → State
 file_begun s = record s { conditions = with_among [] s.conditions; work = record s.work { is_system = false } }
 
--- the file that an inclusion opens is the innermost
+-- the file that an inclusion opens is the innermost, and is read by the character set of the one that includes it
 abbrev pub included_by : Sources → Choices → Place → List ℕ → Inclusion → State → State
 included_by sources o unit text (Opens name) s =
     file_begun (record s {
-      nesting = with_opened o.set (most_quoted o) sources s.conditions.among s.work.is_system name s.nesting;
+      nesting = with_opened s.nesting.cursor.set (most_quoted o) sources s.conditions.among s.work.is_system name s.nesting;
     })
 included_by sources o unit text (OpensNone why) s = none_included unit text why s
 
@@ -197,6 +170,7 @@ asked_nothing s = record s { work = record s.work { asked = Nothing } }
 abbrev pub answered : Request → Sources → Choices → State → State
 answered (Include text unit) sources o s = included sources o unit text s
 answered End sources o s = record s { is_over = true }
+answered (Characters set) sources o s = record s { nesting = nesting_with set s.nesting }
 answered Nothing sources o s = s
 
 -- behind a fatal message nothing is done, and at the end of a file nothing is asked

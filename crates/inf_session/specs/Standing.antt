@@ -1,5 +1,5 @@
 -- What the code's session stands for, with a reader that keeps to its sources.
-use Rattle.std.specs.Prelude.{◌≡◌, ℕ, ◌≤◌, List, Bool, false, ◌&&◌, ◌||◌, if◌then◌else◌, length, max, min, [], ◌∷◌}
+use Rattle.std.specs.Prelude.{◌≡◌, ℕ, ◌≤◌, List, Bool, false, ◌&&◌, ◌||◌, if◌then◌else◌, length, max, min, [], ◌∷◌, Option, is_none}
 use Rattle.inf_code.specs.Code.{code_count, reference_count}
 use Rattle.inf_arrays.specs.Arrays.{all_of, arrays_size}
 use Rattle.inf_verbs.specs.Verbs.{verbs_size}
@@ -20,6 +20,7 @@ use Rattle.inf_reader.specs.Reading.{has_ended_at}
 use Rattle.inf_reader.specs.Standing.{reading, standing}
 use Rattle.inf_session.specs.Choices.{chosen, most_quoted}
 use Rattle.inf_session.specs.Session.{State}
+use Rattle.inf_session.specs.Veneer.{next_text}
 use Rattle.inf_session.specs.declared.session.Session.{Session}
 use Rattle.inf_session.specs.declared.session.Step.{Step}
 use Rattle.inf_session.specs.declared.session.Step.TheVariants as step
@@ -34,19 +35,28 @@ state sources start now s told = record {
   told = told;
   is_over = s.is_over;
   quoted = s.quoted;
+  passed = s.passed;
 }
 
 -- nothing more is read
 abbrev pub ended : {B : Type 0} → Session B → Bool
 ended s = s.is_over || has_ended_at (standing s.progress)
 
--- files are opened with the set and the limit that were chosen
+-- quoted tokens of files that are opened may have as many bytes as was chosen
 abbrev pub IsSet : {B : Type 0} → Session B → Type 0
-IsSet s = (s.open_files.nest.set ≡ s.setup.set) × (s.open_files.nest.limit ≡ most_quoted (chosen s.setup))
+IsSet s = s.open_files.nest.limit ≡ most_quoted (chosen s.setup)
 
 -- a fatal message came
 abbrev pub is_fatal : {B : Type 0} → Session B → Bool
 is_fatal s = (standing s.progress).work.report.counts.is_over
+
+-- the number of the routine of the veneer that is read next
+abbrev pub next_of : {B : Type 0} → Session B → Option ℕ
+next_of s = next_text (is_fatal s) s.passed s.progress.work.output.names
+
+-- nothing is left to be read
+abbrev pub is_done : {B : Type 0} → Session B → Bool
+is_done s = ended s && is_none (next_of s)
 
 -- that the first four objects and the first low string alone pass no setting
 abbrev pub HasObjects : Settings → Type 0

@@ -1,8 +1,13 @@
 -- How far reading can still go at most. Each turn ends it, or takes something of a file that is open, or leaves it; and what is
 -- taken of a file weighs more than all that a file inside it can have.
-use Rattle.std.specs.Prelude.{◌≡◌, ℕ, ◌+◌, ◌-◌, ◌*◌, ◌<◌, List, [], ◌∷◌, ◌++◌, length, Bool, false, zero, suc}
+use Rattle.std.specs.Prelude.{◌≡◌, ℕ, ◌+◌, ◌-◌, ◌*◌, ◌<◌, List, [], ◌∷◌, ◌++◌, length, Bool, false, if◌then◌else◌, zero, suc}
 use Rattle.inf_lexer.specs.Readers.{Reader}
+use Rattle.inf_characters.specs.declared.characters.CharSet.{CharSet}
+use Rattle.inf_sources.specs.Choosing.{open_with}
 use Rattle.inf_sources.specs.Open.{Open, lexers_of}
+use Rattle.inf_session.specs.Standing.{ended}
+use Rattle.inf_session.specs.Veneer.{most_texts}
+use Rattle.inf_session.specs.declared.session.Session.{Session}
 
 -- the most that a lexer can still take, with one for leaving its file
 abbrev pub room : Reader → ℕ
@@ -21,10 +26,15 @@ weigh_from n (r ∷ readers) = scale (15 - n) (room r) + weigh_from (suc n) read
 abbrev pub weight : Open → ℕ
 weight f = weigh_from 0 (lexers_of f.outer ++ f.lexer ∷ [])
 
+-- How many steps are left at most: behind the end of the source those of the veneer.
+abbrev pub steps_left : {B : Type 0} → Session B → ℕ
+steps_left s = if ended s then most_texts - s.passed else suc most_texts + weight s.open_files
+
 -- How reading goes on behind a token, which may be at the end of its file: there in the file that includes it, and else in the
--- same file, or at the front of another.
+-- same file, perhaps by another character set, or at the front of another.
 pub data GoesOn (is_at_end : Bool) (before after : Open) : Type 0 where
   Leaves : lexers_of before.outer ≡ lexers_of after.outer ++ after.lexer ∷ [] → GoesOn is_at_end before after
   Stays : is_at_end ≡ false → after ≡ before → GoesOn is_at_end before after
+  Turns : (set : CharSet) → is_at_end ≡ false → after ≡ open_with set before → GoesOn is_at_end before after
   Enters : is_at_end ≡ false → after.lexer.window.given ≡ 0 → after.lexer.window.left ≡ [] →
       lexers_of after.outer ≡ lexers_of before.outer ++ before.lexer ∷ [] → length before.outer < 15 → GoesOn is_at_end before after

@@ -1,4 +1,4 @@
-//! What comes of a compilation, and the end of one.
+//! The results of a compilation, and the end of one.
 ghost use Rattle.std.specs.Prelude.{◌≡◌, None, IfOk, IfErr, OnErr};
 ghost use Rattle.inf_files.specs.Files.{Rose};
 ghost use Rattle.inf_compilation.specs.Works.{work as work_of};
@@ -14,7 +14,7 @@ use inf_settings::bounds::Bounds;
 use inf_sinks::sinks::{Sink, write_whole};
 use std::alloc::Global;
 
-/// How a compilation ended.
+/// The way in which a compilation ended.
 #[derive(Clone, Copy, Debug, PartialEq, Eq)]
 pub enum Status {
     /// With no error, and a story.

@@ -1,4 +1,4 @@
-//! What comes at the end of a compilation.
+//! The end of a compilation, and its outcome.
 ghost use Rattle.std.specs.Prelude.{◌≡◌, IfOk, OnOk, Some, option_map};
 ghost use Rattle.inf_cells.specs.Scales.{most_bytes};
 ghost use Rattle.inf_report.specs.Meant.{meant};
@@ -7,8 +7,8 @@ ghost use Rattle.inf_unit.specs.Messages.{with_closing, with_error, with_fatal};
 ghost use Rattle.inf_unit.specs.Names.{main_of, with_all_undeclared};
 ghost use Rattle.inf_compilation.specs.Actions.{begun_at};
 ghost use Rattle.inf_compilation.specs.Works.{work as work_of};
-ghost use Rattle.inf_session.specs.Ending.{begun, begun_from, fields_of, finished, first_line, is_clean, laid, linked, missing, named};
-ghost use Rattle.inf_session.specs.Ending.{refused, seen};
+ghost use Rattle.inf_session.specs.Ending.{begun, begun_from, compiled, fields_of, finished, first_line, is_clean, laid, linked, missing};
+ghost use Rattle.inf_session.specs.Ending.{named, refused, seen, statistics_by, told_of};
 ghost use Rattle.inf_session.specs.Session.{first_place};
 
 use crate::compiled::Status;
@@ -18,18 +18,15 @@ use inf_code::code::Code;
 use inf_compilation::compilation::Compilation;
 use inf_lexer::{Place, Stack};
 use inf_link::HeaderFields;
-use inf_names::symbols::Symbols;
-use inf_output::{Output, Strings};
+use inf_output::Contents;
 use inf_report::messages::{Location, Message};
 use inf_settings::bounds::Bounds;
-use inf_story::{LinkFault, Story, story, values_of};
-use inf_tables::Tables;
+use inf_story::{Counts, LinkFault, Statistics, Story, story, values_of};
 use inf_unit::messages::{Diagnostics, location};
 use inf_unit::names::{main_of, tell_undeclared};
 use std::alloc::{AllocError, Global};
 
-/// What comes at the end of a compilation: the lines of its last messages, its story where no error was found, and how
-/// it ended.
+/// The outcome of a compilation at its end: the lines of its last messages, its story where no error was found, and how it ended.
 #[derive(Drop)]
 pub struct Outcome {
     pub messages: Vec<u8>,
@@ -37,10 +34,30 @@ pub struct Outcome {
     pub status: Status,
 }
 
-/// The release of a story.
-const RELEASE: u16 = 1;
+/// Numbers that are told of a story when it is laid out.
+#[derive(Clone, Copy)]
+pub(crate) struct Telling {
+    release: u16,
+    serial: [u8; 6],
+    has_statistics: bool,
+    /// The number of names of its source.
+    symbols: usize,
+}
 
-/// Where the messages about a whole source stand.
+/// Returns what is told of the story of `work`: its serial number is `date`, where no directive told another.
+fn told_of<B: Bounds>(date: &[u8; 6], work: &Compilation<B>) -> Telling
+    ensures { result ≡ told_of date.now (work_of work.now) }
+{
+    let serial = work.told.serial.unwrap_or(*date);
+    Telling {
+        release: work.told.release,
+        serial,
+        has_statistics: work.letters.counts(),
+        symbols: work.output.names.len(),
+    }
+}
+
+/// The place of the messages about a whole source.
 pub(crate) const FIRST_LINE: Place = Place { file: 0, line: 1 };
 
 /// Ends the compilation of a source that was read. Code begins, unless it has begun. A name that was used and never declared is
@@ -74,7 +91,8 @@ fn finish_told<B: Bounds>(
     serial: &[u8; 6],
     work: Compilation<B>,
 ) -> Result<Outcome, AllocError>
-    ensures { IfOk result (λ t. seen t ≡ begun serial.now files.now.names work.output work.report (main_of work.output.names)) }
+    ensures { IfOk result (λ t. seen t ≡ begun (told_of serial.now (work_of work)) files.now.names work.output work.report
+        (main_of work.output.names)) }
 {
     let main = main_of(&work.output.names);
     finish_at(alloc, files, serial, main, work)
@@ -88,7 +106,7 @@ fn finish_at<B: Bounds>(
     main: Option<usize>,
     work: Compilation<B>,
 ) -> Result<Outcome, AllocError>
-    ensures { IfOk result (λ t. seen t ≡ begun serial.now files.now.names work.output work.report main) }
+    ensures { IfOk result (λ t. seen t ≡ begun (told_of serial.now (work_of work)) files.now.names work.output work.report main) }
 {
     match main {
         Some(main) => finish_from(alloc, files, serial, main, work),
@@ -104,12 +122,12 @@ fn finish_from<B: Bounds>(
     main: usize,
     work: Compilation<B>,
 ) -> Result<Outcome, AllocError>
-    ensures { IfOk result (λ t. seen t ≡ begun_from serial.now files.now.names main work.output work.report) }
+    ensures { IfOk result (λ t. seen t ≡ begun_from (told_of serial.now (work_of work)) files.now.names main work.output work.report) }
 {
     if !is_clean(&work.report) {
         return refused(report_of(work));
     }
-    laid(alloc, files, serial, main, work)
+    laid(alloc, files, told_of(serial, &work), main, work)
 }
 
 /// Whether no error and no fatal message was told.
@@ -146,19 +164,12 @@ fn given_up(
     refused(report)
 }
 
-/// What was told in some work.
+/// Returns the messages of `work`, and gives up the rest.
 fn report_of<B: Bounds>(work: Compilation<B>) -> Diagnostics
     ensures { result ≡ work.report }
 {
-    work.report
-}
-
-/// What a story is made of beside its code.
-#[derive(Drop)]
-struct Contents<B: Bounds> {
-    names: Symbols<Place, B>,
-    strings: Strings<B>,
-    tables: Tables<B>,
+    let (_, report) = work.into_parts();
+    report
 }
 
 /// The code of some work, what a story has beside it, and what was told in it.
@@ -166,19 +177,8 @@ fn parts_of<B: Bounds>(work: Compilation<B>) -> (Code<B>, Contents<B>, Diagnosti
     ensures { (result.0 ≡ work.output.code) × (result.1.names ≡ work.output.names) × (result.1.strings ≡ work.output.strings)
         × (result.1.tables ≡ work.output.tables) × (result.2 ≡ work.report) }
 {
-    let Compilation { output, report, .. } = work;
-    let Output {
-        code,
-        strings,
-        tables,
-        names,
-        ..
-    } = output;
-    let contents = Contents {
-        names,
-        strings,
-        tables,
-    };
+    let (output, report) = work.into_parts();
+    let (code, contents) = output.into_parts();
     (code, contents, report)
 }
 
@@ -188,33 +188,33 @@ fn parts_of<B: Bounds>(work: Compilation<B>) -> (Code<B>, Contents<B>, Diagnosti
 fn laid<B: Bounds>(
     alloc: Global,
     files: &Stack,
-    serial: &[u8; 6],
+    told: Telling,
     main: usize,
     work: Compilation<B>,
 ) -> Result<Outcome, AllocError>
-    ensures { IfOk result (λ t. seen t ≡ laid serial.now files.now.names main work.output work.report) }
+    ensures { IfOk result (λ t. seen t ≡ laid told files.now.names main work.output work.report) }
 {
     let (code, contents, report) = parts_of(work);
     let names = values_of(alloc, &contents.names)?;
-    named(alloc, files, *serial, main, names, code, contents, report)
+    named(alloc, files, told, main, names, code, contents, report)
 }
 
 /// Ends it with the story in which names are these values. Without them one of the names is no number in a story, which is an error.
 fn named<B: Bounds>(
     alloc: Global,
     files: &Stack,
-    serial: [u8; 6],
+    told: Telling,
     main: usize,
     names: Option<Vec<Value>>,
     code: Code<B>,
     contents: Contents<B>,
     report: Diagnostics,
 ) -> Result<Outcome, AllocError>
-    ensures { IfOk result (λ t. seen t ≡ named serial files.now.names main code contents.strings contents.tables report
+    ensures { IfOk result (λ t. seen t ≡ named told files.now.names main code contents.strings contents.tables report
         (option_map (λ v. v.items) names)) }
 {
     match names {
-        Some(names) => linked(alloc, files, serial, main, names, code, contents, report),
+        Some(names) => linked(alloc, files, told, main, names, code, contents, report),
         None => failed(files, report, &Message::NotConstant),
     }
 }
@@ -231,7 +231,7 @@ fn most_of(scale: Scale) -> u32
 fn linked<B: Bounds>(
     alloc: Global,
     files: &Stack,
-    serial: [u8; 6],
+    told: Telling,
     main: usize,
     names: Vec<Value>,
     code: Code<B>,
@@ -239,15 +239,17 @@ fn linked<B: Bounds>(
     report: Diagnostics,
 ) -> Result<Outcome, AllocError>
     ensures { let strings = contents.strings in let tables = contents.tables in
-        IfOk result (λ t. seen t ≡ linked serial files.now.names main names.items code strings tables report
-        (too_long (fields_of serial code) main code.finished strings.bytes tables)) }
+        IfOk result (λ t. seen t ≡ linked told files.now.names main names.items code strings tables report
+        (too_long (fields_of told code) main code.finished strings.bytes tables)) }
 {
     let scale = code.scale();
+    let serial = told.serial;
     let fields = HeaderFields {
-        release: RELEASE,
+        release: told.release,
         serial,
         scale,
     };
+    let counts = Counts::of(told.symbols, &code, &contents.tables);
     let Contents {
         strings,
         tables,
@@ -262,7 +264,7 @@ fn linked<B: Bounds>(
         strings.into_area(),
         tables,
     ) {
-        Ok(story) => compiled(story, report),
+        Ok(story) => compiled(story, told.has_statistics, counts, report),
         Err(LinkFault::ReadableTooLong) => given_up(files, report, &Message::ReadableTooLong),
         Err(LinkFault::StoryTooLong) => {
             given_up(files, report, &Message::StoryTooLong(most_of(scale)))
@@ -271,14 +273,36 @@ fn linked<B: Bounds>(
     }
 }
 
-/// The outcome of a compilation without an error.
-fn compiled(story: Story, mut report: Diagnostics) -> Result<Outcome, AllocError>
-    ensures { IfOk result (λ t. seen t ≡ record {
-      messages = (with_closing report).lines;
-      story = Some story.bytes;
-      status = Status.Success;
-    }) }
+/// Tells the statistics, where they are wanted.
+fn tell_statistics(
+    has_statistics: bool,
+    statistics: Statistics,
+    report: &mut Diagnostics,
+) -> Result<(), AllocError>
+    ensures { OnOk result (report.new ≡ statistics_by has_statistics statistics report.old) }
 {
+    if has_statistics {
+        statistics.tell(report)
+    } else {
+        Ok(())
+    }
+}
+
+/// The outcome of a compilation without an error, of whose source this was counted.
+fn compiled(
+    story: Story,
+    has_statistics: bool,
+    counts: Counts,
+    mut report: Diagnostics,
+) -> Result<Outcome, AllocError>
+    ensures { IfOk result (λ t. seen t
+        ≡ compiled (statistics_by has_statistics (record { counts = counts; sizes = story.sizes }) report) story.bytes) }
+{
+    let statistics = Statistics {
+        counts,
+        sizes: story.sizes(),
+    };
+    tell_statistics(has_statistics, statistics, &mut report)?;
     report.close()?;
     Ok(Outcome {
         messages: report.into_lines(),
@@ -299,7 +323,7 @@ fn refused(mut report: Diagnostics) -> Result<Outcome, AllocError>
     })
 }
 
-/// What comes of a source of this name that is not there.
+/// Returns the outcome of a source with the name `file` that is not there.
 pub fn no_file(alloc: Global, file: &[u8]) -> Result<Outcome, AllocError>
     ensures { IfOk result (λ t. seen t ≡ missing file.now) }
 {

@@ -43,7 +43,7 @@ impl From<ReportFault> for Fault {
     }
 }
 
-/// That the source of this name could not be read.
+/// Makes the fault that the source with the name `name` could not be read.
 pub fn unread(alloc: Global, name: &str) -> Fault
     ensures { Caused result (λ told. told ≡ name.now) ⊥ }
 {

@@ -6,3 +6,6 @@ pub mod ending;
 pub mod faults;
 pub mod session;
 pub mod setup;
+mod steps;
+mod tokens;
+mod veneer;

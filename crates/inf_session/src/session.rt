@@ -16,26 +16,22 @@ ghost use Rattle.inf_compilation.specs.Works.{work as work_of};
 ghost use Rattle.inf_session.specs.Leading.{CutsShort, GivenUp, NotTried, OpensAll, OpensWithin, StopsFor, StopsAtInclusion, StopsInToken};
 ghost use Rattle.inf_session.specs.Leading.{Writes};
 ghost use Rattle.inf_conditionals.specs.Open.{no_conditions};
-ghost use Rattle.inf_session.specs.Session.{begun_with, followed, carried_out, included, left, part, quoted_behind, quoted_bytes, rested};
-ghost use Rattle.inf_session.specs.Session.{run, stepped, token_at, turn};
+ghost use Rattle.inf_session.specs.Session.{begun_with, followed, carried_out, included, left, part, rested};
+ghost use Rattle.inf_session.specs.Session.{run, stepped, turn};
 ghost use Rattle.inf_session.specs.Standing.{AreWithin, IsBounded, IsSet, came_to, ended, held, is_fatal, parted, resting, state};
-ghost use Rattle.inf_unit.specs.Atoms.{is_short};
-ghost use Rattle.inf_unit.specs.Spelled.{spelled};
 ghost use Rattle.inf_session.specs.Weights.{GoesOn, room, weight};
 
 use crate::compiled::{Compiled, Status, conclude};
 use crate::faults::{Fault, unread};
 use crate::setup::Setup;
-use inf_compilation::compilation::Compilation;
+use crate::tokens::take;
 use inf_compilation::context::Context;
 use inf_conditionals::conditionals::Conditionals;
-use inf_conditionals::filtered::{Filtered, Site};
 use inf_files::files::Files;
-use inf_lexer::{LexFault, Place, Token};
+use inf_lexer::{LexFault, Place};
 use inf_reader::progress::Progress;
 use inf_reader::recovery::Recovery;
 use inf_report::messages::Message;
-use inf_scanner::{BadToken, TokenKind};
 use inf_settings::bounds::Bounds;
 use inf_settings::setting::Setting;
 use inf_sinks::sinks::Sink;
@@ -43,36 +39,38 @@ use inf_sources::IncludeFault;
 use inf_sources::open_files::{Included, OpenFiles};
 use inf_unit::directives::Request;
 use inf_unit::messages::location;
-use inf_unit::tokens::SourceToken;
 use std::alloc::{AllocError, Global};
 
 /// The reading of a main source and of the files that it includes, and what was compiled of them so far.
 #[derive(Drop)]
 pub struct Session<'a, B: Bounds> {
-    alloc: Global,
-    setup: Setup<'a>,
+    pub(crate) alloc: Global,
+    pub(crate) setup: Setup<'a>,
     pub open_files: OpenFiles,
-    conditionals: Conditionals,
+    pub(crate) conditionals: Conditionals,
     pub progress: Progress<B>,
-    /// Whether a directive has ended all reading.
-    is_over: bool,
+    /// Whether all reading has ended but for the veneer's.
+    pub(crate) is_over: bool,
     /// The bytes between the quotes of the longest quoted token so far.
-    quoted: usize,
+    pub(crate) quoted: usize,
+    /// The number of the last routine of the veneer that was read; 0 before the first.
+    pub(crate) passed: usize,
 }
 
-/// What a step of the reading came to.
+/// The result of a step of the reading.
 #[derive(Clone, Copy, Debug, PartialEq, Eq)]
 pub enum Step {
     /// A part was read.
     More,
-    /// All was read before, up to the end of the main source or a directive that ends all.
+    /// All was read before, up to the end of the main source or a directive that ends all, and the veneer.
     End,
     /// A fatal message came.
     Fatal,
 }
 
 impl<'a, B: Bounds> Session<'a, B> {
-    /// At the front of the main source, of which nothing was read yet. Where there is no memory the files are given back.
+    /// Makes a session by `setup` at the front of the main source of `open_files`, of which nothing was read yet. Where there is no memory
+    /// the files are given back.
     pub fn new(
         alloc: Global,
         setup: Setup<'a>,
@@ -85,6 +83,7 @@ impl<'a, B: Bounds> Session<'a, B> {
         ensures going { IfOk result (λ session. session.is_over ≡ false) }
         ensures conditionals { IfOk result (λ session. session.conditionals ≡ no_conditions) }
         ensures quoted { IfOk result (λ session. session.quoted ≡ 0) }
+        ensures passed { IfOk result (λ session. session.passed ≡ 0) }
         ensures setup { IfOk result (λ session. session.setup ≡ setup.entry) }
         ensures bounded { IfOk result (λ session. IsBounded session) }
         ensures back { IfErr result (λ files. files ≡ open_files) }
@@ -100,11 +99,12 @@ impl<'a, B: Bounds> Session<'a, B> {
             progress,
             is_over: false,
             quoted: 0,
+            passed: 0,
         })
     }
 
     /// Whether nothing more is read.
-    fn has_ended(&self) -> bool
+    pub(crate) fn has_ended(&self) -> bool
         ensures { result ≡ ended self.now }
     {
         self.is_over || self.progress.has_ended()
@@ -148,16 +148,13 @@ impl<'a, B: Bounds> Session<'a, B> {
         ensures wrote { Appends M.Sink messages.old messages.new }
     {
         while !self.has_ended() {
-            self.step(files, messages)?;
+            self.read_part(files, messages)?;
         }
         Ok(())
     }
 
-    /// Reads one part: a directive, with the side that it leaves out; what of a bad one is passed over; or the end of a file. Each
-    /// message is written as soon as it is found. Behind the end, or a fatal message, it answers the same again and changes nothing.
-    ///
-    /// The faults are those of `translate`, but for that of the story.
-    pub fn step<F: Files, M: Sink>(
+    /// Reads one part of the source, as `step` does. Behind its end, or a fatal message, it answers the same again and changes nothing.
+    pub(crate) fn read_part<F: Files, M: Sink>(
         &mut self,
         files: &mut F,
         messages: &mut M,
@@ -257,8 +254,8 @@ impl<'a, B: Bounds> Session<'a, B> {
         self.has_ended() || (self.progress.is_between() && self.conditionals.may_part())
     }
 
-    /// What a step came to that ended here, before which all was read or not.
-    fn came_to(&self, had_ended: bool) -> Step
+    /// Returns the result of a step that ended here, before which all was read if `had_ended`.
+    pub(crate) fn came_to(&self, had_ended: bool) -> Step
         ensures { result ≡ came_to had_ended self.now }
     {
         if self.progress.work.report.is_over() {
@@ -277,12 +274,10 @@ impl<'a, B: Bounds> Session<'a, B> {
         self.progress.is_between() && self.conditionals.is_resting()
     }
 
-    /// How much there is so far of what each setting bounds, in the order of the settings: the bytes of the longest quoted token, the
-    /// tokens of the longest
-    /// expression, the names, the most labels of a routine, the words, objects, verbs and actions, the bytes of grammar, properties,
-    /// arrays, low strings, code and
-    /// strings, and the references; of tokens, labels and references at most as many as there may be. None is above its setting unless a
-    /// fatal message came.
+    /// Returns, for each setting in their order, the amount so far of what it bounds: the bytes of the longest quoted token, the tokens of
+    /// the longest expression, the names, the most labels of a routine, the words, objects, verbs and actions, the bytes of grammar,
+    /// properties, arrays, low strings, code and strings, and the references; of tokens, labels and references at most as many as there may
+    /// be. None is above its setting unless a fatal message came.
     pub fn held(&self) -> [usize; 15]
         ensures counts { result ≡ held self.now }
         ensures within { let settings = (chosen self.now.setup).settings in
@@ -385,24 +380,19 @@ impl<'a, B: Bounds> Session<'a, B> {
             Err(LexFault::Memory) => return Err(Fault::Memory),
             Err(LexFault::Read) => return Err(unread(self.alloc, self.open_files.innermost())),
         };
-        let site = self.progress.site(self.setup.settings);
-        let spelling = self.open_files.spelling();
-        let spelled = token_at(site.is_between, token, spelling, &self.progress.work);
-        let judged = self
-            .conditionals
-            .take(site, &self.progress.work.output, &spelled)?;
-        self.quoted = quoted_behind(site, judged, &spelled, self.quoted);
-        self.conditionals.tell(
-            self.open_files.names(),
-            &mut self.progress.work.report,
-            &mut self.progress.work.output,
-        )?;
         let context = Context {
             files: self.open_files.names(),
-            set: self.setup.set,
+            set: self.open_files.characters(),
             settings: self.setup.settings,
         };
-        self.progress.take_judged(&context, &spelled, judged)?;
+        self.quoted = take(
+            &context,
+            token,
+            self.open_files.spelling(),
+            self.quoted,
+            &mut self.conditionals,
+            &mut self.progress,
+        )?;
         Ok(())
     }
 
@@ -482,12 +472,16 @@ impl<'a, B: Bounds> Session<'a, B> {
                 self.is_over = true;
                 Ok(())
             }
+            Request::Characters(set) => {
+                self.open_files.set_characters(set);
+                Ok(())
+            }
             Request::Nothing => Ok(()),
         }
     }
 
     /// Tells the conditionals that are open in a directive, behind its end.
-    fn rest(&mut self) -> Result<(), AllocError>
+    pub(crate) fn rest(&mut self) -> Result<(), AllocError>
         ensures rested { (sources : Sources) → (start now : Openings) →
             OnOk result ((told : List ℕ) → state sources start now self.new told ≡ rested (state sources start now self.old told)) }
         ensures ends { ended self.old ≡ true → ended self.new ≡ true }
@@ -584,36 +578,6 @@ impl<'a, B: Bounds> Session<'a, B> {
     }
 }
 
-/// How many bytes the longest quoted token has behind one more token: those that are not handed on, and those that are passed over
-/// behind a bad one, are not among them.
-fn quoted_behind(site: Site, judged: Filtered, token: &SourceToken<'_>, quoted: usize) -> usize
-    ensures { result ≡ quoted_behind site judged (spelled token.now) quoted }
-{
-    if site.is_quiet || judged.token.is_none() {
-        return quoted;
-    }
-    let bytes = quoted_bytes(token);
-    if quoted < bytes { bytes } else { quoted }
-}
-
-/// How many bytes stand between the quotes of a token that has such.
-fn quoted_bytes(token: &SourceToken<'_>) -> usize
-    ensures { result ≡ quoted_bytes (spelled token.now) }
-{
-    match token.kind {
-        TokenKind::Text | TokenKind::Char(_) | TokenKind::Word(_) => token.bytes.len(),
-        TokenKind::Bad(
-            BadToken::Unclosed
-            | BadToken::EmptyQuote
-            | BadToken::UnknownEscape
-            | BadToken::NoZscii
-            | BadToken::BadCode
-            | BadToken::TooLong,
-        ) => token.bytes.len(),
-        _ => 0,
-    }
-}
-
 /// The text of an inclusion, which is of ASCII where it can name a file.
 fn shown(text: &[u8]) -> &str
     ensures { can_name text.now ≡ true → result.now ≡ text.now }
@@ -622,18 +586,4 @@ fn shown(text: &[u8]) -> &str
         Ok(text) => text,
         Err(_) => "?",
     }
-}
-
-/// A token with these bytes that comes to a place of the reading: at the front of a piece a name may be that of a class.
-fn token_at<'t, B: Bounds>(
-    is_between: bool,
-    token: Token,
-    bytes: &'t [u8],
-    work: &Compilation<B>,
-) -> SourceToken<'t>
-    requires { is_short token.kind bytes.now ≡ true }
-    ensures { spelled result ≡ token_at is_between token.kind bytes.now token.place (work_of work.now) }
-{
-    let is_class = is_between && work.is_class(token.kind, bytes);
-    SourceToken::new(token.kind, bytes, token.place, is_class)
 }

@@ -1,4 +1,4 @@
-//! What the words of a command choose for a compilation.
+//! The choices of the words of a command for a compilation.
 ghost use Rattle.std.specs.Prelude.{◌≡◌, IfOk};
 ghost use Rattle.inf_settings.specs.Bounds.{AreSet};
 ghost use Rattle.inf_reader.specs.Standing.{standing};
@@ -6,14 +6,13 @@ ghost use Rattle.inf_session.specs.Choices.{chosen};
 ghost use Rattle.inf_session.specs.Session.{begun_with, tables_full};
 
 use crate::ending::FIRST_LINE;
+use inf_letters::Letters;
 use inf_lexer::Stack;
 use inf_names::hashing::NameHashing;
 use inf_reader::progress::Progress;
 use inf_settings::bounds::Bounds;
 use inf_settings::setting::Setting;
 use inf_settings::settings::Settings;
-use inf_text::CharSet;
-use inf_unit::messages::Diagnostics;
 use std::alloc::{AllocError, Global};
 
 /// The objects of each story, which are as many references: the addresses of their property tables.
@@ -25,21 +24,20 @@ const FIRST_PROPERTY_BYTES: u32 = 30;
 /// The bytes of the low string that each story has: three spaces.
 const FIRST_LOW_STRING_BYTES: u32 = 2;
 
-/// What the words of a command choose for a compilation: the character set of the sources, whether warnings are told, the
-/// settings, and the directories in which included files are looked for.
+/// The choices of the words of a command for a compilation: what their letters say, the settings, and the directories in which included
+/// files are looked for.
 #[derive(Clone, Copy)]
 pub struct Setup<'a> {
-    pub set: CharSet,
-    pub has_warnings: bool,
+    pub letters: Letters,
     pub settings: &'a Settings,
     pub directories: &'a [&'a str],
-    /// How names are hashed, which changes nothing but how long it takes.
+    /// The hashing of names, which changes nothing but how long it takes.
     pub hashing: NameHashing,
 }
 
 impl Setup<'_> {
-    /// What there is before the first token of a main source, the first of these files. A setting that the first
-    /// four objects or the first low string alone would pass is told at its first line, and ends the compilation.
+    /// Makes the progress before the first token of a main source, the first of `files`: the letters hold. A setting that the first four
+    /// objects or the first low string alone would pass is told at the first line of the source, and ends the compilation.
     pub(crate) fn begin<B: Bounds>(
         &self,
         alloc: Global,
@@ -48,10 +46,10 @@ impl Setup<'_> {
         requires { AreSet B.most self.now.settings.now }
         ensures { IfOk result (λ progress. standing progress ≡ begun_with (chosen self.now) files.now.names) }
     {
-        let mut report = Diagnostics::new(alloc, self.has_warnings);
-        report.full(files, FIRST_LINE, self.tables_full())?;
         let mut progress = Progress::new(alloc, self.settings, self.hashing)?;
-        progress.work.report = report;
+        progress.work.choose(self.letters);
+        let full = self.tables_full();
+        progress.work.report.full(files, FIRST_LINE, full)?;
         Ok(progress)
     }
 

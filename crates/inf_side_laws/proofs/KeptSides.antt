@@ -33,9 +33,10 @@ use Rattle.inf_conditionals.specs.declared.pending.Pending.{Pending}
 use Rattle.inf_conditionals.specs.declared.words.ConditionalWord.{ConditionalWord}
 use Rattle.inf_conditionals.specs.declared.words.ConditionalWord.TheVariants as word
 use Rattle.inf_conditionals.specs.Ends.{side_kept, with_all_lone, with_lone}
-use Rattle.inf_conditionals.specs.Judging.{Behind, at_front, asking as asking_on, awaiting, begun, behind_front, behind_sign, decided}
-use Rattle.inf_conditionals.specs.Judging.{effected, held, is_kept, is_none_pending, judged_by, kept, unmatched, named, none_handed}
-use Rattle.inf_conditionals.specs.Judging.{offered, offered_to, passed, passed_by, saying, taken, tokens_counted, unfit, went_on}
+use Rattle.inf_conditionals.specs.Judging.{Behind, asked_on, at_front, asking as asking_on, awaiting, begun, behind_front, behind_sign}
+use Rattle.inf_conditionals.specs.Judging.{decided, effected, held, is_kept, is_none_pending, judged_by, kept, unmatched, named}
+use Rattle.inf_conditionals.specs.Judging.{none_handed, offered, offered_to, passed, passed_by, saying, sign_handed, sign_offered, taken}
+use Rattle.inf_conditionals.specs.Judging.{tokens_counted, unfit, went_on}
 use Rattle.inf_conditionals.specs.Open.{Conditions, ended_by, is_second, latest_among, levels_behind, most_levels, silent}
 use Rattle.inf_conditionals.specs.Words.{word_of}
 use Rattle.inf_reader.specs.Handing.{hash}
@@ -835,22 +836,45 @@ front_kept place t c inner among declared is =
 abbrev given_up_so : Conditions → Conditions
 given_up_so c = record c { pending = []; conditions = [] }
 
+-- what becomes of it before a token that is no word of a conditional
+abbrev pub with_sign : Forwarded → Place → Behind → Behind
+with_sign h place b = record b { judged = record b.judged { sign = Some (record { place = place; handed = h }) } }
+
+abbrev signed_by : Place → At → Behind → Behind
+signed_by place t s =
+    let b = offered false t.site t.out t.token s.now in record b { judged = record b.judged { sign = sign_handed place s.judged.token } }
+
+sign_comes : (place : Place) (t : At) (c : Conditions) (inner among : List Conditional) (declared : ℕ) → word_of (keyword t.token) ≡ None
+    → judged_at t (state c (Some place) inner among None declared) ≡ signed_by place t
+    (sign_offered c.pending place t.site (at c inner among None declared))
+sign_comes place t c inner among declared none =
+    ap (λ o. behind_sign o place t.site t.out t.token (state c (Some place) inner among None declared)) none
+
+-- it is given up, as one that is kept or as one that does not fit
+abbrev pub GivesUp : Forwarded → Place → Site → Conditions → List Conditional → List Conditional → ℕ → Type 0
+GivesUp h place site c inner among declared =
+    sign_offered c.pending place site (at c inner among None declared)
+    ≡ record { now = at (given_up_so c) inner among None declared; judged = record none_handed { token = Some h } }
+
+pub sign_free : (place : Place) (site : Site) (c : Conditions) (inner among : List Conditional) (declared : ℕ) → c.pending ≡ []
+    → GivesUp handed.Kept place site c inner among declared
+sign_free place site c inner among declared none = ap (λ ps. sign_offered ps place site (at c inner among None declared)) none
+
+-- and then the token is kept
+pub given_up_kept : (h : Forwarded) (place : Place) (t : At) (c : Conditions) (inner among : List Conditional) (declared : ℕ)
+    → GivesUp h place t.site c inner among declared → word_of (keyword t.token) ≡ None → is_mark mark.Hash t.token.kind ≡ false
+    → judged_at t (state c (Some place) inner among None declared)
+    ≡ with_sign h place (kept (at (given_up_so c) inner among None declared))
+given_up_kept h place t c inner among declared gives no_word no_hash =
+    let here = at (given_up_so c) inner among None declared in
+    sign_comes place t c inner among declared no_word
+    ∙ ap (signed_by place t) gives
+    ∙ ap (λ (b : Bool). with_sign h place (cond b (passed (held false t.token.place here)) (kept here))) no_hash
+
 inside_kept : (place : Place) (t : At) (c : Conditions) (inner among : List Conditional) (declared : ℕ) → c.pending ≡ [] → IsSignedPlain t
     → judged_at t (state c (Some place) inner among None declared) ≡ both_kept_so place (at (given_up_so c) inner among None declared)
 inside_kept place t c inner among declared none is =
-    let here = at (given_up_so c) inner among None declared in
-    let signed : List Pending → Behind → Behind = λ ps b.
-    record b {
-      judged = record b.judged {
-        sign = Some (record {
-          place = place;
-          handed = cond (is_none_pending ps) handed.Kept handed.Unfit;
-        });
-      };
-    } in
-    ap (λ o. behind_sign o place t.site t.out t.token (state c (Some place) inner among None declared)) is.no_word
-    ∙ ap (λ (b : Bool). signed c.pending (cond b (passed (held false t.token.place here)) (kept here))) is.no_hash
-    ∙ ap (λ ps. signed ps (kept here)) none
+    given_up_kept handed.Kept place t c inner among declared (sign_free place t.site c inner among declared none) is.no_word is.no_hash
 
 -- a directive has ended, which is lone or not
 abbrev ended_so : Conditions → Option Place → Option Place → Behind
@@ -1023,7 +1047,7 @@ begins_end r is_inner is_within w (Some sign) t all c inner among inner_now amon
 abbrev pub with_condition : Condition → Conditions → Conditions
 with_condition k c = record c { conditions = k ∷ c.conditions }
 
-abbrev counted : Bool → Condition → Conditions → Conditions
+abbrev pub counted : Bool → Condition → Conditions → Conditions
 counted is_quiet k c = record c { most_tokens = cond is_quiet c.most_tokens (max c.most_tokens (outer_tokens k.unit)) }
 
 pub begun_asking : (is_inner wanted : Bool) (t : SourceToken) (place : Place) (c : Conditions) (inner among : List Conditional)
@@ -1911,6 +1935,131 @@ plain_leads d t r (OuterLeft deep x between left sb) declared n c holds few_st a
 
 -- and those behind a `#`
 
+-- a condition takes that
+sign_taken : (is_inner wanted : Bool) (place sign : Place) (site : Site) (k : Condition) (c : Conditions)
+    (inner among : List Conditional) (declared : ℕ)
+    → fits grammar known (atom_of (hash sign)) k.stack ≡ true
+    → (let a = awaits.Condition wanted in let p = directive is_inner place a in
+    sign_offered (p ∷ c.pending) sign site (reading is_inner place a (with_condition k c) inner among declared)
+    ≡ asked_on wanted site (hash sign) (condition_took (hash sign) k) p (at c inner among None declared))
+sign_taken is_inner wanted place sign site k c inner among declared is_taken =
+    let here = at c inner among None declared in
+    let p = directive is_inner place (awaits.Condition wanted) in
+    ap (λ (b : Bool). cond b (asked_on wanted site (hash sign) (condition_took (hash sign) k) p here) (unfit here)) is_taken
+
+-- the conditionals behind it, where the condition goes on
+abbrev pub behind_taken : Place → Site → Condition → Conditions → Conditions
+behind_taken sign site k here =
+    saying site.is_quiet (too_much site.longest (hash sign) k) (tokens_counted site.is_quiet k here)
+
+abbrev pub signed_asks : (is_inner wanted : Bool) → Place → Place → Site → Condition → Conditions → Conditions
+signed_asks is_inner wanted place sign site k here = asking_on place is_inner wanted k (behind_taken sign site k here)
+
+pub sign_read : (is_inner wanted : Bool) (place sign : Place) (t : At) (k : Condition) (c : Conditions) (inner among : List Conditional)
+    (declared : ℕ) → word_of (keyword t.token) ≡ None → fits grammar known (atom_of (hash sign)) k.stack ≡ true
+    → (let a = awaits.Condition wanted in let now = condition_took (hash sign) k in
+    judged_at t (state (awaits_it is_inner place a (with_condition k c)) (Some sign) inner among None declared)
+    ≡ with_sign handed.Condition sign
+    (offered false t.site t.out t.token (signed_asks is_inner wanted place sign t.site now (at c inner among None declared))))
+sign_read is_inner wanted place sign t k c inner among declared no_word is_taken =
+    let a = awaits.Condition wanted in
+    sign_comes sign t (awaits_it is_inner place a (with_condition k c)) inner among declared no_word
+    ∙ ap (signed_by sign t) (sign_taken is_inner wanted place sign t.site k c inner among declared is_taken)
+
+-- and the token behind it
+both_read : (is_inner wanted : Bool) (place sign : Place) (t : At) (k : Condition) (c : Conditions) (inner among : List Conditional)
+    (declared : ℕ) → IsSignedPlain t
+    → (let now = condition_took (hash sign) k in
+    fits grammar known (atom_of (hash sign)) k.stack ≡ true → fits grammar known (atom_of t.token) now.stack ≡ true
+    → is_whole (condition_took t.token now) ≡ false
+    → judged_at t (state (awaits_it is_inner place (awaits.Condition wanted) (with_condition k c)) (Some sign) inner among None declared)
+    ≡ with_sign handed.Condition sign
+    (asked_on wanted t.site t.token (condition_took t.token now) (directive is_inner place (awaits.Condition wanted))
+    (behind_taken sign t.site now (at c inner among None declared))))
+both_read is_inner wanted place sign t k c inner among declared is is_taken is_next whole =
+    let now = condition_took (hash sign) k in
+    let next = condition_took t.token now in
+    let p = directive is_inner place (awaits.Condition wanted) in
+    let here = behind_taken sign t.site now (at c inner among None declared) in
+    let asks = asking_on place is_inner wanted now here in
+    let then = went_on wanted t.site t.out t.token next p here in
+    sign_read is_inner wanted place sign t k c inner among declared is.no_word is_taken
+    ∙ ap (λ (b : Bool). with_sign handed.Condition sign (cond b (passed (held false t.token.place asks))
+    (cond (fits grammar known (atom_of t.token) now.stack) then (unfit here)))) is.no_hash
+    ∙ ap (λ (b : Bool). with_sign handed.Condition sign (cond b then (unfit here))) is_next
+    ∙ ap (λ (b : Bool). with_sign handed.Condition sign (cond b
+    (decided (verdict_of declared t.out next) wanted t.site.is_quiet next p here) (asked_on wanted t.site t.token next p here))) whole
+
+-- or that does not fit
+pub taken_unfit : (is_inner wanted : Bool) (place sign : Place) (t : At) (k : Condition) (c : Conditions) (inner among : List Conditional)
+    (declared : ℕ) → word_of (keyword t.token) ≡ None → is_mark mark.Hash t.token.kind ≡ false
+    → (let now = condition_took (hash sign) k in
+    fits grammar known (atom_of (hash sign)) k.stack ≡ true → fits grammar known (atom_of t.token) now.stack ≡ false
+    → judged_at t (state (awaits_it is_inner place (awaits.Condition wanted) (with_condition k c)) (Some sign) inner among None declared)
+    ≡ with_sign handed.Condition sign (unfit (behind_taken sign t.site now (at c inner among None declared))))
+taken_unfit is_inner wanted place sign t k c inner among declared no_word no_hash is_taken other =
+    let now = condition_took (hash sign) k in
+    let next = condition_took t.token now in
+    let p = directive is_inner place (awaits.Condition wanted) in
+    let here = behind_taken sign t.site now (at c inner among None declared) in
+    let asks = asking_on place is_inner wanted now here in
+    let then = went_on wanted t.site t.out t.token next p here in
+    sign_read is_inner wanted place sign t k c inner among declared no_word is_taken
+    ∙ ap (λ (b : Bool). with_sign handed.Condition sign (cond b (passed (held false t.token.place asks))
+    (cond (fits grammar known (atom_of t.token) now.stack) then (unfit here)))) no_hash
+    ∙ ap (λ (b : Bool). with_sign handed.Condition sign (cond b then (unfit here))) other
+
+takes_signed : (p : Pending) (others : List Pending) (k : Condition) (ks : List Condition) (sign : Place) (t : At) (c now : Conditions)
+    (missing : List Place) (last : Last) → judged_at t c ≡ with_sign handed.Condition sign (taken now)
+    → StandsAt (Reads p others (condition_took t.token (condition_took (hash sign) k) ∷ ks)) last (ended_behind t.ended (silent now))
+    → ended_places t.ended now.inner ≡ missing → Led (Reads p others (k ∷ ks)) (t ∷ []) c (hash sign ∷ t.token ∷ []) missing last
+takes_signed p others k ks sign t c now missing last e rest told = record {
+  hands = ap (λ (b : Behind). handed_on b.judged t.token ++ []) e;
+  tells =
+      ap (λ (b : Behind). lone_places b.judged.unmatched ++ (ended_places t.ended b.now.inner ++ [])) e
+      ∙ append-nil (ended_places t.ended now.inner) ∙ told;
+  ends = subst (λ (x : Conditions). StandsAt (Reads p others (condition_took t.token (condition_took (hash sign) k) ∷ ks)) last x)
+      (sym (ap (λ (b : Behind). ended_behind t.ended (silent b.now)) e)) rest;
+}
+
+reads_signed : (a : Awaits) (ks : List Condition) (is_inner : Bool) (place : Place) (others : List Pending) (sign : Place) (t : At)
+    (inside between : List Open) (declared n : ℕ) (c : Conditions)
+    → c.pending ≡ directive is_inner place a ∷ others → c.conditions ≡ ks → are_kept inside ≡ true → are_kept between ≡ true
+    → TakesAll (Reads (directive is_inner place a) others ks) (hash sign ∷ t.token ∷ []) → IsSignedPlain t
+    → Led (Reads (directive is_inner place a) others ks) (t ∷ [])
+    (state c (Some sign) (conditionals inside) (conditionals between) None declared) (hash sign ∷ t.token ∷ [])
+    (missing_in t.ended (record { inside = inside; between = between }))
+    (last_at (ended_in t.ended (record { inside = inside; between = between })) (declared_behind t declared) n)
+reads_signed (awaits.Condition wanted) (k ∷ ks) is_inner place others sign t inside between declared n c hp hk si sb is plain =
+    let base = record c { pending = others; conditions = ks } in
+    let inner = conditionals inside in
+    let among = conditionals between in
+    let now = condition_took (hash sign) k in
+    let next = condition_took t.token now in
+    let quiet = t.site.is_quiet in
+    let a = awaits.Condition wanted in
+    let p = directive is_inner place a in
+    let r = Reads p others (k ∷ ks) in
+    let last = last_at (ended_in t.ended (record { inside = inside; between = between })) (declared_behind t declared) n in
+    let held_back = state (awaits_it is_inner place a (with_condition k base)) (Some sign) inner among None declared in
+    let here = behind_taken sign t.site now (at base inner among None declared) in
+    let then = asking_on place is_inner wanted next
+    (saying quiet (too_much t.site.longest t.token next) (tokens_counted quiet next here)) in
+    let missing = missing_in t.ended (record { inside = inside; between = between }) in
+    let same : held_back ≡ state c (Some sign) inner among None declared =
+    ap (λ cs. state (record c { pending = p ∷ others; conditions = cs }) (Some sign) inner among None declared) (sym hk)
+    ∙ ap (λ ps. state (record c { pending = ps }) (Some sign) inner among None declared) (sym hp) in
+    subst (λ (x : Conditions). Led r (t ∷ []) x (hash sign ∷ t.token ∷ []) missing last) same
+    (takes_signed p others k ks sign t held_back then missing last
+    (both_read is_inner wanted place sign t k base inner among declared plain is.0.0 is.1.0.0 is.1.0.1)
+    (ended_stands (Reads p others (next ∷ ks)) t.ended (AllStay inside between si sb) declared n
+    (awaits_it is_inner place a (with_condition next (counted quiet next (counted quiet now base)))) (refl, refl) (omega arith))
+    (ended_told t.ended (AllStay inside between si sb) declared base))
+reads_signed (awaits.Condition wanted) [] is_inner place others sign t inside between declared n c hp hk si sb is plain = absurd is.0
+reads_signed awaits.Word ks is_inner place others sign t inside between declared n c hp hk si sb is plain = absurd is.0
+reads_signed (awaits.Name if_declared) ks is_inner place others sign t inside between declared n c hp hk si sb is plain = absurd is.0
+reads_signed (awaits.End e) ks is_inner place others sign t inside between declared n c hp hk si sb is plain = absurd is.0
+
 abbrev signed_last : At → At → Around → ℕ → ℕ → Last
 signed_last sign t s declared n =
     last_at (ended_in t.ended s) (declared_behind t (declared_behind sign declared)) (n + length (sign ∷ t ∷ []))
@@ -1945,8 +2094,28 @@ signed_left_led d is_inner sign t r st b m declared n c is_left_at few_m left ca
     (ended_told t.ended st now c) (rests r (ended_behind t.ended (here now)) last behind)))))
 
 signed_leads : (d : Answers) (is_inner : Bool) (sign t : At) → StandLeads d (Signed is_inner sign t)
-signed_leads d is_inner sign t (Reads p others ks) (AllStay inside between si sb) declared n c holds few_st are takes few =
-    absurd (let never : true ≡ false = sym (both_kept inside between si sb) ∙ are.1.1.1 refl in cc)
+signed_leads d false sign t (Reads p others ks) (AllStay inside between si sb) declared n c holds few_st are takes few =
+    absurd (subst (λ k. Begins k false true (Some sign) t) (both_kept inside between si sb) are.0)
+signed_leads d true sign t (Reads p others ks) (AllStay inside between si sb) declared n c holds few_st are takes few =
+    let s : Around = record { inside = inside; between = between } in
+    let inner = conditionals inside in
+    let among = conditionals between in
+    let r = Reads p others ks in
+    let here = at c inner among None declared in
+    let place = sign.token.place in
+    let now = declared_behind sign declared in
+    let all = both_kept inside between si sb in
+    let is = subst (λ k. Begins k true true (Some sign) t) all are.0 in
+    let last = last_part d (Signed true sign t) s declared n in
+    let both = hash place ∷ t.token ∷ [] in
+    let missing = missing_in t.ended s in
+    subst (λ k. TakesAll r (cond k both []) → Led r (sign ∷ t ∷ []) here (cond k both []) missing last) (sym all)
+    (λ taken_so. goes_by r sign (t ∷ []) here (state c (Some place) inner among None declared) (state c (Some place) inner among None now)
+    both missing last
+    (sign_inner sign c inner among declared (inner_front r sign c holds is.0) is.1.is)
+    (mid true sign c (Some place) inner among None declared is.1.goes_on (λ e. absurd (no_false e)))
+    (reads_signed p.awaits ks p.is_inner p.place others place t inside between now (n + length (sign ∷ t ∷ [])) c holds.0 holds.1 si sb
+    taken_so are.1.1)) takes
 signed_leads d true sign t Hands (AllStay inside between si sb) declared n c holds few_st are takes few =
     let s : Around = record { inside = inside; between = between } in
     let inner = conditionals inside in
@@ -1965,7 +2134,7 @@ signed_leads d true sign t Hands (AllStay inside between si sb) declared n c hol
     (sign_inner sign c inner among declared (inner_front Hands sign c holds is.0) is.1.is)
     (mid true sign c (Some place) inner among None declared is.1.goes_on (λ e. absurd (no_false e)))
     (keeps_both t place (state c (Some place) inner among None now) (at (given_up_so c) inner among None now) missing last
-    (inside_kept place t c inner among now holds are.1.1.0)
+    (inside_kept place t c inner among now holds are.1.1)
     (ended_stands Hands t.ended (AllStay inside between si sb) now (n + length (sign ∷ t ∷ [])) (given_up_so c) refl (omega arith))
     (ended_told t.ended (AllStay inside between si sb) now (given_up_so c))))
 signed_leads d false sign t Hands (AllStay [] between si sb) declared n c holds few_st are takes few =
@@ -1985,7 +2154,7 @@ signed_leads d false sign t Hands (AllStay [] between si sb) declared n c holds 
     (sign_kept sign c [] among declared (outer_front sign c holds is.0) is.1.is)
     (mid false sign (awaits_it false place awaits.Word c) None [] among None declared tt (λ _. (refl, refl)))
     (keeps_both t place (reading false place awaits.Word c [] among now) (at c [] among None now) missing last
-    (front_kept place t c [] among now are.1.1.0)
+    (front_kept place t c [] among now are.1.1)
     (ended_stands Hands t.ended (AllStay [] between si sb) now (n + length (sign ∷ t ∷ [])) c holds (omega arith))
     (ended_told t.ended (AllStay [] between si sb) now c)))
 signed_leads d false sign t Hands (AllStay (y ∷ inside) between si sb) declared n c holds few_st are takes few =
@@ -1996,12 +2165,12 @@ signed_leads d true sign t r (InnerLeft deep x inside between left si sb) declar
     let gone = inner_not_kept deep x inside between left in
     let is = subst (λ k. Begins k true (within r) (Some sign) t) gone are.0 in
     signed_left_led d true sign t r (InnerLeft deep x inside between left si sb) true (length deep) declared n c refl few_st gone
-    (λ e. absurd (no_false e)) holds few_st is are.1.1.0 few
+    (λ e. absurd (no_false e)) holds few_st is are.1.1 few
 signed_leads d is_inner sign t r (OuterLeft deep x between left sb) declared n c holds few_st are takes few =
     let gone = not_kept deep x between left in
     let is = subst (λ k. Begins k is_inner (within r) (Some sign) t) gone are.0 in
     signed_left_led d is_inner sign t r (OuterLeft deep x between left sb) false (length deep) declared n c refl few_st gone
-    (λ _. (refl, refl)) holds few_st is are.1.1.0 few
+    (λ _. (refl, refl)) holds few_st is are.1.1 few
 
 -- A `#` before another one
 
@@ -2017,21 +2186,17 @@ same_first r t all c held_back tokens places last e is = record {
       (sym (ap (λ (b : Behind). ended_behind t.ended (silent b.now)) e)) is.ends;
 }
 
--- Where it is kept, it is handed on then.
-abbrev pub with_sign : Forwarded → Place → Behind → Behind
-with_sign h place b = record b { judged = record b.judged { sign = Some (record { place = place; handed = h }) } }
-
-pub hash_freed : (place : Place) (t : At) (c : Conditions) (ps : List Pending) (inner among : List Conditional) (declared : ℕ) →
-    c.pending ≡ ps → is_mark mark.Hash t.token.kind ≡ true → t.site.is_between ≡ false
+-- Where it is given up, it is handed on then.
+pub hash_freed : (h : Forwarded) (place : Place) (t : At) (c : Conditions) (inner among : List Conditional) (declared : ℕ)
+    → GivesUp h place t.site c inner among declared → is_mark mark.Hash t.token.kind ≡ true → t.site.is_between ≡ false
     → judged_at t (state c (Some place) inner among None declared)
-    ≡ with_sign (cond (is_none_pending ps) handed.Kept handed.Unfit) place (judged_at t (at (given_up_so c) inner among None declared))
-hash_freed place t c ps inner among declared read hash inside =
+    ≡ with_sign h place (judged_at t (at (given_up_so c) inner among None declared))
+hash_freed h place t c inner among declared gives hash inside =
     let here = at (given_up_so c) inner among None declared in
-    let signed : List Pending → Behind → Behind = λ ps b. with_sign (cond (is_none_pending ps) handed.Kept handed.Unfit) place b in
-    ap (λ o. behind_sign o place t.site t.out t.token (state c (Some place) inner among None declared)) (hash_word t.token hash)
-    ∙ ap (λ (b : Bool). signed c.pending (cond b (passed (held false t.token.place here)) (kept here))) hash
-    ∙ ap (λ ps. signed ps (passed (held false t.token.place here))) read
-    ∙ sym (ap (signed ps) (sign_inner t (given_up_so c) inner among declared (ap (λ b. b && true) inside) hash))
+    sign_comes place t c inner among declared (hash_word t.token hash)
+    ∙ ap (signed_by place t) gives
+    ∙ ap (λ (b : Bool). with_sign h place (cond b (passed (held false t.token.place here)) (kept here))) hash
+    ∙ sym (ap (with_sign h place) (sign_inner t (given_up_so c) inner among declared (ap (λ b. b && true) inside) hash))
 
 kept_first : (place : Place) (t : At) (all : List At) (c : Conditions) (inner among : List Conditional) (declared : ℕ)
     (tokens : List SourceToken) (places : List Place) (last : Last)
@@ -2040,7 +2205,7 @@ kept_first : (place : Place) (t : At) (all : List At) (c : Conditions) (inner am
     → Led Hands (t ∷ all) (state c (Some place) inner among None declared) (hash place ∷ tokens) places last
 kept_first place t all c inner among declared tokens places last none is inside led_on =
     let there = at (given_up_so c) inner among None declared in
-    let b = hash_freed place t c [] inner among declared none is inside in
+    let b = hash_freed handed.Kept place t c inner among declared (sign_free place t.site c inner among declared none) is inside in
     let e = sign_inner t (given_up_so c) inner among declared (ap (λ b. b && true) inside) is in
     let next : ended_behind t.ended (silent (judged_at t (state c (Some place) inner among None declared)).now) ≡ going_on t there =
     ap (λ (b : Behind). ended_behind t.ended (silent b.now)) b in
@@ -2073,17 +2238,19 @@ begins_with (Turning is_inner first parts end) next e = signed_begins first.sign
 begins_with (Closing is_inner first parts end) next e = signed_begins first.sign next (first.word ∷ (all_tokens parts ++ end ∷ [])) e
 begins_with (Passed is_inner w first) next e = signed_begins first.sign next (first.word ∷ []) e
 
-record Next (is_kept is_inner : Bool) (part : Part) : Type 0 where
+record Next (is_kept is_inner is_within : Bool) (part : Part) : Type 0 where
   next : At
   rest : List At
   is : part_tokens part ≡ next ∷ rest
   hash : is_mark mark.Hash next.token.kind ≡ true
-  inside : is_kept ≡ true → (is_inner ≡ true) × (next.site.is_between ≡ false)
+  inside : is_kept ≡ true → (is_inner ≡ true) × (is_within ≡ false → next.site.is_between ≡ false)
 
-next_of : (is_kept is_inner : Bool) (part : Part) → Follows is_kept is_inner (first_sign part) → Next is_kept is_inner part
-next_of is_kept is_inner part follows = go is_kept is_inner (first_sign part) refl follows
+next_of : (is_kept is_inner is_within : Bool) (part : Part) → Follows is_kept is_inner is_within (first_sign part)
+    → Next is_kept is_inner is_within part
+next_of is_kept is_inner is_within part follows = go is_kept is_inner (first_sign part) refl follows
   where
-    go : (is_kept is_inner : Bool) (sign : Option At) → first_sign part ≡ sign → Follows is_kept is_inner sign → Next is_kept is_inner part
+    go : (is_kept is_inner : Bool) (sign : Option At) → first_sign part ≡ sign → Follows is_kept is_inner is_within sign →
+        Next is_kept is_inner is_within part
     go is_kept is_inner None e follows = absurd follows
     go true false (Some next) e follows = absurd follows
     go true true (Some next) e follows =
@@ -2095,7 +2262,7 @@ next_of is_kept is_inner part follows = go is_kept is_inner (first_sign part) re
 before_left_led : (d : Answers) (is_inner : Bool) (sign : At) (part : Part) → PartLeads d part →
     (r : Reader) (st : Stands) (b : Bool) (m declared n : ℕ) (c : Conditions) → left_of st ≡ left_at b m →
     m ≤ n → all_kept (stack_of st) ≡ false → CalmLeft is_inner (inner_of st) b
-    → Holds r c → levels_of st ≤ n → IsSign is_inner sign → Follows false is_inner (first_sign part) → IsPart d (within r)
+    → Holds r c → levels_of st ≤ n → IsSign is_inner sign → Follows false is_inner (within r) (first_sign part) → IsPart d (within r)
     (stack_of st) (declared_behind sign declared) part
     → TakesAll r (kept_of part (stack_of st)) → n + length (sign ∷ part_tokens part) ≤ most_levels
     → Led r (sign ∷ part_tokens part) (stands_at c st declared) (kept_of (Before is_inner sign part) (stack_of st))
@@ -2114,7 +2281,7 @@ before_left_led d is_inner sign part leads r st b m declared n c is_left_at few_
     let last_so = last_part d (Before is_inner sign part) s declared n in
     let kept_so = kept_of part s in
     let places = told_of d part s in
-    let next = next_of false is_inner part follows in
+    let next = next_of false is_inner (within r) part follows in
     let few_so : n + length all ≤ most_levels = omega (arith, few) in
     let rest : Led r all (here now) kept_so places last =
     subst (λ x. Led r all (at c inner among x now) kept_so places last) is_left_at
@@ -2136,12 +2303,156 @@ before_left_led d is_inner sign part leads r st b m declared n c is_left_at few_
     (mid is_inner sign c (Some place) inner among (left_at b m) declared is.goes_on (calm_at is_inner inner b m calm))
     again)))
 
+-- Of a token becomes the same behind these as behind those.
+pub record TokenSame (t : At) (c other : Conditions) : Type 0 where
+  pub hands : handed_on (judged_at t c).judged t.token ≡ handed_on (judged_at t other).judged t.token
+  pub lone : (judged_at t c).judged.unmatched ≡ (judged_at t other).judged.unmatched
+  pub inner : (judged_at t c).now.inner ≡ (judged_at t other).now.inner
+  pub next : silent (judged_at t c).now ≡ silent (judged_at t other).now
+
+pub same_hands : (t : At) (all : List At) (c other : Conditions) → TokenSame t c other →
+    all_handed_on (t ∷ all) c ≡ all_handed_on (t ∷ all) other
+same_hands t all c other is =
+    ap (λ hs. hs ++ all_handed_on all (going_on t c)) is.hands
+    ∙ ap (λ x. handed_on (judged_at t other).judged t.token ++ all_handed_on all (ended_behind t.ended x)) is.next
+
+pub same_tells : (t : At) (all : List At) (c other : Conditions) → TokenSame t c other → all_told (t ∷ all) c ≡ all_told (t ∷ all) other
+same_tells t all c other is =
+    let b = judged_at t other in
+    ap (λ o. lone_places o ++ (ended_places t.ended (judged_at t c).now.inner ++ all_told all (going_on t c))) is.lone
+    ∙ ap (λ i. lone_places b.judged.unmatched ++ (ended_places t.ended i ++ all_told all (going_on t c))) is.inner
+    ∙ ap (λ x. lone_places b.judged.unmatched ++ (ended_places t.ended b.now.inner ++ all_told all (ended_behind t.ended x))) is.next
+
+pub same_behind : (t : At) (all : List At) (c other : Conditions) → TokenSame t c other →
+    all_behind (t ∷ all) c ≡ all_behind (t ∷ all) other
+same_behind t all c other is = ap (λ x. all_behind all (ended_behind t.ended x)) is.next
+
+-- A condition takes a `#` that is held back, and then another one is as it is where that was taken before.
+pub taken_same : (is_inner wanted : Bool) (place sign : Place) (k : Condition) (t : At) (c : Conditions) (inner among : List Conditional)
+    (declared : ℕ) → fits grammar known (atom_of (hash sign)) k.stack ≡ true → is_mark mark.Hash t.token.kind ≡ true
+    → (let a = awaits.Condition wanted in let now = condition_took (hash sign) k in
+    TokenSame t (state (awaits_it is_inner place a (with_condition k c)) (Some sign) inner among None declared)
+    (reading is_inner place a (with_condition now (counted t.site.is_quiet now c)) inner among declared))
+taken_same is_inner wanted place sign k t c inner among declared is_taken is =
+    let a = awaits.Condition wanted in
+    let p = directive is_inner place a in
+    let now = condition_took (hash sign) k in
+    let base = awaits_it is_inner place a (with_condition now (counted t.site.is_quiet now c)) in
+    let here = behind_taken sign t.site now (at c inner among None declared) in
+    let asks = asking_on place is_inner wanted now here in
+    let held_back = state (awaits_it is_inner place a (with_condition k c)) (Some sign) inner among None declared in
+    let then = went_on wanted t.site t.out t.token (condition_took t.token now) p here in
+    let b : judged_at t held_back ≡ with_sign handed.Condition sign (passed (held false t.token.place asks)) =
+    sign_read is_inner wanted place sign t k c inner among declared (hash_word t.token is) is_taken
+    ∙ ap (λ (b : Bool). with_sign handed.Condition sign (cond b (passed (held false t.token.place asks))
+    (cond (fits grammar known (atom_of t.token) now.stack) then (unfit here)))) is in
+    let e = sign_inner t base inner among declared (and-false t.site.is_between) is in
+    record {
+      hands = ap (λ (b : Behind). handed_on b.judged t.token) b ∙ sym (ap (λ (b : Behind). handed_on b.judged t.token) e);
+      lone = ap (λ (b : Behind). b.judged.unmatched) b ∙ sym (ap (λ (b : Behind). b.judged.unmatched) e);
+      inner = ap (λ (b : Behind). b.now.inner) b ∙ sym (ap (λ (b : Behind). b.now.inner) e);
+      next = ap (λ (b : Behind). silent b.now) b ∙ sym (ap (λ (b : Behind). silent b.now) e);
+    }
+
+taken_first : (is_inner wanted : Bool) (place sign : Place) (k : Condition) (t : At) (all : List At) (c : Conditions)
+    (inner among : List Conditional) (declared : ℕ) (tokens : List SourceToken) (places : List Place) (last : Last)
+    → (let a = awaits.Condition wanted in
+    let p = directive is_inner place a in
+    let now = condition_took (hash sign) k in
+    fits grammar known (atom_of (hash sign)) k.stack ≡ true → is_mark mark.Hash t.token.kind ≡ true
+    → Led (Reads p c.pending (now ∷ c.conditions)) (t ∷ all)
+    (reading is_inner place a (with_condition now (counted t.site.is_quiet now c)) inner among declared) tokens places last
+    → Led (Reads p c.pending (k ∷ c.conditions)) (t ∷ all)
+    (state (awaits_it is_inner place a (with_condition k c)) (Some sign) inner among None declared) (hash sign ∷ tokens) places last)
+taken_first is_inner wanted place sign k t all c inner among declared tokens places last is_taken is led_on =
+    let a = awaits.Condition wanted in
+    let now = condition_took (hash sign) k in
+    let there = reading is_inner place a (with_condition now (counted t.site.is_quiet now c)) inner among declared in
+    let r = Reads (directive is_inner place a) c.pending (now ∷ c.conditions) in
+    let held_back = state (awaits_it is_inner place a (with_condition k c)) (Some sign) inner among None declared in
+    let same = taken_same is_inner wanted place sign k t c inner among declared is_taken is in
+    record {
+      hands = same_hands t all held_back there same ∙ led_on.hands;
+      tells = same_tells t all held_back there same ∙ led_on.tells;
+      ends = subst (λ (x : Conditions). StandsAt (read_on tokens r) last x) (sym (same_behind t all held_back there same)) led_on.ends;
+    }
+
+reads_before : (d : Answers) (part : Part) → PartLeads d part → (a : Awaits) (ks : List Condition) (is_inner : Bool) (place : Place)
+    (others : List Pending) (sign : Place) (inside between : List Open) (declared n : ℕ) (c : Conditions)
+    → (let s : Around = record { inside = inside; between = between } in
+    let r = Reads (directive is_inner place a) others ks in
+    c.pending ≡ directive is_inner place a ∷ others → c.conditions ≡ ks → are_kept inside ≡ true → are_kept between ≡ true
+    → (next : At) (rest : List At) → part_tokens part ≡ next ∷ rest → is_mark mark.Hash next.token.kind ≡ true
+    → TakesAll r (hash sign ∷ kept_of part s) → IsPart d true s declared part → n + length (part_tokens part) ≤ most_levels
+    → Led r (part_tokens part) (state c (Some sign) (conditionals inside) (conditionals between) None declared) (hash sign ∷ kept_of part s)
+    (told_of d part s) (last_part d part s declared n))
+reads_before d part leads (awaits.Condition wanted) (k ∷ ks) is_inner place others sign inside between declared n c hp hk si sb next rest
+    is_next next_hash takes is_part few =
+    let s : Around = record { inside = inside; between = between } in
+    let base = record c { pending = others; conditions = ks } in
+    let inner = conditionals inside in
+    let among = conditionals between in
+    let a = awaits.Condition wanted in
+    let p = directive is_inner place a in
+    let now = condition_took (hash sign) k in
+    let there_base = awaits_it is_inner place a (with_condition now (counted next.site.is_quiet now base)) in
+    let there = at there_base inner among None declared in
+    let r = Reads p others (now ∷ ks) in
+    let before = Reads p others (k ∷ ks) in
+    let kept_so = kept_of part s in
+    let places = told_of d part s in
+    let last = last_part d part s declared n in
+    let led_on : Led r (part_tokens part) there kept_so places last =
+    leads r s declared n there (stands r (AllStay inside between si sb) declared n there_base (refl, refl) (omega arith)) is_part takes.1
+    few in
+    let held_back = state (awaits_it is_inner place a (with_condition k base)) (Some sign) inner among None declared in
+    let same : held_back ≡ state c (Some sign) inner among None declared =
+    ap (λ cs. state (record c { pending = p ∷ others; conditions = cs }) (Some sign) inner among None declared) (sym hk)
+    ∙ ap (λ ps. state (record c { pending = ps }) (Some sign) inner among None declared) (sym hp) in
+    subst (λ ts. Led before ts (state c (Some sign) inner among None declared) (hash sign ∷ kept_so) places last) (sym is_next)
+    (subst (λ (x : Conditions). Led before (next ∷ rest) x (hash sign ∷ kept_so) places last) same
+    (taken_first is_inner wanted place sign k next rest base inner among declared kept_so places last takes.0.0 next_hash
+    (subst (λ ts. Led r ts there kept_so places last) is_next led_on)))
+reads_before d part leads (awaits.Condition wanted) [] is_inner place others sign inside between declared n c hp hk si sb next rest is_next
+    next_hash takes is_part few = absurd takes.0
+reads_before d part leads awaits.Word ks is_inner place others sign inside between declared n c hp hk si sb next rest is_next next_hash
+    takes is_part few = absurd takes.0
+reads_before d part leads (awaits.Name if_declared) ks is_inner place others sign inside between declared n c hp hk si sb next rest is_next
+    next_hash takes is_part few = absurd takes.0
+reads_before d part leads (awaits.End e) ks is_inner place others sign inside between declared n c hp hk si sb next rest is_next next_hash
+    takes is_part few = absurd takes.0
+
 before_leads : (d : Answers) (is_inner : Bool) (sign : At) (part : Part) → PartLeads d part → StandLeads d (Before is_inner sign part)
-before_leads d is_inner sign part leads (Reads p others ks) (AllStay inside between si sb) declared n c holds few_st are takes few =
-    absurd (let never : true ≡ false = sym (both_kept inside between si sb) ∙ are.1.1.0 refl in cc)
-before_leads d false sign part leads Hands (AllStay inside between si sb) declared n c holds few_st are takes few =
-    absurd (no_false (sym ((next_of true false part (subst (λ k. Follows k false (first_sign part)) (both_kept inside between si sb)
-    are.1.1.1.0)).inside refl).0))
+before_leads d false sign part leads r (AllStay inside between si sb) declared n c holds few_st are takes few =
+    absurd (no_false (sym ((next_of true false (within r) part (subst (λ k. Follows k false (within r) (first_sign part))
+    (both_kept inside between si sb) are.1.1.0)).inside refl).0))
+before_leads d true sign part leads (Reads p others ks) (AllStay inside between si sb) declared n c holds few_st are takes few =
+    let s : Around = record { inside = inside; between = between } in
+    let inner = conditionals inside in
+    let among = conditionals between in
+    let r = Reads p others ks in
+    let here = at c inner among None declared in
+    let place = sign.token.place in
+    let now = declared_behind sign declared in
+    let stays = both_kept inside between si sb in
+    let is = subst (λ k. Begins k true true (Some sign) sign) stays are.0 in
+    let next = next_of true true true part (subst (λ k. Follows k true true (first_sign part)) stays are.1.1.0) in
+    let all = part_tokens part in
+    let last = last_part d part s now n in
+    let last_so = last_part d (Before true sign part) s declared n in
+    let kept_so = kept_of part s in
+    let places = told_of d part s in
+    let few_so : n + length all ≤ most_levels = omega (arith, few) in
+    let held_back = state c (Some place) inner among None now in
+    subst (λ k. TakesAll r (cond k (hash place ∷ []) [] ++ kept_so) → Led r (sign ∷ all) here (cond k (hash place ∷ []) [] ++ kept_so)
+    places last_so) (sym stays)
+    (λ taken_so. relaxed r (sign ∷ all) here (hash place ∷ kept_so) places last.around last.declared last_so.declared last.levels
+    last_so.levels refl (omega arith)
+    (goes_by r sign all here (state c (Some place) inner among None declared) held_back (hash place ∷ kept_so) places last
+    (sign_inner sign c inner among declared (inner_front r sign c holds is.0) is.1.is)
+    (mid true sign c (Some place) inner among None declared is.1.goes_on (λ e. absurd (no_false e)))
+    (reads_before d part leads p.awaits ks p.is_inner p.place others place inside between now n c holds.0 holds.1 si sb next.next next.rest
+    next.is next.hash taken_so are.1.1.1 few_so))) takes
 before_leads d true sign part leads Hands (AllStay inside between si sb) declared n c holds few_st are takes few =
     let s : Around = record { inside = inside; between = between } in
     let inner = conditionals inside in
@@ -2151,7 +2462,7 @@ before_leads d true sign part leads Hands (AllStay inside between si sb) declare
     let now = declared_behind sign declared in
     let stays = both_kept inside between si sb in
     let is = subst (λ k. Begins k true false (Some sign) sign) stays are.0 in
-    let next = next_of true true part (subst (λ k. Follows k true (first_sign part)) stays are.1.1.1.0) in
+    let next = next_of true true false part (subst (λ k. Follows k true false (first_sign part)) stays are.1.1.0) in
     let all = part_tokens part in
     let last = last_part d part s now n in
     let last_so = last_part d (Before true sign part) s declared n in
@@ -2161,11 +2472,11 @@ before_leads d true sign part leads Hands (AllStay inside between si sb) declare
     let there = at (given_up_so c) inner among None now in
     let held_back = state c (Some place) inner among None now in
     let rest : Led Hands all there kept_so places last =
-    leads Hands s now n there (stands Hands (AllStay inside between si sb) now n (given_up_so c) refl few_st) are.1.1.1.1
+    leads Hands s now n there (stands Hands (AllStay inside between si sb) now n (given_up_so c) refl few_st) are.1.1.1
     (all_taken kept_so) few_so in
     let on : Led Hands all held_back (hash place ∷ kept_so) places last =
     subst (λ ts. Led Hands ts held_back (hash place ∷ kept_so) places last) (sym next.is)
-    (kept_first place next.next next.rest c inner among now kept_so places last holds next.hash (next.inside refl).1
+    (kept_first place next.next next.rest c inner among now kept_so places last holds next.hash ((next.inside refl).1 refl)
     (subst (λ ts. Led Hands ts there kept_so places last) next.is rest)) in
     subst (λ k. Led Hands (sign ∷ all) here (cond k (hash place ∷ []) [] ++ kept_so) places last_so) (sym stays)
     (relaxed Hands (sign ∷ all) here (hash place ∷ kept_so) places last.around last.declared last_so.declared last.levels last_so.levels
@@ -2181,7 +2492,7 @@ before_leads d true sign part leads r (InnerLeft deep x inside between left si s
     let is = subst (λ k. Begins k true (within r) (Some sign) sign) gone are.0 in
     before_left_led d true sign part leads r (InnerLeft deep x inside between left si sb) true (length deep) declared n c refl few_st gone
     (λ e. absurd (no_false e)) holds few_st is
-    (subst (λ k. Follows k true (first_sign part)) gone are.1.1.1.0) are.1.1.1.1
+    (subst (λ k. Follows k true (within r) (first_sign part)) gone are.1.1.0) are.1.1.1
     (subst (λ k. TakesAll r (cond k (hash sign.token.place ∷ []) [] ++ kept_of part (record
     { inside = deep ++ x ∷ inside; between = between }))) gone takes) few
 before_leads d is_inner sign part leads r (OuterLeft deep x between left sb) declared n c holds few_st are takes few =
@@ -2189,7 +2500,7 @@ before_leads d is_inner sign part leads r (OuterLeft deep x between left sb) dec
     let is = subst (λ k. Begins k is_inner (within r) (Some sign) sign) gone are.0 in
     before_left_led d is_inner sign part leads r (OuterLeft deep x between left sb) false (length deep) declared n c refl few_st gone
     (λ _. (refl, refl)) holds few_st is
-    (subst (λ k. Follows k is_inner (first_sign part)) gone are.1.1.1.0) are.1.1.1.1
+    (subst (λ k. Follows k is_inner (within r) (first_sign part)) gone are.1.1.0) are.1.1.1
     (subst (λ k. TakesAll r (cond k (hash sign.token.place ∷ []) [] ++ kept_of part (record
     { inside = []; between = deep ++ x ∷ between }))) gone takes) few
 

@@ -4,7 +4,7 @@ use Rattle.std.proofs.Common.{ap, subst, ◌∙◌, arith}
 use Rattle.std.proofs.lemmas.List.{map-append}
 use Rattle.inf_settings.specs.Bounds.{Limits}
 use Rattle.inf_files.specs.Files.{Sources}
-use Rattle.inf_unit.specs.Directives.{Request, End, Include, Nothing}
+use Rattle.inf_unit.specs.Directives.{Request, Characters, End, Include, Nothing}
 use Rattle.inf_unit.specs.Tokens.{SourceToken, keyword}
 use Rattle.inf_unit.proofs.Cases.{of_both}
 use Rattle.inf_conditionals.specs.declared.filtered.Forwarded.{Forwarded}
@@ -38,6 +38,7 @@ answered_conditions : (a : Request) (sources : Sources) (o : Choices) (s : State
     (answered a sources o s).conditions ≡ s.conditions
 answered_conditions (Include text unit) sources o s none = cc
 answered_conditions End sources o s none = refl
+answered_conditions (Characters set) sources o s none = refl
 answered_conditions Nothing sources o s none = refl
 
 carried_out_conditions : (sources : Sources) (o : Choices) (s : State) → is_mode_ended s.reading.mode ≡ false →

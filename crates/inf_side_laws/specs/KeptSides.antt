@@ -435,12 +435,13 @@ first_sign (Turning is_inner first within end) = first.sign
 first_sign (Closing is_inner first within end) = first.sign
 first_sign (Passed is_inner w first) = first.sign
 
--- It stands behind another one, where that is kept inside a directive.
-abbrev pub Follows : Bool → Bool → Option At → Type 0
-Follows is_kept is_inner None = ⊥
-Follows false is_inner (Some next) = is_mark mark.Hash next.token.kind ≡ true
-Follows true false (Some next) = ⊥
-Follows true true (Some next) = (is_mark mark.Hash next.token.kind ≡ true) × (next.site.is_between ≡ false)
+-- It stands behind another one, where that is kept inside a directive. In a condition, wherever reading stands.
+abbrev pub Follows : (is_kept is_inner is_within : Bool) → Option At → Type 0
+Follows is_kept is_inner is_within None = ⊥
+Follows false is_inner is_within (Some next) = is_mark mark.Hash next.token.kind ≡ true
+Follows true false is_within (Some next) = ⊥
+Follows true true is_within (Some next) =
+    (is_mark mark.Hash next.token.kind ≡ true) × (is_within ≡ false → next.site.is_between ≡ false)
 
 pub record IsFirst (is_kept is_inner is_within : Bool) (w : ConditionalWord) (first : First) : Type 0 where
   pub begins : Begins is_kept is_inner is_within first.sign first.word
@@ -520,13 +521,11 @@ abbrev mutual
   pub IsPart : Answers → Bool → Around → ℕ → Part → Type 0
   IsPart answers is_within s declared (Plain t) = IsPlain (all_kept s) is_within t
   IsPart answers is_within s declared (Signed is_inner sign t) =
-      Begins (all_kept s) is_inner is_within (Some sign) t ×
-      (NoneInside is_inner s × (IsSignedPlain t × (is_within ≡ true → all_kept s ≡ false)))
+      Begins (all_kept s) is_inner is_within (Some sign) t × (NoneInside is_inner s × IsSignedPlain t)
   IsPart answers is_within s declared (Before is_inner sign part) =
       Begins (all_kept s) is_inner is_within (Some sign) sign
       × (NoneInside is_inner s
-      × ((is_within ≡ true → all_kept s ≡ false)
-      × (Follows (all_kept s) is_inner (first_sign part) × IsPart answers is_within s (declared_behind sign declared) part)))
+      × (Follows (all_kept s) is_inner is_within (first_sign part) × IsPart answers is_within s (declared_behind sign declared) part))
   IsPart answers is_within s declared (Fronted sign within t) =
       (all_kept s ≡ true)
       × (Begins true false is_within (Some sign) sign

@@ -2,7 +2,7 @@
 use Rattle.std.specs.Prelude.{◌≡◌, ◌≤◌, ◌+◌, ℕ, zero, suc, List, [], ◌∷◌, ◌++◌, map, Bool, true, false, if◌then◌else◌, Option, Some, None}
 use Rattle.inf_settings.specs.Bounds.{Limits}
 use Rattle.inf_files.specs.Files.{Sources}
-use Rattle.inf_unit.specs.Directives.{Request, End, Include, Nothing}
+use Rattle.inf_unit.specs.Directives.{Request, Characters, End, Include, Nothing}
 use Rattle.inf_unit.specs.Tokens.{is_end}
 use Rattle.inf_conditionals.specs.declared.filtered.Forwarded.TheVariants as handed
 use Rattle.inf_conditionals.specs.declared.open.LeftOut.{LeftOut}
@@ -41,6 +41,7 @@ at_turns limits sources o (suc n) s = at_turn limits sources o s ∷ at_turns li
 abbrev pub is_inclusion : Request → Bool
 is_inclusion (Include text unit) = true
 is_inclusion End = false
+is_inclusion (Characters set) = false
 is_inclusion Nothing = false
 
 abbrev pub StayInOne : Limits → Sources → Choices → ℕ → State → Type 0

@@ -6,7 +6,7 @@ use inf_scanner::Place;
 /// A conditional that is open.
 #[derive(Clone, Copy, Debug, PartialEq, Eq)]
 pub struct Conditional {
-    /// Where its directive begins.
+    /// The place where its directive begins.
     pub place: Place,
     /// Whether its second side has begun.
     pub is_second: bool,

@@ -24,7 +24,7 @@ use std::alloc::Global;
 use std::marker::Model;
 use std::mem;
 
-/// What came of an inclusion.
+/// The result of an inclusion.
 #[derive(Clone, Copy, Debug, PartialEq, Eq)]
 pub enum Included {
     /// A file was entered.
@@ -113,14 +113,14 @@ impl OpenFiles {
         })
     }
 
-    /// The names of the files, by their numbers.
+    /// Returns the names of the files, by their numbers.
     pub fn names(&self) -> &Stack
         ensures { result.now ≡ self.now.nest }
     {
         &self.names
     }
 
-    /// The name of the innermost file.
+    /// Returns the name of the innermost file.
     pub fn innermost(&self) -> &str
         ensures value { result.now ≡ innermost_name self.now.nest }
         ensures file { result.now ≡ unwrap_or (slice_get self.now.nest.names self.now.lexer.file) [] }
@@ -128,14 +128,14 @@ impl OpenFiles {
         self.names.innermost()
     }
 
-    /// The bytes of the token that was read last, as `Lexer::spelling` gives them.
+    /// Returns the bytes of the token that was read last, as `Lexer::spelling` gives them.
     pub fn spelling(&self) -> &[u8]
         ensures { result.now ≡ self.now.lexer.kept.bytes }
     {
         self.lexer.spelling()
     }
 
-    /// The character set by which all open files are read, and those that are entered later.
+    /// Returns the character set by which all open files are read, and those that are entered later.
     pub fn characters(&self) -> CharSet
         ensures innermost { result ≡ self.now.lexer.set }
         ensures later { result ≡ self.now.nest.set }
@@ -174,7 +174,7 @@ impl OpenFiles {
         self.lexer.choose(set, limit);
     }
 
-    /// The next token of the innermost file; at its end that is the end, again and again.
+    /// Returns the next token of the innermost file; at its end that is the end, again and again.
     ///
     /// `Read` comes where the file could not be read, or has more than 16,777,216 bytes; `Memory` where there is no room
     /// for a quoted token.
@@ -262,7 +262,7 @@ impl OpenFiles {
     ) -> Result<Included, IncludeFault>
         requires goes { self.old.lexer.has_failed ≡ false }
 
-        // With an honest reader it is the first file that is there.
+        // With an honest reader it is the first file that is there, which is read as the innermost one is.
         ensures answer { Honestly F.Files files.old self.old
             (λ start. IfOk result (λ included. included ≡ answer_of (inclusion (F.sources files.old) (map (λ d. d.now) directories.now)
             text.now
@@ -270,7 +270,7 @@ impl OpenFiles {
         ensures nesting { Honestly F.Files files.old self.old
             (λ start. OnOk result (let was = nesting (F.sources files.old) start (F.openings files.old) self.old in
             nesting (F.sources files.old) start (F.openings files.new) self.new
-            ≡ nested_by self.old.nest.set self.old.nest.limit (F.sources files.old) (reverse conditionals.old.items) is_system.old
+            ≡ nested_by self.old.lexer.set self.old.nest.limit (F.sources files.old) (reverse conditionals.old.items) is_system.old
             (inclusion (F.sources files.old) (map (λ d. d.now) directories.now) text.now was) was)) }
         ensures in_vain { Honestly F.Files files.old self.old
             (λ start. IfErr result (λ fault. let was = nesting (F.sources files.old) start (F.openings files.old) self.old in

@@ -32,7 +32,7 @@ number (Rule rule) = rule
 -- Rules of tokens and quiet actions alone, which the rules of expressions are, as the bits of a number. These are a rule's where all of its
 -- rows have nothing else; another numbering of the rules has others, which the evaluations below then refuse.
 abbrev quiet_rules : ℕ
-quiet_rules = 0x40040812079018040818ffffffffc1839f6fffffffffffffab003c01ff3768
+quiet_rules = 0x40040812079018040818ffffffffc1839f6fffffffffffffab003c01ff3748
 
 unfoldable pub is_quiet_rule : ℕ → Bool
 is_quiet_rule rule = has quiet_rules rule
@@ -272,7 +272,7 @@ two_rows x y rows e r m = either x y r (subst (λ l. IsOneOf r l) e m)
 
 pub else_row : HasRows else_part else_parts lone_parts
 unfolding grammar
-else_row = two_rows (row else_parts) (row_unless 119 lone_parts) (grammar.rows_of (number else_part)) refl
+else_row = two_rows (row else_parts) (row_unless 115 lone_parts) (grammar.rows_of (number else_part)) refl
 
 pub step_row : HasRows for_rest_3 step_parts []
 unfolding grammar

@@ -3,7 +3,11 @@ use Rattle.std.specs.Prelude.{ℕ, ◌+◌, ◌%◌, length, List, [], ◌∷◌
 use Rattle.std.specs.Str.{str_eq_ignore_ascii_case}
 use Rattle.inf_settings.specs.Bounds.{Limits}
 use Rattle.inf_area.specs.declared.targets.AreaName.TheVariants as area
+use Rattle.inf_area.specs.declared.targets.SystemConstant.{SystemConstant}
+use Rattle.inf_area.specs.declared.targets.SystemConstant.TheVariants as constant
 use Rattle.inf_area.specs.declared.targets.Target.TheVariants as target
+use Rattle.inf_cells.specs.Scales.{version}
+use Rattle.inf_cells.specs.declared.scale.Scale.{Scale}
 use Rattle.inf_characters.specs.declared.characters.CharSet.{CharSet}
 use Rattle.inf_characters.specs.declared.texts.TextItem.{TextItem}
 use Rattle.inf_dictionary.specs.declared.uses.WordUse.TheVariants as word_use
@@ -31,7 +35,9 @@ use Rattle.inf_unit.specs.declared.items.Item.{Item}
 use Rattle.inf_unit.specs.declared.items.Item.TheVariants as item
 use Rattle.inf_output.specs.Actions.{action_number, action_of, key_of}
 use Rattle.inf_output.specs.Output.{Code, Out, referred, referred_as, string_at, with_text, with_word}
+use Rattle.inf_output.specs.Texts.{used_in}
 use Rattle.inf_statements.specs.Printing.{text_at}
+use Rattle.inf_statements.specs.Statements.{text_packed}
 
 -- Names
 
@@ -97,17 +103,39 @@ looked_alone locals names name = if is_stack name (number_of name locals) then o
 abbrev pub word_operand : DictionaryWord → Operand
 word_operand word = operand.Later (target.Word word.text)
 
--- What a leaf that is no action stands for, where its name is only looked up: a text is some string. System constants are in no expression
--- yet.
-abbrev pub looked : List Local → Table Place → List SourceToken → Leaf → Operand
-looked locals names tokens (leaf.Name at) = looked_name locals names (bytes_at tokens at)
-looked locals names tokens (leaf.Alone at) = looked_alone locals names (bytes_at tokens at)
-looked locals names tokens (leaf.Number number) = operand.Known number
-looked locals names tokens (leaf.Char zscii) = operand.Known zscii
-looked locals names tokens (leaf.Word word) = word_operand word
-looked locals names tokens (leaf.Text at) = operand.Later (target.Place area.Strings 0)
-looked locals names tokens (leaf.Action at) = operand.Unknown
-looked locals names tokens (leaf.System at) = operand.Unknown
+-- What the story as a whole is asked for, by a name behind a sign. Designer's Manual, fourth edition, section 39.
+abbrev pub system_constant : List ℕ → Option SystemConstant
+system_constant name =
+    if str_eq_ignore_ascii_case name (codes "grammar_table") then Some constant.GrammarTable else
+    if str_eq_ignore_ascii_case name (codes "actions_table") then Some constant.ActionsTable else
+    if str_eq_ignore_ascii_case name (codes "preactions_table") then Some constant.PreactionsTable else
+    if str_eq_ignore_ascii_case name (codes "dictionary_table") then Some constant.DictionaryTable else
+    if str_eq_ignore_ascii_case name (codes "classes_table") then Some constant.ClassesTable else
+    if str_eq_ignore_ascii_case name (codes "globals_array") then Some constant.GlobalsArray else
+    if str_eq_ignore_ascii_case name (codes "readable_memory_offset") then Some constant.ReadableMemoryOffset else
+    if str_eq_ignore_ascii_case name (codes "code_offset") then Some constant.CodeOffset else
+    if str_eq_ignore_ascii_case name (codes "strings_offset") then Some constant.StringsOffset else
+    if str_eq_ignore_ascii_case name (codes "highest_object_number") then Some constant.HighestObjectNumber else None
+
+-- the version of the story is known, every other such number when the story is laid out
+abbrev pub system_by : Option SystemConstant → Operand
+system_by (Some c) = operand.Later (target.System c)
+system_by None = operand.Unknown
+
+abbrev pub system_operand : List ℕ → Scale → Operand
+system_operand name scale =
+    if str_eq_ignore_ascii_case name (codes "version_number") then operand.Known (version scale) else system_by (system_constant name)
+
+-- What a leaf that is no action stands for, where its name is only looked up, in a story of a version: a text is some string.
+abbrev pub looked : List Local → Table Place → Scale → List SourceToken → Leaf → Operand
+looked locals names scale tokens (leaf.Name at) = looked_name locals names (bytes_at tokens at)
+looked locals names scale tokens (leaf.Alone at) = looked_alone locals names (bytes_at tokens at)
+looked locals names scale tokens (leaf.Number number) = operand.Known number
+looked locals names scale tokens (leaf.Char zscii) = operand.Known zscii
+looked locals names scale tokens (leaf.Word word) = word_operand word
+looked locals names scale tokens (leaf.Text at) = operand.Later (target.Place area.Strings 0)
+looked locals names scale tokens (leaf.Action at) = operand.Unknown
+looked locals names scale tokens (leaf.System at) = system_operand (bytes_at tokens at) scale
 
 -- An action that did not appear is the next one, where it would appear behind other new ones of its unit.
 abbrev pub word_sum : ℕ → ℕ → ℕ
@@ -131,7 +159,7 @@ looked_action (Some n) o ahead = looked_action_by (action_number n.bytes o) n o 
 -- a leaf behind others with new actions, and all of them
 abbrev pub looked_leaf : List Local → Out → List SourceToken → Leaf → Table Place → Table Place × Operand
 looked_leaf locals o tokens (leaf.Action at) ahead = looked_action (name_at tokens at) o ahead
-looked_leaf locals o tokens l ahead = (ahead, looked locals o.names tokens l)
+looked_leaf locals o tokens l ahead = (ahead, looked locals o.names o.code.scale tokens l)
 
 abbrev pub looked_from : List Local → Out → List SourceToken → List Leaf → Table Place → List Operand → List Operand
 looked_from locals o tokens [] ahead operands = operands
@@ -166,10 +194,10 @@ settled_alone limits locals tokens at o =
     if is_stack (bytes_at tokens at) (number_of (bytes_at tokens at) locals) then (o, operand.Variable 0) else settled_name limits locals
     (name_at tokens at) o
 
--- a text, whose characters are these, is a string of the story, which is added
+-- a text, whose characters are these, is a string of the story, which is packed and added
 abbrev pub settled_text : Limits → Option (List TextItem) → Out → Out × Operand
 settled_text limits None o = (o, operand.Unknown)
-settled_text limits (Some items) o = (with_text limits (packed items []) o, operand.Later (string_at o))
+settled_text limits (Some items) o = (with_text limits (packed items (used_in o.texts)) (text_packed o), operand.Later (string_at o))
 
 -- a word of the dictionary, which is used
 abbrev pub settled_word : Limits → DictionaryWord → Out → Out × Operand
@@ -189,7 +217,7 @@ settled_leaf limits set locals tokens (leaf.Char zscii) o = (o, operand.Known zs
 settled_leaf limits set locals tokens (leaf.Word word) o = settled_word limits word o
 settled_leaf limits set locals tokens (leaf.Text at) o = settled_text limits (text_at set tokens at) o
 settled_leaf limits set locals tokens (leaf.Action at) o = settled_action limits (name_at tokens at) o
-settled_leaf limits set locals tokens (leaf.System at) o = (o, operand.Unknown)
+settled_leaf limits set locals tokens (leaf.System at) o = (o, system_operand (bytes_at tokens at) o.code.scale)
 
 -- what leaves add to a story that are texts, words or actions
 abbrev pub one_added : Limits → CharSet → List SourceToken → Leaf → Code

@@ -25,6 +25,7 @@ use Rattle.inf_output.specs.declared.operands.Simple.{Simple}
 use Rattle.inf_output.specs.declared.operands.Simple.TheVariants.{Known, Later, Variable}
 use Rattle.inf_output.specs.declared.veneer.Veneer.TheVariants as veneer
 use Rattle.inf_output.specs.Output.{Code, instruction, jumped, laid, low_string_at, nothing, with_low_text, ◌▸◌}
+use Rattle.inf_output.specs.Texts.{late, used_in}
 use Rattle.inf_templates.specs.Meaning.{Meaning, meaning, part}
 use Rattle.inf_templates.specs.Parts.{Part, SP, TEMP, call_routine, is, worked}
 use Rattle.inf_unit.specs.Tokens.{SourceToken, keyword}
@@ -86,10 +87,14 @@ statement_in tokens begun items = statement_by (slice_get tokens begun) items
 abbrev pub plain : Limits → Opcode → Code
 plain limits op = instruction limits op [] None None
 
+-- a text was packed, behind which it is too late to declare an abbreviation
+abbrev pub text_packed : Code
+text_packed o = record o { texts = late o.texts }
+
 -- the instruction that prints a text: Z-Machine Standard 1.1, sections 4.8 and 14
 abbrev pub printed : Limits → Opcode → Option (List TextItem) → Code
-printed limits op None = nothing
-printed limits op (Some text) = laid limits (Instruction (record (bare op) { text = packed text [] }))
+printed limits op None o = o
+printed limits op (Some text) o = laid limits (Instruction (record (bare op) { text = packed text (used_in o.texts) })) (text_packed o)
 
 -- A number that is known as 1 or 0 has an instruction of its own to return it. What needs code is returned from the stack.
 abbrev pub returned_number : Limits → ℕ → Code
@@ -148,8 +153,8 @@ abbrev pub string_of : Limits → List ℕ → List Tree → Code
 string_of limits text trees o = string_set limits (low_string_at o) trees (with_low_text limits text o)
 
 abbrev pub string_changed : Limits → Option (List TextItem) → List Tree → Code
-string_changed limits None trees = nothing
-string_changed limits (Some text) trees = string_of limits (packed text []) trees
+string_changed limits None trees o = o
+string_changed limits (Some text) trees o = string_of limits (packed text []) trees (text_packed o)
 
 -- an action, with a noun or two: a call of the routine that processes actions
 abbrev pub processed : Limits → List Part → Code

@@ -31,7 +31,7 @@ use inf_unit::unit::{next_place, order};
 use inf_unit::unit_tokens::UnitTokens;
 use std::alloc::{AllocError, Global};
 
-/// What stands behind the operands of a line, or is no operand. Tokens are told by their places among those of the unit.
+/// The ends of an assembly line: all in it that is no operand. Tokens are told by their places among those of the unit.
 #[derive(Clone, Copy, Debug, PartialEq, Eq)]
 pub struct Ends {
     /// The name of the variable in which it stores.
@@ -43,7 +43,7 @@ pub struct Ends {
     pub jump: Option<usize>,
 }
 
-/// What an assembly line goes by beside its trees.
+/// An assembly line: all that it goes by beside the trees of its operands.
 #[derive(Clone, Copy)]
 pub(crate) struct Line<'a> {
     pub alloc: Global,
@@ -79,7 +79,7 @@ pub(crate) fn placed<B: Bounds>(
     labels.give(name, new)
 }
 
-/// What stands behind the operands, with one more.
+/// Returns `ends` with `item` as one more.
 fn with_end(item: Item, ends: Ends) -> Ends
     ensures { result ≡ with_end item ends }
 {
@@ -104,7 +104,7 @@ fn with_end(item: Item, ends: Ends) -> Ends
     }
 }
 
-/// What stands behind the operands of a unit that has this.
+/// Returns the ends of a unit with `items`.
 pub(crate) fn ends_of(items: &[Item]) -> Ends
     ensures { result ≡ ends_of items.now }
 {
@@ -164,7 +164,8 @@ impl Ends {
     }
 }
 
-/// Whether an opcode that is no jump takes so many operands, of which the first is a variable or not, and these ends.
+/// Tells whether the opcode of `row`, which is no jump, takes `operands` operands, the first of which is a variable if `has_variable`, and
+/// `ends`.
 fn fits_row(row: OpcodeRow, operands: usize, has_variable: bool, ends: Ends) -> bool
     ensures { result ≡ fits_row row operands has_variable ends }
 {
@@ -226,7 +227,7 @@ impl Line<'_> {
         Some(variable.unwrap_or(0))
     }
 
-    /// What is wrong with the name of the variable in which it stores.
+    /// Returns the finding about the name of the variable in which the line stores.
     fn store_finding<B: Bounds>(&self, names: &Symbols<Place, B>) -> Option<Finding>
         ensures { result ≡ store_finding (listed self.now.locals.now) names.now self.now.tokens.now self.now.ends.store }
     {
@@ -237,7 +238,8 @@ impl Line<'_> {
         }
     }
 
-    /// What is wrong with its opcode, with what it has, or with where it stores. It begins at a place among its tokens.
+    /// Returns the finding about the line's opcode, about its operands, whose trees are in `nodes` and begin at `roots`, or about the
+    /// variable in which it stores. The line begins at place `begun` of its tokens.
     pub(crate) fn finding<B: Bounds>(
         &self,
         names: &Symbols<Place, B>,
@@ -279,7 +281,7 @@ fn operands_in<B: Bounds>(nodes: &Nodes, roots: &[Root]) -> ArrayVec<Simple, MOS
     operands
 }
 
-/// Where a branch goes, by the name behind `?`.
+/// Returns the destination of a branch, by `name`, the name behind `?`.
 fn destination<B: Bounds>(
     name: &[u8],
     labels: &mut Labels,

@@ -1,4 +1,4 @@
-//! What the statements of a routine do, and what is wrong with them beside their expressions.
+//! The effects of the statements of a routine, and their faults beside those of their expressions.
 ghost use Rattle.std.specs.Prelude.{◌≡◌, ◌≤◌, ◌+◌, IfOk, OnOk, length, map};
 ghost use Rattle.inf_expressions.specs.Forests.{trees_in};
 ghost use Rattle.inf_expressions.specs.Findings.{wrong_kind};
@@ -27,7 +27,7 @@ use inf_output::Output;
 use inf_scanner::Place;
 use inf_settings::bounds::Bounds;
 use inf_templates::Tasks;
-use inf_text::{CharSet, Text, pack};
+use inf_text::{CharSet, Text};
 use inf_unit::items::Item;
 use inf_unit::opcodes::opcode_of;
 use inf_unit::texts::text_of;
@@ -47,16 +47,16 @@ pub const NOTHING_TO_LEAVE: u8 = 17;
 /// The number of the message `default must come once and last`.
 pub const MISPLACED_DEFAULT: u8 = 24;
 
-/// What a statement goes by beside its trees.
+/// The site of a statement: all that it goes by beside the trees of its expressions.
 #[derive(Clone, Copy)]
 pub struct Site<'a> {
     pub alloc: Global,
     /// The character set of the source.
     pub set: CharSet,
     pub tokens: &'a UnitTokens,
-    /// Where it begins among its tokens.
+    /// The place among its tokens where it begins.
     pub begun: usize,
-    /// What it has beside its expressions.
+    /// The items that it has beside its expressions.
     pub items: &'a [Item],
     pub locals: &'a Locals,
     /// The statements that hold it.
@@ -82,14 +82,14 @@ impl Site<'_> {
         self.tokens.bytes_at(next_place(self.begun))
     }
 
-    /// What it is.
+    /// Returns the statement that stands at this site.
     pub fn statement(&self) -> Statement
         ensures { result ≡ statement_in (site self.now).tokens (site self.now).begun (site self.now).items }
     {
         statement_in(self.tokens, self.begun, self.items)
     }
 
-    /// It as an assembly line.
+    /// Returns the assembly line that stands at this site.
     fn line(&self) -> Line<'_>
         ensures { let s = self.now in result ≡ record {
           alloc = s.alloc;
@@ -109,7 +109,7 @@ impl Site<'_> {
         }
     }
 
-    /// What is wrong with its label: its place was given before.
+    /// Returns the finding that the place of the statement's label was given before, by `labels`.
     fn label_finding(&self, labels: &Labels) -> Option<Finding>
         ensures { let s = site self.now in
             result ≡ only_if (is_given (name_behind s) labels.now) (given_twice (order (next_place s.begun))) }
@@ -123,7 +123,7 @@ impl Site<'_> {
         })
     }
 
-    /// What is wrong with its style.
+    /// Returns the finding that the statement's style is none.
     fn style_finding(&self) -> Option<Finding>
         ensures { let s = site self.now in
             result ≡ unless_some (style_of (name_behind s)) (wrong_kind (order (next_place s.begun))) }
@@ -134,7 +134,7 @@ impl Site<'_> {
         }
     }
 
-    /// What is wrong with a statement beside its expressions, which is no assembly line.
+    /// Returns the finding about `statement` beside its expressions, with the labels in `labels`. An assembly line has none here.
     #[tactic(auto, unfolding(crate::specs::Effects::statement_finding))]
     pub fn finding(&self, statement: Statement, labels: &Labels) -> Option<Finding>
         ensures { result ≡ statement_finding (site self.now) labels.now statement }
@@ -153,7 +153,8 @@ impl Site<'_> {
         }
     }
 
-    /// What is wrong with an assembly line beside its operands, by their trees, with names that are only looked up.
+    /// Returns the finding about an assembly line beside its operands, whose trees are in `nodes` and begin at `roots`. Names are only
+    /// looked up in `names`.
     pub fn line_finding<B: Bounds>(
         &self,
         names: &Symbols<Place, B>,
@@ -165,7 +166,7 @@ impl Site<'_> {
         self.line().finding(names, self.begun, nodes, roots)
     }
 
-    /// What it prints goes by this; it returns or not.
+    /// Returns what printing goes by at this site, where the statement returns if `returns`.
     fn printing(&self, returns: bool) -> Printing<'_>
         ensures { result ≡ record { alloc = self.now.alloc; set = self.now.set; tokens = self.now.tokens; returns = returns } }
     {
@@ -229,7 +230,7 @@ impl Site<'_> {
         let Some(text) = self.last_text()? else {
             return Ok(());
         };
-        let packed = pack(self.alloc, &text, None)?;
+        let packed = out.texts.pack_low(self.alloc, &text)?;
         lay_string(packed.as_slice(), forest, tasks, out)
     }
 
@@ -270,7 +271,7 @@ impl Site<'_> {
         out.mark(label)
     }
 
-    /// What a statement without an error does.
+    /// Lays the code of `statement`, which has no error and the trees of `forest`, in `out`. Labels that it names or places go to `labels`.
     #[tactic(auto, unfolding(crate::specs::Effects::statement_laid))]
     pub fn lay<B: Bounds>(
         &self,
@@ -302,7 +303,7 @@ impl Site<'_> {
     }
 }
 
-/// What a statement wants of its expressions.
+/// Returns what `statement` takes as its expressions: operands in an assembly line, values in any other statement.
 pub fn wanted_by(statement: Statement) -> Wanted
     ensures { result ≡ wanted_by statement }
 {

@@ -1,4 +1,4 @@
-//! What the leaves of a unit stand for.
+//! The operands that the leaves of a unit stand for.
 ghost use Rattle.std.specs.Prelude.{◌≡◌, ◌≤◌, [], ◌∷◌, ◌++◌, List, IfOk, IfSome, OnOk, length, option_map};
 ghost use Rattle.inf_names.specs.LocalList.{listed};
 ghost use Rattle.inf_unit.specs.NameTokens.{named};
@@ -6,10 +6,11 @@ ghost use Rattle.inf_statements.specs.Operands.{Settled, all_looked, found_opera
 ghost use Rattle.inf_statements.specs.Operands.{leaves_named, looked, looked_action, looked_alone, looked_leaf, looked_name, new_action};
 ghost use Rattle.inf_statements.specs.Operands.{one_added, operand_by, referring, settled, settled_action, settled_alone, settled_as};
 ghost use Rattle.inf_statements.specs.Operands.{settled_leaf, settled_name, settled_text, settled_word, standing, stores_named};
-ghost use Rattle.inf_statements.specs.Operands.{word_operand, word_sum};
+ghost use Rattle.inf_statements.specs.Operands.{system_constant, system_operand, word_operand, word_sum};
 ghost use Rattle.inf_statements.specs.Printing.{text_at};
 
-use inf_area::{AreaName, Target};
+use inf_area::{AreaName, SystemConstant, Target};
+use inf_cells::Scale;
 use inf_expressions::{Function, Operand};
 use inf_gathering::gathering::Leaf;
 use inf_names::locals::Locals;
@@ -19,7 +20,7 @@ use inf_output::{Output, action_key};
 use inf_scanner::{DictionaryWord, Place};
 use inf_settings::bounds::{Bounds, Unbounded};
 use inf_tables::WordUse;
-use inf_text::{CharSet, pack};
+use inf_text::CharSet;
 use inf_unit::items::Item;
 use inf_unit::texts::text_of;
 use inf_unit::unit_tokens::{NameToken, UnitTokens};
@@ -38,7 +39,7 @@ fn function_of(function: NamedFunction) -> Function
     }
 }
 
-/// What a name stands for whose value is known, or that is a variable or a function.
+/// Returns the operand of a name that stands for `meaning`, if its value is known, or it is a variable or a function.
 fn standing(meaning: Meaning) -> Option<Operand>
     ensures { result ≡ standing meaning }
 {
@@ -78,7 +79,7 @@ fn operand_by(known: Option<Operand>, number: Option<usize>) -> Operand
     }
 }
 
-/// What a name stands for, by what looking for it finds, and its number among the names.
+/// Returns the operand of a name, by `found`, what looking for it found, and `number`, its number among the names.
 fn found_operand(found: Found<Place>, number: Option<usize>) -> Operand
     ensures { result ≡ found_operand found number }
 {
@@ -90,7 +91,7 @@ fn found_operand(found: Found<Place>, number: Option<usize>) -> Operand
     }
 }
 
-/// What a name stands for, which is only looked up. A local hides it.
+/// Returns the operand of `name`, which is only looked up in `names`. A local of `locals` hides it.
 #[inline(always)]
 pub(crate) fn looked_name<B: Bounds>(
     locals: &Locals,
@@ -116,7 +117,7 @@ pub(crate) fn is_stack(name: &[u8], local: Option<u8>) -> bool
     }
 }
 
-/// What a name stands for that is an operand of an assembly line by itself, and is only looked up.
+/// Returns the operand of `name`, an operand of an assembly line by itself, which is only looked up in `names`.
 fn looked_alone<B: Bounds>(locals: &Locals, names: &Symbols<Place, B>, name: &[u8]) -> Operand
     requires { length name.now ≤ 35 }
     ensures { result ≡ looked_alone (listed locals.now) names.now name.now }
@@ -128,21 +129,66 @@ fn looked_alone<B: Bounds>(locals: &Locals, names: &Symbols<Place, B>, name: &[u
     }
 }
 
-/// What a word of the dictionary is.
+/// Returns the operand of `word`, a word of the dictionary.
 fn word_operand(word: DictionaryWord) -> Operand
     ensures { result ≡ word_operand word }
 {
     Operand::Later(Target::Word(word.text))
 }
 
-/// What a leaf of a unit with these tokens stands for, where its name is only looked up: a text is some string.
+/// Returns the constant of the story as a whole that `name` asks for, if it is that of such a constant.
+fn system_constant(name: &[u8]) -> Option<SystemConstant>
+    ensures { result ≡ system_constant name.now }
+{
+    if name.eq_ignore_ascii_case(b"grammar_table") {
+        Some(SystemConstant::GrammarTable)
+    } else if name.eq_ignore_ascii_case(b"actions_table") {
+        Some(SystemConstant::ActionsTable)
+    } else if name.eq_ignore_ascii_case(b"preactions_table") {
+        Some(SystemConstant::PreactionsTable)
+    } else if name.eq_ignore_ascii_case(b"dictionary_table") {
+        Some(SystemConstant::DictionaryTable)
+    } else if name.eq_ignore_ascii_case(b"classes_table") {
+        Some(SystemConstant::ClassesTable)
+    } else if name.eq_ignore_ascii_case(b"globals_array") {
+        Some(SystemConstant::GlobalsArray)
+    } else if name.eq_ignore_ascii_case(b"readable_memory_offset") {
+        Some(SystemConstant::ReadableMemoryOffset)
+    } else if name.eq_ignore_ascii_case(b"code_offset") {
+        Some(SystemConstant::CodeOffset)
+    } else if name.eq_ignore_ascii_case(b"strings_offset") {
+        Some(SystemConstant::StringsOffset)
+    } else if name.eq_ignore_ascii_case(b"highest_object_number") {
+        Some(SystemConstant::HighestObjectNumber)
+    } else {
+        None
+    }
+}
+
+/// Returns the operand of the system constant `name`, in a story whose packed addresses are multiplied by `scale`: the version of the story
+/// is known, every other number when the story is laid out (Designer's Manual, fourth edition, section 39). A name of no system constant is
+/// `Unknown`.
+pub fn system_operand(name: &[u8], scale: Scale) -> Operand
+    ensures { result ≡ system_operand name.now scale }
+{
+    if name.eq_ignore_ascii_case(b"version_number") {
+        return Operand::Known(u16::from(scale.version()));
+    }
+    match system_constant(name) {
+        Some(constant) => Operand::Later(Target::System(constant)),
+        None => Operand::Unknown,
+    }
+}
+
+/// Returns the operand of `leaf`, a leaf of a unit with `tokens`, where its name is only looked up: a text is some string.
 fn looked<B: Bounds>(
     locals: &Locals,
     names: &Symbols<Place, B>,
+    scale: Scale,
     tokens: &UnitTokens,
     leaf: Leaf,
 ) -> Operand
-    ensures { result ≡ looked (listed locals.now) names.now tokens.now leaf }
+    ensures { result ≡ looked (listed locals.now) names.now scale tokens.now leaf }
 {
     match leaf {
         Leaf::Name(at) => looked_name(locals, names, tokens.bytes_at(at)),
@@ -151,7 +197,8 @@ fn looked<B: Bounds>(
         Leaf::Char(zscii) => Operand::Known(u16::from(zscii.code())),
         Leaf::Word(word) => word_operand(word),
         Leaf::Text(_) => Operand::Later(Target::Place(AreaName::Strings, 0)),
-        Leaf::Action(_) | Leaf::System(_) => Operand::Unknown,
+        Leaf::Action(_) => Operand::Unknown,
+        Leaf::System(at) => system_operand(tokens.bytes_at(at), scale),
     }
 }
 
@@ -178,8 +225,8 @@ fn new_action<B: Bounds>(
     }
 }
 
-/// The number of an action that is only looked up: its own, or, where it did not appear, the next one behind those that were looked up
-/// before. No name has the number 0.
+/// Looks up the number of the action `name` in `out`: its own, or, where the action did not appear, the next number behind those of
+/// `ahead`, which were looked up before; it is then one of these. Without a name the number is 0.
 pub fn looked_action<B: Bounds>(
     name: Option<NameToken<'_>>,
     out: &Output<B>,
@@ -211,7 +258,7 @@ fn settled_action<B: Bounds>(
     }
 }
 
-/// What a leaf of a unit with these tokens stands for, where its name is only looked up, behind new actions.
+/// Returns the operand of `leaf`, a leaf of a unit with `tokens`, where its name is only looked up, behind the new actions of `ahead`.
 #[inline(always)]
 fn looked_leaf<B: Bounds>(
     locals: &Locals,
@@ -224,11 +271,12 @@ fn looked_leaf<B: Bounds>(
 {
     match leaf {
         Leaf::Action(at) => looked_action(tokens.name_at(at), out, ahead),
-        _ => Ok(looked(locals, &out.names, tokens, leaf)),
+        _ => Ok(looked(locals, &out.names, out.code.scale(), tokens, leaf)),
     }
 }
 
-/// What the leaves of a unit with these tokens stand for, where their names are only looked up.
+/// Returns the operands of `leaves`, the leaves of a unit with `tokens`, whose routine has `locals`. Their names are only looked up in
+/// `out`.
 pub fn all_looked<B: Bounds>(
     alloc: Global,
     locals: &Locals,
@@ -246,7 +294,7 @@ pub fn all_looked<B: Bounds>(
     Ok(operands)
 }
 
-/// What a name that was used stands for; nothing, where it is one too many.
+/// Returns the operand of a name that was used, by `found`, what looking for it found. It is 0 where the name is one too many.
 fn settled_as(found: Option<(Found<Place>, Option<usize>)>) -> Operand
     ensures { result ≡ settled_as found }
 {
@@ -256,7 +304,7 @@ fn settled_as(found: Option<(Found<Place>, Option<usize>)>) -> Operand
     }
 }
 
-/// What a name stands for, which is used, where it is no local.
+/// Uses `name`, where it is no local of `locals`, and returns its operand.
 #[inline(always)]
 fn settled_name<B: Bounds>(
     locals: &Locals,
@@ -275,7 +323,7 @@ fn settled_name<B: Bounds>(
     }
 }
 
-/// What a name stands for that is an operand of an assembly line by itself, and is used.
+/// Uses the name at `at` of `tokens`, an operand of an assembly line by itself, and returns its operand.
 fn settled_alone<B: Bounds>(
     locals: &Locals,
     tokens: &UnitTokens,
@@ -291,7 +339,7 @@ fn settled_alone<B: Bounds>(
     settled_name(locals, tokens.name_at(at), out)
 }
 
-/// What the text at a place of these tokens is, in a character set: a string of the story, which is added.
+/// Adds the text at `at` of `tokens`, read by `set`, to the strings of the story, and returns the string as an operand.
 fn settled_text<B: Bounds>(
     alloc: Global,
     set: CharSet,
@@ -307,12 +355,12 @@ fn settled_text<B: Bounds>(
     let Some(text) = text_of(alloc, set, &token)? else {
         return Ok(Operand::Unknown);
     };
-    let packed = pack(alloc, &text, None)?;
+    let packed = out.texts.pack(alloc, &text)?;
     let target = out.string(packed.as_slice())?;
     Ok(Operand::Later(target))
 }
 
-/// What a word of the dictionary is, which is used.
+/// Uses `word`, a word of the dictionary, and returns its operand.
 fn settled_word<B: Bounds>(word: DictionaryWord, out: &mut Output<B>) -> Result<Operand, AllocError>
     ensures { IfOk result (λ operand. (out.new, operand) ≡ settled_word B.most word out.old) }
 {
@@ -320,7 +368,7 @@ fn settled_word<B: Bounds>(word: DictionaryWord, out: &mut Output<B>) -> Result<
     Ok(word_operand(word))
 }
 
-/// What leaves add to a story that are texts, words or actions.
+/// Adds to `out` the texts, read by `set`, the words and the actions among `leaves`, the leaves of a unit with `tokens`.
 pub fn add_leaf<B: Bounds>(
     alloc: Global,
     set: CharSet,
@@ -336,7 +384,7 @@ pub fn add_leaf<B: Bounds>(
     Ok(())
 }
 
-/// What a leaf adds to a story that is a text, a word or an action.
+/// Adds `leaf`, a leaf of a unit with `tokens`, to `out` where it is a text, read by `set`, a word or an action.
 fn add_one<B: Bounds>(
     alloc: Global,
     set: CharSet,
@@ -361,7 +409,7 @@ fn add_one<B: Bounds>(
     Ok(())
 }
 
-/// What a leaf of a unit with these tokens stands for, whose name or word is used, and whose text is added.
+/// Returns the operand of `leaf`, a leaf of a unit with `tokens`, whose name or word is used, and whose text, read by `set`, is added.
 #[inline(always)]
 fn settled_leaf<B: Bounds>(
     alloc: Global,
@@ -381,11 +429,12 @@ fn settled_leaf<B: Bounds>(
         Leaf::Word(word) => settled_word(word, out),
         Leaf::Text(at) => settled_text(alloc, set, tokens, at, out),
         Leaf::Action(at) => settled_action(tokens.name_at(at), out),
-        Leaf::System(_) => Ok(Operand::Unknown),
+        Leaf::System(at) => Ok(system_operand(tokens.bytes_at(at), out.code.scale())),
     }
 }
 
-/// What the leaves of a unit with these tokens stand for, from left to right, whose names and words are used and whose texts are added.
+/// Returns the operands of `leaves`, the leaves of a unit with `tokens`, from left to right, whose routine has `locals`. Their names and
+/// words are used, and their texts, read by `set`, are added to `out`.
 pub fn settled<B: Bounds>(
     alloc: Global,
     set: CharSet,
@@ -416,7 +465,7 @@ fn name_leaf(locals: &mut Locals, tokens: &UnitTokens, leaf: Leaf)
     }
 }
 
-/// A unit with these tokens and leaves names its locals.
+/// Notes in `locals` each local that a leaf of `leaves` names, of a unit with `tokens`.
 pub fn name_locals(locals: &mut Locals, tokens: &UnitTokens, leaves: &[Leaf])
     ensures { listed locals.new ≡ leaves_named tokens.now leaves.now (listed locals.old) }
 {
@@ -425,7 +474,7 @@ pub fn name_locals(locals: &mut Locals, tokens: &UnitTokens, leaves: &[Leaf])
     }
 }
 
-/// A unit with these tokens names the locals in which it stores.
+/// Notes in `locals` each local in which an item of `items` stores, of a unit with `tokens`.
 pub fn name_stores(locals: &mut Locals, tokens: &UnitTokens, items: &[Item])
     ensures { listed locals.new ≡ stores_named tokens.now items.now (listed locals.old) }
 {

@@ -1,4 +1,4 @@
-//! What is printed.
+//! The code of statements that print.
 ghost use Rattle.std.specs.Prelude.{◌≡◌, List, OnOk, false, map};
 ghost use Rattle.inf_expressions.specs.Forests.{trees_in};
 ghost use Rattle.inf_expressions.specs.Trees.{Tree};
@@ -13,7 +13,7 @@ use inf_opcode::{Instruction, Opcode};
 use inf_output::{Output, Veneer};
 use inf_settings::bounds::Bounds;
 use inf_templates::{Argument, Tasks, lay_call, lay_routine_call};
-use inf_text::{CharSet, pack};
+use inf_text::CharSet;
 use inf_unit::items::{Item, PrintRule};
 use inf_unit::texts::text_of;
 use inf_unit::unit_tokens::UnitTokens;
@@ -37,7 +37,7 @@ pub(crate) fn print_text<B: Bounds>(
     let Some(text) = text_of(alloc, set, &token)? else {
         return Ok(());
     };
-    let packed = pack(alloc, &text, None)?;
+    let packed = out.texts.pack(alloc, &text)?;
     out.emit(&Instruction::with_text(opcode, packed.as_slice()))
 }
 
@@ -53,7 +53,7 @@ fn text_opcode(returns: bool, others: &[Item]) -> Opcode
     }
 }
 
-/// What ends a statement that returns and printed something other than a text last.
+/// Lays the end of a statement that prints, where it returns and its last item is no text, as `ends` says.
 fn end_items<B: Bounds>(ends: bool, out: &mut Output<B>) -> Result<(), AllocError>
     ensures { OnOk result (out.new ≡ ended B.most ends out.old) }
 {
@@ -137,7 +137,7 @@ fn print_by<B: Bounds>(
     }
 }
 
-/// What stands behind the roots of an item.
+/// Returns the roots behind those of `item`, with which `roots` begin.
 fn roots_behind(item: Item, roots: &[Root]) -> &[Root]
     ensures { (nodes : List Tree) → trees_from nodes result.now ≡ trees_behind item (trees_from nodes roots.now) }
 {
@@ -159,7 +159,7 @@ fn ends_behind(item: Item, returns: bool) -> bool
     }
 }
 
-/// What a statement prints goes by this.
+/// The statement that prints: all that its items go by.
 #[derive(Clone, Copy)]
 pub(crate) struct Printing<'a> {
     pub alloc: Global,
@@ -202,7 +202,7 @@ fn print_item<B: Bounds>(
     }
 }
 
-/// What is printed, in order.
+/// Lays the code that prints `items`, in order, with the trees of `forest`.
 pub(crate) fn print_items<B: Bounds>(
     printing: Printing<'_>,
     items: &[Item],

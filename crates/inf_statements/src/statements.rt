@@ -1,4 +1,4 @@
-//! What statements are, and the code of those that need nothing beside their trees.
+//! The statements, and the code of those that need nothing beside their trees.
 ghost use Rattle.std.specs.Prelude.{◌≡◌, List, OnOk, Some, map, false};
 ghost use Rattle.inf_expressions.specs.Forests.{trees_in};
 ghost use Rattle.inf_expressions.specs.Nodes.{tree_at};
@@ -30,13 +30,13 @@ use inf_unit::tokens::SourceToken;
 use inf_unit::unit_tokens::UnitTokens;
 use std::alloc::AllocError;
 
-/// Where the abbreviations begin, the string variables first.
+/// The address at which the table of abbreviations begins, the string variables first.
 const ABBREVIATIONS: Target = Target::Place(AreaName::Abbreviations, 0);
 
 /// The variable for values that nobody wants.
 const TEMP: u8 = 255;
 
-/// What a statement is, told by its first token.
+/// A statement, told by its first token.
 #[derive(Clone, Copy, Debug, PartialEq, Eq)]
 pub enum Statement {
     /// A semicolon alone.
@@ -70,7 +70,7 @@ pub enum Statement {
     ActionReturn,
 }
 
-/// What a statement is that begins with a name, by the word of the grammar that this is.
+/// Returns the statement that begins with a name, by `keyword`, the word of the grammar that the name is.
 fn word_statement(keyword: Option<Keyword>) -> Statement
     ensures { result ≡ word_statement keyword }
 {
@@ -95,7 +95,7 @@ fn word_statement(keyword: Option<Keyword>) -> Statement
     }
 }
 
-/// What a statement is that begins with a mark.
+/// Returns the statement that begins with `mark`.
 fn mark_statement(mark: Mark) -> Statement
     ensures { result ≡ mark_statement mark }
 {
@@ -108,7 +108,7 @@ fn mark_statement(mark: Mark) -> Statement
     }
 }
 
-/// What a statement is that begins with a text and has this.
+/// Returns the statement that begins with a text and has `items`.
 fn text_statement(items: &[Item]) -> Statement
     ensures { result ≡ text_statement items.now }
 {
@@ -119,7 +119,7 @@ fn text_statement(items: &[Item]) -> Statement
     }
 }
 
-/// What a statement is that begins with a token and has this.
+/// Returns the statement that begins with `token` and has `items`.
 fn statement_of(token: &SourceToken<'_>, items: &[Item]) -> Statement
     ensures { result ≡ statement_of_kind token.now.kind (spelled token.now) items.now }
 {
@@ -131,7 +131,7 @@ fn statement_of(token: &SourceToken<'_>, items: &[Item]) -> Statement
     }
 }
 
-/// What a statement is that begins at a place among these tokens and has this.
+/// Returns the statement that begins at place `begun` of `tokens` and has `items`.
 #[tactic(auto, unfolding(crate::specs::Statements::statement_in))]
 pub(crate) fn statement_in(tokens: &UnitTokens, begun: usize, items: &[Item]) -> Statement
     ensures { result ≡ statement_in tokens.now begun items.now }
@@ -150,7 +150,7 @@ pub(crate) fn plain<B: Bounds>(opcode: Opcode, out: &mut Output<B>) -> Result<()
     out.instruct(opcode, &[], None, None)
 }
 
-/// What stands behind the first of some roots.
+/// Returns `roots` without the first.
 pub(crate) fn rest(roots: &[Root]) -> &[Root]
     ensures { (nodes : List Tree) → trees_from nodes result.now ≡ rest (trees_from nodes roots.now) }
 {
@@ -180,7 +180,7 @@ pub(crate) fn lay_one<B: Bounds>(
     }
 }
 
-/// An expression without result.
+/// Lays the code of the expression in `forest`, whose result is not used.
 pub fn lay_expression<B: Bounds>(
     forest: &Forest,
     tasks: &mut Tasks,
@@ -209,7 +209,7 @@ fn lay_unless<B: Bounds>(
     }
 }
 
-/// A branch, where something that has a condition is open, where an expression is not true.
+/// Lays a branch to `label`, if there is one, that is taken where the expression in `forest` is not true.
 pub fn lay_test<B: Bounds>(
     label: Option<Label>,
     forest: &Forest,
@@ -224,7 +224,7 @@ pub fn lay_test<B: Bounds>(
     }
 }
 
-/// What is switched on goes to its variable.
+/// Lays the code that stores the value of `forest`, which is switched on, in its variable.
 pub fn lay_switched<B: Bounds>(
     forest: &Forest,
     tasks: &mut Tasks,
@@ -292,7 +292,7 @@ pub(crate) fn lay_move<B: Bounds>(
     }
 }
 
-/// `spaces`: so many as the first of some trees says.
+/// Lays the code of `spaces`, which prints as many spaces as the first tree of `forest` says.
 pub(crate) fn lay_spaces<B: Bounds>(
     forest: &Forest,
     tasks: &mut Tasks,

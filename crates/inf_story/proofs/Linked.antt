@@ -1,5 +1,5 @@
 -- What is linked is the story of the cells.
-use Rattle.std.specs.Prelude.{Result, Ok, Err, MatchResult}
+use Rattle.std.specs.Prelude.{IfOk, Result, Ok, Err, MatchResult}
 use Rattle.std.proofs.Common.{◌≡◌, ◌⊎◌, inl, inr, ◌∙◌, ℕ, List, Option, Some, None, ap, sym}
 use Rattle.inf_area.specs.declared.fixups.Fixup.{Fixup}
 use Rattle.inf_area.specs.declared.targets.Value.{Value}
@@ -11,10 +11,10 @@ use Rattle.inf_link.specs.declared.link.LinkFault.TheVariants.{Memory}
 use Rattle.inf_link.specs.Areas.{lengths}
 use Rattle.inf_link.specs.FillingLaws.{cells_contents, cells_fixups}
 use Rattle.inf_link.specs.MemoryMaps.{too_long as too_long_by}
-use Rattle.inf_link.specs.Stories.{refusal, story as linked}
+use Rattle.inf_link.specs.Stories.{refusal, sizes, story as linked}
 use Rattle.inf_link.specs.Targets.{Lookup}
 use Rattle.inf_link.proofs.CellLaws.{cells_in_order, sizes-cells}
-use Rattle.inf_story.specs.Stories.{story, too_long}
+use Rattle.inf_story.specs.Stories.{story, story_sizes, too_long}
 use Rattle.inf_story.specs.Tables.{areas, looked_up}
 use Rattle.inf_tables.specs.Tables.{AllTables}
 
@@ -39,6 +39,18 @@ unfolding too_long
 is_too_long fields main finished strings tables contents are_contents =
     ap (λ bytes. too_long_by (lengths bytes) fields.scale) are_contents
     ∙ ap (λ sizes. too_long_by sizes fields.scale) (sizes-cells (areas main finished strings tables))
+
+pub is_sized : (fields : HeaderFields) (main : ℕ) (finished : List Cell) (strings : List ℕ) (tables : AllTables)
+    (contents : Areas (List ℕ)) (bytes : List ℕ)
+    → contents ≡ cells_contents (areas main finished strings tables)
+    → sizes contents fields bytes ≡ story_sizes fields main finished strings tables bytes
+unfolding story_sizes
+is_sized fields main finished strings tables contents bytes are_contents = ap (λ areas. sizes areas fields bytes) are_contents
+
+-- what holds of an answer makes another fact hold of it
+pub if_ok_more : {T E : Type 0} (r : Result T E) (P Q : T → Type 0) → ((x : T) → P x → Q x) → IfOk r P → IfOk r Q
+if_ok_more (Ok x) P Q h p = h x p
+if_ok_more (Err fault) P Q h p = tt
 
 -- want of memory, or why there is no story
 pub told : {T : Type 0} (r : Result T LinkFault) (long : Option LinkFault) →

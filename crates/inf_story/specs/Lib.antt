@@ -1,4 +1,5 @@
 pub mod Names
 pub mod Tables
 pub mod Stories
+pub mod Statistics
 pub mod Plain

@@ -4,8 +4,10 @@ use Rattle.inf_area.specs.declared.targets.Value.{Value}
 use Rattle.inf_cells.specs.declared.cells.Cell.{Cell}
 use Rattle.inf_link.specs.declared.header.HeaderFields.{HeaderFields}
 use Rattle.inf_link.specs.declared.link.LinkFault.{LinkFault}
-use Rattle.inf_link.specs.FillingLaws.{cells_sizes, cells_story}
+use Rattle.inf_link.specs.declared.link.Sizes.{Sizes}
+use Rattle.inf_link.specs.FillingLaws.{cells_contents, cells_sizes, cells_story}
 use Rattle.inf_link.specs.MemoryMaps.{too_long as too_long_by}
+use Rattle.inf_link.specs.Stories.{sizes}
 use Rattle.inf_story.specs.Tables.{areas, looked_up}
 use Rattle.inf_tables.specs.Tables.{AllTables}
 
@@ -13,6 +15,10 @@ use Rattle.inf_tables.specs.Tables.{AllTables}
 -- are these.
 unfoldable pub story : HeaderFields → ℕ → List Value → List Cell → List ℕ → AllTables → List ℕ
 story fields main names finished strings tables = cells_story (areas main finished strings tables) (looked_up names tables) fields
+
+-- how many bytes the story, which has these bytes, and its parts have
+unfoldable pub story_sizes : HeaderFields → ℕ → List Cell → List ℕ → AllTables → List ℕ → Sizes
+story_sizes fields main finished strings tables bytes = sizes (cells_contents (areas main finished strings tables)) fields bytes
 
 -- why there is none, if so
 unfoldable pub too_long : HeaderFields → ℕ → List Cell → List ℕ → AllTables → Option LinkFault

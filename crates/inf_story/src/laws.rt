@@ -1,4 +1,4 @@
-//! What the definitions give together.
+//! Laws that follow from the definitions together.
 ghost use Rattle.inf_story.specs.Plain.{LookupIsPlain, TablesArePlain};
 
 /// A source that told nothing of tables has the first four objects, with their names, and an empty dictionary; all else is zeros or

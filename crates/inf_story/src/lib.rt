@@ -4,10 +4,12 @@
 
 mod laws;
 mod names;
+mod statistics;
 mod stories;
 mod tables;
 
-pub use inf_link::{LinkFault, Story};
+pub use inf_link::{LinkFault, Sizes, Story};
 pub use laws::tables_are_plain;
 pub use names::values_of;
+pub use statistics::{Counts, Statistics};
 pub use stories::story;

@@ -1,4 +1,4 @@
-//! What the names of a source are in its story.
+//! The values of the names of a source in its story.
 ghost use Rattle.std.specs.Prelude.{◌≡◌, IfOk, option_map};
 ghost use Rattle.inf_names.specs.Symbols.{meaning_in, standing_at};
 ghost use Rattle.inf_story.specs.Names.{value_by, value_of, values_of};
@@ -10,8 +10,8 @@ use inf_scanner::Place;
 use inf_settings::bounds::Bounds;
 use std::alloc::{AllocError, Global};
 
-/// What a name is in a story, by what it stands for: a number, a place in an area, or a word of the dictionary. Nothing for what is no
-/// number by itself.
+/// Returns the value in a story of a name that stands for `meaning`: a number, a place in an area, or a word of the dictionary. There is
+/// none for a meaning that is no number by itself.
 fn value_of(meaning: Meaning) -> Option<Value>
     ensures { result ≡ value_of meaning }
 {
@@ -35,14 +35,15 @@ fn value_of(meaning: Meaning) -> Option<Value>
     }
 }
 
-/// What the name of a number is.
+/// Returns the value in a story of name `number` of `names`.
 fn value_at<B: Bounds>(names: &Symbols<Place, B>, number: usize) -> Option<Value>
     ensures { result ≡ value_by (meaning_in (standing_at number names.now.names)) }
 {
     value_of(names.meaning_at(number)?)
 }
 
-/// What each name is in the story, in order; or nothing where one of them is none, as one that was not declared.
+/// Returns the value of each of `names` in the story, in order. Returns nothing where one of them has no value, as one that was not
+/// declared.
 pub fn values_of<B: Bounds>(
     alloc: Global,
     names: &Symbols<Place, B>,

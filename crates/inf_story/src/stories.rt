@@ -1,7 +1,7 @@
 //! The story of a source.
 ghost use Rattle.std.specs.Prelude.{◌≡◌, ◌⊎◌, IfOk, MatchResult, None, Some};
 ghost use Rattle.inf_link.specs.declared.link.LinkFault.TheVariants.{Memory};
-ghost use Rattle.inf_story.specs.Stories.{story, too_long};
+ghost use Rattle.inf_story.specs.Stories.{story, story_sizes, too_long};
 
 use crate::tables::{areas, targets};
 use inf_area::{PagedArea, Refs, Value};
@@ -11,7 +11,8 @@ use inf_settings::bounds::Bounds;
 use inf_tables::Tables;
 use std::alloc::Global;
 
-/// The story of some code, strings and tables, in which the routine at a place of the code is called first, and names are these.
+/// Returns the story of `code`, `strings` and `tables`, with the header `fields`, in which the routine at place `main` of the code is
+/// called first, and `names` are the values of the names.
 ///
 /// Refuses first where code would begin at an address over 65,534, then where the story would be longer than one of its version may
 /// be, and else only where no memory is left.
@@ -25,13 +26,14 @@ pub fn story<B: Bounds>(
     tables: Tables<B>,
 ) -> Result<Story, LinkFault>
     ensures bytes { IfOk result (λ s. s.bytes ≡ story fields main names.items code.finished strings tables) }
+    ensures sizes { IfOk result (λ s. s.sizes ≡ story_sizes fields main code.finished strings tables s.bytes) }
     ensures fault { let long = too_long fields main code.finished strings tables in
         MatchResult result (λ _. long ≡ None) (λ fault. (fault ≡ Memory) ⊎ (long ≡ Some fault)) }
 {
     linked(alloc, fields, main, names, code, strings, &tables)
 }
 
-/// The same, of tables that are kept.
+/// Returns the story as `story` does, from `tables` that the caller keeps.
 fn linked<B: Bounds>(
     alloc: Global,
     fields: HeaderFields,
@@ -42,6 +44,7 @@ fn linked<B: Bounds>(
     tables: &Tables<B>,
 ) -> Result<Story, LinkFault>
     ensures bytes { IfOk result (λ s. s.bytes ≡ story fields main names.items code.finished strings tables.now) }
+    ensures sizes { IfOk result (λ s. s.sizes ≡ story_sizes fields main code.finished strings tables.now s.bytes) }
     ensures fault { let long = too_long fields main code.finished strings tables.now in
         MatchResult result (λ _. long ≡ None) (λ fault. (fault ≡ Memory) ⊎ (long ≡ Some fault)) }
 {

@@ -44,7 +44,7 @@ fn low_strings<B: Bounds>(alloc: Global, behind: &LowStrings<B>) -> Result<Paged
     Ok(area)
 }
 
-/// The entries of a table that are not declared behind so many that are; there are 64 of both.
+/// Returns the entries of a table that are not declared, behind `declared` that are. There are 64 of both together.
 #[tactic(auto, using(crate::proofs::Undeclared::left_taken, crate::proofs::Undeclared::left_of))]
 fn undeclared(declared: usize) -> &'static [Value]
     ensures { values_cells result.now ≡ undeclared (64 - declared) }
@@ -317,7 +317,7 @@ pub(crate) fn areas<B: Bounds>(
     Ok(areas)
 }
 
-/// What targets are looked up in, with what the names are.
+/// Returns the places of the areas in a story with `tables` and the values `names`, in which targets are looked up.
 pub(crate) fn targets<B: Bounds>(
     alloc: Global,
     names: Vec<Value>,

@@ -89,305 +89,293 @@ abbrev pub 'property' : Symbol Action
 abbrev pub 'fake_action' : Symbol Action
 'fake_action' = Token 27
 
-abbrev pub 'ifdef' : Symbol Action
-'ifdef' = Token 28
-
-abbrev pub 'ifndef' : Symbol Action
-'ifndef' = Token 29
-
 abbrev pub 'iftrue' : Symbol Action
-'iftrue' = Token 30
+'iftrue' = Token 28
 
 abbrev pub 'iffalse' : Symbol Action
-'iffalse' = Token 31
-
-abbrev pub 'ifnot' : Symbol Action
-'ifnot' = Token 32
-
-abbrev pub 'endif' : Symbol Action
-'endif' = Token 33
+'iffalse' = Token 29
 
 abbrev pub 'end' : Symbol Action
-'end' = Token 34
+'end' = Token 30
 
 abbrev pub 'system_file' : Symbol Action
-'system_file' = Token 35
+'system_file' = Token 31
 
 abbrev pub 'include' : Symbol Action
-'include' = Token 36
+'include' = Token 32
 
 abbrev pub 'lowstring' : Symbol Action
-'lowstring' = Token 37
+'lowstring' = Token 33
 
 abbrev pub 'serial' : Symbol Action
-'serial' = Token 38
+'serial' = Token 34
 
 abbrev pub 'message' : Symbol Action
-'message' = Token 39
+'message' = Token 35
 
 abbrev pub 'release' : Symbol Action
-'release' = Token 40
+'release' = Token 36
 
 abbrev pub 'stub' : Symbol Action
-'stub' = Token 41
+'stub' = Token 37
 
 abbrev pub NUMBER : Symbol Action
-NUMBER = Token 42
+NUMBER = Token 38
 
 abbrev pub 'switches' : Symbol Action
-'switches' = Token 43
+'switches' = Token 39
 
 abbrev pub 'alias' : Symbol Action
-'alias' = Token 44
+'alias' = Token 40
 
 abbrev pub 'constant' : Symbol Action
-'constant' = Token 45
+'constant' = Token 41
 
 abbrev pub 'default' : Symbol Action
-'default' = Token 46
+'default' = Token 42
 
 abbrev pub 'global' : Symbol Action
-'global' = Token 47
+'global' = Token 43
 
 abbrev pub 'additive' : Symbol Action
-'additive' = Token 48
+'additive' = Token 44
 
 abbrev pub NOTADDITIVE : Symbol Action
-NOTADDITIVE = Token 49
+NOTADDITIVE = Token 45
 
 abbrev pub 'error' : Symbol Action
-'error' = Token 50
+'error' = Token 46
 
 abbrev pub 'warning' : Symbol Action
-'warning' = Token 51
+'warning' = Token 47
 
 abbrev pub 'fatalerror' : Symbol Action
-'fatalerror' = Token 52
+'fatalerror' = Token 48
 
 abbrev pub NOTALIAS : Symbol Action
-NOTALIAS = Token 53
+NOTALIAS = Token 49
 
 abbrev pub 'comma' : Symbol Action
-'comma' = Token 54
+'comma' = Token 50
 
 abbrev pub 'with' : Symbol Action
-'with' = Token 55
+'with' = Token 51
 
 abbrev pub 'has' : Symbol Action
-'has' = Token 56
+'has' = Token 52
 
 abbrev pub 'minus' : Symbol Action
-'minus' = Token 57
+'minus' = Token 53
 
 abbrev pub BARENAME : Symbol Action
-BARENAME = Token 58
+BARENAME = Token 54
 
 abbrev pub 'bit_not' : Symbol Action
-'bit_not' = Token 59
+'bit_not' = Token 55
 
 abbrev pub 'times' : Symbol Action
-'times' = Token 60
+'times' = Token 56
 
 abbrev pub 'divide' : Symbol Action
-'divide' = Token 61
+'divide' = Token 57
 
 abbrev pub 'reverse' : Symbol Action
-'reverse' = Token 62
+'reverse' = Token 58
 
 abbrev pub 'logical_not' : Symbol Action
-'logical_not' = Token 63
+'logical_not' = Token 59
 
 abbrev pub 'logical_and' : Symbol Action
-'logical_and' = Token 64
+'logical_and' = Token 60
 
 abbrev pub 'logical_or' : Symbol Action
-'logical_or' = Token 65
+'logical_or' = Token 61
 
 abbrev pub 'equal' : Symbol Action
-'equal' = Token 66
+'equal' = Token 62
 
 abbrev pub 'not_equal' : Symbol Action
-'not_equal' = Token 67
+'not_equal' = Token 63
 
 abbrev pub 'less' : Symbol Action
-'less' = Token 68
+'less' = Token 64
 
 abbrev pub 'greater' : Symbol Action
-'greater' = Token 69
+'greater' = Token 65
 
 abbrev pub 'less_or_equal' : Symbol Action
-'less_or_equal' = Token 70
+'less_or_equal' = Token 66
 
 abbrev pub 'greater_or_equal' : Symbol Action
-'greater_or_equal' = Token 71
+'greater_or_equal' = Token 67
 
 abbrev pub 'hasnt' : Symbol Action
-'hasnt' = Token 72
+'hasnt' = Token 68
 
 abbrev pub 'in' : Symbol Action
-'in' = Token 73
+'in' = Token 69
 
 abbrev pub 'notin' : Symbol Action
-'notin' = Token 74
+'notin' = Token 70
 
 abbrev pub 'ofclass' : Symbol Action
-'ofclass' = Token 75
+'ofclass' = Token 71
 
 abbrev pub 'provides' : Symbol Action
-'provides' = Token 76
+'provides' = Token 72
 
 abbrev pub 'or' : Symbol Action
-'or' = Token 77
+'or' = Token 73
 
 abbrev pub 'plus' : Symbol Action
-'plus' = Token 78
+'plus' = Token 74
 
 abbrev pub 'remainder' : Symbol Action
-'remainder' = Token 79
+'remainder' = Token 75
 
 abbrev pub 'bit_and' : Symbol Action
-'bit_and' = Token 80
+'bit_and' = Token 76
 
 abbrev pub 'bit_or' : Symbol Action
-'bit_or' = Token 81
+'bit_or' = Token 77
 
 abbrev pub 'increment' : Symbol Action
-'increment' = Token 82
+'increment' = Token 78
 
 abbrev pub 'decrement' : Symbol Action
-'decrement' = Token 83
+'decrement' = Token 79
 
 abbrev pub 'dot_and' : Symbol Action
-'dot_and' = Token 84
+'dot_and' = Token 80
 
 abbrev pub 'dot_hash' : Symbol Action
-'dot_hash' = Token 85
+'dot_hash' = Token 81
 
 abbrev pub 'dot' : Symbol Action
-'dot' = Token 86
+'dot' = Token 82
 
 abbrev pub 'open_parenthesis' : Symbol Action
-'open_parenthesis' = Token 87
+'open_parenthesis' = Token 83
 
 abbrev pub 'close_parenthesis' : Symbol Action
-'close_parenthesis' = Token 88
+'close_parenthesis' = Token 84
 
 abbrev pub OPERAND : Symbol Action
-OPERAND = Token 89
+OPERAND = Token 85
 
 abbrev pub CHAR : Symbol Action
-CHAR = Token 90
+CHAR = Token 86
 
 abbrev pub 'double_hash' : Symbol Action
-'double_hash' = Token 91
+'double_hash' = Token 87
 
 abbrev pub BEGINNAME : Symbol Action
-BEGINNAME = Token 92
+BEGINNAME = Token 88
 
 abbrev pub 'return' : Symbol Action
-'return' = Token 93
+'return' = Token 89
 
 abbrev pub 'jump' : Symbol Action
-'jump' = Token 94
+'jump' = Token 90
 
 abbrev pub 'give' : Symbol Action
-'give' = Token 95
+'give' = Token 91
 
 abbrev pub 'move' : Symbol Action
-'move' = Token 96
+'move' = Token 92
 
 abbrev pub 'style' : Symbol Action
-'style' = Token 97
+'style' = Token 93
 
 abbrev pub 'if' : Symbol Action
-'if' = Token 98
+'if' = Token 94
 
 abbrev pub 'while' : Symbol Action
-'while' = Token 99
+'while' = Token 95
 
 abbrev pub 'do' : Symbol Action
-'do' = Token 100
+'do' = Token 96
 
 abbrev pub 'for' : Symbol Action
-'for' = Token 101
+'for' = Token 97
 
 abbrev pub 'objectloop' : Symbol Action
-'objectloop' = Token 102
+'objectloop' = Token 98
 
 abbrev pub 'switch' : Symbol Action
-'switch' = Token 103
+'switch' = Token 99
 
 abbrev pub 'print' : Symbol Action
-'print' = Token 104
+'print' = Token 100
 
 abbrev pub 'print_ret' : Symbol Action
-'print_ret' = Token 105
+'print_ret' = Token 101
 
 abbrev pub 'remove' : Symbol Action
-'remove' = Token 106
+'remove' = Token 102
 
 abbrev pub 'spaces' : Symbol Action
-'spaces' = Token 107
+'spaces' = Token 103
 
 abbrev pub 'break' : Symbol Action
-'break' = Token 108
+'break' = Token 104
 
 abbrev pub 'continue' : Symbol Action
-'continue' = Token 109
+'continue' = Token 105
 
 abbrev pub 'quit' : Symbol Action
-'quit' = Token 110
+'quit' = Token 106
 
 abbrev pub 'rtrue' : Symbol Action
-'rtrue' = Token 111
+'rtrue' = Token 107
 
 abbrev pub 'rfalse' : Symbol Action
-'rfalse' = Token 112
+'rfalse' = Token 108
 
 abbrev pub 'new_line' : Symbol Action
-'new_line' = Token 113
+'new_line' = Token 109
 
 abbrev pub 'open_brace' : Symbol Action
-'open_brace' = Token 114
+'open_brace' = Token 110
 
 abbrev pub 'close_brace' : Symbol Action
-'close_brace' = Token 115
+'close_brace' = Token 111
 
 abbrev pub 'double_less' : Symbol Action
-'double_less' = Token 116
+'double_less' = Token 112
 
 abbrev pub 'double_greater' : Symbol Action
-'double_greater' = Token 117
+'double_greater' = Token 113
 
 abbrev pub 'at' : Symbol Action
-'at' = Token 118
+'at' = Token 114
 
 abbrev pub 'else' : Symbol Action
-'else' = Token 119
+'else' = Token 115
 
 abbrev pub 'until' : Symbol Action
-'until' = Token 120
+'until' = Token 116
 
 abbrev pub 'colon' : Symbol Action
-'colon' = Token 121
+'colon' = Token 117
 
 abbrev pub 'to' : Symbol Action
-'to' = Token 122
+'to' = Token 118
 
 abbrev pub 'question' : Symbol Action
-'question' = Token 123
+'question' = Token 119
 
 abbrev pub RESERVED : Symbol Action
-RESERVED = Token 124
+RESERVED = Token 120
 
 abbrev pub CASENAME : Symbol Action
-CASENAME = Token 125
+CASENAME = Token 121
 
 abbrev pub NOTTO : Symbol Action
-NOTTO = Token 126
+NOTTO = Token 122
 
 abbrev pub NOTDEFAULT : Symbol Action
-NOTDEFAULT = Token 127
+NOTDEFAULT = Token 123
 
 abbrev pub !routine : Symbol Action
 !routine = Act action.Routine

@@ -3,7 +3,7 @@ use Rattle.std.specs.Prelude.{List, [], ◌∷◌}
 use Rattle.inf_machine.specs.Grammar.{Row}
 use Rattle.inf_syntax.specs.declared.actions.Action.{Action}
 use Rattle.inf_syntax.specs.Rows.{row, row_unless}
-use Rattle.inf_syntax.specs.Parts.{ !action, !asm_text, !assign, !begin, !bit_and, !bit_not, !bit_or, !bracket, !bracketed, !branch, !branch_not, !byte_entry, !call, !char, !clear, !close, !comma, !count, !decrement_after, !decrement_before, !deeper, !divide, !else, !end_for_start, !end_for_step, !end_for_test, !end_if, !end_objectloop, !end_statement, !end_switch, !end_until, !end_while, !for_top, !increment_after, !increment_before, !loop, !member, !member_address, !member_length, !name, !negate, !number, !open_do, !open_for, !open_if, !open_objectloop, !open_switch, !open_while, !outer, !outer_end, !outer_maybe, !outer_sure, !part, !print_text, !remainder, !set, !store, !text, !times, !until, !word, !word_entry, 'arrow', 'assign', 'at', 'bit_and', 'bit_not', 'bit_or', 'break', 'close_brace', 'close_parenthesis', 'colon', 'comma', 'continue', 'decrement', 'divide', 'do', 'dot', 'dot_and', 'dot_hash', 'double_greater', 'double_hash', 'double_less', 'else', 'for', 'give', 'greater', 'if', 'increment', 'jump', 'less', 'long_arrow', 'minus', 'move', 'new_line', 'objectloop', 'open_brace', 'open_parenthesis', 'print', 'print_ret', 'question', 'quit', 'remainder', 'remove', 'return', 'rfalse', 'rtrue', 'semicolon', 'spaces', 'string', 'style', 'switch', 'times', 'to', 'until', 'while', BEGINNAME, CHAR, NAME, NUMBER, OPERAND, TEXT, WORD, act, act_1, act_2, act_3, address_operator, address_tail, after_prim, after_unary, array_operator, array_tail, assembly, assembly_1, assembly_2, assembly_3, assign, assign_tail, bit, bracketed, branch, branch_1, call, call_1, call_2, do_rest, else_part, end, entry, expression, expression_tail, first_case, for_rest, for_rest_1, for_rest_2, for_rest_3, give_rest, give_rest_1, if_rest, inc, item, jump_rest, logic_operator, logic_tail, mark_statement, mark_statement_1, member_operator, move_rest, neg, objectloop_rest, of_expression, operands, operands_1, operands_2, operator, other_operator, other_prim, outer_operator, plain_prim, plain_word, post, post_tail, prefixed, prim, print_rest, print_rest_1, return_rest, return_rest_1, statement, statement_1, statement_2, statement_3, statement_4, statement_5, statement_end, step_operator, step_prefix, step_tail, store_or_branch, store_or_branch_1, string_rest, style_rest, sum_operator, sum_tail, switch_item, switch_rest, switch_rest_1, switch_rest_2, term_operator, term_tail, test, test_tail, text_more, text_statement, text_statement_1, while_rest}
+use Rattle.inf_syntax.specs.Parts.{ !action, !asm_text, !assign, !begin, !bit_and, !bit_not, !bit_or, !bracket, !bracketed, !branch, !branch_not, !byte_entry, !call, !char, !clear, !close, !comma, !count, !decrement_after, !decrement_before, !deeper, !divide, !else, !end_for_start, !end_for_step, !end_for_test, !end_if, !end_objectloop, !end_statement, !end_switch, !end_until, !end_while, !for_top, !increment_after, !increment_before, !loop, !member, !member_address, !member_length, !name, !negate, !number, !open_do, !open_for, !open_if, !open_objectloop, !open_switch, !open_while, !outer, !outer_end, !outer_maybe, !outer_sure, !part, !print_text, !remainder, !set, !store, !system, !text, !times, !until, !word, !word_entry, 'arrow', 'assign', 'at', 'bit_and', 'bit_not', 'bit_or', 'break', 'close_brace', 'close_parenthesis', 'colon', 'comma', 'continue', 'decrement', 'divide', 'do', 'dot', 'dot_and', 'dot_hash', 'double_greater', 'double_hash', 'double_less', 'else', 'for', 'give', 'greater', 'hash', 'if', 'increment', 'jump', 'less', 'long_arrow', 'minus', 'move', 'new_line', 'objectloop', 'open_brace', 'open_parenthesis', 'print', 'print_ret', 'question', 'quit', 'remainder', 'remove', 'return', 'rfalse', 'rtrue', 'semicolon', 'spaces', 'string', 'style', 'switch', 'times', 'to', 'until', 'while', BEGINNAME, CHAR, NAME, NUMBER, OPERAND, TEXT, WORD, act, act_1, act_2, act_3, address_operator, address_tail, after_prim, after_unary, array_operator, array_tail, assembly, assembly_1, assembly_2, assembly_3, assign, assign_tail, bit, bracketed, branch, branch_1, call, call_1, call_2, do_rest, else_part, end, entry, expression, expression_tail, first_case, for_rest, for_rest_1, for_rest_2, for_rest_3, give_rest, give_rest_1, if_rest, inc, item, jump_rest, logic_operator, logic_tail, mark_statement, mark_statement_1, member_operator, move_rest, neg, objectloop_rest, of_expression, operands, operands_1, operands_2, operator, other_operator, other_prim, outer_operator, plain_prim, plain_word, post, post_tail, prefixed, prim, print_rest, print_rest_1, return_rest, return_rest_1, statement, statement_1, statement_2, statement_3, statement_4, statement_5, statement_end, step_operator, step_prefix, step_tail, store_or_branch, store_or_branch_1, string_rest, style_rest, sum_operator, sum_tail, switch_item, switch_rest, switch_rest_1, switch_rest_2, term_operator, term_tail, test, test_tail, text_more, text_statement, text_statement_1, while_rest}
 
 abbrev pub rules_2 : List (List (Row Action))
 rules_2 =
@@ -60,7 +60,7 @@ rules_2 =
     -- post_tail
     ∷ (row ('dot' ∷ prim ∷ !member ∷ post_tail ∷ [])
     ∷ row (call ∷ post_tail ∷ [])
-    ∷ row_unless 87 []
+    ∷ row_unless 83 []
     ∷ [])
     -- call
     ∷ (row ('open_parenthesis' ∷ !count ∷ call_1 ∷ 'close_parenthesis' ∷ !call ∷ [])
@@ -90,6 +90,7 @@ rules_2 =
     ∷ row (CHAR ∷ !char ∷ [])
     ∷ row (WORD ∷ !word ∷ [])
     ∷ row ('double_hash' ∷ OPERAND ∷ !action ∷ [])
+    ∷ row ('hash' ∷ OPERAND ∷ !system ∷ [])
     ∷ [])
     -- entry
     ∷ (row ('minus' ∷ prim ∷ !negate ∷ [])
@@ -209,7 +210,7 @@ rules_2 =
     ∷ [])
     -- else_part
     ∷ (row (!else ∷ 'else' ∷ statement ∷ !close ∷ [])
-    ∷ row_unless 119 (!close ∷ [])
+    ∷ row_unless 115 (!close ∷ [])
     ∷ [])
     -- while_rest
     ∷ (row (!open_while ∷ 'open_parenthesis' ∷ !begin ∷ !outer ∷ expression ∷ !end_while ∷ 'close_parenthesis' ∷ statement ∷ !close ∷ [])

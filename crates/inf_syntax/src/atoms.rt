@@ -19,7 +19,7 @@ pub enum Token<'a> {
     /// A word in quotes.
     Word,
     Text,
-    /// What is no token of the language. It fits nowhere.
+    /// A token that is none of the language. It fits nowhere.
     Bad,
     /// The end of the source. It fits nowhere.
     End,
@@ -28,7 +28,7 @@ pub enum Token<'a> {
 /// The number of the first atom of a name; the marks stand before it.
 const FIRST_NAME: u8 = 40;
 
-/// How many names the grammar tells apart, each as that of a class and not.
+/// The number of names that the grammar tells apart, each as that of a class and not.
 const NAMES: u8 = 73;
 
 /// The number of the first atom behind the names.
@@ -37,7 +37,7 @@ const FIRST_LITERAL: u8 = 186;
 /// The atom of a name that is no word of the grammar, and not declared as that of a class.
 pub const OTHER_NAME: u8 = FIRST_NAME + NAMES - 1;
 
-/// The atom of a token, a number below 192.
+/// Returns the atom of `token`, a number below 192.
 pub fn atom_of(token: Token<'_>) -> u8
     ensures { result ≡ atom_of token.entry }
 {
@@ -54,7 +54,7 @@ pub fn atom_of(token: Token<'_>) -> u8
     }
 }
 
-/// The word that an atom is, if it is one, also where it is that of a class of this name.
+/// Returns the word of `atom`, if it is that of a word, also where it is that of a class with the word as its name.
 #[tactic(auto, unfolding(crate::specs::Atoms::keyword_at))]
 pub fn keyword_at(atom: u8) -> Option<Keyword>
     ensures { result ≡ keyword_at atom }

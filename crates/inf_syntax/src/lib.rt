@@ -1,4 +1,4 @@
-//! What the grammar of a source is written in, and its rows.
+//! The atoms and actions in which the grammar of a source is written, and its rows.
 //!
 //! A token is seen as an atom (`atom_of`); what reading is to do is an `Action`. `specs/` has the numbers of atoms (`Atoms`), the
 //! classes of tokens as sets of atoms (`Classes`), the parts of rows (`Parts`), and the rows, rule by rule (from `Table1` on).

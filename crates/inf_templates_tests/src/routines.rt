@@ -267,7 +267,10 @@ fn told_closed<B: Bounds>(
 fn told_of<B: Bounds>(alloc: Global, out: Output<B>) -> Result<String, AllocError> {
     match out.full() {
         Some(limit) => format!(in alloc; "Full({limit:?})"),
-        None => told_closed(alloc, out.names, out.code),
+        None => {
+            let (code, contents) = out.into_parts();
+            told_closed(alloc, contents.names, code)
+        }
     }
 }
 

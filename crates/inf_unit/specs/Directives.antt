@@ -1,6 +1,7 @@
 -- The directives that are one unit, and what they ask of the reading.
 use Rattle.std.specs.Prelude.{ℕ, List, [], ◌∷◌, codes, Bool, true, false, if◌then◌else◌, Option, Some, None}
 use Rattle.std.specs.Str.{str_eq_ignore_ascii_case}
+use Rattle.inf_characters.specs.declared.characters.CharSet.{CharSet}
 use Rattle.inf_scanner.specs.declared.tokens.Place.{Place}
 use Rattle.inf_syntax.specs.declared.words.Keyword.{Keyword}
 use Rattle.inf_syntax.specs.declared.words.Keyword.TheVariants as keyword
@@ -13,11 +14,12 @@ use Rattle.inf_unit.specs.declared.directives.Request.{Request as CodeRequest}
 use Rattle.inf_unit.specs.declared.directives.Request.TheVariants as code
 
 -- What a finished directive asks of the reading: that the file of a name is read, for a directive that begins at a place; that
--- reading ends.
+-- reading ends; that the sources are read by a character set.
 pub data Request : Type 0 where
   Nothing : Request
   Include : (text : List ℕ) (unit : Place) → Request
   End : Request
+  Characters : (set : CharSet) → Request
 
 -- whether something is asked
 abbrev pub asks : Request → Bool
@@ -29,6 +31,7 @@ abbrev pub asked : CodeRequest → Request
 asked code.Nothing = Nothing
 asked (code.Include text unit) = Include text.items unit
 asked code.End = End
+asked (code.Characters set) = Characters set
 
 -- what a directive is whose word this is
 abbrev pub directive_of : Option Keyword → Directive
@@ -43,6 +46,10 @@ directive_of (Some keyword.Attribute) = directive.Attribute
 directive_of (Some keyword.Property) = directive.Property
 directive_of (Some keyword.Global) = directive.Global
 directive_of (Some keyword.FakeAction) = directive.FakeAction
+directive_of (Some keyword.Switches) = directive.Switches
+directive_of (Some keyword.Lowstring) = directive.Lowstring
+directive_of (Some keyword.Release) = directive.Release
+directive_of (Some keyword.Serial) = directive.Serial
 directive_of _ = directive.SystemFile
 
 -- the weight of a message, by the word behind `Message`

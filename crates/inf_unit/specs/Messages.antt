@@ -1,24 +1,30 @@
 -- The messages of a compilation so far, and where they stand.
-use Rattle.std.specs.Prelude.{ℕ, List, [], ◌++◌, Bool, true, Option, Some, None, slice_get, unwrap_or}
+use Rattle.std.specs.Prelude.{ℕ, List, [], ◌++◌, ◌==◌, Bool, true, if◌then◌else◌, Option, Some, None, slice_get, unwrap_or}
 use Rattle.inf_scanner.specs.declared.tokens.Place.{Place}
 use Rattle.inf_assembler.specs.declared.routines.Limit.{Limit as CodeLimit}
 use Rattle.inf_assembler.specs.declared.routines.Limit.TheVariants as code_setting
 use Rattle.inf_settings.specs.declared.setting.Setting.{Setting}
 use Rattle.inf_settings.specs.declared.setting.Setting.TheVariants as setting
-use Rattle.inf_report.specs.Messages.{Location, Message, ErrorText, WarningText, Exceeded, FatalText}
+use Rattle.inf_report.specs.Messages.{Location, Message, ErrorText, WarningText, Exceeded, FatalText, veneer_line}
 use Rattle.inf_report.specs.OwnWords.{Words}
 use Rattle.inf_report.specs.declared.messages.Kind.{Kind}
 use Rattle.inf_report.specs.declared.messages.Kind.TheVariants as weight
-use Rattle.inf_report.specs.Reports.{Counts, no_counts, error_lines, warning_lines, fatal_lines, plain_lines, closing_lines}
+use Rattle.inf_report.specs.Reports.{Counts, no_counts, error_lines, warning_lines, fatal_lines, plain_lines, statistic_lines}
+use Rattle.inf_report.specs.Reports.{closing_lines}
 use Rattle.inf_report.specs.Reports.{with_error as error_counted, with_warning as warning_counted, with_fatal as fatal_counted}
 
 -- the names of the files, as they were opened, by their numbers
 abbrev pub FileNames : Type 0
 FileNames = List (List ℕ)
 
--- the line that a place is
+-- the number of the file that the routines of the veneer are
+abbrev pub veneer_file : ℕ
+veneer_file = 65535
+
+-- the line that a place is, by the name of its file
 abbrev pub location : FileNames → Place → Location
-location files p = record { file = unwrap_or (slice_get files p.file) []; line = p.line }
+location files p =
+    if p.file == veneer_file then veneer_line p.line else record { file = unwrap_or (slice_get files p.file) []; line = p.line }
 
 -- A message at a place.
 pub record Diagnostic : Type 0 where
@@ -36,6 +42,10 @@ none_reported has_warnings = record { lines = []; counts = no_counts has_warning
 
 abbrev pub nothing_reported : Reported
 nothing_reported = none_reported true
+
+-- warnings are told from now on, or not
+abbrev pub warnings_chosen : Bool → Reported → Reported
+warnings_chosen has_warnings r = record r { counts = record r.counts { has_warnings = has_warnings } }
 
 -- an error at a place, of a unit that begins at another or the same
 abbrev pub with_error : Location → Location → Message → Reported → Reported
@@ -61,6 +71,10 @@ with_words at (Some weight.Fatal) words r = with_fatal at (FatalText words) r
 -- the lines were written
 abbrev pub flushed : Reported → Reported
 flushed r = record r { lines = [] }
+
+-- a line of the statistics
+abbrev pub with_statistic : List ℕ → ℕ → Reported → Reported
+with_statistic word number r = record r { lines = r.lines ++ statistic_lines word number r.counts }
 
 -- the last line
 abbrev pub with_closing : Reported → Reported

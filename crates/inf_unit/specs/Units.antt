@@ -250,7 +250,7 @@ with_last at is_alone (Some k) g = with_leaf (order at) (order at) (told_leaf is
 abbrev pub leaf_gathered : Unit → Unit
 leaf_gathered u = let at = last_leaf u in record u { gathering = with_last at (is_alone at u) (kind_at u.tokens at) u.gathering }
 
--- An action is named by its token. It begins at the sign before that, if one is there.
+-- An action, and a system constant, is named by its token. It begins at the sign before that, if one is there.
 abbrev pub is_sign : Option TokenKind → Bool
 is_sign (Some (kind.Mark mark.DoubleHash)) = true
 is_sign (Some (kind.Mark mark.Hash)) = true
@@ -264,10 +264,16 @@ action_gathered u =
     let at = last_leaf u in
     record u { gathering = with_leaf (order (marked_from u.tokens at)) (order at) (leaf.Action at) u.gathering }
 
+abbrev pub system_gathered : Unit → Unit
+system_gathered u =
+    let at = last_leaf u in
+    record u { gathering = with_leaf (order (marked_from u.tokens at)) (order at) (leaf.System at) u.gathering }
+
 -- what is gathered of an operator behind some tokens
 abbrev pub gathered : Step → List SourceToken → Gathering → Gathering
 gathered step.Leaf tokens g = g
 gathered step.Action tokens g = g
+gathered step.System tokens g = g
 gathered (step.Prefix op) tokens g = with_prefix op g
 gathered (step.Suffix op) tokens g = with_suffix op g
 gathered (step.Two op) tokens g = with_two op g
@@ -282,6 +288,7 @@ gathered step.Bracketed tokens g = with_closed_bracket g
 abbrev pub stepped : Step → Unit → Unit
 stepped step.Leaf u = leaf_gathered u
 stepped step.Action u = action_gathered u
+stepped step.System u = system_gathered u
 stepped s u = record u { gathering = gathered s u.tokens u.gathering }
 
 -- one thing more beside its expressions

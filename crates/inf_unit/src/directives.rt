@@ -3,12 +3,13 @@ ghost use Rattle.std.specs.Prelude.{◌≡◌, map};
 ghost use Rattle.inf_names.specs.Spellings.{as_name};
 ghost use Rattle.inf_unit.specs.Directives.{directive_of, weight_of, weight_of_word};
 
+use inf_characters::CharSet;
 use inf_names::spellings::Name;
 use inf_report::messages::Kind;
 use inf_scanner::Place;
 use inf_syntax::Keyword;
 
-/// What a directive is, told by its word.
+/// A directive that is carried out by its own function, told by its word.
 #[derive(Clone, Copy, Debug, PartialEq, Eq)]
 pub enum Directive {
     Include,
@@ -23,9 +24,13 @@ pub enum Directive {
     Property,
     Global,
     FakeAction,
+    Switches,
+    Lowstring,
+    Release,
+    Serial,
 }
 
-/// What a finished directive asks of the reading.
+/// A request of a finished directive to the reading.
 #[derive(Debug, Drop)]
 pub enum Request {
     Nothing,
@@ -33,9 +38,11 @@ pub enum Request {
     Include { text: Vec<u8>, unit: Place },
     /// That reading ends.
     End,
+    /// That the sources are read by this character set from the next token on.
+    Characters(CharSet),
 }
 
-/// What a directive is whose word this is.
+/// Returns the directive that begins with `word`.
 pub fn directive_of(word: Option<Keyword>) -> Directive
     ensures { result ≡ directive_of word }
 {
@@ -51,12 +58,16 @@ pub fn directive_of(word: Option<Keyword>) -> Directive
         Some(Keyword::Property) => Directive::Property,
         Some(Keyword::Global) => Directive::Global,
         Some(Keyword::FakeAction) => Directive::FakeAction,
+        Some(Keyword::Switches) => Directive::Switches,
+        Some(Keyword::Lowstring) => Directive::Lowstring,
+        Some(Keyword::Release) => Directive::Release,
+        Some(Keyword::Serial) => Directive::Serial,
         _ => Directive::SystemFile,
     }
 }
 
-/// The weight of a message in the source's own words, by the names behind the directive's word:
-/// without one it is a plain line.
+/// Returns the weight of a message in the source's own words, by `names`, those behind the directive's word: without one the message is a
+/// plain line.
 pub fn weight_of(names: &[Name]) -> Option<Kind>
     ensures { result ≡ weight_of (map as_name names.now) }
 {

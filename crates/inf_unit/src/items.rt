@@ -1,9 +1,9 @@
-//! What the units of a routine have beside their expressions.
+//! Items: all that the units of a routine have beside their expressions.
 ghost use Rattle.std.specs.Prelude.{◌≡◌};
 ghost use Rattle.std.specs.Str.{bytes_eq};
 ghost use Rattle.inf_unit.specs.Items.{is_own, rule_of};
 
-/// How a value is printed by a rule (Designer's Manual, fourth edition, section 1.11).
+/// A rule by which a value is printed (Designer's Manual, fourth edition, section 1.11).
 #[derive(Clone, Copy, Debug, PartialEq, Eq)]
 pub enum PrintRule {
     Character,
@@ -19,7 +19,7 @@ pub enum PrintRule {
     Routine,
 }
 
-/// What a unit has beside its expressions, in order. Tokens are told by their places among those of the unit.
+/// An item that a unit has beside its expressions. Its tokens are told by their places among those of the unit.
 #[derive(Clone, Copy, Debug, PartialEq, Eq)]
 pub enum Item {
     /// A text that is printed, or the text of an instruction.
@@ -48,7 +48,7 @@ fn is_same(name: &[u8], word: &[u8]) -> bool
     name == word
 }
 
-/// The rule of a name: those of the language are told with case, and every other name is a routine.
+/// Returns the rule by the name `name`: rules of the language are told with case, and every other name is that of a routine.
 pub fn rule_of(name: &[u8]) -> PrintRule
     ensures { result ≡ rule_of name.now }
 {
@@ -78,7 +78,7 @@ pub fn rule_of(name: &[u8]) -> PrintRule
 }
 
 impl PrintRule {
-    /// Whether it is one of the language.
+    /// Tells whether this rule is one of the language.
     pub fn is_own(self) -> bool
         ensures { result ≡ is_own self }
     {

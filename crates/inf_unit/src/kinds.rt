@@ -4,7 +4,7 @@ ghost use Rattle.inf_unit.specs.Tokens.{is_end, is_mark, number_of};
 
 use inf_scanner::{Mark, TokenKind};
 
-/// Whether a token of this kind is this mark.
+/// Tells whether a token of `kind` is `mark`.
 pub fn is_mark(kind: TokenKind, mark: Mark) -> bool
     ensures { result ≡ is_mark mark kind }
 {
@@ -14,14 +14,14 @@ pub fn is_mark(kind: TokenKind, mark: Mark) -> bool
     }
 }
 
-/// Whether it is the end of the source.
+/// Tells whether a token of `kind` is the end of the source.
 pub fn is_end(kind: TokenKind) -> bool
     ensures { result ≡ is_end kind }
 {
     matches!(kind, TokenKind::End)
 }
 
-/// The number that a token of this kind is, if it is one.
+/// Returns the number of a token of `kind`, if it is a number.
 pub fn number_of(kind: TokenKind) -> Option<u16>
     ensures { result ≡ number_of kind }
 {

@@ -1,4 +1,4 @@
-//! What the units of a source are: their tokens, how they begin, their names, and the messages about them.
+//! The units of a source: their tokens, how they begin, their names, and the messages about them.
 #![tactic(auto)]
 
 pub mod directives;

@@ -13,13 +13,13 @@ use std::alloc::{AllocError, Global};
 use std::collections::BTreeMap;
 use std::marker::Model;
 
-/// Where a name came first does not matter here.
+/// The place of a name that comes, which does not matter here.
 const NOWHERE: Place = Place { file: 0, line: 0 };
 
 /// The tokens of such a line.
 #[derive(Drop)]
 pub struct LongLine {
-    /// How many tokens of the unit stand before the one at hand.
+    /// The number of the unit's tokens before the one at hand.
     pub count: usize,
     /// Whether something is wrong with one of them.
     pub is_bad: bool,
@@ -38,7 +38,7 @@ impl Model for LongLine {
 }
 
 impl LongLine {
-    /// One with so many tokens, of which one is wrong or none.
+    /// Makes a line with `count` tokens, one of which is wrong if `is_bad`. It has no names and no words yet.
     pub fn new(alloc: Global, hashing: NameHashing, count: usize, is_bad: bool) -> LongLine
         ensures { result ≡ no_tokens count is_bad }
     {
@@ -50,7 +50,8 @@ impl LongLine {
         }
     }
 
-    /// A name of at most 35 bytes comes, of which there may be so many. Answers whether it is new, and not more than one too many came.
+    /// Adds `name`, which has at most 35 bytes, where a unit may have `most` names. Returns true if it is new and at most `most` names came
+    /// before.
     pub fn add_name(&mut self, name: &[u8], most: u32) -> Result<bool, AllocError>
         requires { length name.now ≤ 35 }
         ensures { IfOk result (λ is_new. (self.new, is_new) ≡ name_added name.now most self.old) }
@@ -65,7 +66,7 @@ impl LongLine {
         }
     }
 
-    /// The same of a word with this text.
+    /// Adds the word `text`, where a unit may have `most` words. Returns true if it is new and at most `most` words came before.
     pub fn add_word(&mut self, text: [u8; 6], most: u32) -> Result<bool, AllocError>
         ensures { IfOk result (λ is_new. (self.new, is_new) ≡ word_added text most self.old) }
     {

@@ -4,7 +4,7 @@ ghost use Rattle.inf_report.specs.Meant.{located, meant, worded};
 ghost use Rattle.inf_report.specs.Writing.{Writes};
 ghost use Rattle.inf_unit.specs.Diagnostics.{blamed};
 ghost use Rattle.inf_unit.specs.Messages.{flushed, location, none_reported, setting_of, with_closing, with_error, with_fatal, with_fault};
-ghost use Rattle.inf_unit.specs.Messages.{with_full, with_plain, with_warning, with_words};
+ghost use Rattle.inf_unit.specs.Messages.{warnings_chosen, with_full, with_plain, with_statistic, with_warning, with_words};
 
 use inf_assembler::Limit as CodeLimit;
 use inf_lexer::{Place, Stack};
@@ -24,10 +24,16 @@ pub struct Diagnostic<'a> {
     pub message: Message<'a>,
 }
 
-/// The line that a place is, by the name under which its file was opened.
+/// The number of the file that the routines of the veneer are: no file of a source has it.
+pub const VENEER_FILE: u16 = u16::MAX;
+
+/// Gives the line that `place` is, by the name under which its file was opened, or as a line of the veneer.
 pub fn location(files: &Stack, place: Place) -> Location<'_>
     ensures { located result ≡ location files.now.names place }
 {
+    if place.file == VENEER_FILE {
+        return Location::veneer(place.line);
+    }
     let file = match files.name(place.file) {
         Some(name) => name.as_bytes(),
         None => b"",
@@ -38,7 +44,7 @@ pub fn location(files: &Stack, place: Place) -> Location<'_>
     }
 }
 
-/// The setting that bounds what code has.
+/// Returns the setting that bounds what `full` says of code.
 pub fn setting_of(full: CodeLimit) -> Setting
     ensures { result ≡ setting_of full }
 {
@@ -67,7 +73,7 @@ impl Model for Diagnostics {
 }
 
 impl Diagnostics {
-    /// Nothing was told yet, and warnings are told or not. It takes no memory until something is told.
+    /// Makes messages of which none was told yet; warnings will be told if `has_warnings`. Memory is taken only when something is told.
     pub fn new(alloc: Global, has_warnings: bool) -> Diagnostics
         ensures { result ≡ none_reported has_warnings }
     {
@@ -77,22 +83,29 @@ impl Diagnostics {
         }
     }
 
-    /// How many errors were told.
+    /// Has warnings told from now on, or neither told nor counted, as `has_warnings` says. What was told stays.
+    pub fn set_warnings(&mut self, has_warnings: bool)
+        ensures { self.new ≡ warnings_chosen has_warnings self.old }
+    {
+        self.report.set_warnings(has_warnings);
+    }
+
+    /// Returns the number of errors that were told.
     pub fn errors(&self) -> u32
         ensures { result ≡ self.now.counts.errors }
     {
         self.report.errors()
     }
 
-    /// Whether a fatal error has ended all.
+    /// Tells whether a fatal error has ended the compilation.
     pub fn is_over(&self) -> bool
         ensures { result ≡ self.now.counts.is_over }
     {
         self.report.is_over()
     }
 
-    /// An error at a line, of a unit that begins at another or the same. The hundredth is followed by a fatal error where the
-    /// unit begins. Nothing follows a fatal one.
+    /// Tells `message` as an error at `at`, of a unit that begins at `unit`. The hundredth error is followed by a fatal error at `unit`.
+    /// Nothing is told behind a fatal error.
     pub fn error(
         &mut self,
         at: Location<'_>,
@@ -104,7 +117,7 @@ impl Diagnostics {
         written(self.report.error(&mut self.lines, at, unit, message))
     }
 
-    /// The error that a unit had which begins at a place, if any.
+    /// Tells `fault`, if there is one, as the error of a unit that begins at `unit`.
     pub fn fault(
         &mut self,
         files: &Stack,
@@ -123,29 +136,29 @@ impl Diagnostics {
         }
     }
 
-    /// A warning at a line, unless a fatal error came before.
+    /// Tells `message` as a warning at `at`, unless a fatal error came before.
     pub fn warning(&mut self, at: Location<'_>, message: &Message<'_>) -> Result<(), AllocError>
         ensures { OnOk result (self.new ≡ with_warning (located at.entry) (meant message.now) self.old) }
     {
         written(self.report.warning(&mut self.lines, at, message))
     }
 
-    /// A fatal error at a line, unless one came before.
+    /// Tells `message` as a fatal error at `at`, unless one came before.
     pub fn fatal(&mut self, at: Location<'_>, message: &Message<'_>) -> Result<(), AllocError>
         ensures { OnOk result (self.new ≡ with_fatal (located at.entry) (meant message.now) self.old) }
     {
         written(self.report.fatal(&mut self.lines, at, message))
     }
 
-    /// A line of the source's own words alone, unless a fatal error came before.
+    /// Tells `words`, those of the source itself, in a line of their own, unless a fatal error came before.
     pub fn plain(&mut self, words: OwnWords<'_>) -> Result<(), AllocError>
         ensures { OnOk result (self.new ≡ with_plain (worded words.entry) self.old) }
     {
         written(self.report.plain(&mut self.lines, words))
     }
 
-    /// A message in the source's own words, of a unit that begins at a line: an error, a warning or
-    /// a fatal error, or without a weight a plain line.
+    /// Tells `words`, those of the source itself, of a unit that begins at `at`: as the error, warning or fatal error that `weight` is, or
+    /// as a plain line where there is none.
     pub fn words(
         &mut self,
         at: Location<'_>,
@@ -177,7 +190,14 @@ impl Diagnostics {
         }
     }
 
-    /// The last line, unless a fatal error came before.
+    /// Tells a line of the statistics, with `word` and its `number`, unless a fatal error came before.
+    pub fn statistic(&mut self, word: &str, number: u64) -> Result<(), AllocError>
+        ensures { OnOk result (self.new ≡ with_statistic word.now number self.old) }
+    {
+        written(self.report.statistic(&mut self.lines, word, number))
+    }
+
+    /// Tells the last line, unless a fatal error came before.
     pub fn close(&mut self) -> Result<(), AllocError>
         ensures { OnOk result (self.new ≡ with_closing self.old) }
     {
@@ -200,7 +220,7 @@ impl Diagnostics {
         Ok(())
     }
 
-    /// The lines, which it gives away.
+    /// Returns the lines, and gives up the rest.
     pub fn into_lines(self) -> Vec<u8>
         ensures { result.items ≡ self.lines }
     {

@@ -14,7 +14,7 @@ use inf_settings::setting::Setting;
 use inf_settings::settings::Settings;
 use std::alloc::{AllocError, Global};
 
-/// No names, of which there may be as many as the settings say. It takes no memory until the first one comes.
+/// Makes an empty table of names, which may hold as many as `settings` say. Memory is taken only when the first name comes.
 pub fn no_symbols<B: Bounds>(
     alloc: Global,
     settings: &Settings,
@@ -26,7 +26,7 @@ pub fn no_symbols<B: Bounds>(
     Symbols::new(alloc, settings.bound::<B>(Setting::Symbols), false, hashing)
 }
 
-/// The place of the routine with which a story begins, in bytes from the front of the code.
+/// Returns the place of the routine among `names` with which a story begins, in bytes from the front of the code.
 pub fn main_of<B: Bounds>(names: &Symbols<Place, B>) -> Option<usize>
     ensures { result ≡ main_of names.now }
 {

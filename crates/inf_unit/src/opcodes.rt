@@ -4,7 +4,7 @@ ghost use Rattle.inf_unit.specs.Opcodes.{opcode_of, takes_text};
 
 use inf_opcode::Opcode;
 
-/// The opcode of a name, in any case; none where it has a byte over 127, which no name of a source has.
+/// Returns the opcode with `name`, in any case. There is none for a name with a byte over 127, which no name of a source has.
 #[tactic(auto, unfolding(crate::specs::Opcodes::opcode_of))]
 pub fn opcode_of(name: &[u8]) -> Option<Opcode>
     ensures { result ≡ opcode_of name.now }

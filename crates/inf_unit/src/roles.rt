@@ -1,4 +1,4 @@
-//! What each action of the grammar is there for.
+//! The roles of the actions of the grammar.
 ghost use Rattle.std.specs.Prelude.{◌≡◌};
 ghost use Rattle.inf_unit.specs.Roles.{ends_outer, ends_token, failing, is_arrow, is_text, makes_sure, operation, prefix, property};
 ghost use Rattle.inf_unit.specs.Roles.{role_of, suffix, test, two};
@@ -7,7 +7,7 @@ use crate::steps::Step;
 use inf_expressions::{Binary, Operation, PropertyPart, Single, Step as Stepping, Test, Unary};
 use inf_syntax::Action;
 
-/// What an action notes of a unit beside what it gathers of expressions.
+/// A note that an action makes of a unit, beside the steps by which it gathers expressions.
 #[derive(Clone, Copy, Debug, PartialEq, Eq)]
 pub enum Note {
     /// The next token is the first of a unit.
@@ -22,7 +22,7 @@ pub enum Note {
     Outer(bool),
     /// An outermost expression began with the last token.
     OuterWord,
-    /// What is open surely is an expression.
+    /// The outermost expression that is open surely is one.
     OuterSure,
     /// No outermost expression is open any more.
     OuterEnd,
@@ -49,7 +49,7 @@ pub enum Note {
     LineToken,
 }
 
-/// Which unit ends.
+/// The kind of a unit that ends.
 #[derive(Clone, Copy, Debug, PartialEq, Eq)]
 pub enum Ending {
     /// The header of a routine, and of one that is the value of a property.
@@ -69,6 +69,8 @@ pub enum Ending {
     Value,
     /// A line of grammar.
     Line,
+    /// A text of `Abbreviate`.
+    Abbreviation,
     /// An entry of an array, and one that is alone.
     Entry,
     Alone,
@@ -83,7 +85,7 @@ pub enum Ending {
     Case,
 }
 
-/// Which statement begins that holds others.
+/// The kind of a statement that begins and holds others.
 #[derive(Clone, Copy, Debug, PartialEq, Eq)]
 pub enum Opening {
     If,
@@ -94,7 +96,7 @@ pub enum Opening {
     Switch,
 }
 
-/// What an action is there for.
+/// The role of an action of the grammar.
 #[derive(Clone, Copy, Debug, PartialEq, Eq)]
 pub enum Role {
     /// Something of an expression is gathered.
@@ -112,7 +114,7 @@ pub enum Role {
     /// A statement stands in another one, or may stand in one.
     Deeper,
     MaybeDeeper,
-    /// Nothing is done: the front of a routine, and what is not read yet.
+    /// Nothing is done: the front of a routine.
     Nothing,
 }
 
@@ -165,42 +167,42 @@ fn failing(by: Test) -> Role
     Role::Gather(Step::Test(Binary::Fails(by)))
 }
 
-/// Whether what is noted makes sure that an expression is open, whose tokens then count.
+/// Tells whether `note` makes sure that an expression is open, whose tokens then count.
 pub fn makes_sure(note: Note) -> bool
     ensures { result ≡ makes_sure note }
 {
     matches!(note, Note::OuterSure | Note::OuterWord)
 }
 
-/// Whether a text is printed.
+/// Tells whether `note` is that of a text that is printed.
 pub fn is_text(note: Note) -> bool
     ensures { result ≡ is_text note }
 {
     matches!(note, Note::PrintText)
 }
 
-/// Whether an arrow stands before the name of an object.
+/// Tells whether `note` is that of an arrow before the name of an object.
 pub fn is_arrow(note: Note) -> bool
     ensures { result ≡ is_arrow note }
 {
     matches!(note, Note::Arrow)
 }
 
-/// Whether an outermost expression ends.
+/// Tells whether `note` is that of the end of an outermost expression.
 pub fn ends_outer(note: Note) -> bool
     ensures { result ≡ ends_outer note }
 {
     matches!(note, Note::OuterEnd)
 }
 
-/// Whether a token of a line of grammar ends.
+/// Tells whether `note` is that of the end of a token of a line of grammar.
 pub fn ends_token(note: Note) -> bool
     ensures { result ≡ ends_token note }
 {
     matches!(note, Note::LineToken)
 }
 
-/// What an action is there for. A call would cost more than the look into the table.
+/// Returns the role of `action`. It is inlined: a call would cost more than the look into the table.
 #[inline(always)]
 pub fn role_of(action: Action) -> Role
     ensures { result ≡ role_of action }
@@ -211,6 +213,7 @@ pub fn role_of(action: Action) -> Role
             Step::Leaf,
         ),
         Action::Action => Role::Gather(Step::Action),
+        Action::System => Role::Gather(Step::System),
         Action::Negate => prefix(Unary::Negate),
         Action::BitNot => prefix(Unary::Single(Single::Complement)),
         Action::Not => prefix(Unary::Not),
@@ -285,6 +288,7 @@ pub fn role_of(action: Action) -> Role
         Action::EndProperty => Role::End(Ending::Property),
         Action::EndValue => Role::End(Ending::Value),
         Action::EndLine => Role::End(Ending::Line),
+        Action::EndText => Role::End(Ending::Abbreviation),
         Action::EndEntry => Role::End(Ending::Entry),
         Action::EndAlone => Role::End(Ending::Alone),
         Action::EndStatement => Role::End(Ending::Statement),
@@ -307,6 +311,6 @@ pub fn role_of(action: Action) -> Role
         Action::Close => Role::Close,
         Action::Deeper => Role::Deeper,
         Action::MaybeDeeper => Role::MaybeDeeper,
-        Action::Routine | Action::EndText | Action::System => Role::Nothing,
+        Action::Routine => Role::Nothing,
     }
 }

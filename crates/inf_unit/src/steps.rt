@@ -1,14 +1,16 @@
-//! What units gather of expressions.
+//! The steps by which units gather expressions.
 
 use inf_expressions::{Binary, Unary};
 
-/// What is gathered of an expression.
+/// A step by which an expression is gathered.
 #[derive(Clone, Copy, Debug, PartialEq, Eq)]
 pub enum Step {
     /// The last token is a leaf.
     Leaf,
     /// The last token names an action.
     Action,
+    /// The last token names a system constant.
+    System,
     /// An operator of the latest expression, in front of it.
     Prefix(Unary),
     /// An operator of the latest expression, behind it.

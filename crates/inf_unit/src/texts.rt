@@ -8,7 +8,7 @@ use inf_scanner::TokenKind;
 use inf_text::{CharSet, Mode, Text, TextFault, read_text};
 use std::alloc::{AllocError, Global};
 
-/// The characters of a token of a source in a character set, where it is a text.
+/// Returns the characters of `token`, a token of a source in `set`, where it is a text.
 pub fn text_of(
     alloc: Global,
     set: CharSet,

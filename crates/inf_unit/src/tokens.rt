@@ -40,7 +40,7 @@ impl<'a> SourceToken<'a> {
     ghost use Rattle.inf_unit.specs.Spelled.{spelled};
     ghost use Rattle.inf_unit.specs.Tokens.{atom_of, keyword, told};
 
-    /// A token, which is read as the name of a class or not. A name has at most 32 bytes.
+    /// Makes a token of `kind` with `bytes` at `place`, which is read as the name of a class if `is_class`. A name has at most 32 bytes.
     #[inline(always)]
     pub fn new(kind: TokenKind, bytes: &'a [u8], place: Place, is_class: bool) -> SourceToken<'a>
         requires { is_short kind bytes.now ≡ true }
@@ -57,7 +57,7 @@ impl<'a> SourceToken<'a> {
         }
     }
 
-    /// The same at another place.
+    /// Returns this token at `place`.
     pub fn at(&self, place: Place) -> SourceToken<'a>
         ensures { let token = spelled self.now in spelled result ≡ record token { place = place } }
     {
@@ -70,14 +70,14 @@ impl<'a> SourceToken<'a> {
         }
     }
 
-    /// How the grammar sees it.
+    /// Returns the number by which the grammar knows this token.
     pub fn atom(&self) -> u8
         ensures { result ≡ atom_of (spelled self.now) }
     {
         self.atom
     }
 
-    /// The word of the grammar that it is, if it is one.
+    /// Returns the word of the grammar that this token is, if it is one.
     pub fn keyword(&self) -> Option<Keyword>
         ensures { result ≡ keyword (spelled self.now) }
     {
@@ -87,7 +87,7 @@ impl<'a> SourceToken<'a> {
         }
     }
 
-    /// How messages name it.
+    /// Returns the form in which messages name this token.
     pub fn told(&self) -> Told<'a>
         ensures { named result ≡ told (spelled self.now) }
     {

@@ -30,22 +30,22 @@ use std::alloc::{AllocError, Global};
 pub struct Unit {
     /// Its tokens, and before them the first of those between the unit before and its beginning, where there are such.
     pub tokens: UnitTokens,
-    /// Where among them the unit begins.
+    /// The place of the unit's first token among them.
     pub begun: usize,
     pub gathering: Gathering,
     /// The locals that it names, where it is the header of a routine.
     pub headed: Headed,
-    /// What it has beside its expressions, in order.
+    /// The items that it has beside its expressions, in order.
     pub items: Vec<Item>,
-    /// Where its outermost expression begins among its tokens, if one is open.
+    /// The place among its tokens where its outermost expression begins, if one is open.
     pub outer: Option<usize>,
     /// Whether that surely is an expression.
     pub is_sure: bool,
     /// Whether it has ended, but for its last token.
     pub is_over: bool,
-    /// How many brackets and braces of its piece are open.
+    /// The number of brackets and braces of its piece that are open.
     pub depth: u32,
-    /// How many tokens it has, where it is whole and waits for what follows it.
+    /// The number of its tokens, where it is whole and waits for what follows it.
     pub held: Option<usize>,
     /// The least of what was found of operands that are not kept.
     pub passed: Option<Finding>,
@@ -86,7 +86,8 @@ fn jump_label(leaves: &[Leaf]) -> Option<usize>
     }
 }
 
-/// The order of a token at a place of its unit. No unit has so many tokens that two have one order.
+/// Returns the order of the token at place `at` of its unit. A unit has fewer tokens than there are orders, so no two tokens have one
+/// order.
 #[tactic(auto, unfolding(crate::specs::Units::order))]
 pub fn order(at: usize) -> u32
     ensures { result ≡ order at }
@@ -94,7 +95,7 @@ pub fn order(at: usize) -> u32
     at.min(4294967295) as u32
 }
 
-/// The place behind another one.
+/// Returns the place behind `at`.
 #[tactic(auto, unfolding(crate::specs::Units::next_place))]
 pub fn next_place(at: usize) -> usize
     ensures { result ≡ next_place at }
@@ -133,7 +134,7 @@ fn marked_from(tokens: &UnitTokens, at: usize) -> usize
 }
 
 impl Unit {
-    /// At the front of a piece. It takes no memory until a token comes.
+    /// Makes a unit at the front of a piece. Memory is taken only when a token comes.
     pub fn new(alloc: Global) -> Unit
         ensures { unit result ≡ no_unit }
     {
@@ -153,7 +154,7 @@ impl Unit {
         }
     }
 
-    /// Another piece begins.
+    /// Forgets all of the unit, since another piece begins.
     pub fn clear(&mut self)
         ensures { unit self.new ≡ no_unit }
     {
@@ -186,7 +187,7 @@ impl Unit {
         self.long = None;
     }
 
-    /// It has ended, but for its last token, if it has one still. Where it waited, the first of the tokens behind it stays.
+    /// Ends the unit, whose last token is still to come if `has_last`. Where the unit waited, the first of the tokens behind it stays.
     pub fn end(&mut self, has_last: bool)
         ensures { unit self.new ≡ over has_last (unit self.old) }
     {
@@ -199,7 +200,7 @@ impl Unit {
         self.is_over = has_last;
     }
 
-    /// A token is taken.
+    /// Takes `token`, unless it is the last one of a unit that has ended.
     // It is inlined, as what else is done for each token: a call costs as much as half of it.
     #[inline(always)]
     pub fn take(&mut self, token: &SourceToken<'_>) -> Result<(), AllocError>
@@ -213,7 +214,8 @@ impl Unit {
         self.tokens.add(token)
     }
 
-    /// What an action of the grammar gathers or notes. One that ends a unit, or has to do with the statements around it, does neither.
+    /// Gathers or notes what `action` does of the unit. An action that ends a unit, or has to do with the statements around it, does
+    /// neither.
     pub fn act(&mut self, action: Action) -> Result<(), AllocError>
         ensures { OnOk result (unit self.new ≡ acted action (unit self.old)) }
     {
@@ -230,7 +232,7 @@ impl Unit {
         }
     }
 
-    /// What an action of the grammar notes of it, beside what it gathers of expressions.
+    /// Makes `note` of the unit, by the tokens that were taken so far.
     #[inline(always)]
     pub fn note(&mut self, note: Note) -> Result<(), AllocError>
         ensures { OnOk result (unit self.new ≡ noted note (unit self.old)) }
@@ -266,7 +268,7 @@ impl Unit {
         Ok(())
     }
 
-    /// A text that is printed stands behind a comma, and neither is kept.
+    /// Drops the last token, a text that is printed, and the comma before it.
     pub fn pass_text(&mut self)
         ensures { unit self.new ≡ text_passed (unit self.old) }
     {
@@ -274,7 +276,7 @@ impl Unit {
         self.tokens.truncate(self.tokens.len().saturating_sub(2));
     }
 
-    /// Whether it is an assembly line with more operands than an instruction has.
+    /// Tells whether the unit is an assembly line with more operands than an instruction has.
     pub fn is_full(&self) -> bool
         ensures { result ≡ is_full (unit self.now) }
     {
@@ -292,8 +294,8 @@ impl Unit {
         self.gathering.keep_numbers(9)
     }
 
-    /// A token ends of a line that has too many. Those so far are kept, of which one is wrong or none; one more is kept where it is wrong,
-    /// or new, unless one before it is wrong.
+    /// Ends a token of a line that has too many. The first time, the tokens so far are kept, one of which is wrong if `is_bad`; later, the
+    /// token is kept if it is wrong by `is_bad` or new by `is_new`, unless one before it is wrong.
     pub fn sift(&mut self, alloc: Global, hashing: NameHashing, is_bad: bool, is_new: bool)
         ensures { unit self.new ≡ sifted is_bad is_new (unit self.old) }
     {
@@ -338,7 +340,7 @@ impl Unit {
         }
     }
 
-    /// The last token is not kept.
+    /// Drops the last token.
     pub fn pass_last(&mut self)
         ensures { unit self.new ≡ last_passed (unit self.old) }
     {
@@ -354,7 +356,7 @@ impl Unit {
         self.is_sure = is_sure;
     }
 
-    /// The place of the last token among them.
+    /// Returns the place of the last token among those of the unit.
     pub fn last(&self) -> usize
         ensures { result ≡ last_leaf (unit self.now) }
     {
@@ -434,7 +436,7 @@ impl Unit {
         }
     }
 
-    /// It is whole: the name of the label to which an assembly line jumps is no expression.
+    /// Prepares a whole unit: the name of the label to which an assembly line jumps is no expression.
     pub fn prepare(&mut self) -> Result<(), AllocError>
         ensures { OnOk result (unit self.new ≡ prepared (unit self.old)) }
     {
@@ -445,7 +447,7 @@ impl Unit {
         self.item(Item::Jump(label))
     }
 
-    /// What an action of the grammar gathers of an expression.
+    /// Gathers the expression at hand by `step`, whose leaf or operator is the last token.
     #[inline(always)]
     pub fn step(&mut self, step: Step) -> Result<(), AllocError>
         ensures { OnOk result (unit self.new ≡ stepped step (unit self.old)) }
@@ -454,6 +456,7 @@ impl Unit {
         match step {
             Step::Leaf => self.leaf(),
             Step::Action => self.action(),
+            Step::System => self.system(),
             Step::Prefix(op) => self.gathering.prefix(op),
             Step::Suffix(op) => self.gathering.suffix(op),
             Step::Two(op) => self.gathering.two(op),
@@ -480,6 +483,16 @@ impl Unit {
             .leaf(order(first), order(at), Leaf::Action(at))
     }
 
+    /// The last token names a system constant.
+    fn system(&mut self) -> Result<(), AllocError>
+        ensures { OnOk result (unit self.new ≡ stepped Step.System (unit self.old)) }
+    {
+        let at = self.last();
+        let first = marked_from(&self.tokens, at);
+        self.gathering
+            .leaf(order(first), order(at), Leaf::System(at))
+    }
+
     /// The last token is a leaf.
     #[inline(always)]
     fn leaf(&mut self) -> Result<(), AllocError>
@@ -497,21 +510,23 @@ impl Unit {
         }
     }
 
-    /// The place of its first token; where it has none yet, that of the next.
+    /// Returns the place in the source of the unit's first token, or `next`, that of the token to come, where it has none yet.
     pub fn own_place(&self, next: Place) -> Place
         ensures { result ≡ own_place (unit self.now) next }
     {
         self.tokens.place(self.begun).unwrap_or(next)
     }
 
-    /// The place of the first token behind the unit before; where there is none yet, that of the next.
+    /// Returns the place in the source of the first token behind the unit before, or `next`, that of the token to come, where there is none
+    /// yet.
     pub fn first_place(&self, next: Place) -> Place
         ensures { result ≡ first_place (unit self.now).tokens next }
     {
         self.tokens.place(0).unwrap_or(next)
     }
 
-    /// Where the first token stands by which its outermost expression is too long, if it may have so many and surely is one.
+    /// Returns the place of the first token by which the outermost expression is too long, if it surely is an expression and has more than
+    /// `most` tokens.
     pub fn long_at(&self, most: usize) -> Option<Place>
         ensures { result ≡ long_at most (unit self.now) }
     {
@@ -522,7 +537,7 @@ impl Unit {
         self.tokens.place(outer.saturating_add(most))
     }
 
-    /// How many tokens its outermost expression has so far; none, where it may be none.
+    /// Returns the number of tokens that the outermost expression has so far: 0 where it may be no expression.
     pub fn outer_tokens(&self) -> usize
         ensures { result ≡ outer_tokens (unit self.now) }
     {

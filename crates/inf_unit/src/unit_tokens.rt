@@ -57,7 +57,7 @@ fn name_of<'t>(token: &SourceToken<'t>) -> Option<NameToken<'t>>
 }
 
 impl UnitTokens {
-    /// None. It takes no memory until the first one comes.
+    /// Makes an empty list of tokens. Memory is taken only when the first one comes.
     pub fn new(alloc: Global) -> UnitTokens
         ensures { result ≡ [] }
     {
@@ -93,21 +93,21 @@ impl UnitTokens {
         }
     }
 
-    /// Keeps so many of the first alone.
+    /// Keeps only the first `count` tokens.
     pub fn truncate(&mut self, count: usize)
         ensures { self.new ≡ take count self.old }
     {
         self.kept.truncate(count);
     }
 
-    /// How many there are.
+    /// Returns the number of tokens.
     pub fn len(&self) -> usize
         ensures { result ≡ length self.now }
     {
         self.kept.len()
     }
 
-    /// One more.
+    /// Adds `token` behind the others.
     #[inline(always)]
     pub fn add(&mut self, token: &SourceToken<'_>) -> Result<(), AllocError>
         ensures { OnOk result (self.new ≡ self.old ++ spelled token.now ∷ []) }
@@ -116,7 +116,7 @@ impl UnitTokens {
         Ok(())
     }
 
-    /// The token at a place among them, counted from 0.
+    /// Returns token number `at`, counted from 0.
     pub fn get(&self, at: usize) -> Option<SourceToken<'_>>
         ensures { option_map spelled result ≡ slice_get self.now at }
     {
@@ -126,7 +126,7 @@ impl UnitTokens {
         }
     }
 
-    /// What the token at a place among them is.
+    /// Returns the kind of token number `at`, counted from 0.
     pub fn kind(&self, at: usize) -> Option<TokenKind>
         ensures { result ≡ kind_at self.now at }
     {
@@ -134,7 +134,7 @@ impl UnitTokens {
         Some(token.kind)
     }
 
-    /// Where the token at a place among them stands.
+    /// Returns the place in the source of token number `at`, counted from 0.
     pub fn place(&self, at: usize) -> Option<Place>
         ensures { result ≡ place_at self.now at }
     {
@@ -142,7 +142,7 @@ impl UnitTokens {
         Some(token.place)
     }
 
-    /// The name at a place among them, if the token there is one.
+    /// Returns the name that token number `at` is, if it is one.
     pub fn name_at(&self, at: usize) -> Option<NameToken<'_>>
         ensures value { option_map named result ≡ name_at self.now at }
         ensures few { IfSome result (λ name. length name.bytes.now ≤ 32) }
@@ -153,7 +153,7 @@ impl UnitTokens {
         }
     }
 
-    /// The bytes of the name at a place among them; none, where the token there is no name.
+    /// Returns the bytes of the name that token number `at` is, or no bytes where it is no name.
     pub fn bytes_at(&self, at: usize) -> &[u8]
         ensures value { result.now ≡ bytes_at self.now at }
         ensures few { length result.now ≤ 32 }
@@ -164,14 +164,14 @@ impl UnitTokens {
         }
     }
 
-    /// The place of the last one, where there is one.
+    /// Returns the place in the source of the last token, or `other` where there is none.
     pub fn last_place(&self, other: Place) -> Place
         ensures { result ≡ last_place self.now other }
     {
         self.place(self.len().saturating_sub(1)).unwrap_or(other)
     }
 
-    /// The bytes of the first text among them; none, where there is no text.
+    /// Returns the bytes of the first text among the tokens, or no bytes where there is no text.
     pub fn quoted(&self) -> &[u8]
         ensures { result.now ≡ quoted_in self.now }
     {
@@ -183,7 +183,7 @@ impl UnitTokens {
         b""
     }
 
-    /// The order of the name that a directive declares: behind its word, before which a `#` may stand.
+    /// Returns the order of the name that these tokens, those of a directive, declare: behind its word, before which a `#` may stand.
     pub fn name_order(&self) -> u32
         ensures { result ≡ name_order self.now }
     {
@@ -193,7 +193,7 @@ impl UnitTokens {
         }
     }
 
-    /// The word of the grammar at a place among them, if the token there is one.
+    /// Returns the word of the grammar that token number `at` is, if it is one.
     pub fn keyword_at(&self, at: usize) -> Option<Keyword>
         ensures { result ≡ keyword_at self.now at }
     {
@@ -201,14 +201,14 @@ impl UnitTokens {
         token.spelled().keyword()
     }
 
-    /// The word of the directive that they are, before which a `#` may stand.
+    /// Returns the word of the directive that these tokens are, before which a `#` may stand.
     pub fn directive_word(&self) -> Option<Keyword>
         ensures { result ≡ directive_word self.now }
     {
         self.keyword_at(self.name_order().saturating_sub(1) as usize)
     }
 
-    /// The names among them, in order.
+    /// Returns the names among the tokens, in order.
     pub fn names(&self, alloc: Global) -> Result<Vec<Name>, AllocError>
         ensures { IfOk result (λ names. map as_name names.items ≡ names_in self.now) }
     {

@@ -1,4 +1,6 @@
 pub mod WordSteps
-pub mod Pairs
 pub mod Stems
 pub mod Cutting
+pub mod Numbers
+pub mod Heads
+pub mod Ascii

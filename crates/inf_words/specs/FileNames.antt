@@ -1,5 +1,8 @@
 -- The names of the files that a command names.
 use Rattle.std.specs.Prelude.{ℕ, ◌==◌, ◌||◌, ◌&&◌, not, List, [], ◌∷◌, ◌++◌, Bool, false, if◌then◌else◌, Option, Some, None, codes}
+use Rattle.inf_cells.specs.declared.scale.Scale.{Scale}
+use Rattle.inf_cells.specs.declared.scale.Scale.TheVariants as scale
+use Rattle.inf_letters.specs.Letters.{scale_of}
 use Rattle.inf_words.specs.Words.{Choice}
 
 -- whether a name goes on into a further folder: it has a `/`
@@ -21,10 +24,15 @@ stem (b ∷ bs) = stem_after b (has_slash bs) (stem bs)
 abbrev pub source_name : List ℕ → List ℕ
 source_name word = elim (stem word) [ Some front ↦ word | None ↦ word ++ codes ".inf" ]
 
--- the name that a story has of itself: the source's, with `.z5` for its extension
-abbrev pub default_story_name : List ℕ → List ℕ
-default_story_name word = elim (stem word) [ Some front ↦ front ++ codes ".z5" | None ↦ word ++ codes ".z5" ]
+-- what the name of a story of a version ends with
+abbrev pub extension : Scale → List ℕ
+extension scale.Four = codes ".z5"
+extension scale.Eight = codes ".z8"
+
+-- the name that a story has of itself: the source's, with the version's ending for its extension
+abbrev pub default_story_name : List ℕ → Scale → List ℕ
+default_story_name word version = elim (stem word) [ Some front ↦ front ++ extension version | None ↦ word ++ extension version ]
 
 -- the name of the story's file
 abbrev pub story_name : Choice → List ℕ
-story_name choice = elim choice.story [ Some word ↦ word | None ↦ default_story_name choice.source ]
+story_name choice = elim choice.story [ Some word ↦ word | None ↦ default_story_name choice.source (scale_of choice.letters) ]

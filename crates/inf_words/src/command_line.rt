@@ -1,15 +1,21 @@
 //! The words of a command, and the names of the files that they give.
 ghost use Rattle.std.specs.Prelude.{◌≡◌, ◌<◌, ◌==◌, IfOk, length, map};
-ghost use Rattle.std.specs.Option.{option_copied};
+ghost use Rattle.std.specs.Option.{option_copied, option_or};
 ghost use Rattle.std.specs.String.{string_bytes};
 ghost use Rattle.inf_words.specs.Words.{read_words};
 ghost use Rattle.inf_words.specs.Directories.{directories_of};
-ghost use Rattle.inf_words.specs.FileNames.{stem, source_name, story_name};
+ghost use Rattle.inf_words.specs.FileNames.{extension, stem, source_name, story_name};
+ghost use Rattle.inf_words.specs.Heads.{with_head};
+ghost use Rattle.inf_words.specs.Spoken.{settings_of};
+ghost use Rattle.inf_letters.specs.Letters.{set_of, warns};
 
 use crate::directories::parts_of;
-use crate::letters::Letters;
+use crate::head::Head;
+use crate::spoken::Spoken;
 use crate::taken::Taken;
+use inf_cells::Scale;
 use inf_characters::CharSet;
+use inf_letters::Letters;
 use inf_settings::settings::Settings;
 use std::alloc::{AllocError, Global};
 use std::marker::Model;
@@ -33,12 +39,12 @@ pub enum WordFault {
 }
 
 /// What the words of a command choose: the word for the source, the word for the story where there
-/// is one, the settings, the character set with whether warnings are told, and what a word `+..` says behind its sign.
+/// is one, the settings that are named, what letters say, and what a word `+..` says behind its sign.
 #[derive(Debug, Drop)]
 pub struct Options<'a> {
     pub(crate) source: &'a str,
     pub(crate) story: Option<&'a str>,
-    pub(crate) settings: Settings,
+    pub(crate) settings: Spoken,
     pub(crate) letters: Letters,
     pub(crate) path: Option<&'a str>,
 }
@@ -60,10 +66,17 @@ impl<'a> Model for Options<'a> {
 
 impl<'a> Options<'a> {
     /// The number of each setting: the one of the last word that sets it, else its default.
-    pub fn settings(&self) -> &Settings
-        ensures { result.now ≡ self.now.settings }
+    pub fn settings(&self) -> Settings
+        ensures { result ≡ settings_of self.now.settings }
     {
-        &self.settings
+        self.settings.settings()
+    }
+
+    /// What the letters of the words say, matter by matter.
+    pub fn letters(&self) -> Letters
+        ensures { result ≡ self.now.letters }
+    {
+        self.letters
     }
 
     /// Whether the word for the source is empty, so that it names no file.
@@ -75,16 +88,31 @@ impl<'a> Options<'a> {
 
     /// The character set of the source: ISO Latin-1 where no word chooses.
     pub fn set(&self) -> CharSet
-        ensures { result ≡ self.now.letters.set }
+        ensures { result ≡ set_of self.now.letters }
     {
-        self.letters.set
+        self.letters.set()
     }
 
     /// Whether warnings are told, which they are where no word says otherwise.
     pub fn has_warnings(&self) -> bool
-        ensures { result ≡ self.now.letters.has_warnings }
+        ensures { result ≡ warns self.now.letters }
     {
-        self.letters.has_warnings
+        self.letters.warns()
+    }
+
+    /// What these words choose over those of the source's `head`: on each matter of which none of these speaks, what the head says.
+    ///
+    /// The name that a story has of itself goes by the words of the command alone.
+    pub fn with_head(&self, head: &'a Head) -> Options<'a>
+        ensures { result ≡ with_head head.now self.now }
+    {
+        Options {
+            source: self.source,
+            story: self.story,
+            settings: self.settings.over(&head.settings),
+            letters: self.letters.over(head.letters),
+            path: first_of(self.path, head.path()),
+        }
     }
 
     /// The directories in which included files are looked for, in their order: none where no word
@@ -101,16 +129,24 @@ impl<'a> Options<'a> {
     }
 }
 
+/// The first of two texts where there is one, else the second.
+fn first_of<'a>(first: Option<&'a str>, second: Option<&'a str>) -> Option<&'a str>
+    ensures { option_copied result ≡ option_or (option_copied first.entry) (option_copied second.entry) }
+{
+    match first {
+        Some(text) => Some(text),
+        None => second,
+    }
+}
+
 /// The words of a command.
 pub struct CommandLine;
 
 impl CommandLine {
     /// Reads the words from left to right; a later word on the same matter wins.
     ///
-    /// `-` is followed by letters: `C0` is ASCII, and `C1` is ISO Latin-1, which holds where no word
-    /// chooses; `w` has no warnings told, and `~w` has them told. `$NAME=n` sets a setting to a decimal number. `+a,b` gives the
-    /// directories of
-    /// included files. Of the other words the first names the source, the second the story.
+    /// `-` is followed by letters, of which `Letters` says what they choose. `$NAME=n` sets a setting to a decimal number. `+a,b`
+    /// gives the directories of included files. Of the other words the first names the source, the second the story.
     ///
     /// The first word that is refused decides. `Unknown` is a bare `-` or an unknown letter behind
     /// it; `BadSetting` another word with `$`, an unknown setting, or a number that is not 1 to
@@ -153,8 +189,18 @@ pub fn source_name(alloc: Global, options: &Options<'_>) -> Result<String, Alloc
     Ok(name)
 }
 
-/// The name of the story's file: its word, or else the source's word with `.z5` in place of the
-/// extension of its last part.
+/// What the name of a story of a version ends with.
+fn extension(scale: Scale) -> &'static str
+    ensures { result.now ≡ extension scale }
+{
+    match scale {
+        Scale::Four => ".z5",
+        Scale::Eight => ".z8",
+    }
+}
+
+/// The name of the story's file: its word, or else the source's word with `.z5`, or where letters choose version 8 with `.z8`, in
+/// place of the extension of its last part.
 ///
 /// The only error is that no memory was left.
 pub fn story_name(alloc: Global, options: &Options<'_>) -> Result<String, AllocError>
@@ -165,6 +211,6 @@ pub fn story_name(alloc: Global, options: &Options<'_>) -> Result<String, AllocE
     }
     let front = stem_of(options.source).unwrap_or(options.source);
     let mut name = String::from_str(alloc, front)?;
-    name.push_str(".z5")?;
+    name.push_str(extension(options.letters.scale()))?;
     Ok(name)
 }

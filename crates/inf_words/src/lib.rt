@@ -4,5 +4,8 @@
 pub mod command_line;
 pub mod dates;
 mod directories;
-pub mod letters;
+pub mod head;
+pub mod laws;
+mod letters;
+pub mod spoken;
 mod taken;

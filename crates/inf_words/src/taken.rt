@@ -2,12 +2,12 @@
 ghost use Rattle.std.specs.Prelude.{◌≡◌};
 ghost use Rattle.std.specs.Option.{option_copied};
 ghost use Rattle.inf_settings.specs.Words.{assignment_of};
-ghost use Rattle.inf_words.specs.Words.{chosen_letters, choice_of, no_words, take_name, take_setting, take_word, with_letters};
+ghost use Rattle.inf_words.specs.Words.{chosen_letters, choice_of, no_words, take_letters, take_name, take_setting, take_word};
 
 use crate::command_line::{Options, WordFault};
-use crate::letters::Letters;
-use inf_characters::CharSet;
-use inf_settings::settings::Settings;
+use crate::letters::chosen;
+use crate::spoken::Spoken;
+use inf_letters::Letters;
 use inf_settings::words::Assignment;
 use std::marker::Model;
 
@@ -16,7 +16,7 @@ use std::marker::Model;
 pub(crate) struct Taken<'a> {
     source: Option<&'a str>,
     story: Option<&'a str>,
-    settings: Settings,
+    settings: Spoken,
     letters: Letters,
     path: Option<&'a str>,
 }
@@ -43,11 +43,8 @@ impl<'a> Taken<'a> {
         Taken {
             source: None,
             story: None,
-            settings: Settings::new(),
-            letters: Letters {
-                set: CharSet::Latin1,
-                has_warnings: true,
-            },
+            settings: Spoken::none(),
+            letters: Letters::none(),
             path: None,
         }
     }
@@ -65,9 +62,9 @@ impl<'a> Taken<'a> {
     }
 
     fn with_letters(mut self, place: usize, letters: &[u8]) -> Result<Taken<'a>, WordFault>
-        ensures { result ≡ with_letters self.entry place (chosen_letters self.entry.letters letters.now) }
+        ensures { result ≡ take_letters self.entry place (chosen_letters self.entry.letters letters.now) }
     {
-        self.letters = self.letters.and(letters).ok_or(WordFault::Unknown(place))?;
+        self.letters = chosen(self.letters, letters).ok_or(WordFault::Unknown(place))?;
         Ok(self)
     }
 

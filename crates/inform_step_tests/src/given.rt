@@ -8,6 +8,7 @@ use inf_compile::NameHashing;
 use inf_files::failures::Failures;
 use inf_files::files::{Files, OpenFault, ReadFault};
 use inf_files::memory_files::MemoryFiles;
+use inf_letters::Letters;
 use inf_session::session::Session;
 use inf_session::setup::Setup;
 use inf_settings::bounds::Bounds;
@@ -119,8 +120,7 @@ fn begin<'a, B: Bounds>(
     let limit = settings.of(Setting::QuotedText);
     let open_files = OpenFiles::enter_main(alloc, CharSet::Latin1, limit, files, "t.inf")?;
     let setup = Setup {
-        set: CharSet::Latin1,
-        has_warnings: true,
+        letters: Letters::none(),
         settings,
         directories: &[],
         hashing: NameHashing::new(b""),

@@ -5,6 +5,7 @@ ghost use Rattle.inf_session.specs.Standing.{IsSet};
 
 use inf_compile::{Fault, NameHashing, Status};
 use inf_files::memory_files::MemoryFiles;
+use inf_letters::Letters;
 use inf_session::compiled::Compiled;
 use inf_session::session::{Session, Step};
 use inf_session::setup::Setup;
@@ -41,6 +42,10 @@ const TABLES: &[u8] =
         Array list --> 'hall' 'door' ##Go list;\nVerb 'take' 'get' * noun 'off'/'door' -> Take * -> Look;\n\
         Extend 'get' first * topic -> Go reverse;\nFake_action Fall;\n[ Main x; while (x) x--; print (string) \"abc\", x; ];\n\
         [ Set; string 1 \"abcd\"; ];\n";
+
+/// A condition of many tokens, and a routine that needs four of the veneer, behind which the source ends.
+const SUPPLIED: &[u8] =
+    b"Iftrue 1 + 2 * 3 * 4 + 5 + 6 * 7 * 8 * 9 > 10;\n[ Main; print (the) 5; ];\nEnd;\n";
 
 /// The line behind the bad token of these.
 const CUT: &str = "t.inf(4): Error: Syntax error at \"}\"\n";
@@ -172,8 +177,7 @@ fn begin<'a, B: Bounds>(
     let limit = settings.of(Setting::QuotedText);
     let open_files = OpenFiles::enter_main(alloc, CharSet::Latin1, limit, files, "t.inf")?;
     let setup = Setup {
-        set: CharSet::Latin1,
-        has_warnings: true,
+        letters: Letters::none(),
         settings,
         directories: &[],
         hashing: NameHashing::new(b""),
@@ -365,6 +369,20 @@ static FILLED: [Wanted; 11] = [
     ),
 ];
 
+/// All steps of the source that needs four routines of the veneer.
+static NEEDED: [Wanted; 9] = [
+    (Step::More, "", [0, 19, 0, 0, 8, 5], BARE),
+    (Step::More, "", [0, 19, 2, 0, 16, 6], BARE),
+    (Step::More, "", [0, 19, 2, 0, 16, 6], BARE),
+    // `DefArt`, `PrintShortName`, `Z__Region` and `Unsigned__Compare`
+    (Step::More, "", [4, 19, 3, 0, 28, 7], BARE),
+    (Step::More, "", [4, 19, 4, 5, 48, 8], BARE),
+    (Step::More, "", [4, 19, 5, 12, 96, 14], BARE),
+    (Step::More, "", [4, 19, 5, 16, 132, 14], BARE),
+    (Step::End, "", [4, 19, 5, 16, 132, 14], BARE),
+    (Step::End, "", [4, 19, 5, 16, 132, 14], BARE),
+];
+
 /// Makes these steps, one after the other.
 fn make_steps<B: Bounds>(
     rt: &impl Abort,
@@ -435,6 +453,11 @@ fn a_step_reads_one_part(rt: HostRuntime) -> Result<(), Fail> {
 #[test]
 fn a_side_that_is_left_out_is_part_of_its_directive(rt: HostRuntime) -> Result<(), Fail> {
     play(&rt, rt.alloc(), SIDES, &CHOICES, None)
+}
+
+#[test]
+fn a_routine_of_the_veneer_is_a_part(rt: HostRuntime) -> Result<(), Fail> {
+    play(&rt, rt.alloc(), SUPPLIED, &NEEDED, None)
 }
 
 #[test]

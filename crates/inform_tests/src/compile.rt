@@ -1,8 +1,7 @@
 //! What a compilation writes, and how it ends where a device fails.
-use crate::running::{Ended, assert_holds, assert_written, read, read_folder};
+use crate::running::{Ended, assert_written, read, read_folder};
 use inf_compile::{Fault, Status};
 use inf_files::files::Files;
-use inf_files::memory_files::MemoryFiles;
 use inf_sinks::memory_sink::MemorySink;
 use inf_sinks::sinks::Sink;
 use inform_trials::devices::{Narrow, folder};
@@ -176,50 +175,6 @@ static WORDS: [(&[u8], &str); 3] = [
 fn words_of_statements_begin_no_calls(rt: HostRuntime) -> Result<(), Fail> {
     for (source, lines) in &WORDS {
         read_source(&rt, rt.alloc(), *source, *lines)?;
-    }
-    Ok(())
-}
-
-/// Sources whose bad token the grammar has, with what is told of it.
-static ROWS: [(&[u8], &str); 6] = [
-    (b"[ Main; return #version_number; ];", "\"#\""),
-    (b"Abbreviate \"the \";", "\"Abbreviate\""),
-    (b"Lowstring x \"ab\";", "\"Lowstring\""),
-    (b"Serial \"260101\";", "\"Serial\""),
-    (b"Switches s;", "\"Switches\""),
-    (b"Release 2;", "\"Release\""),
-];
-
-/// Compiles `t.inf` of these files, and asserts the beginning of its messages.
-fn assert_first(
-    rt: &impl Abort,
-    alloc: Global,
-    files: &mut MemoryFiles,
-    first: &str,
-) -> Result<(), Fail> {
-    let ended = Ended::of(alloc, files)?;
-    let messages = ended.messages.bytes();
-    assert_holds(rt, &first, messages.starts_with(first.as_bytes()));
-    Ok(())
-}
-
-/// Compiles a source, and asserts the beginning of its messages.
-fn read_first(rt: &impl Abort, alloc: Global, source: &[u8], first: &str) -> Result<(), Fail> {
-    let mut files = folder(alloc, source)?;
-    assert_first(rt, alloc, &mut files, first)
-}
-
-/// Compiles a source whose first line has a bad token, and asserts that this is told of it first.
-fn tell_first(rt: &impl Abort, alloc: Global, source: &[u8], told: &str) -> Result<(), Fail> {
-    let first = format!(in alloc; "t.inf(1): Error: Syntax error at {told}")?;
-    read_first(rt, alloc, source, first.as_str())
-}
-
-/// What a row of the grammar begins that has not come is bad at its first token, not where the grammar itself would end.
-#[test]
-fn rows_that_have_not_come_are_never_chosen(rt: HostRuntime) -> Result<(), Fail> {
-    for (source, told) in &ROWS {
-        tell_first(&rt, rt.alloc(), *source, *told)?;
     }
     Ok(())
 }

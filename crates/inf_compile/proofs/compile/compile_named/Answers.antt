@@ -1,6 +1,7 @@
 use Rattle.std.proofs.Common.{map, ap, ◌∙◌}
 use Rattle.inf_opcode.proofs.Growing.{on_err}
 use Rattle.inf_words.specs.Directories.{directories_of}
+use Rattle.inf_words.specs.Spoken.{settings_of}
 use Rattle.inf_compile.specs.Compiling.{chosen_by}
 use Rattle.inf_compile.proofs.Delivering.{begins_whole, chosen_is, clean_where_delivered, opened_whole}
 use Rattle.inf_compile.proofs.compile.compile_named.Goals as goal
@@ -13,9 +14,9 @@ returns-clause-begins g c = λ honest.
     (begins_whole (files.sources c.args.files.now) _ (chosen_by options) c.args.date _ _ (files.openings c.args.files.now)
     (files.openings c.translate.new.files)
     (g.M.Sink.taken c.args.messages.now) (g.M.Sink.taken c.translate.new.messages) c.in_ok-compiled.compiled
-    (chosen_is c.set.result options.letters.set c.has_warnings.result options.letters.has_warnings c.settings.result.now options.settings
+    (chosen_is c.letters.result options.letters c.settings-settings.result (settings_of options.settings)
     (map (λ d. d.now) c.as_slice.result.now) (directories_of options.path)
-    c.set.ensures c.has_warnings.ensures c.settings.ensures (ap (map (λ d. d.now)) c.as_slice.ensures.value ∙ c.in_ok-directories.ensures))
+    c.letters.ensures c.settings-settings.ensures (ap (map (λ d. d.now)) c.as_slice.ensures.value ∙ c.in_ok-directories.ensures))
     (c.as_str.ensures.value ∙ c.in_ok-name.ensures.bytes)
     (c.in_ok-compiled.ensures.comes honest))
 
@@ -27,9 +28,9 @@ returns-clause-opened g c = λ honest.
     (opened_whole (files.sources c.args.files.now) _ (chosen_by options) c.args.date _ _ (files.openings c.args.files.now)
     (files.openings c.translate.new.files)
     (g.M.Sink.taken c.args.messages.now) (g.M.Sink.taken c.translate.new.messages) c.in_ok-compiled.compiled
-    (chosen_is c.set.result options.letters.set c.has_warnings.result options.letters.has_warnings c.settings.result.now options.settings
+    (chosen_is c.letters.result options.letters c.settings-settings.result (settings_of options.settings)
     (map (λ d. d.now) c.as_slice.result.now) (directories_of options.path)
-    c.set.ensures c.has_warnings.ensures c.settings.ensures (ap (map (λ d. d.now)) c.as_slice.ensures.value ∙ c.in_ok-directories.ensures))
+    c.letters.ensures c.settings-settings.ensures (ap (map (λ d. d.now)) c.as_slice.ensures.value ∙ c.in_ok-directories.ensures))
     (c.as_str.ensures.value ∙ c.in_ok-name.ensures.bytes)
     (c.in_ok-compiled.ensures.comes honest))
 

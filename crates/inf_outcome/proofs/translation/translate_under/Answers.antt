@@ -1,5 +1,7 @@
-use Rattle.std.proofs.Common.{◌≡◌, ◌+◌, ◌≤◌, ℕ, [], inr, IsTrue, IfErr, IfOk, length, min, ap, subst, sym, ◌∙◌}
+use Rattle.std.proofs.Common.{◌≡◌, ◌+◌, ◌≤◌, ℕ, List, [], Err, inr, IsTrue, IfErr, IfOk, length, min, ap, subst, sym, ◌∙◌}
 use Rattle.std.proofs.lemmas.Result.{on_err_weaker}
+use Rattle.inf_characters.specs.declared.characters.CharSet.{CharSet}
+use Rattle.inf_letters.specs.Letters.{set_of}
 use Rattle.inf_files.specs.Files.{Rose, Sources, last_count}
 use Rattle.inf_lexer.specs.Readers.{at_front}
 use Rattle.inf_lexer.proofs.Candidates.{rose_earlier}
@@ -7,6 +9,8 @@ use Rattle.inf_sources.specs.Calls.{IsUnreadable, StaysFit}
 use Rattle.inf_sources.specs.Inclusions.{main_opened}
 use Rattle.inf_sources.specs.Open.{AllGiven, Each, Fits, IsNested, Open, nesting, opened_since}
 use Rattle.inf_session.specs.Choices.{chosen, most_quoted}
+use Rattle.inf_session.specs.Delivered.{TakesFront}
+use Rattle.inf_session.specs.Ending.{Outcome, missing, seen}
 use Rattle.inf_session.specs.Faults.{IfRead}
 use Rattle.inf_session.specs.Leading.{GivenUp, OpensAll}
 use Rattle.inf_session.specs.Session.{run, start}
@@ -15,9 +19,9 @@ use Rattle.inf_session.specs.declared.setup.Setup.{Setup}
 use Rattle.inf_session.proofs.Delivering.{if_ok_more}
 use Rattle.inf_session.proofs.Standings.{if_caused_more}
 use Rattle.inf_settings.specs.Bounds.{Limits, limits_of}
-use Rattle.inf_outcome.specs.Comes.{Comes, Concludes, IsUnread, Stops}
-use Rattle.inf_outcome.proofs.Concluding.{begins_of, begun_is, comes_of, given_up_between, heard_from, if_ok_both, none_given, opened_first}
-use Rattle.inf_outcome.proofs.Concluding.{opened_some, unread_by}
+use Rattle.inf_outcome.specs.Comes.{Begins, Comes, Concludes, IsUnread, Stops}
+use Rattle.inf_outcome.proofs.Concluding.{begins_missing, begins_of, begun_is, comes_of, given_up_between, heard_from, if_ok_both, none_given}
+use Rattle.inf_outcome.proofs.Concluding.{on_err_leads, opened_first, opened_some, unread_by}
 use Rattle.inf_outcome.proofs.translation.translate_under.Goals as goal
 
 pub returns-clause-comes : goal.returns-clause-comes
@@ -38,12 +42,13 @@ returns-clause-comes g c = λ honest.
     let still = subst (λ b. IsTrue b) (sym c.enter_main.ensures.kept.honesty) honest in
     let last = subst (λ b. IsTrue b) (sym c.read_out-open_files.ensures.went.honesty) still in
     let nested = subst (λ (x : Open). IsNested old mid x) (sym c.in-Ok-new.ensures.files) (c.in-Ok.ensures.nested honest) in
-    let limit : nesting s old mid session.open_files ≡ main_opened o.set (most_quoted o) s name =
+    let limit : nesting s old mid session.open_files ≡ main_opened (set_of o.letters) (most_quoted o) s name =
     ap (λ (x : Open). nesting s old mid x) c.in-Ok-new.ensures.files ∙ c.in-Ok.ensures.nesting honest
-    ∙ ap (λ n. main_opened o.set n s name) c.of-limit.ensures.value in
+    ∙ ap (λ (set : CharSet). main_opened set c.of-limit.result s name) c.set-set.ensures
+    ∙ ap (λ n. main_opened (set_of o.letters) n s name) c.of-limit.ensures.value in
     let begun : state s old mid session [] ≡ start s o name =
     begun_is s o name old mid session limit c.in-Ok-new.ensures.standing c.in-Ok-new.ensures.going c.in-Ok-new.ensures.conditionals
-    c.in-Ok-new.ensures.quoted in
+    c.in-Ok-new.ensures.quoted c.in-Ok-new.ensures.passed in
     let main = subst (λ (x : Open). AllGiven s (length old.all) mid x) (sym c.in-Ok-new.ensures.files) (c.in-Ok.ensures.given_all honest) in
     let here = subst (λ (y : Sources). AllGiven y (length old.all) mid session.open_files) (sym c.enter_main.ensures.kept.sources) main in
     let given = subst (λ (y : Sources). AllGiven y (length old.all) now f) c.enter_main.ensures.kept.sources
@@ -84,12 +89,13 @@ returns-clause-begins g c = λ honest.
     let after = g.M.Sink.taken c.read_out-open_files.new.messages in
     let still = subst (λ b. IsTrue b) (sym c.enter_main.ensures.kept.honesty) honest in
     let nested = subst (λ (x : Open). IsNested old mid x) (sym c.in-Ok-new.ensures.files) (c.in-Ok.ensures.nested honest) in
-    let limit : nesting s old mid session.open_files ≡ main_opened o.set (most_quoted o) s name =
+    let limit : nesting s old mid session.open_files ≡ main_opened (set_of o.letters) (most_quoted o) s name =
     ap (λ (x : Open). nesting s old mid x) c.in-Ok-new.ensures.files ∙ c.in-Ok.ensures.nesting honest
-    ∙ ap (λ n. main_opened o.set n s name) c.of-limit.ensures.value in
+    ∙ ap (λ (set : CharSet). main_opened set c.of-limit.result s name) c.set-set.ensures
+    ∙ ap (λ n. main_opened (set_of o.letters) n s name) c.of-limit.ensures.value in
     let begun : state s old mid session [] ≡ start s o name =
     begun_is s o name old mid session limit c.in-Ok-new.ensures.standing c.in-Ok-new.ensures.going c.in-Ok-new.ensures.conditionals
-    c.in-Ok-new.ensures.quoted in
+    c.in-Ok-new.ensures.quoted c.in-Ok-new.ensures.passed in
     on_err_weaker c.read_out-open_files.result.1
     (λ k. begins_of s o serial name (state s old mid session []) before after (c.in-Ok.ensures.there honest) begun
     (subst (λ (p : Setup). Stops (limits_of c.args.setup.settings.now) s (chosen p) serial (state s old mid session []) before after)
@@ -111,14 +117,14 @@ returns-clause-fault g c =
     let f = c.read_out-open_files.result.0 in
     let session = c.in-Ok-new.session in
     let rose = Rose (g.M.Sink.failures c.args.messages.now) (g.M.Sink.failures c.read_out-open_files.new.messages) in
-    let front = subst (λ (x : Open). (x.lexer ≡ at_front c.args.setup.set c.of-limit.result 0) × (x.outer ≡ []))
+    let front = subst (λ (x : Open). (x.lexer ≡ at_front c.set-set.result c.of-limit.result 0) × (x.outer ≡ []))
     (sym c.in-Ok-new.ensures.files) c.in-Ok.ensures.front in
     let opened = subst (λ (x : Open). min (files.opened first + length x.nest.names) last_count ≤ files.opened entered)
     (sym c.in-Ok-new.ensures.files) c.in-Ok.ensures.opened in
     if_caused_more c.read_out-open_files.result.1 (λ name. IsUnreadable files entered read session.open_files f)
     (λ name. IsUnread files first last) rose rose
     (λ name why. unread_by files first entered read last session.open_files f c.enter_main.ensures.kept c.enter_main.ensures.given opened
-    (none_given c.args.setup.set c.of-limit.result session.open_files front) c.read_out-open_files.ensures.went c.close-2.ensures.kept
+    (none_given c.set-set.result c.of-limit.result session.open_files front) c.read_out-open_files.ensures.went c.close-2.ensures.kept
     c.close-2.ensures.untouched why)
     (λ r. r) c.read_out-open_files.ensures.fault
 
@@ -135,12 +141,13 @@ returns-clause-opened g c = λ honest.
     let still = subst (λ b. IsTrue b) (sym c.enter_main.ensures.kept.honesty) honest in
     let last = subst (λ b. IsTrue b) (sym c.read_out-open_files.ensures.went.honesty) still in
     let nested = subst (λ (x : Open). IsNested old mid x) (sym c.in-Ok-new.ensures.files) (c.in-Ok.ensures.nested honest) in
-    let limit : nesting s old mid session.open_files ≡ main_opened o.set (most_quoted o) s name =
+    let limit : nesting s old mid session.open_files ≡ main_opened (set_of o.letters) (most_quoted o) s name =
     ap (λ (x : Open). nesting s old mid x) c.in-Ok-new.ensures.files ∙ c.in-Ok.ensures.nesting honest
-    ∙ ap (λ n. main_opened o.set n s name) c.of-limit.ensures.value in
+    ∙ ap (λ (set : CharSet). main_opened set c.of-limit.result s name) c.set-set.ensures
+    ∙ ap (λ n. main_opened (set_of o.letters) n s name) c.of-limit.ensures.value in
     let begun : state s old mid session [] ≡ start s o name =
     begun_is s o name old mid session limit c.in-Ok-new.ensures.standing c.in-Ok-new.ensures.going c.in-Ok-new.ensures.conditionals
-    c.in-Ok-new.ensures.quoted in
+    c.in-Ok-new.ensures.quoted c.in-Ok-new.ensures.passed in
     let closed = c.close-2.ensures.closed last old (c.read_out-open_files.ensures.went.nested still old nested) in
     let f = c.read_out-open_files.result.0 in
     let main = subst (λ (x : Open). AllGiven s (length old.all) mid x) (sym c.in-Ok-new.ensures.files) (c.in-Ok.ensures.given_all honest) in
@@ -175,12 +182,13 @@ returns-clause-heard g c = λ honest.
     let still = subst (λ b. IsTrue b) (sym c.enter_main.ensures.kept.honesty) honest in
     let last = subst (λ b. IsTrue b) (sym c.read_out-open_files.ensures.went.honesty) still in
     let nested = subst (λ (x : Open). IsNested old mid x) (sym c.in-Ok-new.ensures.files) (c.in-Ok.ensures.nested honest) in
-    let limit : nesting s old mid session.open_files ≡ main_opened o.set (most_quoted o) s name =
+    let limit : nesting s old mid session.open_files ≡ main_opened (set_of o.letters) (most_quoted o) s name =
     ap (λ (x : Open). nesting s old mid x) c.in-Ok-new.ensures.files ∙ c.in-Ok.ensures.nesting honest
-    ∙ ap (λ n. main_opened o.set n s name) c.of-limit.ensures.value in
+    ∙ ap (λ (set : CharSet). main_opened set c.of-limit.result s name) c.set-set.ensures
+    ∙ ap (λ n. main_opened (set_of o.letters) n s name) c.of-limit.ensures.value in
     let begun : state s old mid session [] ≡ start s o name =
     begun_is s o name old mid session limit c.in-Ok-new.ensures.standing c.in-Ok-new.ensures.going c.in-Ok-new.ensures.conditionals
-    c.in-Ok-new.ensures.quoted in
+    c.in-Ok-new.ensures.quoted c.in-Ok-new.ensures.passed in
     let main = subst (λ (x : Open). AllGiven s (length old.all) mid x) (sym c.in-Ok-new.ensures.files) (c.in-Ok.ensures.given_all honest) in
     let here = subst (λ (y : Sources). AllGiven y (length old.all) mid session.open_files) (sym c.enter_main.ensures.kept.sources) main in
     let given = subst (λ (y : Sources). AllGiven y (length old.all) now f) c.enter_main.ensures.kept.sources
@@ -216,9 +224,26 @@ returns-in-Err-clause-opened g c = λ honest.
     let still = subst (λ b. IsTrue b) (sym c.enter_main.ensures.kept.honesty) honest in
     let nested = subst (λ (x : Open). IsNested old mid x) (sym c.in-Err.ensures.back) (c.in-Ok.ensures.nested honest) in
     inr (opened_first s (chosen c.args.setup) c.args.main.name.now old mid (files.openings c.close.new.files) c.in-Ok.open_files
-    c.args.setup.set
+    c.set-set.result
     c.of-limit.result
     (c.close.ensures.closed still old nested) (c.in-Ok.ensures.given_all honest) (c.in-Ok.ensures.nesting honest))
 
 pub new-requires : goal.new-requires
 new-requires g c = λ s. ap (λ (l : Limits). l s) c.requires.limits
+
+pub returns-in-Err-Absent-clause-begins : goal.returns-in-Err-Absent-clause-begins
+returns-in-Err-Absent-clause-begins g c = λ honest.
+    let s = g.F.Files.sources c.args.files.now in
+    let o = chosen c.args.setup in
+    let serial = c.args.serial.now in
+    let name = c.args.main.name.now in
+    let old = g.M.Sink.taken c.args.messages.now in
+    let new = g.M.Sink.taken c.written.new.messages in
+    let ending = c.in_ok-no_file-in-Err-Absent.field-0 in
+    let there = ap (λ f. Err f) c.in-Err-Absent.field-0-is in
+    let is : (seen ending).messages ≡ (missing name).messages =
+    ap (λ (e : Outcome). e.messages) c.in_ok-no_file-in-Err-Absent.ensures
+    ∙ ap (λ (n : List ℕ). (missing n).messages) c.as_bytes.ensures.value in
+    on_err_leads c.written.result (TakesFront (seen ending).messages old new) (Begins s o serial name old new)
+    (begins_missing s o serial name old new (seen ending).messages (c.in-Err-Absent.ensures.absent honest there) is)
+    c.written.ensures.err

@@ -8,5 +8,5 @@ pub returns-in-None : goal.returns-in-None
 returns-in-None g c =
     let a = c.args in
     subst (λ (v : Option (List Value)). IfOk c.failed.result
-    (λ t. seen t ≡ named a.serial a.files.now.names a.main a.code a.contents.strings a.contents.tables a.report v))
+    (λ t. seen t ≡ named a.told a.files.now.names a.main a.code a.contents.strings a.contents.tables a.report v))
     (ap (λ o. option_map (λ v. v.items) o) (sym c.in-None.is)) c.failed.ensures

@@ -5,9 +5,9 @@ use Rattle.inf_link.specs.declared.link.LinkFault.{LinkFault}
 use Rattle.inf_link.specs.declared.link.LinkFault.TheVariants.{Memory}
 use Rattle.inf_link.specs.Areas.{contents, lengths}
 use Rattle.inf_link.specs.MemoryMaps.{too_long as too_long_by}
-use Rattle.inf_link.specs.Stories.{story as linked}
+use Rattle.inf_link.specs.Stories.{sizes, story as linked}
 use Rattle.inf_link.specs.Targets.{lookup}
-use Rattle.inf_story.proofs.Linked.{is_story, is_too_long, told}
+use Rattle.inf_story.proofs.Linked.{if_ok_more, is_sized, is_story, is_too_long, told}
 use Rattle.inf_story.proofs.stories.linked.Goals as goal
 
 pub returns-clause-bytes : goal.returns-clause-bytes
@@ -17,6 +17,14 @@ returns-clause-bytes g c =
     ∙ is_story c.args.fields c.args.main c.args.names.items finished c.args.strings c.args.tables.now _ _ _ c.in_ok-areas.ensures.bytes
     c.in_ok-areas.ensures.fixups c.in_ok-targets.ensures in
     subst (λ bytes. IfOk c.link.result (λ s. s.bytes ≡ bytes)) same c.link.ensures.bytes
+
+pub returns-clause-sizes : goal.returns-clause-sizes
+returns-clause-sizes g c =
+    let a = c.args in
+    let given = subst (λ l. IfOk c.link.result (λ s. s.sizes ≡ sizes (contents (λ area. area) l.areas) l.fields s.bytes)) c.new.ensures
+    c.link.ensures.sizes in
+    if_ok_more c.link.result _ _ (λ s is. is
+    ∙ is_sized a.fields a.main a.code.finished a.strings a.tables.now _ s.bytes c.in_ok-areas.ensures.bytes) given
 
 pub returns-clause-fault : goal.returns-clause-fault
 returns-clause-fault g c =

@@ -1,10 +1,12 @@
-use Rattle.std.proofs.Common.{inr, ap}
+use Rattle.std.proofs.Common.{inl, inr, ap, subst, sym}
 use Rattle.inf_opcode.proofs.Growing.{on_err}
 use Rattle.inf_session.specs.Choices.{chosen}
 use Rattle.inf_session.specs.Session.{State}
 use Rattle.inf_session.specs.Standing.{state}
 use Rattle.inf_session.proofs.Opening.{followed_within}
-use Rattle.inf_sources.specs.Open.{opened_since}
+use Rattle.inf_session.specs.Weights.{GoesOn}
+use Rattle.inf_reader.specs.Reading.{is_mode_ended}
+use Rattle.inf_sources.specs.Open.{Open, opened_since}
 use Rattle.inf_sources.proofs.Calls.{went_as}
 use Rattle.inf_session.proofs.session.Session.follow.Goals as goal
 
@@ -33,3 +35,10 @@ returns-in_err-rest-clause-went g c = went_as g.F.Files c.args.files.now c.carry
 pub returns-clause-went : goal.returns-clause-went
 returns-clause-went g c = went_as g.F.Files c.args.files.now c.carry_out.new.files c.args.self.now.open_files
     c.carry_out.new.self.open_files c.rest.new.self.open_files c.rest.ensures.files c.carry_out.ensures.went
+
+pub returns-clause-goes_on : goal.returns-clause-goes_on
+returns-clause-goes_on g c = elim c.in_ok-carry_out.ensures.goes_on [
+  | inl over ↦ inl (c.rest.ensures.ends over)
+  | inr goes ↦ inr (subst (λ (o : Open). GoesOn (is_mode_ended c.args.self.now.progress.reader.mode) c.args.self.now.open_files o)
+      (sym c.rest.ensures.files) goes)
+]

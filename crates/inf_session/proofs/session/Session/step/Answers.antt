@@ -1,315 +1,102 @@
-use Rattle.std.proofs.Common.{rules, ◌≡◌, ℕ, ◌≤◌, List, suc, zero, [], false, true, IfErr, IsTrue, ap, refl, sym, subst, ◌∙◌}
-use Rattle.inf_opcode.proofs.Growing.{on_err}
-use Rattle.inf_files.specs.Files.{Rose, Sources}
-use Rattle.inf_lexer.proofs.Candidates.{rose_earlier}
-use Rattle.inf_sources.specs.Open.{opened_since}
+use Rattle.std.proofs.Common.{◌≡◌, ◌⊎◌, ◌<◌, ◌≤◌, true, false, IfOk, refl, sym, ap, subst, ◌∙◌}
+use Rattle.std.specs.Prelude.{◌||◌, ◌&&◌, is_none}
+use Rattle.std.proofs.lemmas.Result.{on_ok_weaker}
+use Rattle.inf_files.specs.Files.{Rose}
 use Rattle.inf_sources.specs.Calls.{IsUnreadable}
-use Rattle.inf_sources.proofs.Calls.{fit_then, unreadable_then, went_then}
-use Rattle.inf_session.specs.Choices.{Choices, chosen, most_quoted}
-use Rattle.inf_session.specs.Faults.{Caused, IfRead}
-use Rattle.inf_session.specs.Leading.{CutsShort, GivenUp, OpensWithin, StopsFor, Writes}
-use Rattle.inf_session.specs.Session.{has_ended, turn}
-use Rattle.inf_session.specs.Standing.{came_to, ended, parted, state}
-use Rattle.inf_session.proofs.Delivering.{appends_then}
-use Rattle.inf_session.proofs.Leadings.{cuts_then, given_up, opened_then, part_first, part_none, part_then, still_going, stops_more}
-use Rattle.inf_session.proofs.Leadings.{writes_none, writes_then}
-use Rattle.inf_session.specs.declared.setup.Setup.{Setup}
-use Rattle.inf_session.proofs.Bounds.{bounded_still}
-use Rattle.inf_session.proofs.Standings.{if_caused_more, if_read_both}
-use Rattle.inf_session.proofs.Weighing.{ends_or_falls, falls_then}
-use Rattle.inf_session.specs.Weights.{weight}
+use Rattle.inf_sources.proofs.Calls.{fit_none, went_as, went_none}
+use Rattle.inf_conditionals.specs.Judging.{may_part}
+use Rattle.inf_reader.specs.Handing.{is_between}
+use Rattle.inf_reader.specs.Standing.{reading}
+use Rattle.inf_session.specs.Standing.{came_to, ended, is_done, next_of}
+use Rattle.inf_session.specs.Veneer.{most_texts}
+use Rattle.inf_session.specs.Weights.{steps_left}
+use Rattle.inf_session.specs.declared.session.Step.TheVariants as step
+use Rattle.inf_session.proofs.Parting.{done_by, done_is, going_is, if_ok_two, part_ends, part_falls, veneer_bounded, veneer_falls}
+use Rattle.inf_session.proofs.Standings.{if_caused_more}
 use Rattle.inf_session.proofs.session.Session.step.Goals as goal
 
-pub loop-self-init : goal.loop-self-init
-loop-self-init g c =
-    let files = g.F.Files in
-    let s = files.sources c.args.files.now in
-    let o = chosen c.args.self.now.setup in
-    let took = c.in_ok-turn.ensures in
-    let going : ended c.args.self.now ≡ false = sym c.has_ended.ensures ∙ c.if-has_ended.false in
-    record {
-      led = λ honest start nested.
-          let was = state s start (files.openings c.args.files.now) c.args.self.now in
-          let now = state s start (files.openings c.turn.new.files) c.turn.new.self in
-          let old = g.M.Sink.taken c.args.messages.now in
-          let new = g.M.Sink.taken c.turn.new.messages in
-          let turned = took.turned honest start nested in (
-            zero,
-            (
-              part_first g.B.Bounds.most s o was now old new (λ told. going) turned,
-              writes_then g.B.Bounds.most s o zero was was now old old new (λ told. going)
-                  (writes_none g.B.Bounds.most s o was old) turned,
-            ),
-          );
-      falls = took.falls;
-      went = c.turn.ensures.went;
-      is_open = c.turn.ensures.is_open;
-      goes = took.goes;
-      set = c.turn.ensures.set;
-      longest = took.longest;
-      setup = c.turn.ensures.setup;
-      fits = took.fits;
-      wrote = c.turn.ensures.wrote;
-    }
-
-pub loop-self-preserved : goal.loop-self-preserved
-loop-self-preserved g c =
-    let files = g.F.Files in
-    let inv = c.loop-self.invariant in
-    let took = c.in_ok-turn-2.ensures in
-    let s = files.sources c.args.files.now in
-    let t = files.sources c.loop-self.files in
-    let o = chosen c.args.self.now.setup in
-    let p = chosen c.loop-self.self.setup in
-    let open_still : parted c.loop-self.self ≡ false = sym c.has_parted.ensures ∙ c.loop-self-test.true in
-    let first_going : ended c.args.self.now ≡ false = sym c.has_ended.ensures ∙ c.if-has_ended.false in
-    record {
-      led = λ honest start nested.
-          let so_far = inv.led honest start nested in
-          let still = subst (λ b. IsTrue b) (sym inv.went.honesty) honest in
-          let first = files.openings c.args.files.now in
-          let here = files.openings c.loop-self.files in
-          let then_at = files.openings c.turn-in-loop-self.new.files in
-          let turned : Writes (turn g.B.Bounds.most s o) (state s start here c.loop-self.self)
-          (state s start then_at c.turn-in-loop-self.new.self)
-          (g.M.Sink.taken c.loop-self.messages) (g.M.Sink.taken c.turn-in-loop-self.new.messages) =
-          subst (λ (x : Choices). Writes (turn g.B.Bounds.most s x) (state s start here c.loop-self.self)
-          (state s start then_at c.turn-in-loop-self.new.self) (g.M.Sink.taken c.loop-self.messages)
-          (g.M.Sink.taken c.turn-in-loop-self.new.messages)) (ap chosen inv.setup)
-          (subst (λ (x : Sources). Writes (turn g.B.Bounds.most x p) (state x start here c.loop-self.self)
-          (state x start then_at c.turn-in-loop-self.new.self) (g.M.Sink.taken c.loop-self.messages)
-          (g.M.Sink.taken c.turn-in-loop-self.new.messages)) inv.went.sources
-          (took.turned still start (inv.went.nested honest start nested))) in
-          let was = state s start first c.args.self.now in
-          let mid = state s start here c.loop-self.self in
-          let going : (told : List ℕ) → has_ended (mid told) ≡ false = λ told. still_going (mid told) open_still in (
-            suc so_far.0,
-            (
-              part_then g.B.Bounds.most s o so_far.0 was mid (state s start then_at c.turn-in-loop-self.new.self)
-                  (g.M.Sink.taken c.args.messages.now) (g.M.Sink.taken c.loop-self.messages)
-                  (g.M.Sink.taken c.turn-in-loop-self.new.messages) (λ told. first_going) (λ told. open_still) so_far.1.0 turned,
-              writes_then g.B.Bounds.most s o (suc so_far.0) was mid (state s start then_at c.turn-in-loop-self.new.self)
-                  (g.M.Sink.taken c.args.messages.now) (g.M.Sink.taken c.loop-self.messages)
-                  (g.M.Sink.taken c.turn-in-loop-self.new.messages) going so_far.1.1 turned,
-            ),
-          );
-      falls = falls_then (ended c.loop-self.self) (ended c.turn-in-loop-self.new.self) (weight c.args.self.now.open_files)
-          (weight c.loop-self.self.open_files) (weight c.turn-in-loop-self.new.self.open_files)
-          inv.falls (still_going (state s (files.openings c.args.files.now) (files.openings c.loop-self.files) c.loop-self.self [])
-          open_still) took.falls;
-      went = went_then files c.args.files.now c.loop-self.files c.turn-in-loop-self.new.files c.args.self.now.open_files
-          c.loop-self.self.open_files c.turn-in-loop-self.new.self.open_files inv.went c.turn-in-loop-self.ensures.went;
-      is_open = c.turn-in-loop-self.ensures.is_open;
-      goes = took.goes;
-      set = c.turn-in-loop-self.ensures.set;
-      longest = λ few. subst (λ (p : Setup). c.turn-in-loop-self.new.self.quoted ≤ most_quoted (chosen p)) inv.setup
-          (took.longest (subst (λ (p : Setup). c.loop-self.self.quoted ≤ most_quoted (chosen p)) (sym inv.setup) (inv.longest few)));
-      setup = c.turn-in-loop-self.ensures.setup ∙ inv.setup;
-      fits = fit_then files c.args.files.now c.loop-self.files c.turn-in-loop-self.new.files c.args.self.now.open_files
-          c.loop-self.self.open_files inv.went inv.fits took.fits;
-      wrote = appends_then g.M.Sink c.args.messages.now c.loop-self.messages c.turn-in-loop-self.new.messages inv.wrote
-          c.turn-in-loop-self.ensures.wrote;
-    }
-
-pub returns-in_err-turn-2-clause-cut : goal.returns-in_err-turn-2-clause-cut
-returns-in_err-turn-2-clause-cut g c = λ honest start nested.
-    let files = g.F.Files in
-    let inv = c.loop-self.invariant in
-    let s = files.sources c.args.files.now in
-    let o = chosen c.args.self.now.setup in
-    let p = chosen c.loop-self.self.setup in
-    let open_still : parted c.loop-self.self ≡ false = sym c.has_parted.ensures ∙ c.loop-self-test.true in
-    let so_far = inv.led honest start nested in
-    let still = subst (λ b. IsTrue b) (sym inv.went.honesty) honest in
-    let first = files.openings c.args.files.now in
-    let here = files.openings c.loop-self.files in
-    let cut : CutsShort (turn g.B.Bounds.most s o) (state s start here c.loop-self.self) (g.M.Sink.taken c.loop-self.messages)
-    (g.M.Sink.taken c.turn-in-loop-self.new.messages) =
-    subst (λ (x : Choices). CutsShort (turn g.B.Bounds.most s x) (state s start here c.loop-self.self) (g.M.Sink.taken c.loop-self.messages)
-    (g.M.Sink.taken c.turn-in-loop-self.new.messages)) (ap chosen inv.setup)
-    (subst (λ (x : Sources). CutsShort (turn g.B.Bounds.most x p) (state x start here c.loop-self.self)
-    (g.M.Sink.taken c.loop-self.messages)
-    (g.M.Sink.taken c.turn-in-loop-self.new.messages)) inv.went.sources
-    (c.in_err-turn-2.ensures.cut still start (inv.went.nested honest start nested))) in
-    on_err c.from_residual-in_err-turn-2.result (
-      suc (suc so_far.0),
-      cuts_then g.B.Bounds.most s o (suc so_far.0) (state s start first c.args.self.now) (state s start here c.loop-self.self)
-          (g.M.Sink.taken c.args.messages.now) (g.M.Sink.taken c.loop-self.messages) (g.M.Sink.taken c.turn-in-loop-self.new.messages)
-          (λ told. still_going (state s start here c.loop-self.self told) open_still) so_far.1.1 cut,
-    )
-
-pub returns-then-has_ended-clause-part : goal.returns-then-has_ended-clause-part
-returns-then-has_ended-clause-part g c = λ honest start nested.
-    let files = g.F.Files in
-    let s = files.sources c.args.files.now in
-    let o = chosen c.args.self.now.setup in
-    let was = state s start (files.openings c.args.files.now) c.args.self.now in
-    let old = g.M.Sink.taken c.args.messages.now in
-    (zero, (part_none g.B.Bounds.most s o was old, writes_none g.B.Bounds.most s o was old))
-
-pub returns-in_err-turn-clause-cut : goal.returns-in_err-turn-clause-cut
-returns-in_err-turn-clause-cut g c = λ honest start nested.
-    let files = g.F.Files in
-    let s = files.sources c.args.files.now in
-    let o = chosen c.args.self.now.setup in
-    let was = state s start (files.openings c.args.files.now) c.args.self.now in
-    let old = g.M.Sink.taken c.args.messages.now in
-    let going : ended c.args.self.now ≡ false = sym c.has_ended.ensures ∙ c.if-has_ended.false in
-    on_err c.from_residual.result (
-      suc zero,
-      cuts_then g.B.Bounds.most s o zero was was old old (g.M.Sink.taken c.turn.new.messages) (λ told. going)
-          (writes_none g.B.Bounds.most s o was old)
-          (c.in_err-turn.ensures.cut honest start nested),
-    )
-
-pub loop-self-smaller : goal.loop-self-smaller
-loop-self-smaller g c =
-    let files = g.F.Files in
-    let open_still : parted c.loop-self.self ≡ false = sym c.has_parted.ensures ∙ c.loop-self-test.true in
-    let s = files.sources c.args.files.now in
-    ends_or_falls (ended c.turn-in-loop-self.new.self) (ended c.loop-self.self) (weight c.loop-self.self.open_files)
-    (weight c.turn-in-loop-self.new.self.open_files)
-    (still_going (state s (files.openings c.args.files.now) (files.openings c.loop-self.files) c.loop-self.self []) open_still)
-    c.in_ok-turn-2.ensures.falls
-
-pub returns-clause-part : goal.returns-clause-part
-returns-clause-part g c = λ honest start nested.
-    let so_far = c.loop-self.invariant.led honest start nested in
-    (suc so_far.0, so_far.1)
-
-pub returns-in_err-turn-clause-unread : goal.returns-in_err-turn-clause-unread
-returns-in_err-turn-clause-unread g c = λ honest start nested.
-    let files = g.F.Files in
-    let s = files.sources c.args.files.now in
-    let o = chosen c.args.self.now.setup in
-    let was = state s start (files.openings c.args.files.now) c.args.self.now in
-    let now = files.openings c.turn.new.files in
-    let after = c.turn.new.self.open_files in
-    let old = g.M.Sink.taken c.args.messages.now in
-    let new = g.M.Sink.taken c.turn.new.messages in
-    let failed = Rose (files.faults c.args.files.now) (files.faults c.turn.new.files) in
-    let going : ended c.args.self.now ≡ false = sym c.has_ended.ensures ∙ c.if-has_ended.false in
-    let StopsSo = λ (name : List ℕ). (told : List ℕ) → StopsFor g.B.Bounds.most failed s o (was told) start now after name in
-    let stopped : IfErr c.turn.result (λ fault. IfRead fault StopsSo) = c.turn.ensures.stops honest start nested in
-    let same : IfErr c.from_residual.result (λ fault. IfRead fault (λ name. new ≡ old)) = search rules in
-    let stops : IfErr c.from_residual.result (λ fault. IfRead fault StopsSo) = search rules in
-    if_read_both c.from_residual.result (new ≡ old) StopsSo (λ name. GivenUp g.B.Bounds.most failed s o was old new start now after name)
-    (λ name e h. given_up g.B.Bounds.most failed s o zero was was old old new start now after name (writes_none g.B.Bounds.most s o was old)
-    (λ told. refl) e
-    (λ told. going) h) same stops
-
-pub returns-in_err-turn-2-clause-unread : goal.returns-in_err-turn-2-clause-unread
-returns-in_err-turn-2-clause-unread g c = λ honest start nested.
-    let files = g.F.Files in
-    let inv = c.loop-self.invariant in
-    let s = files.sources c.args.files.now in
-    let t = files.sources c.loop-self.files in
-    let o = chosen c.args.self.now.setup in
-    let p = chosen c.loop-self.self.setup in
-    let was = state s start (files.openings c.args.files.now) c.args.self.now in
-    let here = files.openings c.loop-self.files in
-    let mid = state s start here c.loop-self.self in
-    let old = g.M.Sink.taken c.args.messages.now in
-    let between = g.M.Sink.taken c.loop-self.messages in
-    let new = g.M.Sink.taken c.turn-in-loop-self.new.messages in
-    let now = files.openings c.turn-in-loop-self.new.files in
-    let after = c.turn-in-loop-self.new.self.open_files in
-    let later = Rose (files.faults c.loop-self.files) (files.faults c.turn-in-loop-self.new.files) in
-    let failed = Rose (files.faults c.args.files.now) (files.faults c.turn-in-loop-self.new.files) in
-    let open_still : parted c.loop-self.self ≡ false = sym c.has_parted.ensures ∙ c.loop-self-test.true in
-    let so_far = inv.led honest start nested in
-    let still = subst (λ b. IsTrue b) (sym inv.went.honesty) honest in
-    let StopsSo = λ (name : List ℕ). (told : List ℕ) → StopsFor g.B.Bounds.most later t p (state t start here c.loop-self.self told) start
-    now after name in
-    let stopped : IfErr c.turn-in-loop-self.result (λ fault. IfRead fault StopsSo) =
-    c.turn-in-loop-self.ensures.stops still start (inv.went.nested honest start nested) in
-    let same : IfErr c.from_residual-in_err-turn-2.result (λ fault. IfRead fault (λ name. new ≡ between)) = search rules in
-    let stops : IfErr c.from_residual-in_err-turn-2.result (λ fault. IfRead fault StopsSo) = search rules in
-    if_read_both c.from_residual-in_err-turn-2.result (new ≡ between) StopsSo
-    (λ name. GivenUp g.B.Bounds.most failed s o was old new start now after name)
-    (λ name e h. given_up g.B.Bounds.most failed s o (suc so_far.0) was mid old between new start now after name so_far.1.1 (λ told. refl) e
-    (λ told. still_going (mid told) open_still)
-    (λ told. stops_more g.B.Bounds.most later failed s o (mid told) start now after name
-    (λ rose. rose_earlier (files.faults c.args.files.now) (files.faults c.loop-self.files) (files.faults c.turn-in-loop-self.new.files)
-    inv.went.faults rose)
-    (subst (λ (x : Choices). StopsFor g.B.Bounds.most later s x (mid told) start now after name) (ap chosen inv.setup)
-    (subst (λ (x : Sources). StopsFor g.B.Bounds.most later x p (state x start here c.loop-self.self told) start now after name)
-    inv.went.sources
-    (h told))))) same stops
-
-pub returns-in_err-turn-2-clause-fault : goal.returns-in_err-turn-2-clause-fault
-returns-in_err-turn-2-clause-fault g c =
-    let f = g.F.Files in
-    let m = g.M.Sink in
+pub returns-then-has_ended-clause-went : goal.returns-then-has_ended-clause-went
+returns-then-has_ended-clause-went g c =
     let a = c.args.files.now in
-    let b = c.loop-self.files in
-    let d = c.turn-in-loop-self.new.files in
     let x = c.args.self.now.open_files in
-    let y = c.loop-self.self.open_files in
-    let z = c.turn-in-loop-self.new.self.open_files in
-    let inv = c.loop-self.invariant in
-    let later = Rose (m.failures c.loop-self.messages) (m.failures c.turn-in-loop-self.new.messages) in
-    let rose = Rose (m.failures c.args.messages.now) (m.failures c.turn-in-loop-self.new.messages) in
-    let told : IfErr c.turn-in-loop-self.result (λ fault. Caused fault (λ name. IsUnreadable f b d y z) later) =
-    c.turn-in-loop-self.ensures.fault in
-    let caused : IfErr c.from_residual-in_err-turn-2.result (λ fault. Caused fault (λ name. IsUnreadable f b d y z) later) = search rules in
-    if_caused_more c.from_residual-in_err-turn-2.result (λ name. IsUnreadable f b d y z) (λ name. IsUnreadable f a d x z) later rose
-    (λ name why. unreadable_then f a b d x y z inv.went why)
-    (λ r. rose_earlier (m.failures c.args.messages.now) (m.failures c.loop-self.messages) (m.failures c.turn-in-loop-self.new.messages)
-    inv.wrote.failures r) caused
+    went_as g.F.Files a a x x c.step_veneer.new.self.open_files c.step_veneer.ensures.files (went_none g.F.Files a x)
 
-pub returns-in_err-turn-clause-opened : goal.returns-in_err-turn-clause-opened
-returns-in_err-turn-clause-opened g c = λ honest start nested.
-    let files = g.F.Files in
-    let s = files.sources c.args.files.now in
-    let o = chosen c.args.self.now.setup in
-    let was = state s start (files.openings c.args.files.now) c.args.self.now in
-    let old = g.M.Sink.taken c.args.messages.now in
-    let going : ended c.args.self.now ≡ false = sym c.has_ended.ensures ∙ c.if-has_ended.false in
-    on_err c.from_residual.result
-    (opened_then g.B.Bounds.most s o zero was was old old (opened_since start (files.openings c.turn.new.files)) (λ told. going)
-    (writes_none g.B.Bounds.most s o was old)
-    (c.in_err-turn.ensures.opened honest start nested))
+pub returns-then-has_ended-clause-fits : goal.returns-then-has_ended-clause-fits
+returns-then-has_ended-clause-fits g c =
+    on_ok_weaker c.step_veneer.result (λ e. fit_none g.F.Files c.args.files.now c.args.self.now.open_files)
+    (c.step_veneer.ensures.ended (sym c.has_ended.ensures ∙ c.if-has_ended.true))
 
-pub returns-in_err-turn-2-clause-opened : goal.returns-in_err-turn-2-clause-opened
-returns-in_err-turn-2-clause-opened g c = λ honest start nested.
-    let files = g.F.Files in
-    let inv = c.loop-self.invariant in
-    let s = files.sources c.args.files.now in
-    let o = chosen c.args.self.now.setup in
-    let p = chosen c.loop-self.self.setup in
-    let open_still : parted c.loop-self.self ≡ false = sym c.has_parted.ensures ∙ c.loop-self-test.true in
-    let so_far = inv.led honest start nested in
-    let still = subst (λ b. IsTrue b) (sym inv.went.honesty) honest in
-    let here = files.openings c.loop-self.files in
-    let mid = state s start here c.loop-self.self in
-    let opened = opened_since start (files.openings c.turn-in-loop-self.new.files) in
-    let within : OpensWithin (turn g.B.Bounds.most s o) mid opened =
-    subst (λ (x : Choices). OpensWithin (turn g.B.Bounds.most s x) mid opened) (ap chosen inv.setup)
-    (subst (λ (x : Sources). OpensWithin (turn g.B.Bounds.most x p) (state x start here c.loop-self.self) opened) inv.went.sources
-    (c.in_err-turn-2.ensures.opened still start (inv.went.nested honest start nested))) in
-    on_err c.from_residual-in_err-turn-2.result
-    (opened_then g.B.Bounds.most s o (suc so_far.0) (state s start (files.openings c.args.files.now) c.args.self.now) mid
-    (g.M.Sink.taken c.args.messages.now) (g.M.Sink.taken c.loop-self.messages) opened
-    (λ told. still_going (mid told) open_still) so_far.1.1 within)
-
-pub returns-clause-bounded : goal.returns-clause-bounded
-returns-clause-bounded g c = λ bounded.
-    let inv = c.loop-self.invariant in
-    let going : ended c.args.self.now ≡ false = sym c.has_ended.ensures ∙ c.if-has_ended.false in
-    bounded_still c.args.self.now c.loop-self.self inv.setup inv.longest going bounded
-
-pub returns-clause-came : goal.returns-clause-came
-returns-clause-came g c =
-    let going : ended c.args.self.now ≡ false = sym c.has_ended.ensures ∙ c.if-has_ended.false in
-    c.came_to-2.ensures ∙ ap (λ b. came_to b c.loop-self.self) (sym going)
+pub returns-then-has_ended-clause-parted : goal.returns-then-has_ended-clause-parted
+returns-then-has_ended-clause-parted g c =
+    let t = c.step_veneer.new.self in
+    on_ok_weaker c.step_veneer.result
+    (λ (e : ended t ≡ true). ap (λ b. b || (is_between (reading t.progress.reader) && may_part t.conditionals)) e)
+    (c.step_veneer.ensures.ended (sym c.has_ended.ensures ∙ c.if-has_ended.true))
 
 pub returns-then-has_ended-clause-came : goal.returns-then-has_ended-clause-came
 returns-then-has_ended-clause-came g c =
-    let over : ended c.args.self.now ≡ true = sym c.has_ended.ensures ∙ c.if-has_ended.true in
-    c.came_to.ensures ∙ ap (λ b. came_to b c.args.self.now) (sym over)
+    let s = c.args.self.now in
+    subst (λ b. IfOk c.step_veneer.result (λ x. x ≡ came_to b c.step_veneer.new.self))
+    (sym (done_is s (sym c.has_ended.ensures ∙ c.if-has_ended.true))) c.step_veneer.ensures.came
 
-pub returns-in_err-turn-2-clause-wrote : goal.returns-in_err-turn-2-clause-wrote
-returns-in_err-turn-2-clause-wrote g c =
-    appends_then g.M.Sink c.args.messages.now c.loop-self.messages c.turn-in-loop-self.new.messages c.loop-self.invariant.wrote
-    c.turn-in-loop-self.ensures.wrote
+pub returns-then-has_ended-clause-ends : goal.returns-then-has_ended-clause-ends
+returns-then-has_ended-clause-ends g c =
+    let t = c.step_veneer.new.self in
+    if_ok_two c.step_veneer.result (λ x. (x ≡ step.More → ⊥) → is_none (next_of t) ≡ true) (λ x. ended t ≡ true)
+    (λ x. (x ≡ step.More → ⊥) → is_done t ≡ true) (λ x ends over more. done_by t over (ends more)) c.step_veneer.ensures.ends
+    (c.step_veneer.ensures.ended (sym c.has_ended.ensures ∙ c.if-has_ended.true))
+
+pub returns-then-has_ended-clause-again : goal.returns-then-has_ended-clause-again
+returns-then-has_ended-clause-again g c = λ done.
+    let again = c.step_veneer.ensures.again (sym (done_is c.args.self.now (sym c.has_ended.ensures ∙ c.if-has_ended.true)) ∙ done) in
+    (again.0, (again.1.0, (refl, again.1.1)))
+
+pub returns-then-has_ended-clause-bounded : goal.returns-then-has_ended-clause-bounded
+returns-then-has_ended-clause-bounded g c = λ bounded.
+    let s = c.args.self.now in
+    let t = c.step_veneer.new.self in
+    on_ok_weaker c.step_veneer.result
+    (λ few. veneer_bounded s t c.step_veneer.ensures.setup (λ before. few) (λ none. (c.step_veneer.ensures.again none).1.0) bounded)
+    (c.step_veneer.ensures.longest bounded.0)
+
+pub returns-then-has_ended-clause-falls : goal.returns-then-has_ended-clause-falls
+returns-then-has_ended-clause-falls g c =
+    let s = c.args.self.now in
+    let t = c.step_veneer.new.self in
+    let over : ended s ≡ true = sym c.has_ended.ensures ∙ c.if-has_ended.true in
+    if_ok_two c.step_veneer.result (λ x. ended t ≡ true)
+    (λ x. (is_none (next_of t) ≡ true) ⊎ ((s.passed < t.passed) × (t.passed ≤ most_texts)))
+    (λ x. (is_done t ≡ true) ⊎ (steps_left t < steps_left s)) (λ x e falls. veneer_falls s t over e falls)
+    (c.step_veneer.ensures.ended over) c.step_veneer.ensures.falls
+
+pub returns-then-has_ended-clause-fault : goal.returns-then-has_ended-clause-fault
+returns-then-has_ended-clause-fault g c =
+    let rose = Rose (g.M.Sink.failures c.args.messages.now) (g.M.Sink.failures c.step_veneer.new.messages) in
+    if_caused_more c.step_veneer.result (λ name. ⊥)
+    (λ name. IsUnreadable g.F.Files c.args.files.now c.args.files.now c.args.self.now.open_files c.step_veneer.new.self.open_files)
+    rose rose (λ name never. absurd never) (λ r. r) c.step_veneer.ensures.fault
+
+pub returns-clause-came : goal.returns-clause-came
+returns-clause-came g c =
+    let s = c.args.self.now in
+    let going : ended s ≡ false = sym c.has_ended.ensures ∙ c.if-has_ended.false in
+    subst (λ b. IfOk c.read_part.result (λ x. x ≡ came_to b c.read_part.new.self)) (going ∙ sym (going_is s going)) c.read_part.ensures.came
+
+pub returns-clause-ends : goal.returns-clause-ends
+returns-clause-ends g c =
+    let s = c.args.self.now in
+    let t = c.read_part.new.self in
+    let going : ended s ≡ false = sym c.has_ended.ensures ∙ c.if-has_ended.false in
+    if_ok_two c.read_part.result (λ x. x ≡ came_to (ended s) t) (λ x. (x ≡ step.More → ⊥) → ended t ≡ true)
+    (λ x. (x ≡ step.More → ⊥) → is_done t ≡ true)
+    (λ x came ends more. part_ends t x (came ∙ ap (λ b. came_to b t) going) more (ends more)) c.read_part.ensures.came
+    c.read_part.ensures.ends
+
+pub returns-clause-again : goal.returns-clause-again
+returns-clause-again g c = λ done.
+    let never : false ≡ true = sym (going_is c.args.self.now (sym c.has_ended.ensures ∙ c.if-has_ended.false)) ∙ done in cc
+
+pub returns-clause-falls : goal.returns-clause-falls
+returns-clause-falls g c =
+    on_ok_weaker c.read_part.result (part_falls c.args.self.now c.read_part.new.self (sym c.has_ended.ensures ∙ c.if-has_ended.false))
+    c.read_part.ensures.falls

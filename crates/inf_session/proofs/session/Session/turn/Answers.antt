@@ -178,7 +178,7 @@ returns-in_err-follow-clause-stops g c = λ honest start nested.
 pub returns-clause-longest : goal.returns-clause-longest
 returns-clause-longest g c = λ few.
     let most = most_quoted (chosen c.args.self.now.setup) in
-    let limit = c.requires.set.1 in
+    let limit = c.requires.set in
     subst (λ n. n ≤ most) (sym c.in_ok-follow.ensures.quoted)
     (subst (λ n. c.take_token.new.self.quoted ≤ n) limit
     (c.in_ok-take_token.ensures.longest (subst (λ n. c.args.self.now.quoted ≤ n) (sym limit) few)))

@@ -1,12 +1,13 @@
 use Rattle.std.proofs.Common.{◌≡◌, ◌≤◌, ◌⊎◌, IsTrue, inl, inr, List, false, length, ◌++◌, [], ◌∷◌, Err, Some, None, map, refl, reverse, sym}
 use Rattle.std.proofs.Common.{ap, subst, ◌∙◌}
+use Rattle.inf_characters.specs.declared.characters.CharSet.{CharSet}
 use Rattle.inf_files.specs.Files.{Openings, Rose}
 use Rattle.inf_lexer.specs.Entering.{Leaves}
 use Rattle.inf_lexer.specs.Names.{Nest, can_name, candidates, innermost_name}
 use Rattle.inf_lexer.specs.Readers.{Reader}
 use Rattle.inf_lexer.specs.declared.enter_faults.EnterFault.TheVariants as fault
 use Rattle.inf_sources.specs.Calls.{AskedTooMany, Honestly, Went}
-use Rattle.inf_sources.specs.Inclusions.{OpenedInVain, OpensTooMany, answer_of, inclusion, nested_by}
+use Rattle.inf_sources.specs.Inclusions.{OpenedInVain, Opens, OpensTooMany, answer_of, inclusion, nested_by}
 use Rattle.inf_sources.specs.declared.faults.IncludeFault.TheVariants as vain
 use Rattle.inf_sources.specs.Open.{Each, Fits, IsNested, Open, nesting, opened_since, waits}
 use Rattle.inf_sources.specs.declared.open_file.OpenFile.{OpenFile}
@@ -72,14 +73,16 @@ returns-in-Ok-clause-nesting g c = λ honest start nested.
     ∙ ap (λ v. c.reserve.new.self.items ++ waits c.self.inside.lexer v c.replace-in-Ok-2.result ∷ []) c.replace-in-Ok.ensures.value
     ∙ ap (λ b. c.reserve.new.self.items ++ waits c.self.inside.lexer c.args.conditionals.now b ∷ []) c.replace-in-Ok-2.ensures.value
     ∙ ap (λ fs. fs ++ waits c.self.inside.lexer c.args.conditionals.now c.args.is_system.now ∷ []) c.in_ok-reserve.ensures.items in
-    subst (λ (o : Open). IsNested start old o → nesting s start new after ≡ nested_by o.nest.set o.nest.limit s
+    subst (λ (o : Open). IsNested start old o → nesting s start new after ≡ nested_by o.lexer.set o.nest.limit s
     (reverse c.args.conditionals.now.items) c.args.is_system.now
     (inclusion s directories text (nesting s start old o)) (nesting s start old o)) c.self.view_is
     (λ n. entered_is s start old new before e.name c.enter.new.self c.replace.new.dest c.push_reserved.new.self.items
     c.args.conditionals.now c.args.is_system.now n
     (e.is_opened honest) e.is_entered.0
     (c.replace.ensures.after ∙ e.is_entered.1) outer
-    ∙ ap (λ i. nested_by before.nest.set before.nest.limit s (reverse c.args.conditionals.now.items) c.args.is_system.now i
+    ∙ ap (λ (set : CharSet). nested_by set before.nest.limit s (reverse c.args.conditionals.now.items) c.args.is_system.now
+    (Opens e.name) (nesting s start old before)) (sym c.self.invariant.1.0)
+    ∙ ap (λ i. nested_by before.lexer.set before.nest.limit s (reverse c.args.conditionals.now.items) c.args.is_system.now i
     (nesting s start old before))
     (sym (first_is s directories text start old before (Some e.name) n c.self.invariant.0 fit flat (e.is_first honest)))) nested
 
@@ -147,7 +150,7 @@ returns-in-Err-Absent-clause-nesting g c = λ honest start nested.
     (Err f)) c.in-Err-Absent.field-0-is (c.in-Err-Absent.ensures.leaves honest) in
     subst (λ (o : Open). IsNested start old o → nesting s start (files.openings c.enter.new.files)
     (record { nest = c.enter.new.self; lexer = c.self.inside.lexer; outer = c.reserve.new.self.items })
-    ≡ nested_by o.nest.set o.nest.limit s (reverse c.args.conditionals.now.items) c.args.is_system.now
+    ≡ nested_by o.lexer.set o.nest.limit s (reverse c.args.conditionals.now.items) c.args.is_system.now
     (inclusion s directories text (nesting s start old o)) (nesting s start old o)) c.self.view_is
     (λ n. ap (λ x. nesting s start x (record { nest = c.enter.new.self; lexer = c.self.inside.lexer; outer = c.reserve.new.self.items }))
     left.1
@@ -155,7 +158,7 @@ returns-in-Err-Absent-clause-nesting g c = λ honest start nested.
     c.in-Err-Absent.ensures.err
     ∙ ap (λ x. nesting s start old (record { nest = c.self.inside.names; lexer = c.self.inside.lexer; outer = x }))
     c.in_ok-reserve.ensures.items
-    ∙ ap (λ i. nested_by before.nest.set before.nest.limit s (reverse c.args.conditionals.now.items) c.args.is_system.now i
+    ∙ ap (λ i. nested_by before.lexer.set before.nest.limit s (reverse c.args.conditionals.now.items) c.args.is_system.now i
     (nesting s start old before))
     (sym (first_is s directories text start old before None n c.self.invariant.0 fit flat left.0))) nested
 
@@ -185,7 +188,7 @@ returns-in-Err-TooDeep-clause-nesting g c = λ honest start nested.
     let full = c.in-Err-TooDeep.ensures.full (ap (λ f. Err f) c.in-Err-TooDeep.field-0-is) in
     subst (λ (o : Open). IsNested start old o → nesting s start (files.openings c.enter.new.files)
     (record { nest = c.enter.new.self; lexer = c.self.inside.lexer; outer = c.reserve.new.self.items })
-    ≡ nested_by o.nest.set o.nest.limit s (reverse c.args.conditionals.now.items) c.args.is_system.now
+    ≡ nested_by o.lexer.set o.nest.limit s (reverse c.args.conditionals.now.items) c.args.is_system.now
     (inclusion s directories text (nesting s start old o)) (nesting s start old o)) c.self.view_is
     (λ n. ap (λ x. nesting s start x (record { nest = c.enter.new.self; lexer = c.self.inside.lexer; outer = c.reserve.new.self.items }))
     (ap files.openings (c.in-Err-TooDeep.ensures.too_deep (is_true (can_name text) fit) full).1)
@@ -193,7 +196,7 @@ returns-in-Err-TooDeep-clause-nesting g c = λ honest start nested.
     c.in-Err-TooDeep.ensures.err
     ∙ ap (λ x. nesting s start old (record { nest = c.self.inside.names; lexer = c.self.inside.lexer; outer = x }))
     c.in_ok-reserve.ensures.items
-    ∙ ap (λ i. nested_by before.nest.set before.nest.limit s (reverse c.args.conditionals.now.items) c.args.is_system.now i
+    ∙ ap (λ i. nested_by before.lexer.set before.nest.limit s (reverse c.args.conditionals.now.items) c.args.is_system.now i
     (nesting s start old before))
     (sym (deep_is s directories text start old before n c.self.invariant.0 fit full))) nested
 

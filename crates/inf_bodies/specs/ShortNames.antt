@@ -1,0 +1,52 @@
+-- The short names of objects and classes. Z-Machine Standard 1.1, section 12.4; Designer's Manual, fourth edition, section 3.1.
+use Rattle.std.specs.Prelude.{ℕ, List, [], ◌∷◌, ◌++◌, codes, Option, Some, None}
+use Rattle.inf_characters.specs.Reading.{text_of}
+use Rattle.inf_characters.specs.declared.characters.CharSet.{CharSet}
+use Rattle.inf_characters.specs.declared.reading.Mode.TheVariants as mode
+use Rattle.inf_characters.specs.declared.texts.TextItem.{TextItem}
+use Rattle.inf_names.specs.Spellings.{Name}
+use Rattle.inf_output.specs.Output.{Code}
+use Rattle.inf_output.specs.Texts.{Packing, used_in}
+use Rattle.inf_text.specs.Packing.{packed}
+use Rattle.inf_unit.specs.Texts.{fit_characters}
+use Rattle.inf_statements.specs.Printing.{text_at}
+use Rattle.inf_statements.specs.Statements.{text_packed}
+use Rattle.inf_compilation.specs.Context.{Context}
+use Rattle.inf_compilation.specs.Actions.{Compilation}
+use Rattle.inf_bodies.specs.declared.headers.Header.{Header}
+
+-- the bytes of a short name of these characters, by how the texts of the story are packed
+abbrev pub packed_name : Option (List TextItem) → Packing → List ℕ
+packed_name None texts = []
+packed_name (Some items) texts = packed items (used_in texts)
+
+-- what is laid behind it: a text was packed
+abbrev pub name_packed : Option (List TextItem) → Code
+name_packed None o = o
+name_packed (Some items) o = text_packed o
+
+-- a name in round brackets
+abbrev pub in_brackets : List ℕ → List ℕ
+in_brackets name = 40 ∷ (name ++ 41 ∷ [])
+
+-- the characters of the short name of what has no text for it
+abbrev pub bracketed : CharSet → List ℕ → Option (List TextItem)
+bracketed set name = fit_characters (text_of set mode.Text (in_brackets name))
+
+-- what has no name, either, is shown as a question mark
+abbrev pub shown_name : Option Name → List ℕ
+shown_name None = codes "?"
+shown_name (Some n) = n.bytes
+
+-- the characters of the text of a header, where it has one
+abbrev pub header_text : Context → Option ℕ → Compilation → Option (List TextItem)
+header_text context None w = None
+header_text context (Some at) w = text_at context.set w.unit.tokens at
+
+-- those of the short name of an object: its text, or its name in round brackets
+abbrev pub short_by : CharSet → Option (List TextItem) → Option Name → Option (List TextItem)
+short_by set None name = bracketed set (shown_name name)
+short_by set (Some items) name = Some items
+
+abbrev pub short_text : Context → Header → Option Name → Compilation → Option (List TextItem)
+short_text context h name w = short_by context.set (header_text context h.text w) name

@@ -1,0 +1,310 @@
+//! The directives `Abbreviate` and `Lowstring`.
+ghost use Rattle.std.specs.Prelude.{IfOk, OnOk, map, ◌≡◌};
+ghost use Rattle.inf_characters.specs.Reading.{text_of as read_in};
+ghost use Rattle.inf_text.specs.Declaring.{declared_number};
+ghost use Rattle.inf_text.specs.Packing.{packed};
+ghost use Rattle.inf_names.specs.Spellings.{as_name};
+ghost use Rattle.inf_compilation.specs.Context.{handed};
+ghost use Rattle.inf_compilation.specs.Meant.{found_as};
+ghost use Rattle.inf_compilation.specs.Works.{work};
+ghost use Rattle.inf_declarations.specs.Abbreviations.{abbreviate_header, abbreviation, abbreviation_added, abbreviation_ended};
+ghost use Rattle.inf_declarations.specs.Abbreviations.{abbreviation_findings, abbreviation_number, abbreviation_with};
+ghost use Rattle.inf_declarations.specs.Abbreviations.{has_most_abbreviations, low_added, low_named, low_named_by, low_string};
+ghost use Rattle.inf_declarations.specs.Abbreviations.{low_string_added, low_string_with, named_nothing, numbered, refused_number};
+ghost use Rattle.inf_declarations.specs.Abbreviations.{low_unless, text_declared};
+
+use crate::declarations::{Declared, end_declaration, plainly_known};
+use inf_compilation::compilation::Compilation;
+use inf_compilation::context::Context;
+use inf_compilation::findings::{
+    Findings, NO_ZSCII, NUMBER_OUT_OF_RANGE, TOO_MANY, UNKNOWN_ESCAPE, WRONG_ABBREVIATION,
+};
+use inf_expressions::Finding;
+use inf_lexer::Place;
+use inf_names::meanings::Meaning;
+use inf_names::spellings::Name;
+use inf_output::Output;
+use inf_report::messages::FixedLimit;
+use inf_settings::bounds::Bounds;
+use inf_settings::setting::Setting;
+use inf_text::{AbbrevFault, CharSet, Mode, Text, TextFault, pack, read_text};
+use std::alloc::{AllocError, Global};
+
+/// The most abbreviations: a story has three banks of 32, the first of which has the string variables (Z-Machine Standard 1.1,
+/// section 3.3).
+const MOST_ABBREVIATIONS: usize = 64;
+
+/// The characters of a text in a character set, or the number of the message about its first fault.
+fn read_numbered(
+    alloc: Global,
+    set: CharSet,
+    mode: Mode,
+    bytes: &[u8],
+) -> Result<Result<Text, u8>, AllocError>
+    ensures { IfOk result (λ text. text ≡ numbered (read_in set mode bytes.now)) }
+{
+    match read_text(alloc, bytes, set, mode) {
+        Ok(text) => Ok(Ok(text)),
+        Err(TextFault::BadCode) => Ok(Err(NUMBER_OUT_OF_RANGE)),
+        Err(TextFault::UnknownEscape) => Ok(Err(UNKNOWN_ESCAPE)),
+        Err(TextFault::NoZscii) => Ok(Err(NO_ZSCII)),
+        Err(TextFault::Memory) => Err(AllocError),
+    }
+}
+
+// Abbreviations
+
+/// Whether there are as many abbreviations as there may be.
+fn has_most_abbreviations<B: Bounds>(out: &Output<B>) -> bool
+    ensures { result ≡ has_most_abbreviations out.now }
+{
+    out.tables.low_strings.abbreviation_places().len() >= MOST_ABBREVIATIONS
+}
+
+/// Declares a text as an abbreviation, unless it is refused: then it answers the number of the message.
+fn declare_text<B: Bounds>(text: &Text, out: &mut Output<B>) -> Result<Option<u8>, AllocError>
+    ensures number { IfOk result (λ number. number ≡ refused_number (declared_number out.old.texts.declared text.now)) }
+    ensures declared { OnOk result (out.new
+        ≡ text_declared (refused_number (declared_number out.old.texts.declared text.now)) text.now out.old) }
+{
+    match out.texts.declare(text) {
+        Ok(_) => Ok(None),
+        Err(AbbrevFault::Full) => Ok(Some(TOO_MANY)),
+        Err(AbbrevFault::Repeated | AbbrevFault::TooShort) => Ok(Some(WRONG_ABBREVIATION)),
+        Err(AbbrevFault::Memory) => Err(AllocError),
+    }
+}
+
+/// Adds the low string of an abbreviation, which has these bytes. Where it would pass the limit it is not added, and the limit is passed.
+fn add_low<B: Bounds>(bytes: &[u8], out: &mut Output<B>) -> Result<(), AllocError>
+    ensures { OnOk result (out.new ≡ low_added B.most bytes.now out.old) }
+{
+    if !out.tables.low_strings.add_abbreviation(bytes)? {
+        out.pass_table(Setting::LowStrings);
+    }
+    Ok(())
+}
+
+/// Adds the low string of a text, unless it was refused. It is packed without abbreviations.
+fn add_unless<B: Bounds>(
+    alloc: Global,
+    refused: Option<u8>,
+    text: &Text,
+    out: &mut Output<B>,
+) -> Result<(), AllocError>
+    ensures { OnOk result (out.new ≡ low_unless B.most refused text.now out.old) }
+{
+    match refused {
+        Some(_) => Ok(()),
+        None => {
+            let bytes = pack(alloc, text, None)?;
+            add_low(bytes.as_slice(), out)
+        }
+    }
+}
+
+/// One more abbreviation, with its low string. Where it is refused it answers the number of the message.
+fn add_abbreviation<B: Bounds>(
+    alloc: Global,
+    text: &Text,
+    out: &mut Output<B>,
+) -> Result<Option<u8>, AllocError>
+    ensures number { IfOk result (λ number. number ≡ abbreviation_number text.now out.old) }
+    ensures added { OnOk result (out.new ≡ abbreviation_added B.most (abbreviation_number text.now out.old) text.now out.old) }
+{
+    if has_most_abbreviations(out) {
+        return Ok(Some(TOO_MANY));
+    }
+    if out.texts.is_late() {
+        return Ok(Some(WRONG_ABBREVIATION));
+    }
+    let refused = declare_text(text, out)?;
+    add_unless(alloc, refused, text, out)?;
+    Ok(refused)
+}
+
+/// Returns the findings about a text of `Abbreviate`: that with the message of `number`, if there is one.
+fn abbreviation_findings(number: Option<u8>) -> Findings
+    ensures { found_as result ≡ abbreviation_findings number }
+{
+    let least = match number {
+        Some(number) => Some(Finding { order: 0, number }),
+        None => None,
+    };
+    Findings {
+        least,
+        many: FixedLimit::Abbreviations,
+        again: None,
+    }
+}
+
+/// Ends a text of `Abbreviate`, which begins at `first`. The message of `number` is told of it, if there is one.
+fn end_abbreviation<B: Bounds>(
+    compilation: &mut Compilation<B>,
+    context: &Context<'_>,
+    first: Place,
+    number: Option<u8>,
+) -> Result<(), AllocError>
+    ensures { OnOk result (work compilation.new ≡ abbreviation_ended B.most (handed context.now) first number (work compilation.old)) }
+{
+    compilation.end_unit(context, first, false, &abbreviation_findings(number))
+}
+
+/// Declares `text`, a text of `Abbreviate` that begins at `first`, as an abbreviation, or tells the message of its number about a fault in
+/// it.
+fn abbreviate<B: Bounds>(
+    compilation: &mut Compilation<B>,
+    context: &Context<'_>,
+    first: Place,
+    text: Result<Text, u8>,
+) -> Result<(), AllocError>
+    ensures { OnOk result (work compilation.new ≡ abbreviation_with B.most (handed context.now) first text (work compilation.old)) }
+{
+    match text {
+        Err(number) => end_abbreviation(compilation, context, first, Some(number)),
+        Ok(text) => {
+            let number = add_abbreviation(compilation.alloc, &text, &mut compilation.output)?;
+            end_abbreviation(compilation, context, first, number)
+        }
+    }
+}
+
+/// Ends a text of `Abbreviate` before a token at `place`: declares it as an abbreviation, and adds its low string.
+///
+/// One error is told, at the text: the first fault in it, that there are 64 abbreviations, or that a text was packed before, that this one
+/// is declared, or that it is shorter than two characters. Then nothing is declared.
+pub fn abbreviation<B: Bounds>(
+    compilation: &mut Compilation<B>,
+    context: &Context<'_>,
+    place: Place,
+) -> Result<(), AllocError>
+    ensures { OnOk result (work compilation.new ≡ abbreviation B.most (handed context.now) place (work compilation.old)) }
+{
+    let first = compilation.unit.first_place(place);
+    let text = read_numbered(
+        compilation.alloc,
+        context.set,
+        Mode::Abbreviation,
+        compilation.unit.tokens.quoted(),
+    )?;
+    abbreviate(compilation, context, first, text)
+}
+
+/// Ends the word `Abbreviate`, which stands at `first` and with which nothing can be wrong.
+pub fn abbreviate_header<B: Bounds>(
+    compilation: &mut Compilation<B>,
+    context: &Context<'_>,
+    first: Place,
+) -> Result<(), AllocError>
+    ensures { OnOk result (work compilation.new ≡ abbreviate_header B.most (handed context.now) first (work compilation.old)) }
+{
+    compilation.end_unit(context, first, false, &Findings::none())
+}
+
+// Low strings
+
+/// Has `name` stand for 0.
+fn name_nothing<B: Bounds>(name: &Name, out: &mut Output<B>) -> Result<(), AllocError>
+    ensures { OnOk result (out.new ≡ named_nothing B.most (as_name name.now) out.old) }
+{
+    out.declare(name.bytes(), name.place, Meaning::Number(0))?;
+    Ok(())
+}
+
+/// Adds `text` as a low string, which is packed without abbreviations, and has `name` stand for it.
+fn name_low<B: Bounds>(
+    alloc: Global,
+    name: &Name,
+    text: &Text,
+    out: &mut Output<B>,
+) -> Result<(), AllocError>
+    ensures { OnOk result (out.new ≡ low_named B.most (as_name name.now) text.now out.old) }
+{
+    let place = out.tables.low_strings.len();
+    let packed = out.texts.pack_low(alloc, text)?;
+    out.low_string(packed.as_slice())?;
+    out.declare(name.bytes(), name.place, Meaning::LowString(place))?;
+    Ok(())
+}
+
+/// Has `name` stand for a new low string of `text`, or for 0 where a fault was found in the text.
+fn name_text<B: Bounds>(
+    alloc: Global,
+    name: &Name,
+    text: Result<Text, u8>,
+    out: &mut Output<B>,
+) -> Result<(), AllocError>
+    ensures { OnOk result (out.new ≡ low_named_by B.most (as_name name.now) text out.old) }
+{
+    match text {
+        Ok(text) => name_low(alloc, name, &text, out),
+        Err(_) => name_nothing(name, out),
+    }
+}
+
+/// Has `name` stand for a new low string of the unit's text, or for 0 where `found` is an error or the text has a fault.
+fn add_low_string<B: Bounds>(
+    compilation: &mut Compilation<B>,
+    context: &Context<'_>,
+    name: &Name,
+    found: Option<Finding>,
+) -> Result<(), AllocError>
+    ensures { let before = work compilation.old in OnOk result (work compilation.new ≡ record before {
+      output = low_string_added B.most (handed context.now).set found (as_name name.now) before.unit.tokens before.output;
+    }) }
+{
+    if found.is_some() {
+        return name_nothing(name, &mut compilation.output);
+    }
+    let text = read_numbered(
+        compilation.alloc,
+        context.set,
+        Mode::Text,
+        compilation.unit.tokens.quoted(),
+    )?;
+    name_text(compilation.alloc, name, text, &mut compilation.output)
+}
+
+/// Ends a `Lowstring`, which begins at `first` and declares `name`, of which `declared` is known.
+fn end_low_string<B: Bounds>(
+    compilation: &mut Compilation<B>,
+    context: &Context<'_>,
+    first: Place,
+    name: &Name,
+    declared: Declared,
+) -> Result<(), AllocError>
+    ensures { OnOk result (work compilation.new
+        ≡ low_string_with B.most (handed context.now) first (as_name name.now) declared (work compilation.old)) }
+{
+    add_low_string(compilation, context, name, declared.finding)?;
+    end_declaration(
+        compilation,
+        context,
+        first,
+        name,
+        FixedLimit::Values,
+        declared,
+    )
+}
+
+/// Declares the first of `names` as a constant that is the packed address of a new low string: that of the unit's text. Its directive
+/// begins at the place `first`.
+///
+/// That the name stands already is an error, told of the name: then there is no low string.
+pub fn low_string<B: Bounds>(
+    compilation: &mut Compilation<B>,
+    context: &Context<'_>,
+    first: Place,
+    names: &[Name],
+) -> Result<(), AllocError>
+    ensures { OnOk result (work compilation.new
+        ≡ low_string B.most (handed context.now) first (map as_name names.now) (work compilation.old)) }
+{
+    let Some(name) = names.first() else {
+        compilation.pass(true);
+        return Ok(());
+    };
+    let order = compilation.unit.tokens.name_order();
+    let declared = plainly_known(compilation, name, order);
+    end_low_string(compilation, context, first, name, declared)
+}

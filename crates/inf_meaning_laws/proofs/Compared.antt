@@ -1,0 +1,137 @@
+-- Tests, with one alternative or more.
+use Rattle.std.proofs.Common.{◌≡◌, ℕ, List, [], ◌∷◌, Option, Some, None, Bool, refl, ◌∙◌, ap, subst, true}
+use Rattle.std.specs.Prelude.{not, if◌then◌else◌, map}
+use Rattle.inf_settings.specs.Bounds.{Limits}
+use Rattle.inf_opcode.specs.declared.opcodes.Opcode.{Opcode}
+use Rattle.inf_expressions.specs.declared.operators.Operand.TheVariants as operand
+use Rattle.inf_output.specs.declared.operands.Simple.TheVariants.{Variable}
+use Rattle.inf_output.specs.Output.{to, ◌▸◌, instruction}
+use Rattle.inf_opcode.specs.declared.instructions.Label.{Label}
+use Rattle.inf_opcode.specs.declared.opcodes.Opcode.TheVariants as opcode
+use Rattle.inf_expressions.specs.declared.operators.Test.{Test}
+use Rattle.inf_expressions.specs.declared.operators.Test.TheVariants as test
+use Rattle.inf_expressions.specs.Numbers.{same, truth}
+use Rattle.inf_templates.specs.Parts.{Part, TEMP, is, evaluated, operands}
+use Rattle.inf_templates.specs.Meaning as code
+use Rattle.inf_output.specs.Operands.{written}
+use Rattle.inf_opcode.specs.Instructions.{Parts}
+use Rattle.inf_output.specs.declared.items.Item.TheVariants.{Instruction}
+use Rattle.inf_meaning_laws.specs.Values.{number, Worked, worked_all, Arg, settled_all, Reads}
+use Rattle.inf_meaning_laws.specs.Machine.{first_is_any, less, test_of_two, World, Store, Place, ◌then◌, and_first, action_of, branched}
+use Rattle.inf_meaning_laws.specs.Machine.{acted, Tests}
+use Rattle.inf_meaning_laws.specs.Values as values
+use Rattle.inf_meaning_laws.specs.Covered.{IsDirect}
+use Rattle.inf_meaning_laws.specs.Laws.{Branches, Comes, state, Claim, Kept}
+use Rattle.inf_meaning_laws.proofs.Laying.{Always, so, then_, nothing_, instruction_}
+use Rattle.inf_meaning_laws.proofs.Running.{none_some, opened, same_some, comes_then, stepping}
+use Rattle.inf_meaning_laws.proofs.Working.{AreParts, looks}
+use Rattle.inf_meaning_laws.proofs.Instructions.{same_not, moved, tested_of, tests_, goes}
+
+-- A branch of which the truth depends on what variable 255 has at the beginning
+abbrev pub BranchesBy : Bool → World → (ℕ → Store → Option (Bool × Store)) → Bool → Label → Claim
+BranchesBy keeps w truth sense label at from to =
+    (stack : List ℕ) (temp : ℕ) (s : Store) (b : Bool) (t : Store) → truth temp s ≡ Some (b, t) →
+    (left : ℕ) × Kept keeps temp left × Comes w at from (state stack temp s) (if same b sense then at label else to) (state stack left t)
+
+two_opposite : (h : ℕ → ℕ → Bool) (ns : List ℕ) (b : Bool) → test_of_two (λ x y. not (h x y)) ns ≡ Some b →
+    (c : Bool) × (test_of_two h ns ≡ Some c) × (not c ≡ b)
+two_opposite h [] b e = none_some e
+two_opposite h (x ∷ []) b e = none_some e
+two_opposite h (x ∷ y ∷ []) b e = (h x y, refl, same_some e)
+two_opposite h (x ∷ y ∷ z ∷ ns) b e = none_some e
+
+-- a test that is negated branches on the other sense
+opposite_tests : (keeps : Bool) (w : World) (h : ℕ → ℕ → Bool) (args : ℕ → List Arg) (label : Label) (sense : Bool) (at : Label → Place)
+    (from to : Place) → BranchesBy keeps w (λ temp. tested_of w (λ s. test_of_two h) (args temp)) (not sense) label at from to →
+    BranchesBy keeps w (λ temp. tested_of w (λ s. test_of_two (λ x y. not (h x y))) (args temp)) sense label at from to
+opposite_tests keeps w h args label sense at from to k stack temp s b t e =
+    let o = opened (values.values w (args temp) s) (λ p. test_of_two (λ x y. not (h x y)) p.0 then λ b. Some (b, p.1)) (b, t) e in
+    let q = opened (test_of_two (λ x y. not (h x y)) o.0.0) (λ b. Some (b, o.0.1)) (b, t) o.2 in
+    let c = two_opposite h o.0.0 q.0 q.1 in
+    let r = k stack temp s c.0 o.0.1
+    (ap (λ m. m then λ p. test_of_two h p.0 then λ b. Some (b, p.1)) o.1 ∙ ap (λ m. m then λ b. Some (b, o.0.1)) c.1) in (
+      r.0,
+      r.1,
+      subst (λ x. Comes w at from (state stack temp s) (if same x.0 sense then at label else to) (state stack r.0 x.1)) (same_some q.2)
+          (moved (ap (λ z. if z then at label else to) (same_not c.0 sense ∙ ap (λ z. same z sense) c.2)) r.2),
+    )
+
+-- What a test of some operands does follows from what each opcode of a test does with them.
+abbrev pub Instructs : Bool → World → Limits → List Part → (ℕ → List Arg) → Type 0
+Instructs keeps w limits ps args =
+    (op : Opcode) (g : Store → List ℕ → Option Bool) → action_of w op ≡ Tests g → (sense : Bool) (label : Label) →
+    Always (evaluated ps ▸ instruction limits op (operands ps) None (to sense label))
+    (BranchesBy keeps w (λ temp. tested_of w g (args temp)) sense label)
+
+pub instructed : (keeps : Bool) (w : World) (limits : Limits) (t : Test) → IsDirect t → (ps : List Part) (args : ℕ → List Arg) →
+    Instructs keeps w limits ps args → (sense : Bool) (label : Label) →
+    Always (code.tested limits t ps sense label) (BranchesBy keeps w (λ temp. values.tested w t (args temp)) sense label)
+instructed keeps w limits test.Equal d ps args h sense label = h opcode.Je (λ s. first_is_any) refl sense label
+instructed keeps w limits test.Less d ps args h sense label = h opcode.Jl (λ s. test_of_two (λ a b. less a b)) refl sense label
+instructed keeps w limits test.Greater d ps args h sense label = h opcode.Jg (λ s. test_of_two (λ a b. less b a)) refl sense label
+instructed keeps w limits test.AtMost d ps args h sense label =
+    so (opposite_tests keeps w (λ a b. less b a) args label sense) (h opcode.Jg (λ s. test_of_two (λ a b. less b a)) refl (not sense) label)
+instructed keeps w limits test.AtLeast d ps args h sense label =
+    so (opposite_tests keeps w (λ a b. less a b) args label sense) (h opcode.Jl (λ s. test_of_two (λ a b. less a b)) refl (not sense) label)
+instructed keeps w limits test.Has d ps args h sense label = h opcode.TestAttr (λ s. test_of_two (λ a b. w.has s a b)) refl sense label
+instructed keeps w limits test.In d ps args h sense label = h opcode.Jin (λ s. test_of_two (λ a b. w.inside s a b)) refl sense label
+instructed keeps w limits test.OfClass d ps args h sense label = absurd d
+instructed keeps w limits test.Provides d ps args h sense label = absurd d
+
+-- operands that are parts
+pub compares : {keeps : Bool} (w : World) (limits : Limits) (t : Test) → IsDirect t → (ps : List Part) (args : List Arg) →
+    AreParts keeps w ps args → (sense : Bool) (label : Label) →
+    Always (code.tested limits t ps sense label) (Branches keeps w (values.tested w t args) sense label)
+compares {keeps} w limits t d ps args h sense label =
+    instructed keeps w limits t d ps (λ temp. args) (λ op g act how l. tests_ w limits op g ps args act h how l) sense label
+
+-- Variable 255 as the first operand: it stands for the number that it has
+abbrev with_store : Store → List ℕ → Option (List ℕ × Store)
+with_store s ns = Some (ns, s)
+
+abbrev read_all : World → List Worked × Store → Option (List ℕ × Store)
+read_all w p = settled_all w p.0 p.1 then with_store p.1
+
+abbrev with_number : ℕ → List Worked × Store → Option (List Worked × Store)
+with_number n p = Some (Reads (operand.Known n) ∷ p.0, p.1)
+
+number_first : (w : World) (n : ℕ) (args : List Arg) (s : Store) (ns : List ℕ) (u : Store) →
+    values.values w (number n ∷ args) s ≡ Some (ns, u) → (ms : List ℕ) × (values.values w args s ≡ Some (ms, u)) × (n ∷ ms ≡ ns)
+number_first w n args s ns u e = by_worked (worked_all args s) e
+  where
+    by_settled : (m : Option (List ℕ)) (t : Store) → ((m then λ ms. Some (n ∷ ms)) then with_store t) ≡ Some (ns, u) →
+        (ms : List ℕ) × ((m then with_store t) ≡ Some (ms, u)) × (n ∷ ms ≡ ns)
+    by_settled None t f = none_some f
+    by_settled (Some ms) t f = (ms, ap (λ x. Some (ms, x.1)) (same_some f), ap (λ x. x.0) (same_some f))
+
+    by_worked : (m : Option (List Worked × Store)) → ((m then with_number n) then read_all w) ≡ Some (ns, u) →
+        (ms : List ℕ) × ((m then read_all w) ≡ Some (ms, u)) × (n ∷ ms ≡ ns)
+    by_worked None f = none_some f
+    by_worked (Some p) f = by_settled (settled_all w p.0 p.1) p.1 f
+
+pub kept_instructs : (w : World) (limits : Limits) (ps : List Part) (args : List Arg) → AreParts true w ps args →
+    Instructs true w limits (is (Variable TEMP) ∷ ps) (λ temp. number temp ∷ args)
+kept_instructs w limits ps args h op g act sense label =
+    so (λ at from rest p stack temp s b t e.
+    let o = opened (values.values w (number temp ∷ args) s) (λ p. g p.1 p.0 then λ b. Some (b, p.1)) (b, t) e in
+    let q = opened (g o.0.1 o.0.0) (λ b. Some (b, o.0.1)) (b, t) o.2 in
+    let f = number_first w temp args s o.0.0 o.0.1 o.1 in
+    let l = p.1.1 stack temp s f.0 o.0.1 f.1 in
+    let all = map written (operands (is (Variable TEMP) ∷ ps)) in
+    let item : Parts = record { opcode = op; operands = all; store = None; branch = to sense label; text = [] } in
+    let read = ap (and_first l.2.temp) l.4 ∙ ap (λ v. Some (v ∷ f.0, state stack l.0 o.0.1)) (l.3 ∙ l.1.same refl) in
+    let moves =
+    ap (λ a. acted w at a item rest l.2) act
+    ∙ ap (λ m. m then λ p. g p.1.store p.0 then λ b. branched (to sense label) b at rest p.1) read
+    ∙ ap (λ ms. g o.0.1 ms then λ b. branched (to sense label) b at rest (state stack l.0 o.0.1)) f.2
+    ∙ ap (λ m. m then λ b. branched (to sense label) b at rest (state stack l.0 o.0.1)) q.1
+    ∙ goes (same q.0 sense) label at rest (state stack l.0 o.0.1) in
+    let c = comes_then l.5 (stepping w at (Instruction item) p.1.0 rest l.2
+    (if same q.0 sense then at label else rest, state stack l.0 o.0.1) (p.1.2 ∙ p.2) moves) in (
+      l.0,
+      l.1,
+      subst (λ x. Comes w at from (state stack temp s) (if same x.0 sense then at label else rest) (state stack l.0 x.1))
+          (same_some q.2) c,
+    ))
+    (then_ (then_ (looks {keeps = true} w ps args h) nothing_) (instruction_ limits op (operands (is (Variable TEMP) ∷ ps)) None
+    (to sense label)))

@@ -1,0 +1,53 @@
+-- How many members a list has: as many parts of the code as parts of the tree.
+use Rattle.std.proofs.Common.{◌≡◌, ◌≤◌, ℕ, suc, Bool, true, refl, ◌∙◌, ap, sym, subst, arith}
+use Rattle.std.proofs.lemmas.Bool.{ltb-true}
+use Rattle.std.specs.Prelude.{length, nat_lt}
+use Rattle.inf_settings.specs.Bounds.{Limits}
+use Rattle.inf_expressions.specs.declared.operators.Unary.{Unary}
+use Rattle.inf_expressions.specs.declared.operators.Unary.TheVariants as unary
+use Rattle.inf_expressions.specs.declared.operators.Binary.TheVariants as binary
+use Rattle.inf_expressions.specs.Trees.{Tree, Leaf, One, Two}
+use Rattle.inf_templates.specs.Meaning.{Meaning, meaning, parts}
+use Rattle.inf_templates.specs.Meaning as code
+use Rattle.inf_meaning_laws.specs.Machine.{World}
+use Rattle.inf_meaning_laws.specs.Values.{args, sense}
+use Rattle.inf_meaning_laws.specs.Covered.{count}
+use Rattle.inf_meaning_laws.proofs.Meant.{Means}
+use Rattle.inf_meaning_laws.proofs.Groups.{same_length}
+
+one_others : (limits : Limits) (op : Unary) (m : Meaning) → suc (length (code.one limits op m).others) ≡ 1
+one_others limits unary.Negate m = refl
+one_others limits unary.Not m = refl
+one_others limits (unary.Single s) m = refl
+one_others limits (unary.Before s) m = refl
+one_others limits (unary.Behind s) m = refl
+one_others limits (unary.Relative r) m = refl
+one_others limits unary.Children m = refl
+one_others limits unary.Call m = refl
+one_others limits unary.Indirect m = refl
+
+pub counted : (limits : Limits) (t : Tree) → suc (length (meaning limits t).others) ≡ count t
+counted limits (Leaf x) = refl
+counted limits (One op a) = one_others limits op (meaning limits a)
+counted limits (Two (binary.Operation o) a b) = refl
+counted limits (Two (binary.Property p) a b) = refl
+counted limits (Two (binary.Test t) a b) = refl
+counted limits (Two (binary.Fails t) a b) = refl
+counted limits (Two binary.Assign a b) = refl
+counted limits (Two binary.Comma a b) = refl
+counted limits (Two binary.And a b) = refl
+counted limits (Two binary.Or a b) = refl
+counted limits (Two binary.Call a b) = refl
+counted limits (Two binary.Then a b) = ap suc (counted limits b)
+counted limits (Two binary.To a b) = refl
+
+pub few_of : (limits : Limits) (t : Tree) (n : ℕ) → count t ≤ n → suc (length (meaning limits t).others) ≤ n
+few_of limits t n h = subst (λ k. k ≤ n) (sym (counted limits t)) h
+
+-- no more than a number of members are not more than it
+pub none_more : {keeps : Bool} {B : Type 0} (w : World) (limits : Limits) (t : Tree) → Means keeps w limits (meaning limits t) (sense w t) →
+    (n : ℕ) → count t ≤ n → nat_lt n (length (args (sense w t))) ≡ true → B
+none_more {keeps} {B} w limits t h n few more =
+    let long = same_length keeps w (parts (meaning limits t)) (args (sense w t)) (h.first, h.others) ∙ counted limits t in
+    let over = ltb-true n (length (args (sense w t))) more in
+    absurd (omega (arith, few, long, over))

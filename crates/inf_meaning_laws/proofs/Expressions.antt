@@ -1,0 +1,204 @@
+-- The laws of expressions, by induction on their trees.
+use Rattle.std.proofs.Common.{arith, [], ◌∷◌, Some, refl, ◌≡◌, ℕ, List, None, Bool, true, false, sym, subst, inl, inr}
+use Rattle.std.specs.Prelude.{not, nat_lt, length}
+use Rattle.inf_settings.specs.Bounds.{Limits}
+use Rattle.inf_output.specs.Output.{to, marked, ◌▸◌}
+use Rattle.inf_opcode.specs.declared.instructions.Label.{Label}
+use Rattle.inf_opcode.specs.declared.opcodes.Opcode.TheVariants as opcode
+use Rattle.inf_expressions.specs.declared.operators.Operand.TheVariants as operand
+use Rattle.inf_expressions.specs.declared.operators.Operation.TheVariants as operation
+use Rattle.inf_expressions.specs.declared.operators.Single.TheVariants as single
+use Rattle.inf_expressions.specs.declared.operators.Unary.{Unary}
+use Rattle.inf_expressions.specs.declared.operators.Unary.TheVariants as unary
+use Rattle.inf_expressions.specs.declared.operators.Binary.{Binary}
+use Rattle.inf_expressions.specs.declared.operators.Binary.TheVariants as binary
+use Rattle.inf_expressions.specs.Trees.{Tree, Leaf, One, Two}
+use Rattle.inf_output.specs.declared.operands.Simple.TheVariants.{Known}
+use Rattle.inf_templates.specs.Parts.{is, Part, worked}
+use Rattle.inf_templates.specs.Meaning.{meaning, part, parts, Meaning}
+use Rattle.inf_templates.specs.Meaning as code
+use Rattle.inf_expressions.specs.declared.operators.Relative.{Relative}
+use Rattle.inf_expressions.specs.declared.operators.Relative.TheVariants as relative
+use Rattle.inf_expressions.specs.declared.operators.Test.{Test}
+use Rattle.inf_meaning_laws.specs.Machine.{World}
+use Rattle.inf_meaning_laws.specs.Values.{Arg, Sense, Bytes, Words, arg, number, opposite, sense, together}
+use Rattle.inf_meaning_laws.specs.Values as values
+use Rattle.inf_meaning_laws.specs.Covered.{Covered, CoversOne, CoversTwo, Fits, IsLeaf, IsDirect}
+use Rattle.inf_meaning_laws.specs.Laws.{BranchesAreTaken, EffectsAreDone, ValuesAreComputed, GivesValue, Branches}
+use Rattle.inf_meaning_laws.proofs.Laying.{so, Always, labelled}
+use Rattle.inf_meaning_laws.proofs.Instructions.{opposed, computed_of, finds_, drawn_value, draws_}
+use Rattle.inf_meaning_laws.proofs.Assigned.{assign_means, element_means, before_means, behind_means}
+use Rattle.inf_meaning_laws.proofs.Counting.{few_of, none_more}
+use Rattle.inf_meaning_laws.proofs.Conditions.{then_means, comma_means, not_means, and_branches, or_branches}
+use Rattle.inf_meaning_laws.proofs.Meant.{part_of, simple_part, leaf_means, condition_means, computed_means, operation_means, Means}
+use Rattle.inf_meaning_laws.proofs.Meant.{no_leaf, stored_means}
+use Rattle.inf_meaning_laws.proofs.Called.{calls_means, call_of_means}
+use Rattle.inf_meaning_laws.proofs.Groups.{test_means}
+use Rattle.inf_meaning_laws.proofs.Working.{AreParts}
+
+-- where a law speaks of an expression that keeps nothing
+unkept : {keeps : Bool} (w : World) (limits : Limits) (m : Meaning) (e : Sense) → keeps ≡ false → Means false w limits m e →
+    Means keeps w limits m e
+unkept {keeps} w limits m e none h = subst (λ k. Means k w limits m e) (sym none) h
+
+relative_acts : {keeps : Bool} (w : World) (how : Relative) (limits : Limits) (ps : List Part) (args : List Arg) →
+    AreParts keeps w ps args →
+    (d : ℕ) (next : Label) → Always (worked limits (code.related_opcode how) ps (Some d) (to true next) ▸ marked limits next)
+    (GivesValue keeps w (computed_of w (values.relative_of w how) args) d)
+relative_acts {keeps} w relative.Child limits ps args h d next =
+    finds_ {keeps = keeps} w limits opcode.GetChild w.child ps args refl h d next
+relative_acts {keeps} w relative.Sibling limits ps args h d next =
+    finds_ {keeps = keeps} w limits opcode.GetSibling w.sibling ps args refl h d next
+
+relative_means : {keeps : Bool} (w : World) (limits : Limits) (how : Relative) (m : Meaning) (a : Sense) → Means keeps w limits m a →
+    Means keeps w limits (code.one limits (unary.Relative how) m) (values.one w (unary.Relative how) a)
+unfolding code.related
+relative_means {keeps} w limits how m a h =
+    stored_means {keeps = keeps} w limits (computed_of w (values.relative_of w how) (arg a ∷ [])) (code.related limits
+    (code.related_opcode how) (part m))
+    (λ d. labelled λ next. relative_acts {keeps = keeps} w how limits (part m ∷ []) (arg a ∷ []) (part_of w limits m a h, tt) d next)
+
+one_means : {keeps : Bool} (w : World) (limits : Limits) (op : Unary) (a : Tree) → CoversOne keeps op a →
+    Means keeps w limits (meaning limits a) (sense w a) →
+    Means keeps w limits (code.one limits op (meaning limits a)) (values.one w op (sense w a))
+one_means {keeps} w limits unary.Negate a h k =
+    computed_means {keeps = keeps} w limits opcode.Sub (values.operation_of operation.Subtract) (is (Known 0) ∷ part
+    (meaning limits a) ∷ [])
+    (number 0 ∷ arg (sense w a) ∷ []) refl
+    (simple_part {keeps = keeps} w (operand.Known 0) (λ s. Some (0, s)), (part_of w limits (meaning limits a) (sense w a) k, tt))
+one_means {keeps} w limits unary.Not a h k = not_means {keeps = keeps} w limits (meaning limits a) (sense w a) k
+one_means {keeps} w limits (unary.Single single.Complement) a h k =
+    computed_means {keeps = keeps} w limits opcode.Not (values.single_of w single.Complement) (part (meaning limits a) ∷ []) (arg
+    (sense w a) ∷ []) refl
+    (part_of w limits (meaning limits a) (sense w a) k, tt)
+one_means {keeps} w limits (unary.Single single.Parent) a h k =
+    computed_means {keeps = keeps} w limits opcode.GetParent (values.single_of w single.Parent) (part (meaning limits a) ∷ []) (arg
+    (sense w a) ∷ []) refl
+    (part_of w limits (meaning limits a) (sense w a) k, tt)
+one_means {keeps} w limits (unary.Single single.Random) a h k =
+    stored_means {keeps = keeps} w limits (drawn_value w (arg (sense w a) ∷ [])) (λ d. worked limits opcode.Random (part
+    (meaning limits a) ∷ []) (Some d) None)
+    (draws_ {keeps = keeps} w limits (part (meaning limits a) ∷ []) (arg (sense w a) ∷ []) (
+      part_of w limits (meaning limits a)
+          (sense w a) k,
+      tt,
+    ))
+one_means {keeps} w limits (unary.Before how) (Leaf x) h k = before_means {keeps = keeps} w limits how x
+one_means w limits (unary.Before how) (One op a) h k = absurd h
+one_means w limits (unary.Before how) (Two op a b) h k = absurd h
+one_means {keeps} w limits (unary.Behind how) (Leaf x) h k = behind_means {keeps = keeps} w limits how x
+one_means w limits (unary.Behind how) (One op a) h k = absurd h
+one_means w limits (unary.Behind how) (Two op a b) h k = absurd h
+one_means {keeps} w limits (unary.Relative how) a h k = relative_means {keeps = keeps} w limits how (meaning limits a) (sense w a) k
+one_means w limits unary.Children a h k = absurd h
+one_means {keeps} w limits unary.Call a h k =
+    unkept {keeps = keeps} w limits (code.one limits unary.Call (meaning limits a)) (values.one w unary.Call (sense w a)) h.0
+    (call_of_means keeps w limits a h.1 [] (arg (sense w a) ∷ []) (part_of w limits (meaning limits a) (sense w a) k, tt) (omega arith))
+one_means {keeps} w limits unary.Indirect a h k =
+    unkept {keeps = keeps} w limits (code.one limits unary.Indirect (meaning limits a)) (values.one w unary.Indirect (sense w a)) h.0
+    (calls_means keeps w limits (meaning limits a).first (meaning limits a).others (values.args (sense w a)) (k.first, k.others)
+    (let few = few_of limits a 8 h.1 in omega (arith, few)))
+
+-- assignments to a variable, and to an element of an array
+assigned_means : {keeps : Bool} (w : World) (limits : Limits) (v b : Tree) (AreKept : Type 0) → CoversTwo keeps binary.Assign v b AreKept →
+    Means keeps w limits (meaning limits v) (sense w v) → Means keeps w limits (meaning limits b) (sense w b) →
+    Means keeps w limits (code.two limits binary.Assign (meaning limits v) (meaning limits b)) (values.two w binary.Assign (sense w v)
+    (sense w b))
+assigned_means {keeps} w limits (Leaf x) b kept h k l = assign_means {keeps = keeps} w limits x (meaning limits b) (sense w b) l
+assigned_means w limits (One op a) b kept h k l = absurd h
+assigned_means w limits (Two (binary.Operation operation.Add) a c) b kept h k l = absurd h
+assigned_means w limits (Two (binary.Operation operation.Subtract) a c) b kept h k l = absurd h
+assigned_means w limits (Two (binary.Operation operation.Multiply) a c) b kept h k l = absurd h
+assigned_means w limits (Two (binary.Operation operation.Divide) a c) b kept h k l = absurd h
+assigned_means w limits (Two (binary.Operation operation.Remainder) a c) b kept h k l = absurd h
+assigned_means w limits (Two (binary.Operation operation.BitAnd) a c) b kept h k l = absurd h
+assigned_means w limits (Two (binary.Operation operation.BitOr) a c) b kept h k l = absurd h
+assigned_means {keeps} w limits (Two (binary.Operation operation.Byte) a c) b kept h k l =
+    element_means {keeps = keeps} w limits Bytes (code.two limits (binary.Operation operation.Byte) (meaning limits a) (meaning limits c))
+    (sense w (Two (binary.Operation operation.Byte) a c)) (arg (sense w a) ∷ arg (sense w c) ∷ []) refl (meaning limits b) (sense w b) k l
+assigned_means {keeps} w limits (Two (binary.Operation operation.Word) a c) b kept h k l =
+    element_means {keeps = keeps} w limits Words (code.two limits (binary.Operation operation.Word) (meaning limits a) (meaning limits c))
+    (sense w (Two (binary.Operation operation.Word) a c)) (arg (sense w a) ∷ arg (sense w c) ∷ []) refl (meaning limits b) (sense w b) k l
+assigned_means w limits (Two (binary.Property p) a c) b kept h k l = absurd h
+assigned_means w limits (Two (binary.Test t) a c) b kept h k l = absurd h
+assigned_means w limits (Two (binary.Fails t) a c) b kept h k l = absurd h
+assigned_means w limits (Two binary.Assign a c) b kept h k l = absurd h
+assigned_means w limits (Two binary.Comma a c) b kept h k l = absurd h
+assigned_means w limits (Two binary.And a c) b kept h k l = absurd h
+assigned_means w limits (Two binary.Or a c) b kept h k l = absurd h
+assigned_means w limits (Two binary.Call a c) b kept h k l = absurd h
+assigned_means w limits (Two binary.Then a c) b kept h k l = absurd h
+assigned_means w limits (Two binary.To a c) b kept h k l = absurd h
+
+-- alternatives, which keep variable 255 where a value waits in it
+leaf_has_none : {B : Type 0} (w : World) (a : Tree) → IsLeaf a → (sense w a).leaf ≡ None → B
+leaf_has_none w (Leaf x) h e = no_leaf e
+leaf_has_none w (One op a) h e = absurd h
+leaf_has_none w (Two op a b) h e = absurd h
+
+fitting_means : {keeps : Bool} (w : World) (limits : Limits) (t : Test) (a b : Tree) → IsDirect t → Fits keeps t a b (Covered true b) →
+    Means keeps w limits (meaning limits a) (sense w a) → Means keeps w limits (meaning limits b) (sense w b) →
+    (Covered true b → Means true w limits (meaning limits b) (sense w b)) → (how : Bool) (label : Label) →
+    Always (code.test_branch limits t (meaning limits a) (meaning limits b) how label)
+    (Branches keeps w (values.compared w t (sense w a).leaf (sense w a) (values.args (sense w b))) how label)
+fitting_means {keeps} w limits t a b d fits k l kept how label =
+    test_means {keeps = keeps} w limits t d (meaning limits a) (meaning limits b) (sense w a) (sense w b) k l (calm fits) how label
+  where
+    calm : Fits keeps t a b (Covered true b) → (sense w a).leaf ≡ None → nat_lt (together t) (length (values.args (sense w b))) ≡ true →
+        (keeps ≡ false) × Means true w limits (meaning limits b) (sense w b)
+    calm (inl few) none more = none_more {keeps = keeps} w limits b l (together t) few more
+    calm (inr (inl leaf)) none more = leaf_has_none w a leaf none
+    calm (inr (inr c)) none more = (c.0, kept c.1)
+
+two_means : {keeps : Bool} (w : World) (limits : Limits) (op : Binary) (a b : Tree) → CoversTwo keeps op a b (Covered true b) →
+    Means keeps w limits (meaning limits a) (sense w a) → Means keeps w limits (meaning limits b) (sense w b) →
+    (Covered true b → Means true w limits (meaning limits b) (sense w b)) →
+    Means keeps w limits (code.two limits op (meaning limits a) (meaning limits b)) (values.two w op (sense w a) (sense w b))
+two_means {keeps} w limits (binary.Operation o) a b h k l kept =
+    operation_means {keeps = keeps} w limits o (meaning limits a) (meaning limits b) (sense w a) (sense w b) k l
+two_means w limits (binary.Property p) a b h k l kept = absurd h
+two_means {keeps} w limits (binary.Test t) a b h k l kept =
+    condition_means {keeps = keeps} w limits (values.compared w t (sense w a).leaf (sense w a) (values.args (sense w b)))
+    (code.test_branch limits t (meaning limits a) (meaning limits b)) (fitting_means {keeps = keeps} w limits t a b h.0 h.1 k l kept)
+two_means {keeps} w limits (binary.Fails t) a b h k l kept =
+    let holds = values.compared w t (sense w a).leaf (sense w a) (values.args (sense w b)) in
+    condition_means {keeps = keeps} w limits (opposite holds) (λ how label. code.test_branch limits t (meaning limits a)
+    (meaning limits b) (not how) label)
+    (λ how label. so (opposed {keeps = keeps} w holds how label) (fitting_means {keeps = keeps} w limits t a b h.0 h.1 k l kept
+    (not how) label))
+two_means {keeps} w limits binary.Assign a b h k l kept = assigned_means {keeps = keeps} w limits a b (Covered true b) h k l
+two_means {keeps} w limits binary.Comma a b h k l kept =
+    unkept {keeps = keeps} w limits (code.two limits binary.Comma (meaning limits a) (meaning limits b)) (values.two w binary.Comma
+    (sense w a) (sense w b)) h
+    (comma_means w limits (meaning limits a) (meaning limits b) (sense w a) (sense w b) k l)
+two_means {keeps} w limits binary.And a b h k l kept =
+    condition_means {keeps = keeps} w limits (values.both (sense w a).truth (sense w b).truth) (code.and_branch limits (meaning limits a)
+    (meaning limits b))
+    (and_branches {keeps = keeps} w limits (meaning limits a) (meaning limits b) (sense w a) (sense w b) k l)
+two_means {keeps} w limits binary.Or a b h k l kept =
+    condition_means {keeps = keeps} w limits (values.either (sense w a).truth (sense w b).truth) (code.or_branch limits (meaning limits a)
+    (meaning limits b))
+    (or_branches {keeps = keeps} w limits (meaning limits a) (meaning limits b) (sense w a) (sense w b) k l)
+two_means {keeps} w limits binary.Call a b h k l kept =
+    unkept {keeps = keeps} w limits (code.two limits binary.Call (meaning limits a) (meaning limits b)) (values.two w binary.Call
+    (sense w a) (sense w b)) h.0
+    (call_of_means keeps w limits a h.1 (parts (meaning limits b)) (arg (sense w a) ∷ values.args (sense w b))
+    (part_of w limits (meaning limits a) (sense w a) k, (l.first, l.others)) (few_of limits b 7 h.2))
+two_means {keeps} w limits binary.Then a b h k l kept =
+    then_means {keeps = keeps} w limits (meaning limits a) (meaning limits b) (sense w a) (sense w b) k l
+two_means w limits binary.To a b h k l kept = absurd h
+
+means : (keeps : Bool) (w : World) (limits : Limits) (t : Tree) → Covered keeps t → Means keeps w limits (meaning limits t) (sense w t)
+means keeps w limits (Leaf x) h = leaf_means {keeps = keeps} w limits x
+means keeps w limits (One op a) h = one_means {keeps = keeps} w limits op a h.0 (means keeps w limits a h.1)
+means keeps w limits (Two op a b) h =
+    two_means {keeps = keeps} w limits op a b h.0 (means keeps w limits a h.1) (means keeps w limits b h.2) (λ c. means true w limits b c)
+
+pub values_are_computed : ValuesAreComputed
+values_are_computed keeps w limits t h d = (means keeps w limits t h).value d
+
+pub effects_are_done : EffectsAreDone
+effects_are_done keeps w limits t h = (means keeps w limits t h).alone
+
+pub branches_are_taken : BranchesAreTaken
+branches_are_taken keeps w limits t h sense label = (means keeps w limits t h).branch sense label

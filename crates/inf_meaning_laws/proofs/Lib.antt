@@ -1,0 +1,16 @@
+mod Assigned
+mod Called
+mod Compared
+mod Conditions
+mod Counting
+mod Examples
+mod Expressions
+mod Groups
+mod Instructions
+mod Laying
+mod Meant
+mod OwnRows
+mod Owning
+mod Programs
+mod Running
+mod Working

@@ -1,0 +1,67 @@
+-- Which expressions the laws speak of, and which of these keep variable 255: they neither call a routine nor store a value in it.
+use Rattle.std.specs.Prelude.{◌≡◌, ℕ, suc, ◌≤◌, ◌⊎◌, Bool, true, false}
+use Rattle.inf_expressions.specs.declared.operators.Operation.TheVariants as operation
+use Rattle.inf_expressions.specs.declared.operators.PropertyPart.TheVariants as property
+use Rattle.inf_expressions.specs.declared.operators.Test.{Test}
+use Rattle.inf_expressions.specs.declared.operators.Test.TheVariants as test
+use Rattle.inf_expressions.specs.declared.operators.Unary.{Unary}
+use Rattle.inf_expressions.specs.declared.operators.Unary.TheVariants as unary
+use Rattle.inf_expressions.specs.declared.operators.Binary.{Binary}
+use Rattle.inf_expressions.specs.declared.operators.Binary.TheVariants as binary
+use Rattle.inf_expressions.specs.Trees.{Tree, Leaf, One, Two}
+use Rattle.inf_meaning_laws.specs.Values.{together}
+
+-- how many members a list has
+abbrev pub count : Tree → ℕ
+count (Two binary.Then a b) = suc (count b)
+count b = 1
+
+-- What is called is a value. Where it is a property, the call is a message, which a supplied routine sends.
+abbrev pub IsCalled : Tree → Type 0
+IsCalled (Two (binary.Property property.Value) a b) = ⊥
+IsCalled f = Unit {0}
+
+-- `x++` and the like of a variable alone; calls keep nothing
+abbrev pub CoversOne : Bool → Unary → Tree → Type 0
+CoversOne keeps (unary.Before s) (Leaf x) = Unit {0}
+CoversOne keeps (unary.Before s) a = ⊥
+CoversOne keeps (unary.Behind s) (Leaf x) = Unit {0}
+CoversOne keeps (unary.Behind s) a = ⊥
+CoversOne keeps unary.Children a = ⊥
+CoversOne keeps unary.Call f = (keeps ≡ false) × IsCalled f
+CoversOne keeps unary.Indirect list = (keeps ≡ false) × (count list ≤ 8)
+CoversOne keeps op a = Unit {0}
+
+-- what an instruction tests, without a supplied routine
+abbrev pub IsDirect : Test → Type 0
+IsDirect test.OfClass = ⊥
+IsDirect test.Provides = ⊥
+IsDirect t = Unit {0}
+
+abbrev pub IsLeaf : Tree → Type 0
+IsLeaf (Leaf x) = Unit {0}
+IsLeaf a = ⊥
+
+-- Alternatives: as many as are worked out together, or of a leaf. Another value waits in variable 255, which all alternatives have to
+-- keep.
+abbrev pub Fits : Bool → Test → Tree → Tree → Type 0 → Type 0
+Fits keeps t a b AreKept = (count b ≤ together t) ⊎ (IsLeaf a ⊎ ((keeps ≡ false) × AreKept))
+
+abbrev pub CoversTwo : Bool → Binary → Tree → Tree → Type 0 → Type 0
+CoversTwo keeps (binary.Operation o) a b AreKept = Unit {0}
+CoversTwo keeps (binary.Test t) a b AreKept = IsDirect t × Fits keeps t a b AreKept
+CoversTwo keeps (binary.Fails t) a b AreKept = IsDirect t × Fits keeps t a b AreKept
+CoversTwo keeps binary.Assign (Leaf x) b AreKept = Unit {0}
+CoversTwo keeps binary.Assign (Two (binary.Operation operation.Byte) a i) b AreKept = Unit {0}
+CoversTwo keeps binary.Assign (Two (binary.Operation operation.Word) a i) b AreKept = Unit {0}
+CoversTwo keeps binary.Comma a b AreKept = keeps ≡ false
+CoversTwo keeps binary.And a b AreKept = Unit {0}
+CoversTwo keeps binary.Or a b AreKept = Unit {0}
+CoversTwo keeps binary.Then a b AreKept = Unit {0}
+CoversTwo keeps binary.Call f b AreKept = (keeps ≡ false) × IsCalled f × (count b ≤ 7)
+CoversTwo keeps _ a b AreKept = ⊥
+
+abbrev pub Covered : Bool → Tree → Type 0
+Covered keeps (Leaf x) = Unit {0}
+Covered keeps (One op a) = CoversOne keeps op a × Covered keeps a
+Covered keeps (Two op a b) = CoversTwo keeps op a b (Covered true b) × Covered keeps a × Covered keeps b

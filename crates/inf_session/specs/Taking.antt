@@ -1,0 +1,59 @@
+-- What a token does that was read.
+use Rattle.std.specs.Prelude.{ℕ, List, length, nat_lt, is_none, Bool, ◌&&◌, ◌||◌, if◌then◌else◌}
+use Rattle.inf_settings.specs.Bounds.{Limits}
+use Rattle.inf_scanner.specs.declared.tokens.BadToken.TheVariants as bad
+use Rattle.inf_scanner.specs.declared.tokens.Place.{Place}
+use Rattle.inf_scanner.specs.declared.tokens.TokenKind.{TokenKind}
+use Rattle.inf_scanner.specs.declared.tokens.TokenKind.TheVariants as kind
+use Rattle.inf_unit.specs.Tokens.{SourceToken}
+use Rattle.inf_compilation.specs.Actions.{Compilation, is_class}
+use Rattle.inf_compilation.specs.Context.{Context}
+use Rattle.inf_conditionals.specs.Judging.{judged}
+use Rattle.inf_conditionals.specs.Open.{Conditions, silent}
+use Rattle.inf_conditionals.specs.declared.filtered.Filtered.{Filtered}
+use Rattle.inf_conditionals.specs.declared.filtered.Site.{Site}
+use Rattle.inf_reader.specs.Handing.{judged_taken, said_told, site_of}
+use Rattle.inf_reader.specs.Reading.{ReaderState}
+
+-- a token that comes to a place of the reading: at the front of a piece a name may be that of a class
+abbrev pub token_at : Bool → TokenKind → List ℕ → Place → Compilation → SourceToken
+token_at is_between kind bytes place w =
+    record { kind = kind; bytes = bytes; place = place; is_class = is_between && is_class kind bytes w }
+
+-- how many bytes stand between the quotes of a token that has such: of one that is too long as many as it may have
+abbrev pub quoted_of_kind : TokenKind → List ℕ → ℕ
+quoted_of_kind kind.Text bytes = length bytes
+quoted_of_kind (kind.Char c) bytes = length bytes
+quoted_of_kind (kind.Word w) bytes = length bytes
+quoted_of_kind (kind.Bad bad.Unclosed) bytes = length bytes
+quoted_of_kind (kind.Bad bad.EmptyQuote) bytes = length bytes
+quoted_of_kind (kind.Bad bad.UnknownEscape) bytes = length bytes
+quoted_of_kind (kind.Bad bad.NoZscii) bytes = length bytes
+quoted_of_kind (kind.Bad bad.BadCode) bytes = length bytes
+quoted_of_kind (kind.Bad bad.TooLong) bytes = length bytes
+quoted_of_kind _ bytes = 0
+
+abbrev pub quoted_bytes : SourceToken → ℕ
+quoted_bytes t = quoted_of_kind t.kind t.bytes
+
+-- those of the longest one behind a token: one that is not handed on, or passed over behind a bad one, is not among them
+abbrev pub quoted_behind : Site → Filtered → SourceToken → ℕ → ℕ
+quoted_behind site j t quoted =
+    if site.is_quiet || is_none j.token then quoted else if nat_lt quoted (quoted_bytes t) then quoted_bytes t else quoted
+
+-- the conditionals behind a token, how the next is read and what was compiled, and how many bytes the longest quoted token has
+pub record Taken : Type 0 where
+  pub conditions : Conditions
+  pub stand : ReaderState
+  pub quoted : ℕ
+
+-- The conditionals say what becomes of it, and what there is to tell of a condition, and the reader takes what is handed on.
+abbrev pub token_taken : Limits → Context → SourceToken → Conditions → ReaderState → ℕ → Taken
+token_taken limits context t c s quoted =
+    let site = site_of context.settings s.reading in
+    let b = judged site s.work.output t c in
+    record {
+      conditions = silent b.now;
+      stand = judged_taken limits context t b.judged (said_told limits b.now.said context s);
+      quoted = quoted_behind site b.judged t quoted;
+    }

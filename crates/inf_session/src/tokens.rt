@@ -1,0 +1,92 @@
+//! What a token does that was read.
+ghost use Rattle.std.specs.Prelude.{◌≡◌, IfOk, true};
+ghost use Rattle.inf_compilation.specs.Context.{handed};
+ghost use Rattle.inf_compilation.specs.Works.{work as work_of};
+ghost use Rattle.inf_reader.specs.Handing.{is_between};
+ghost use Rattle.inf_reader.specs.Standing.{standing};
+ghost use Rattle.inf_session.specs.Taking.{quoted_behind, quoted_bytes, token_at, token_taken};
+ghost use Rattle.inf_unit.specs.Atoms.{is_short};
+ghost use Rattle.inf_unit.specs.Spelled.{spelled};
+
+use inf_compilation::compilation::Compilation;
+use inf_compilation::context::Context;
+use inf_conditionals::conditionals::Conditionals;
+use inf_conditionals::filtered::{Filtered, Site};
+use inf_lexer::Token;
+use inf_reader::progress::Progress;
+use inf_scanner::{BadToken, TokenKind};
+use inf_settings::bounds::Bounds;
+use inf_unit::tokens::SourceToken;
+use std::alloc::AllocError;
+
+/// Takes a token that was read with these bytes. The conditionals say what becomes of it, and what there is to tell of a condition,
+/// and the reader takes what is handed on. Gives how many bytes the longest quoted token then has, which had `quoted` before.
+pub(crate) fn take<B: Bounds>(
+    context: &Context<'_>,
+    token: Token,
+    bytes: &[u8],
+    quoted: usize,
+    conditionals: &mut Conditionals,
+    progress: &mut Progress<B>,
+) -> Result<usize, AllocError>
+    requires { is_short token.kind bytes.now ≡ true }
+    ensures { let before = standing progress.old in
+        let spelled = token_at (is_between before.reading) token.kind bytes.now token.place before.work in
+        IfOk result (λ longest. record { conditions = conditionals.new; stand = standing progress.new; quoted = longest }
+        ≡ token_taken B.most (handed context.now) spelled conditionals.old before quoted) }
+{
+    let site = progress.site(context.settings);
+    let spelled = token_at(site.is_between, token, bytes, &progress.work);
+    let judged = conditionals.take(site, &progress.work.output, &spelled)?;
+    conditionals.tell(
+        context.files,
+        &mut progress.work.report,
+        &mut progress.work.output,
+    )?;
+    progress.take_judged(context, &spelled, judged)?;
+    Ok(quoted_behind(site, judged, &spelled, quoted))
+}
+
+/// Returns the number of bytes of the longest quoted token behind `token`, before which it was `quoted`. Tokens that are not handed on, and
+/// those that are passed over behind a bad one, do not count.
+fn quoted_behind(site: Site, judged: Filtered, token: &SourceToken<'_>, quoted: usize) -> usize
+    ensures { result ≡ quoted_behind site judged (spelled token.now) quoted }
+{
+    if site.is_quiet || judged.token.is_none() {
+        return quoted;
+    }
+    let bytes = quoted_bytes(token);
+    if quoted < bytes { bytes } else { quoted }
+}
+
+/// Returns the number of bytes between the quotes of `token`, if it has such.
+fn quoted_bytes(token: &SourceToken<'_>) -> usize
+    ensures { result ≡ quoted_bytes (spelled token.now) }
+{
+    match token.kind {
+        TokenKind::Text | TokenKind::Char(_) | TokenKind::Word(_) => token.bytes.len(),
+        TokenKind::Bad(
+            BadToken::Unclosed
+            | BadToken::EmptyQuote
+            | BadToken::UnknownEscape
+            | BadToken::NoZscii
+            | BadToken::BadCode
+            | BadToken::TooLong,
+        ) => token.bytes.len(),
+        _ => 0,
+    }
+}
+
+/// A token with these bytes that comes to a place of the reading: at the front of a piece a name may be that of a class.
+fn token_at<'t, B: Bounds>(
+    is_between: bool,
+    token: Token,
+    bytes: &'t [u8],
+    work: &Compilation<B>,
+) -> SourceToken<'t>
+    requires { is_short token.kind bytes.now ≡ true }
+    ensures { spelled result ≡ token_at is_between token.kind bytes.now token.place (work_of work.now) }
+{
+    let is_class = is_between && work.is_class(token.kind, bytes);
+    SourceToken::new(token.kind, bytes, token.place, is_class)
+}

@@ -1,0 +1,240 @@
+//! The routines that the compiler supplies where a source uses them and has none of its own.
+ghost use Rattle.std.specs.Prelude.{◌≡◌, ℕ, ◌≤◌, ◌<◌, ◌⊎◌, List, IfErr, IfOk, IfSome, Ok, OnErr, OnOk, false, is_none, is_some, length, true};
+ghost use Rattle.inf_files.specs.Files.{Openings, Rose, Sources};
+ghost use Rattle.inf_session.specs.Choices.{chosen, most_quoted};
+ghost use Rattle.inf_session.specs.Delivered.{Appends};
+ghost use Rattle.inf_session.specs.Faults.{Caused};
+ghost use Rattle.inf_session.specs.Leading.{CutsShort, Writes};
+ghost use Rattle.inf_session.specs.Session.{rested, stepped};
+ghost use Rattle.inf_session.specs.Standing.{came_to, ended, next_of, state};
+ghost use Rattle.inf_session.specs.Veneer.{in_text, is_wanted, most_texts, next_supplied, supplied, text_begun, text_read, text_turns};
+ghost use Rattle.inf_session.specs.Veneer.{veneer_text};
+
+use crate::faults::Fault;
+use crate::session::{Session, Step};
+use crate::tokens::take;
+use inf_compilation::context::Context;
+use inf_conditionals::conditionals::Conditionals;
+use inf_names::symbols::Found;
+use inf_reader::reader::Reader;
+use inf_settings::bounds::Bounds;
+use inf_settings::setting::Setting;
+use inf_sinks::sinks::Sink;
+use inf_text_lexer::TextLexer;
+use inf_unit::messages::VENEER_FILE;
+use inf_veneer::{COUNT, veneer, veneer_name};
+use std::alloc::AllocError;
+
+/// Returns the text of the veneer of this number.
+fn text_of(number: usize) -> &'static [u8]
+    ensures text { result.now ≡ veneer_text number }
+    ensures few { length result.now ≤ 1000 }
+{
+    match veneer(number) {
+        Some(text) => text,
+        None => b"",
+    }
+}
+
+impl<'a, B: Bounds> Session<'a, B> {
+    /// Reads what is left of the veneer: each routine that is used and not declared, in their order. What one tells is written at its
+    /// end. Behind a fatal message none is read.
+    pub fn supply<M: Sink>(&mut self, messages: &mut M) -> Result<(), Fault>
+        ensures supplied { (sources : Sources) → (start now : Openings) →
+            OnOk result (Writes (supplied B.most (chosen self.old.setup)) (state sources start now self.old)
+            (state sources start now self.new) (M.taken messages.old) (M.taken messages.new)) }
+        ensures cut { (sources : Sources) → (start now : Openings) →
+            OnErr result (CutsShort (supplied B.most (chosen self.old.setup)) (state sources start now self.old)
+            (M.taken messages.old) (M.taken messages.new)) }
+        ensures files { self.new.open_files ≡ self.old.open_files }
+        ensures fault { IfErr result (λ fault. Caused fault (λ name. ⊥) (Rose (M.failures messages.old) (M.failures messages.new))) }
+        ensures wrote { Appends M.Sink messages.old messages.new }
+    {
+        let mut was_read = true;
+        while was_read {
+            was_read = self.read_veneer(messages)?;
+        }
+        Ok(())
+    }
+
+    /// Reads the next routine of the veneer that is used and not declared, and tells what this came to.
+    pub(crate) fn step_veneer<M: Sink>(&mut self, messages: &mut M) -> Result<Step, Fault>
+        ensures supplied { (sources : Sources) → (start now : Openings) →
+            OnOk result (Writes (next_supplied B.most (chosen self.old.setup)) (state sources start now self.old)
+            (state sources start now self.new) (M.taken messages.old) (M.taken messages.new)) }
+        ensures cut { (sources : Sources) → (start now : Openings) →
+            OnErr result (CutsShort (next_supplied B.most (chosen self.old.setup)) (state sources start now self.old)
+            (M.taken messages.old) (M.taken messages.new)) }
+        ensures came { IfOk result (λ step. step ≡ came_to (is_none (next_of self.old)) self.new) }
+        ensures ends { IfOk result (λ step. (step ≡ Step.More → ⊥) → is_none (next_of self.new) ≡ true) }
+        ensures again { is_none (next_of self.old) ≡ true →
+            (result ≡ Ok (came_to true self.old)) × ((self.new ≡ self.old) × (messages.new ≡ messages.old)) }
+        ensures ended { ended self.old ≡ true → OnOk result (ended self.new ≡ true) }
+        ensures falls { OnOk result ((is_none (next_of self.new) ≡ true) ⊎ ((self.old.passed < self.new.passed)
+            × (self.new.passed ≤ most_texts))) }
+        ensures longest { let most = most_quoted (chosen self.old.setup) in self.old.quoted ≤ most → OnOk result (self.new.quoted ≤ most) }
+        ensures files { self.new.open_files ≡ self.old.open_files }
+        ensures setup { self.new.setup ≡ self.old.setup }
+        ensures fault { IfErr result (λ fault. Caused fault (λ name. ⊥) (Rose (M.failures messages.old) (M.failures messages.new))) }
+        ensures wrote { Appends M.Sink messages.old messages.new }
+    {
+        let was_read = self.read_veneer(messages)?;
+        Ok(self.came_to(!was_read))
+    }
+
+    /// Reads the next routine of the veneer that is used and not declared, and writes at its end what it tells. Behind a fatal message
+    /// there is none. Answers whether one was read; where none was, nothing has changed.
+    fn read_veneer<M: Sink>(&mut self, messages: &mut M) -> Result<bool, Fault>
+        ensures supplied { (sources : Sources) → (start now : Openings) →
+            OnOk result (Writes (next_supplied B.most (chosen self.old.setup)) (state sources start now self.old)
+            (state sources start now self.new) (M.taken messages.old) (M.taken messages.new)) }
+        ensures cut { (sources : Sources) → (start now : Openings) →
+            OnErr result (CutsShort (next_supplied B.most (chosen self.old.setup)) (state sources start now self.old)
+            (M.taken messages.old) (M.taken messages.new)) }
+        ensures came { IfOk result (λ was_read. was_read ≡ is_some (next_of self.old)) }
+        ensures behind { IfOk result (λ was_read. was_read ≡ true → (self.old.passed < self.new.passed) × (self.new.passed ≤ most_texts)) }
+        ensures same { is_some (next_of self.old) ≡ false →
+            (result ≡ Ok false) × ((self.new ≡ self.old) × (messages.new ≡ messages.old)) }
+        ensures ended { ended self.old ≡ true → OnOk result (ended self.new ≡ true) }
+        ensures longest { let most = most_quoted (chosen self.old.setup) in self.old.quoted ≤ most → OnOk result (self.new.quoted ≤ most) }
+        ensures files { self.new.open_files ≡ self.old.open_files }
+        ensures setup { self.new.setup ≡ self.old.setup }
+        ensures fault { IfErr result (λ fault. Caused fault (λ name. ⊥) (Rose (M.failures messages.old) (M.failures messages.new))) }
+        ensures wrote { Appends M.Sink messages.old messages.new }
+    {
+        match self.next_wanted() {
+            Some(number) => {
+                self.read_text(number, messages)?;
+                Ok(true)
+            }
+            None => Ok(false),
+        }
+    }
+
+    /// The number of the next routine of the veneer that is used and not declared; none behind a fatal message.
+    fn next_wanted(&self) -> Option<usize>
+        ensures next { result ≡ next_of self.now }
+        ensures behind { IfSome result (λ n. (self.now.passed < n) × (n ≤ most_texts)) }
+    {
+        if self.progress.work.report.is_over() {
+            return None;
+        }
+        let mut number = self.passed;
+        while number < COUNT {
+            number += 1;
+            if self.wants(number) {
+                return Some(number);
+            }
+        }
+        None
+    }
+
+    /// Whether the veneer's routine of a number is used and not declared.
+    fn wants(&self, number: usize) -> bool
+        ensures { result ≡ is_wanted number self.now.progress.work.output.names }
+    {
+        match veneer_name(number) {
+            Some(name) => matches!(self.progress.work.output.names.look(name), Found::Used),
+            None => false,
+        }
+    }
+
+    /// Reads the veneer's text of a number, and writes what it tells.
+    fn read_text<M: Sink>(&mut self, number: usize, messages: &mut M) -> Result<(), Fault>
+        requires { number ≤ most_texts }
+        ensures read { (sources : Sources) → (start now : Openings) →
+            OnOk result (Writes (text_read B.most (chosen self.old.setup) number) (state sources start now self.old)
+            (state sources start now self.new) (M.taken messages.old) (M.taken messages.new)) }
+        ensures cut { (sources : Sources) → (start now : Openings) →
+            OnErr result (CutsShort (text_read B.most (chosen self.old.setup) number) (state sources start now self.old)
+            (M.taken messages.old) (M.taken messages.new)) }
+        ensures passed { OnOk result (self.new.passed ≡ number) }
+        ensures over { OnOk result (self.new.is_over ≡ true) }
+        ensures longest { let most = most_quoted (chosen self.old.setup) in self.old.quoted ≤ most → OnOk result (self.new.quoted ≤ most) }
+        ensures files { self.new.open_files ≡ self.old.open_files }
+        ensures setup { self.new.setup ≡ self.old.setup }
+        ensures fault { IfErr result (λ fault. Caused fault (λ name. ⊥) (Rose (M.failures messages.old) (M.failures messages.new))) }
+        ensures wrote { Appends M.Sink messages.old messages.new }
+    {
+        let text = text_of(number);
+        let set = self.open_files.characters();
+        let limit = self.setup.settings.of(Setting::QuotedText);
+        let line = number as u32;
+        let mut lexer = TextLexer::new(self.alloc, set, limit, VENEER_FILE, line, text)?;
+        self.begin_text()?;
+        self.take_text(&mut lexer, text.len() + 1)?;
+        self.is_over = true;
+        self.passed = number;
+        self.progress.work.report.flush(messages)?;
+        Ok(())
+    }
+
+    /// Nothing of the source is open where a text of the veneer begins.
+    fn begin_text(&mut self) -> Result<(), AllocError>
+        ensures begun { (sources : Sources) → (start now : Openings) → (told : List ℕ) →
+            OnOk result (state sources start now self.new told ≡ text_begun (state sources start now self.old told)) }
+        ensures files { self.new.open_files ≡ self.old.open_files }
+        ensures setup { self.new.setup ≡ self.old.setup }
+        ensures quoted { self.new.quoted ≡ self.old.quoted }
+    {
+        let work = &mut self.progress.work;
+        let mut conditionals = Conditionals::new(self.alloc);
+        let declared = work.output.names.declared();
+        conditionals.end_piece(declared, self.open_files.names(), &mut work.report)?;
+        work.most_tokens = work.most_tokens.max(self.conditionals.most_tokens);
+        work.is_system = false;
+        self.progress.reader = Reader::new(self.alloc);
+        self.conditionals = conditionals;
+        self.is_over = false;
+        Ok(())
+    }
+
+    /// Takes the tokens of a text, at most `most`, up to its end or a fatal message.
+    fn take_text(&mut self, lexer: &mut TextLexer<'_>, most: usize) -> Result<(), AllocError>
+        requires { self.old.open_files.lexer.set ≡ lexer.old.set }
+        ensures turned { (sources : Sources) → (start now : Openings) → (told : List ℕ) →
+            OnOk result (in_text lexer.new (state sources start now self.new told)
+            ≡ text_turns B.most (chosen self.old.setup) most (in_text lexer.old (state sources start now self.old told))) }
+        ensures longest { self.old.quoted ≤ lexer.old.limit → OnOk result (self.new.quoted ≤ lexer.old.limit) }
+        ensures files { self.new.open_files ≡ self.old.open_files }
+        ensures setup { self.new.setup ≡ self.old.setup }
+    {
+        let mut left = most;
+        while left > 0 {
+            if self.has_ended() {
+                return Ok(());
+            }
+            self.turn_text(lexer)?;
+            left -= 1;
+        }
+        Ok(())
+    }
+
+    /// Takes the next token of a text.
+    fn turn_text(&mut self, lexer: &mut TextLexer<'_>) -> Result<(), AllocError>
+        requires { self.old.open_files.lexer.set ≡ lexer.old.set }
+        ensures turned { (sources : Sources) → (start now : Openings) → (told : List ℕ) →
+            OnOk result (in_text lexer.new (state sources start now self.new told)
+            ≡ rested (stepped B.most (chosen self.old.setup) (in_text lexer.old (state sources start now self.old told)))) }
+        ensures longest { self.old.quoted ≤ lexer.old.limit → OnOk result (self.new.quoted ≤ lexer.old.limit) }
+        ensures lexer { OnOk result ((lexer.new.set ≡ lexer.old.set) × (lexer.new.limit ≡ lexer.old.limit)) }
+        ensures files { self.new.open_files ≡ self.old.open_files }
+        ensures setup { self.new.setup ≡ self.old.setup }
+    {
+        let token = lexer.next()?;
+        let context = Context {
+            files: self.open_files.names(),
+            set: self.open_files.characters(),
+            settings: self.setup.settings,
+        };
+        self.quoted = take(
+            &context,
+            token,
+            lexer.spelling(),
+            self.quoted,
+            &mut self.conditionals,
+            &mut self.progress,
+        )?;
+        self.rest()
+    }
+}
