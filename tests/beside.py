@@ -13,7 +13,7 @@ in the program itself, `all` that with the system, and `wall` goes by the clock.
 (apt-get install frotz), and `count` also `valgrind` (apt-get install valgrind).
 
 The sources are made in a temporary folder. With `--in FOLDER` those are taken that stand in that one, and what is missing is made
-there and stays. With `--only KIND` there is one kind alone: arrays, objects, verbs, expressions or statements.
+there and stays. With `--only KIND` there is one kind alone: arrays, objects, verbs, expressions, statements or texts.
 """
 
 import itertools
@@ -676,9 +676,35 @@ def statements(source):
     call_all(source, "Play", count, "^")
 
 
+# Words that are abbreviated, the more of them the more often they come; and parts of words
+ABBREVIATED = '''the of and to in is was that it with for his on as at he from her they by she which had not but have you all were
+    their one so there been when him into has more'''.split()
+OTHER_WORDS_OF_TEXTS = '''if no out do up my then what me who would could some about than its over after only time our new these two
+    may first any such like man even most made where much own well back here must still should how old come work us life both
+    between being under never day same another know while last might great year since against go came right used take'''.split()
+PARTS = '''ther ight ould tion ment here ing ough people little nothing other almost enough window garden letter silver stone
+    water light'''.split()
+
+
+def texts(source):
+    """An array of texts, with 64 abbreviations that are used in them."""
+    front = [f"{word} " for word in ABBREVIATED] + PARTS
+    front += [f", {word} " for word in ABBREVIATED[:64 - len(front)]]
+    source.put("Abbreviate ", " ".join(f'"{text}"' for text in front), ";\nArray Lines table\n")
+    words = ABBREVIATED + OTHER_WORDS_OF_TEXTS
+    weights = [6] * len(ABBREVIATED) + [1] * len(OTHER_WORDS_OF_TEXTS)
+    while source.has_room(120):
+        text = " ".join(source.some.choices(words, weights, k=source.between(8, 30)))
+        source.put(f'    "{text.capitalize()}."\n')
+    source.put(";\n[ Main i; for (i = 1 : i <= Lines-->0 : i = i + 101) print (string) Lines-->i, \"^\";\n",
+               "    print \"total \", Lines-->0, \"^\"; ];\n")
+
+
 # The commands
 
-KINDS = {"arrays": arrays, "objects": objects, "verbs": verbs, "expressions": expressions, "statements": statements}
+KINDS = {"arrays": arrays, "objects": objects, "verbs": verbs, "expressions": expressions, "statements": statements, "texts": texts}
+# What both programs are given for the sources of a kind beside the words that each has for all
+MORE_WORDS = {"texts": ["-e", "-v8"]}
 
 
 def sources(folder, kinds, anew=False):
@@ -701,7 +727,8 @@ def located(name):
 
 def compilation(program, file, story):
     """The words by which a program compiles a file to a story."""
-    return [located(program), *(OTHER_WORDS if program == OTHER else OUR_WORDS), str(file), str(story)]
+    more = MORE_WORDS.get(file.stem.removesuffix("_half"), [])
+    return [located(program), *(OTHER_WORDS if program == OTHER else OUR_WORDS), *more, str(file), str(story)]
 
 
 def make(files):

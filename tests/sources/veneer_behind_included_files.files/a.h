@@ -1,0 +1,3 @@
+
+[ A x; print nowhere; A2(); ];
+Global g = later;

@@ -1,0 +1,4 @@
+[ B; spaces 5; ];
+
+
+[ C; missing(); ];

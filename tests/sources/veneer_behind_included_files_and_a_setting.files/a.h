@@ -1,0 +1,3 @@
+
+[ A x; print nowhere, (number) x; ];
+Constant 5;
