@@ -129,15 +129,15 @@ fn act<B: Bounds>(
     }
 }
 
-/// Whether the unit at hand prints more than code may have bytes. Its code then passes that setting, whatever else it prints.
+/// Returns whether the unit at hand prints more than code may have bytes. Its code then passes that setting, whatever else it prints.
 fn is_crowded<B: Bounds>(compilation: &Compilation<B>) -> bool
     ensures { result ≡ is_crowded B.most (work compilation.now) }
 {
     compilation.unit.items.len() > compilation.output.code.most_bytes()
 }
 
-/// Whether the unit at hand has more arrows than there may be objects. It is then below none, whatever else it has: an object has as many
-/// arrows as there are others above it.
+/// Returns whether the unit at hand has more arrows than there may be objects. It is then below none, whatever else it has: an object has
+/// as many arrows as there are others above it.
 fn is_tall<B: Bounds>(compilation: &Compilation<B>, context: &Context<'_>) -> bool
     ensures { result ≡ is_tall (handed context.now) (work compilation.now) }
 {
@@ -171,8 +171,8 @@ fn note<B: Bounds>(
     keep_note(compilation, context, note)
 }
 
-/// Whether the unit at hand has more tokens than the grammar may have bytes. A token of a line of grammar has three bytes, and is three
-/// tokens of the source at most.
+/// Returns whether the unit at hand has more tokens than the grammar may have bytes. A token of a line of grammar has three bytes, and is
+/// three tokens of the source at most.
 fn is_long<B: Bounds>(compilation: &Compilation<B>, context: &Context<'_>) -> bool
     ensures { result ≡ is_long (handed context.now) (work compilation.now) }
 {

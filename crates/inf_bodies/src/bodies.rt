@@ -62,7 +62,7 @@ pub(crate) fn property_of(found: Found<Place>) -> Option<usize>
     }
 }
 
-/// Whether a number is that of the property `name`.
+/// Returns whether a number is that of the property `name`.
 pub(crate) fn is_words(number: Option<usize>) -> bool
     ensures { result ≡ is_words number }
 {
@@ -95,7 +95,7 @@ fn attribute_of(found: Found<Place>) -> Option<usize>
     }
 }
 
-/// Whether the attribute whose name stands at a place is given, and not taken away by `~`.
+/// Returns whether the attribute whose name stands at a place is given, and not taken away by `~`.
 fn is_given(tokens: &UnitTokens, at: usize) -> bool
     ensures { result ≡ is_given tokens.now at }
 {

@@ -95,7 +95,7 @@ pub(crate) fn word_place(tokens: &UnitTokens) -> usize
     tokens.name_order().saturating_sub(1) as usize
 }
 
-/// Whether a word puts an object below the latest one without arrows, as one arrow does.
+/// Returns whether a word puts an object below the latest one without arrows, as one arrow does.
 fn is_nearby(word: &[u8]) -> bool
     ensures { result ≡ is_nearby word.now }
 {

@@ -396,7 +396,7 @@ fn class_of_word<B: Bounds>(compilation: &Compilation<B>) -> Option<usize>
     class_of(found_at(compilation, word_place(&compilation.unit.tokens)))
 }
 
-/// Whether a class has as many classes as an object may have. With that class an object that it heads has one more.
+/// Returns whether a class has as many classes as an object may have. With that class an object that it heads has one more.
 fn has_most_classes<B: Bounds>(class: Option<usize>, out: &Output<B>) -> bool
     ensures { result ≡ has_most_classes class out.now }
 {

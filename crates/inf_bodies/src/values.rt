@@ -51,7 +51,7 @@ fn name_place(outer: Option<usize>) -> Option<usize>
     }
 }
 
-/// That something is wrong with a value.
+/// Returns the finding that something is wrong with a value.
 fn wrong_if(is_wrong: bool) -> Option<Finding>
     ensures { result ≡ wrong_if is_wrong }
 {
@@ -134,8 +134,8 @@ fn embedded_findings(own: Option<Finding>, are_locals: bool, header: Findings) -
 
 // Words of the dictionary
 
-/// Whether a character or a text is a word of the dictionary, as a value of the property whose name stands at a place, or of the one
-/// that was given last.
+/// Returns whether a character or a text is a word of the dictionary, as a value of the property whose name stands at a place, or of the
+/// one that was given last.
 fn takes_words<B: Bounds>(compilation: &Compilation<B>, name: Option<usize>) -> bool
     ensures { result ≡ takes_words name (work compilation.now) }
 {

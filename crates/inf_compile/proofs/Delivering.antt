@@ -3,8 +3,6 @@ use Rattle.std.specs.Prelude.{Result, Ok, Err, IfOk, IfErr, MatchResult, option_
 use Rattle.std.proofs.Common.{◌≡◌, ◌==◌, inl, inr, ℕ, Bool, true, false, cond, List, [], ◌∷◌, codes, length, Option, Some, None, refl, ap}
 use Rattle.std.proofs.Common.{subst, sym, ◌∙◌}
 use Rattle.std.proofs.Math.Dec.{eqb-suc-zero}
-use Rattle.inf_letters.specs.declared.letters.Letters.{Letters}
-use Rattle.inf_settings.specs.declared.settings.Settings.{Settings}
 use Rattle.inf_files.specs.Files.{Openings, Sources}
 use Rattle.inf_session.specs.Choices.{Choices}
 use Rattle.inf_outcome.specs.Comes.{Begins, Comes, OpenedBy, OpenedPart}
@@ -81,15 +79,6 @@ pub opened_whole : (s : Sources) (o p : Choices) (serial name other : List ℕ) 
 opened_whole s o p serial name other old new before after c same named k =
     subst (λ (x : Choices). OpenedPart s x other old new) same
     (subst (λ (n : List ℕ). OpenedPart s o n old new) named (opened_by (s name) s o name old new k.opened))
-
--- what is chosen, by its parts
-abbrev pub made : Letters → Settings → List (List ℕ) → Choices
-made letters settings directories = record { letters = letters; settings = settings; directories = directories }
-
-pub chosen_is : (k l : Letters) (s t : Settings) (d e : List (List ℕ)) → k ≡ l → s ≡ t → d ≡ e → made k s d ≡ made l t e
-chosen_is k l s t d e of_letters of_settings of_directories =
-    ap (λ (x : Letters). made x s d) of_letters ∙ ap (λ (x : Settings). made l x d) of_settings
-    ∙ ap (λ (x : List (List ℕ)). made l t x) of_directories
 
 -- where a story came, whole or in part, the messages end with the line that tells of no error
 pub clean_where_delivered : (P : ℕ → Type 0) (r : Result Status Fault) (c : Compiled) (before after story_old story_new : Option (List ℕ)) →

@@ -15,7 +15,6 @@ use inf_outcome::translation::translate;
 use inf_session::compiled::{Compiled, Status, written};
 use inf_session::ending::no_file;
 use inf_session::faults::Fault;
-use inf_session::setup::Setup;
 use inf_sinks::sinks::{Sink, write_whole};
 use inf_words::command_line::{Options, source_name};
 use std::alloc::Global;
@@ -46,22 +45,22 @@ fn compile_named<F: Files, M: Sink, S: Sink>(
     story: &mut S,
 ) -> Result<Status, Fault>
     ensures headline { IsTrue (F.is_honest files.old) → IfOk result (λ status.
-        Compiles (F.sources files.old) (chosen_by options.now) date (source_name options.now.source) status
+        Compiles (F.sources files.old) (chosen_by (F.sources files.old) options.now) date (source_name options.now.source) status
         (M.taken messages.old) (M.taken messages.new) (S.taken story.old) (S.taken story.new)) }
     ensures once { let name = source_name options.now.source in
         IsTrue (F.is_honest files.old) → OnOk result
-        (OpenedBy (F.sources files.old name) (F.sources files.old) (chosen_by options.now) name (F.openings files.old)
+        (OpenedBy (F.sources files.old name) (F.sources files.old) (chosen_by (F.sources files.old) options.now) name (F.openings files.old)
         (F.openings files.new)) }
     ensures opened { IsTrue (F.is_honest files.old) → OnErr result
-        (OpenedPart (F.sources files.old) (chosen_by options.now) (source_name options.now.source) (F.openings files.old)
-        (F.openings files.new)) }
+        (OpenedPart (F.sources files.old) (chosen_by (F.sources files.old) options.now) (source_name options.now.source)
+        (F.openings files.old) (F.openings files.new)) }
     ensures begins { IsTrue (F.is_honest files.old) → OnErr result
-        (Begins (F.sources files.old) (chosen_by options.now) date (source_name options.now.source) (M.taken messages.old)
-        (M.taken messages.new)) }
+        (Begins (F.sources files.old) (chosen_by (F.sources files.old) options.now) date (source_name options.now.source)
+        (M.taken messages.old) (M.taken messages.new)) }
     ensures heard { let name = source_name options.now.source in
         IsTrue (F.is_honest files.old) → IfErr result (λ fault. IfRead fault (λ told. Heard (Rose (F.faults files.old) (F.faults files.new))
-        (F.sources files.old) (chosen_by options.now) name (F.openings files.old) (F.openings files.new) (M.taken messages.old)
-        (M.taken messages.new) told)) }
+        (F.sources files.old) (chosen_by (F.sources files.old) options.now) name (F.openings files.old) (F.openings files.new)
+        (M.taken messages.old) (M.taken messages.new) told)) }
     ensures depth { F.depth files.new ≡ F.depth files.old }
     ensures errors { result ≡ Ok Status.Errors → S.taken story.new ≡ S.taken story.old }
     ensures clean { MatchResult result (λ status. status ≡ Status.Success → EndsClean (M.taken messages.old) (M.taken messages.new))
@@ -69,21 +68,21 @@ fn compile_named<F: Files, M: Sink, S: Sink>(
     ensures fault { IfErr result (λ fault. HasCause fault (λ name. IsUnread F.Files files.old files.new)
         (Rose (M.failures messages.old) (M.failures messages.new)) (λ n. Rose (S.failures story.old) (S.failures story.new))) }
     ensures part { IsTrue (F.is_honest files.old) → IfErr result (λ fault. IfStory fault (λ n.
-        DeliversPart (F.sources files.old) (chosen_by options.now) date (source_name options.now.source) n
+        DeliversPart (F.sources files.old) (chosen_by (F.sources files.old) options.now) date (source_name options.now.source) n
         (M.taken messages.old) (M.taken messages.new) (S.taken story.old) (S.taken story.new))) }
     ensures untouched { IfErr result (λ fault.
         UnlessStory fault (S.taken story.new ≡ S.taken story.old)) }
 {
     let name = source_name(alloc, options)?;
-    let directories = options.directories(alloc)?;
-    let settings = options.settings();
-    let setup = Setup {
-        letters: options.letters(),
-        settings: &settings,
-        directories: directories.as_slice(),
+    let compiled = translate(
+        alloc,
+        options,
         hashing,
-    };
-    let compiled = translate(alloc, setup, files, name.as_str(), &date, messages)?;
+        files,
+        name.as_str(),
+        &date,
+        messages,
+    )?;
     deliver(&compiled, story)
 }
 
@@ -101,6 +100,11 @@ fn refuse<M: Sink>(alloc: Global, messages: &mut M) -> Result<Status, Fault>
 
 /// Compiles the source that the options name, with the files that it includes: writes each message as soon as it is found, and
 /// the story where no error was found.
+///
+/// What the words of the command say holds; on each matter of which they say nothing, the head of the source has the say: its lines, from
+/// the first byte on, that begin with `!%`. Their words are read as those of the command, and one is passed over that the command would
+/// refuse, that begins with none of `-`, `$` and `+`, or that has more than 255 bytes or one that is not of ASCII. An included file has no
+/// head.
 ///
 /// `date` is the story's serial number, six ASCII digits. `hashing` changes nothing but how long a source takes whose names were made to
 /// fall together. The source's name is the word for it, with `.inf` where its last part has no extension; a name that is not there is a
@@ -122,31 +126,32 @@ pub fn compile<F: Files, M: Sink, S: Sink>(
 ) -> Result<Status, Fault>
     // With an honest reader, status, messages and story are those of the outcome of the sources that it has.
     ensures headline { IsTrue (F.is_honest files.old) → IfOk result (λ status.
-        Compiles (named_by options.now.source (F.sources files.old)) (chosen_by options.now) date (source_name options.now.source) status
-        (M.taken messages.old) (M.taken messages.new) (S.taken story.old) (S.taken story.new)) }
+        Compiles (named_by options.now.source (F.sources files.old)) (chosen_by (F.sources files.old) options.now) date
+        (source_name options.now.source) status (M.taken messages.old) (M.taken messages.new) (S.taken story.old) (S.taken story.new)) }
 
     // The openings are then those of the reading, in its order, each once, and all were closed again.
     ensures once { let name = source_name options.now.source in
         IsTrue (F.is_honest files.old) → OnOk result
         (OpenedBy (named_by options.now.source (F.sources files.old) name) (named_by options.now.source (F.sources files.old))
-        (chosen_by options.now) name (F.openings files.old) (F.openings files.new)) }
+        (chosen_by (F.sources files.old) options.now) name (F.openings files.old) (F.openings files.new)) }
 
     // Where a fault is answered they are those of the reading up to some turn.
     ensures opened { IsTrue (F.is_honest files.old) → OnErr result
-        (OpenedPart (named_by options.now.source (F.sources files.old)) (chosen_by options.now) (source_name options.now.source)
-        (F.openings files.old) (F.openings files.new)) }
+        (OpenedPart (named_by options.now.source (F.sources files.old)) (chosen_by (F.sources files.old) options.now)
+        (source_name options.now.source) (F.openings files.old) (F.openings files.new)) }
 
     // Where a fault is answered, a front of the outcome's messages was written.
     ensures begins { IsTrue (F.is_honest files.old) → OnErr result
-        (Begins (named_by options.now.source (F.sources files.old)) (chosen_by options.now) date (source_name options.now.source)
-        (M.taken messages.old) (M.taken messages.new)) }
+        (Begins (named_by options.now.source (F.sources files.old)) (chosen_by (F.sources files.old) options.now) date
+        (source_name options.now.source) (M.taken messages.old) (M.taken messages.new)) }
 
     // After a fault of reading it is all that comes with the tokens that were read, of some number of turns from the start, and behind them
-    // there is a cause: the device failed, the innermost file is too long, or its inclusion names one file too many.
+    // there is a cause: the device failed, the innermost file is too long, or its inclusion names one file too many. In the head of the
+    // source nothing was written before it.
     ensures heard { let name = source_name options.now.source in
         IsTrue (F.is_honest files.old) → IfErr result (λ fault. IfRead fault (λ told. Heard (Rose (F.faults files.old) (F.faults files.new))
-        (named_by options.now.source (F.sources files.old)) (chosen_by options.now) name (F.openings files.old) (F.openings files.new)
-        (M.taken messages.old) (M.taken messages.new) told)) }
+        (named_by options.now.source (F.sources files.old)) (chosen_by (F.sources files.old) options.now) name
+        (F.openings files.old) (F.openings files.new) (M.taken messages.old) (M.taken messages.new) told)) }
 
     // With any reader nothing is left open, no story comes with an error, and where a story came, whole or in part, the messages that were
     // written end with the line that tells of no error.
@@ -161,8 +166,8 @@ pub fn compile<F: Files, M: Sink, S: Sink>(
 
     // What the sinks took before a fault of the story's, and that its sink took nothing before another.
     ensures part { IsTrue (F.is_honest files.old) → IfErr result (λ fault. IfStory fault (λ n.
-        DeliversPart (named_by options.now.source (F.sources files.old)) (chosen_by options.now) date (source_name options.now.source) n
-        (M.taken messages.old) (M.taken messages.new) (S.taken story.old) (S.taken story.new))) }
+        DeliversPart (named_by options.now.source (F.sources files.old)) (chosen_by (F.sources files.old) options.now) date
+        (source_name options.now.source) n (M.taken messages.old) (M.taken messages.new) (S.taken story.old) (S.taken story.new))) }
     ensures untouched { IfErr result (λ fault.
         UnlessStory fault (S.taken story.new ≡ S.taken story.old)) }
 {

@@ -75,7 +75,7 @@ impl Condition {
         Ok(true)
     }
 
-    /// Whether the directive is whole.
+    /// Returns whether the directive is whole.
     pub(crate) fn is_whole(&self) -> bool
         ensures { result ≡ is_whole (condition self.now) }
     {
@@ -151,7 +151,7 @@ fn finding_of(number: Option<u16>, found: Option<Finding>) -> Option<Finding>
     }
 }
 
-/// Whether it is true, which it is not with an error.
+/// Returns whether it is true, which it is not with an error.
 fn is_true(number: Option<u16>, found: Option<Finding>) -> bool
     ensures { result ≡ is_true_by number found }
 {

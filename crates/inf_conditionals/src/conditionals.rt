@@ -120,7 +120,7 @@ impl Conditionals {
         }
     }
 
-    /// Whether it is seen at once that a token is kept and nothing else comes of it, as of most tokens.
+    /// Returns whether it is seen at once that a token is kept and nothing else comes of it, as of most tokens.
     fn keeps(&self, site: Site, token: &SourceToken<'_>) -> bool
         ensures { (o : Out) → result ≡ true → judged site o (spelled token.now) self.now ≡ kept self.now }
     {
@@ -196,7 +196,7 @@ impl Conditionals {
         (self.pending.is_empty() && self.left_out.is_none()) || self.is_behind_side()
     }
 
-    /// Whether the word that was taken last ended a side.
+    /// Returns whether the word that was taken last ended a side.
     fn is_behind_side(&self) -> bool
         ensures { result ≡ is_behind_side self.now }
     {
@@ -707,7 +707,7 @@ impl Conditionals {
         false
     }
 
-    /// Whether the latest conditional is in its second side, or there is none.
+    /// Returns whether the latest conditional is in its second side, or there is none.
     fn is_second(&self) -> bool
         ensures { result ≡ is_second (latest self.now) }
     {

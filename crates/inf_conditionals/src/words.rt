@@ -62,7 +62,7 @@ pub(crate) fn levels_behind(word: ConditionalWord, levels: u32) -> u32
     }
 }
 
-/// Whether a word ends a side that is left out, at its own level.
+/// Returns whether a word ends a side that is left out, at its own level.
 pub(crate) fn ends_side(word: ConditionalWord, is_second: bool) -> bool
     ensures { result ≡ ends_at word is_second }
 {

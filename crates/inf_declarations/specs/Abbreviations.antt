@@ -44,7 +44,7 @@ numbered (Err fault) = Err (fault_number fault)
 
 -- Abbreviations
 
--- Whether there are as many as there may be: three banks have 32 each, the first of which has the string variables.
+-- Whether there are as many abbreviations as there may be: of three banks with 32 texts each, the first has the string variables.
 abbrev pub has_most_abbreviations : Out → Bool
 has_most_abbreviations o = nat_le 64 (length o.tables.low_strings.abbreviations)
 
@@ -56,7 +56,8 @@ refused_number (Err abbrev_fault.Repeated) = Some 21
 refused_number (Err abbrev_fault.TooShort) = Some 21
 refused_number (Err abbrev_fault.Memory) = None
 
--- The same behind all that was laid: there are too many, or a text was packed before, or it stands already, or it is too short.
+-- The number of the message about an abbreviation, by all that was laid before it: there are too many, or a text was packed before, or it
+-- is declared already, or it is too short.
 abbrev pub abbreviation_number : List TextItem → Out → Option ℕ
 abbreviation_number items o =
     if has_most_abbreviations o then Some 19 else if o.texts.is_late then Some 21 else refused_number

@@ -54,7 +54,7 @@ fn read_numbered(
 
 // Abbreviations
 
-/// Whether there are as many abbreviations as there may be.
+/// Returns whether there are as many abbreviations as there may be.
 fn has_most_abbreviations<B: Bounds>(out: &Output<B>) -> bool
     ensures { result ≡ has_most_abbreviations out.now }
 {
@@ -290,7 +290,7 @@ fn end_low_string<B: Bounds>(
 /// Declares the first of `names` as a constant that is the packed address of a new low string: that of the unit's text. Its directive
 /// begins at the place `first`.
 ///
-/// That the name stands already is an error, told of the name: then there is no low string.
+/// A name that is declared already is an error, told of the name: then there is no low string.
 pub fn low_string<B: Bounds>(
     compilation: &mut Compilation<B>,
     context: &Context<'_>,

@@ -55,7 +55,7 @@ fn standing_fault(found: Found<Place>) -> Option<DeclareFault<Place>>
     }
 }
 
-/// Whether a leaf is this name.
+/// Returns whether a leaf is this name.
 fn is_name_at(tokens: &UnitTokens, name: &[u8], leaf: Leaf) -> bool
     ensures { result ≡ is_name_at tokens.now name.now leaf }
 {
@@ -65,7 +65,7 @@ fn is_name_at(tokens: &UnitTokens, name: &[u8], leaf: Leaf) -> bool
     }
 }
 
-/// Whether an expression names what its unit declares.
+/// Returns whether an expression names what its unit declares.
 fn names_itself(tokens: &UnitTokens, name: &[u8], leaves: &[Leaf]) -> bool
     ensures { result ≡ names_itself tokens.now name.now leaves.now }
 {
@@ -88,7 +88,7 @@ pub fn is_late(found: Found<Place>, names_itself: bool) -> bool
     }
 }
 
-/// That the name with an order is used before its declaration.
+/// Returns the finding that the name with an order is used before its declaration.
 fn late_finding(order: u32, is_late: bool) -> Option<Finding>
     ensures { result ≡ late_finding order is_late }
 {
@@ -118,7 +118,7 @@ fn declared_finding(
     )
 }
 
-/// Whether behind its name a declaration has the name of another one, and no expression.
+/// Returns whether behind its name a declaration has the name of another one, and no expression.
 pub(crate) fn is_alias(names: &[Name], leaves: &[Leaf]) -> bool
     ensures { result ≡ is_alias (map as_name names.now) leaves.now }
 {
@@ -177,7 +177,7 @@ pub(crate) fn nothing_of(kind: FixedLimit) -> Meaning
     }
 }
 
-/// That the last of these tokens names no attribute or property, unless it stands for something.
+/// Returns the finding that the last of these tokens names no attribute or property, unless it stands for something.
 fn alias_finding(tokens: &UnitTokens, meaning: Option<Meaning>) -> Option<Finding>
     ensures { result ≡ alias_finding tokens.now meaning }
 {
@@ -315,7 +315,7 @@ pub fn attribute<B: Bounds>(
     one_attribute(compilation, context, first, name)
 }
 
-/// Whether there are as many attributes as there may be.
+/// Returns whether there are as many attributes as there may be.
 fn has_most_attributes<B: Bounds>(compilation: &Compilation<B>) -> bool
     ensures { result ≡ has_most_attributes (work compilation.now).output }
 {

@@ -145,7 +145,7 @@ pub fn default<B: Bounds>(
     }
 }
 
-/// Whether the first of these names is declared.
+/// Returns whether the first of these names is declared.
 fn is_first_declared<B: Bounds>(compilation: &Compilation<B>, names: &[Name]) -> bool
     ensures { result ≡ is_first_declared (map as_name names.now) (work compilation.now).output.names }
 {
@@ -327,7 +327,7 @@ pub(crate) fn add_leaf<B: Bounds>(
     )
 }
 
-/// Whether a name is declared, by what looking for it found.
+/// Returns whether a name is declared, by what looking for it found.
 fn is_declared(found: Found<Place>) -> bool
     ensures { result ≡ is_declared found }
 {

@@ -42,7 +42,7 @@ pub fn global_variable<B: Bounds>(
     }
 }
 
-/// Whether there are as many global variables as there may be.
+/// Returns whether there are as many global variables as there may be.
 fn has_most_globals<B: Bounds>(compilation: &Compilation<B>) -> bool
     ensures { result ≡ has_most_globals (work compilation.now).output }
 {

@@ -27,14 +27,14 @@ const MOST_PROPERTIES: usize = 60;
 /// The number of the first declared property, and of the first global variable.
 const FIRST_PROPERTY: usize = 4;
 
-/// Whether a name is the word `additive`.
+/// Returns whether a name is the word `additive`.
 fn is_additive_word(word: &Name) -> bool
     ensures { result ≡ is_additive_word (as_name word.now) }
 {
     word.bytes().eq_ignore_ascii_case(b"additive")
 }
 
-/// Whether the first of the names of a property is the word `additive`.
+/// Returns whether the first of the names of a property is the word `additive`.
 pub(crate) fn is_additive(names: &[Name]) -> bool
     ensures { result ≡ is_additive (map as_name names.now) }
 {
@@ -113,7 +113,7 @@ fn property_named<B: Bounds>(
     one_property(compilation, context, first, is_additive, name)
 }
 
-/// Whether there are as many properties as there may be.
+/// Returns whether there are as many properties as there may be.
 fn has_most_properties<B: Bounds>(compilation: &Compilation<B>) -> bool
     ensures { result ≡ has_most_properties (work compilation.now).output }
 {

@@ -18,8 +18,8 @@ use std::alloc::AllocError;
 
 /// Has the letters hold that the first of `names` has, behind those that were said before, unless these have it ignored.
 ///
-/// That code has begun, and a letter that is unknown, are errors, told at the place `first` where the directive begins; then nothing
-/// changes. Else all sources are read by the character set of the letters, which is asked of the reading.
+/// Letters behind the beginning of code, and a letter that is unknown, are errors, told at the place `first` where the directive begins;
+/// then nothing changes. Else all sources are read by the character set of the letters, which is asked of the reading.
 pub fn switches<B: Bounds>(
     compilation: &mut Compilation<B>,
     context: &Context<'_>,

@@ -1,4 +1,5 @@
-ghost use Rattle.std.specs.Prelude.{◌≡◌, ◌==◌, ◌&&◌, IsTrue, ◌+◌, ◌<◌, ◌≤◌, [], ◌∷◌, ◌++◌, None, Some, Ok, true, IsErr, IsSome, IsErrOf, IfOk, OnOk, OnErr};
+ghost use Rattle.std.specs.Prelude.{◌≡◌, ◌==◌, ◌&&◌, IsTrue, ◌+◌, ◌<◌, ◌≤◌, [], ◌∷◌, ◌++◌, None, Some, Ok};
+ghost use Rattle.std.specs.Prelude.{true, IsErr, IsSome, IsErrOf, IfOk, OnOk, OnErr};
 ghost use Rattle.std.specs.Prelude.{is_ok, length, min, if◌then◌else◌};
 ghost use Rattle.std.specs.Fs.{new_options, with_write, with_create, with_truncate};
 ghost use Rattle.std.specs.Io.KnownBytes.{ReadConsumes, WriteAppends};
@@ -23,6 +24,8 @@ pub struct Trouble {
     pub failures: Failures,
     /// Why its last call that failed did so, where one did. A file that is opened leaves none.
     pub reason: Option<ErrorKind>,
+    /// The system's number for the reason of the last call that the system refused, where it gave one.
+    pub number: Option<i32>,
 }
 
 impl Trouble {
@@ -34,6 +37,7 @@ impl Trouble {
         Trouble {
             failures: Failures::none(),
             reason: None,
+            number: None,
         }
     }
 
@@ -65,7 +69,7 @@ impl FileNumbers {
         }
     }
 
-    /// Whether both are of one file: both numbers are the same.
+    /// Returns whether both are of one file: both numbers are the same.
     fn is_one(self, other: FileNumbers) -> bool
         ensures { result ≡ (self.device == other.device && self.file == other.file) }
     {
@@ -92,7 +96,7 @@ impl<'r> StoryPlace<'r> {
         }
     }
 
-    /// Whether a source that was opened is the file of this name. What a cell holds is not stated.
+    /// Returns whether a source that was opened is the file of this name. What a cell holds is not stated.
     pub fn is_source(&self) -> bool {
         self.is_source.get()
     }
@@ -152,8 +156,8 @@ impl<'r, R: rt::Files> DiskFiles<'r, R> {
     }
 }
 
-/// What it means that a file cannot be opened. It is absent where no file has this name, or none
-/// can have it.
+/// Returns the fault of a file that cannot be opened, by the `kind` of the system's error. The file is absent where none has this name, or
+/// none can have it.
 fn open_fault(kind: ErrorKind) -> OpenFault
     ensures { result ≡ fault_of_kind kind }
 {
@@ -190,6 +194,7 @@ fn read_some<F: Read>(
             ErrorKind::Interrupted => {}
             reason => {
                 trouble.add(reason);
+                trouble.number = error.raw_os_error();
                 return Err(ReadFault::Device);
             }
         }
@@ -236,6 +241,7 @@ impl<R: rt::Files> Files for DiskFiles<'_, R> {
                 Ok(())
             }
             Err(error) => {
+                self.trouble.number = error.raw_os_error();
                 let fault = open_fault(error.kind());
                 if fault == OpenFault::Device {
                     self.trouble.add(error.kind());
@@ -309,6 +315,7 @@ fn write_some<W: Write>(to: &mut W, bytes: &[u8], trouble: &mut Trouble) -> Resu
             ErrorKind::Interrupted => continue,
             reason => {
                 trouble.add(reason);
+                trouble.number = error.raw_os_error();
                 return Err(SinkFault::Device);
             }
         }
@@ -418,6 +425,7 @@ impl<'r, R: rt::Files> StorySink<'r, R> {
             }
             Err(error) => {
                 self.trouble.add(error.kind());
+                self.trouble.number = error.raw_os_error();
                 Err(SinkFault::Device)
             }
         }

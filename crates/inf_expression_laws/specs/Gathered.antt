@@ -71,8 +71,8 @@ first_of (Then a b) = first_of a
 first_of (Call f list) = first_of f
 first_of (Alone f) = first_of f
 
--- What a leaf is, by the tokens of its unit: the name of an action or of a system constant behind its sign, else by its own token. An
--- operand of an assembly line that is a name by itself is told apart.
+-- The kind of a leaf, by the tokens of its unit: the name of an action or of a system constant behind its sign, else that of its own token.
+-- An operand of an assembly line that is a name by itself is told apart.
 abbrev pub kind_in : Option TokenKind → TokenKind
 kind_in None = kind.Name
 kind_in (Some k) = k

@@ -220,7 +220,8 @@ misfit_tokens (Bare t) = t ∷ []
 misfit_tokens (Hashed taken sign t) = taken ++ sign ∷ t ∷ []
 misfit_tokens (BehindSign taken sign t) = taken ++ sign ∷ t ∷ []
 
--- It is handed on as one that does not fit, and what is behind it as one that is kept. What a condition takes is not.
+-- The first token of a misfit is handed on as one that does not fit, and the one behind its sign as one that is kept. The tokens that a
+-- condition takes are not handed on.
 abbrev pub as_unfit : SourceToken → Handing
 as_unfit t = record { handed = handed.Unfit; token = t }
 

@@ -7,7 +7,8 @@ use std::alloc::Global;
 use std::process::Abort;
 use std::test::Fail;
 
-/// What is chosen: the version's scale, whether `Switches` says nothing, how many labels there may be, and the first directory.
+/// The choices that are compared: the version's scale, whether `Switches` says nothing, how many labels there may be, and the first
+/// directory.
 type Chosen = (Scale, bool, u32, Option<&'static str>);
 
 /// Words of a head, words of a command, and what they choose together.

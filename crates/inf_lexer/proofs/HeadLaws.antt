@@ -1,5 +1,6 @@
 -- The head of a source is no part of its tokens.
-use Rattle.std.proofs.Common.{◌≡◌, ℕ, List, [], ◌∷◌, Bool, true, false, ◌||◌, ◌==◌, if◌then◌else◌, refl, sym, ap, ◌∙◌, arith}
+use Rattle.std.proofs.Common.{◌≡◌, ℕ, zero, suc, ◌<◌, List, [], ◌∷◌, length, Bool, true, false, ◌||◌, ◌==◌, cond, if◌then◌else◌}
+use Rattle.std.proofs.Common.{refl, sym, ap, ◌∙◌, arith}
 use Rattle.std.proofs.lemmas.Bool.Decides.{nat_tests}
 use Rattle.inf_characters.specs.Characters.{is_line_end}
 use Rattle.inf_characters.specs.declared.characters.CharSet.{CharSet}
@@ -12,12 +13,13 @@ use Rattle.inf_scanner.specs.declared.scanner.Step.{Step}
 use Rattle.inf_scanner.specs.declared.scanner.Step.TheVariants as to
 use Rattle.inf_scanner.specs.declared.scanner.Turn.TheVariants as turn_to
 use Rattle.inf_lexer.specs.Heads.{HeadFound, comment_step, head_found, head_step, is_cut, line_step, place_behind}
-use Rattle.inf_lexer.specs.Heads.{with_head_byte}
-use Rattle.inf_lexer.specs.HeadLaws.{HeadsHaveNoTokens, state_at}
+use Rattle.inf_lexer.specs.Heads.{HeadRead, WholeHead, goes_on_at, head_within, is_word, next_head_word, with_head_byte, with_head_word}
+use Rattle.inf_lexer.specs.HeadLaws.{HeadsHaveNoTokens, WholeHeadsHaveNoTokens, state_at}
 use Rattle.inf_lexer.specs.declared.head.HeadPlace.{HeadPlace}
 use Rattle.inf_lexer.specs.declared.head.HeadPlace.TheVariants as place
 use Rattle.inf_lexer.specs.declared.head.HeadStep.{HeadStep}
 use Rattle.inf_lexer.specs.declared.head.HeadStep.TheVariants as step
+use Rattle.inf_lexer.proofs.Heading.{goes_on_is, words_take}
 
 eq_of : (m n : ℕ) → (m == n) ≡ true → m ≡ n
 eq_of m n e = grind (arith, nat_tests)
@@ -192,3 +194,48 @@ found_on set limit (b ∷ bs) p word lines =
 
 pub heads_have_no_tokens : HeadsHaveNoTokens
 heads_have_no_tokens set limit p lines bytes = found_on set limit bytes p [] lines
+
+-- The whole head
+
+-- behind a word, or behind the last, none has begun
+goes_on_free : (b : Bool) → is_word (goes_on_at b) ≡ false
+goes_on_free true = refl
+goes_on_free false = refl
+
+-- what is found behind the words of a head that goes on here with less than so many bytes is what is found here
+abbrev FindsSame : CharSet → ℕ → ℕ → Type 0
+FindsSame set limit n = (p : HeadPlace) (lines : Lines) (bytes : List ℕ) → length bytes < n → is_word p ≡ false
+    → find set limit state.Gap (begun (head_within n p lines bytes).lines) (head_within n p lines bytes).rest
+    ≡ find set limit (state_at p) (begun lines) bytes
+
+behind_next : (set : CharSet) (limit n : ℕ) → FindsSame set limit n → FindsSame set limit (suc n)
+behind_next set limit n same p lines bytes less none = by r.is_word refl
+  where
+    r : HeadRead
+    r = next_head_word p lines bytes
+
+    goes_on : r.place ≡ goes_on_at r.is_word
+    goes_on = goes_on_is (head_found p [] lines bytes).place
+
+    tail : WholeHead
+    tail = head_within n r.place r.lines r.rest
+
+    chosen : Bool → WholeHead
+    chosen b = cond b (with_head_word r.word tail) (record { words = []; lines = r.lines; rest = r.rest })
+
+    by : (b : Bool) → r.is_word ≡ b → find set limit state.Gap (begun (chosen b).lines) (chosen b).rest
+        ≡ find set limit (state_at p) (begun lines) bytes
+    by true e =
+        same r.place r.lines r.rest (omega (arith, less, words_take p [] lines bytes none e))
+        (ap is_word goes_on ∙ goes_on_free r.is_word)
+        ∙ heads_have_no_tokens set limit p lines bytes
+    by false e =
+        sym (ap (λ (q : HeadPlace). find set limit (state_at q) (begun r.lines) r.rest) (goes_on ∙ ap goes_on_at e))
+        ∙ heads_have_no_tokens set limit p lines bytes
+
+within_on : (set : CharSet) (limit n : ℕ) → FindsSame set limit n
+within_on set limit zero p lines bytes less none = absurd (omega (arith, less))
+within_on set limit (suc n) p lines bytes less none = behind_next set limit n (within_on set limit n) p lines bytes less none
+
+pub whole_heads_have_no_tokens : WholeHeadsHaveNoTokens
+whole_heads_have_no_tokens set limit lines bytes = within_on set limit (suc (length bytes)) place.Line lines bytes (omega arith) refl

@@ -12,13 +12,13 @@ use Rattle.inf_lexer.specs.Readers.{StaysUnfinished}
 use Rattle.inf_lexer.specs.Unread.{Heard, ReadsOn, View, to_come, unread}
 use Rattle.inf_lexer.proofs.Hearing.{reads_by}
 
-past_of : (before after some : ℕ) → before ≤ 16777216 → after ≡ before + some →
+pub past_of : (before after some : ℕ) → before ≤ 16777216 → after ≡ before + some →
     (after ≡ before) ⊎ ((before ≡ 16777216) × (after ≡ 16777217)) → some ≡ after - 16777216
 past_of before after some few is (inl same) = omega (arith, few, is, same)
 past_of before after some few is (inr last) = omega (arith, is, last.0, last.1)
 
 -- the end was not read before where it was not read since
-going_still : (before after : Bool) (bytes : List ℕ) → (before ≡ true → (bytes ≡ []) × (after ≡ true)) → after ≡ false → before ≡ false
+pub going_still : (before after : Bool) (bytes : List ℕ) → (before ≡ true → (bytes ≡ []) × (after ≡ true)) → after ≡ false → before ≡ false
 going_still true after bytes stops e = let over : after ≡ true = (stops refl).1 in cc
 going_still false after bytes stops e = refl
 

@@ -5,7 +5,7 @@ use Rattle.inf_scanner.specs.Scanning.{begun, find}
 use Rattle.inf_scanner.specs.declared.lines.Lines.{Lines}
 use Rattle.inf_scanner.specs.declared.scanner.State.{State}
 use Rattle.inf_scanner.specs.declared.scanner.State.TheVariants as state
-use Rattle.inf_lexer.specs.Heads.{next_head_word}
+use Rattle.inf_lexer.specs.Heads.{next_head_word, whole_head}
 use Rattle.inf_lexer.specs.declared.head.HeadPlace.{HeadPlace}
 use Rattle.inf_lexer.specs.declared.head.HeadPlace.TheVariants as place
 
@@ -21,3 +21,8 @@ state_at _ = state.Comment
 abbrev pub HeadsHaveNoTokens : Type 0
 HeadsHaveNoTokens = (set : CharSet) (limit : ℕ) (p : HeadPlace) (lines : Lines) (bytes : List ℕ) → let r = next_head_word p lines bytes in
     find set limit (state_at r.place) (begun r.lines) r.rest ≡ find set limit (state_at p) (begun lines) bytes
+
+-- The tokens of a source are those behind its head: the next one is the one that it was at the front.
+abbrev pub WholeHeadsHaveNoTokens : Type 0
+WholeHeadsHaveNoTokens = (set : CharSet) (limit : ℕ) (lines : Lines) (bytes : List ℕ) → let h = whole_head lines bytes in
+    find set limit state.Gap (begun h.lines) h.rest ≡ find set limit state.Gap (begun lines) bytes

@@ -1,5 +1,5 @@
 -- The head of a source: its lines, from the first byte on, that begin with `!%`, and the words of these lines.
-use Rattle.std.specs.Prelude.{ℕ, List, [], ◌∷◌, ◌++◌, length, Bool, true, false, ◌||◌, ◌==◌, nat_lt, if◌then◌else◌}
+use Rattle.std.specs.Prelude.{ℕ, zero, suc, List, [], ◌∷◌, ◌++◌, length, Bool, true, false, ◌||◌, ◌==◌, nat_lt, if◌then◌else◌}
 use Rattle.inf_characters.specs.Characters.{is_line_end}
 use Rattle.inf_scanner.specs.Lines.{past}
 use Rattle.inf_scanner.specs.declared.lines.Lines.{Lines}
@@ -67,6 +67,15 @@ abbrev pub is_head_on : HeadTurn → Bool
 is_head_on (turn.On p) = true
 is_head_on _ = false
 
+-- where bytes were taken up to
+abbrev pub turn_place : HeadTurn → HeadPlace
+turn_place (turn.On p) = p
+turn_place (turn.Stopped p) = p
+
+abbrev pub is_behind : HeadPlace → Bool
+is_behind place.Behind = true
+is_behind _ = false
+
 abbrev pub is_word : HeadPlace → Bool
 is_word place.Word = true
 is_word _ = false
@@ -75,6 +84,10 @@ is_word _ = false
 abbrev pub place_behind : HeadPlace → HeadPlace
 place_behind place.Word = place.Gap
 place_behind _ = place.Behind
+
+-- the same, by whether there was a word
+abbrev pub goes_on_at : Bool → HeadPlace
+goes_on_at is_word = if is_word then place.Gap else place.Behind
 
 -- What a call reads of a head: whether there was a word, where the head goes on, what is kept of the word, and what is behind it.
 pub record HeadRead : Type 0 where
@@ -91,3 +104,24 @@ head_read_of f =
 -- the next word of a head that goes on here with these bytes
 abbrev pub next_head_word : HeadPlace → Lines → List ℕ → HeadRead
 next_head_word p lines bytes = head_read_of (head_found p [] lines bytes)
+
+-- What a head says and what is behind it: its words, of each at most the first 256 bytes, and the lines and the bytes that come then.
+pub record WholeHead : Type 0 where
+  pub words : List (List ℕ)
+  pub lines : Lines
+  pub rest : List ℕ
+
+abbrev pub with_head_word : List ℕ → WholeHead → WholeHead
+with_head_word word h = record h { words = word ∷ h.words }
+
+-- what a head that goes on here says with at most n words, read one after another
+abbrev pub head_within : ℕ → HeadPlace → Lines → List ℕ → WholeHead
+head_within zero p lines bytes = record { words = []; lines = lines; rest = bytes }
+head_within (suc n) p lines bytes =
+    let r = next_head_word p lines bytes in
+    if r.is_word then with_head_word r.word (head_within n r.place r.lines r.rest)
+    else record { words = []; lines = r.lines; rest = r.rest }
+
+-- the head of a source that has these bytes from this line on: each of its words has a byte at least
+abbrev pub whole_head : Lines → List ℕ → WholeHead
+whole_head lines bytes = head_within (suc (length bytes)) place.Line lines bytes

@@ -9,7 +9,7 @@ use Rattle.inf_scanner.specs.declared.lines.Lines.{Lines}
 use Rattle.inf_scanner.specs.declared.tokens.Token.{Token}
 use Rattle.inf_scanner.specs.declared.tokens.TokenKind.{TokenKind}
 use Rattle.inf_scanner.specs.declared.tokens.TokenKind.TheVariants as kind
-use Rattle.inf_lexer.specs.Heads.{HeadRead}
+use Rattle.inf_lexer.specs.Heads.{HeadRead, is_word, next_head_word}
 use Rattle.inf_lexer.specs.declared.head.HeadPlace.{HeadPlace}
 use Rattle.inf_lexer.specs.Unread.{IsAtEnd, View}
 
@@ -68,3 +68,32 @@ pub record StaysUnfinished (set : CharSet) (limit : ℕ) (lines : Lines) (coming
   pub whole : coming ≡ bytes ++ (beyond ++ unread)
   pub are_past : length beyond ≡ past
   pub is_unfinished : IsUnfinished set limit lines bytes
+
+-- What a word of a head takes, with any reader: a byte at least, where none of it was read before.
+abbrev pub TookWord : Bool → HeadPlace → View → View → Type 0
+TookWord is from before after =
+    is ≡ true → is_word from ≡ false → before.given + length after.left < after.given + length before.left
+
+-- These bytes, at the front of what is still to come, end nothing for one who leaves so much of all that comes: whatever follows them, they
+-- are all taken, and of some bytes that may follow one at least.
+pub record EndsNothing (left_of : List ℕ → List ℕ) (bytes : List ℕ) : Type 0 where
+  pub all : (behind : List ℕ) → length (left_of (bytes ++ behind)) ≤ length behind
+  pub more : List ℕ
+  pub takes : length (left_of (bytes ++ more)) < length more
+
+-- What is still to come, but for what was not given and the bytes past as many as a source may have, of which so many were given, ends
+-- nothing for one who leaves so much of it.
+pub record StaysOpen (left_of : List ℕ → List ℕ) (coming : List ℕ) (past : ℕ) (unread : List ℕ) : Type 0 where
+  pub bytes : List ℕ
+  pub beyond : List ℕ
+  pub whole : coming ≡ bytes ++ (beyond ++ unread)
+  pub are_past : length beyond ≡ past
+  pub ends_nothing : EndsNothing left_of bytes
+
+-- what a head that goes on here leaves of some bytes behind its next word, or behind its end
+abbrev pub left_of_head : HeadPlace → Lines → List ℕ → List ℕ
+left_of_head from lines bytes = (next_head_word from lines bytes).rest
+
+-- what is still to come of a head that goes on here ends neither its next word nor the head
+abbrev pub HeadStaysOpen : HeadPlace → Lines → List ℕ → ℕ → List ℕ → Type 0
+HeadStaysOpen from lines coming past unread = StaysOpen (left_of_head from lines) coming past unread

@@ -1,7 +1,8 @@
 //! The head of a source: its lines, from the first byte on, that begin with `!%`, and the words of these lines.
-ghost use Rattle.std.specs.Prelude.{◌≡◌, ℕ, ◌+◌, ◌<◌, ◌≤◌, ◌^◌, ◌++◌, List, drop, length, true};
+ghost use Rattle.std.specs.Prelude.{◌≡◌, ℕ, ◌+◌, ◌<◌, ◌≤◌, ◌^◌, ◌++◌, List, drop, false, length, true};
 ghost use Rattle.inf_scanner.specs.Lines.{past};
-ghost use Rattle.inf_lexer.specs.Heads.{head_after, head_found, head_step, is_head_on, is_word, place_behind, with_head_byte};
+ghost use Rattle.inf_lexer.specs.Heads.{head_after, head_found, head_step, is_behind, is_head_on, is_word, place_behind, turn_place};
+ghost use Rattle.inf_lexer.specs.Heads.{with_head_byte};
 
 use arrayvec::ArrayVec;
 use inf_scanner::Lines;
@@ -119,6 +120,7 @@ fn keep(word: &mut ArrayVec<u8, MOST_WORD_BYTES>, byte: u8)
 }
 
 /// Takes bytes of a head up to the end of a word or of the head, or all of them. Answers how many.
+#[tactic(auto, using(crate::proofs::Heading::passes_before))]
 pub(crate) fn take_head(
     from: HeadPlace,
     lines: &mut Lines,
@@ -130,6 +132,7 @@ pub(crate) fn take_head(
         ≡ head_found from word.old.items lines.old (bytes.now ++ rest) }
     ensures within { result.0 ≤ length bytes.now }
     ensures all { is_head_on result.1 ≡ true → result.0 ≡ length bytes.now }
+    ensures before { is_behind from ≡ false → is_behind (turn_place result.1) ≡ false }
     ensures few { lines.new.line ≤ lines.old.line + result.0 }
 {
     let mut place = from;

@@ -2,11 +2,11 @@
 ghost use Rattle.std.specs.Prelude.{◌≡◌, ◌+◌, ◌-◌, ◌<◌, ◌≤◌, ◌⊎◌, [], false, true, length, min, is_err, IsTrue, IsErrOf, IfOk, OnOk, Err};
 ghost use Rattle.std.specs.Prelude.{IsErr, IfErr, OnErr};
 ghost use Rattle.inf_files.specs.Files.{Rose, last_count};
-ghost use Rattle.inf_lexer.specs.Heads.{HeadFound, HeadRead, head_found, next_head_word};
+ghost use Rattle.inf_lexer.specs.Heads.{HeadFound, HeadRead, goes_on_at, head_found, is_behind, next_head_word};
 ghost use Rattle.inf_lexer.specs.Unread.{Along, Ends, Heard, StillGives, to_come, unread};
 ghost use Rattle.inf_scanner.specs.Scanning.{Found, begun, find, is_quoted, sight};
 ghost use Rattle.inf_scanner.specs.Tokens.{Read, next_token};
-ghost use Rattle.inf_lexer.specs.Readers.{StaysUnfinished, Took, at_front, head_out, read_out};
+ghost use Rattle.inf_lexer.specs.Readers.{HeadStaysOpen, StaysOpen, StaysUnfinished, Took, TookWord, at_front, head_out, read_out};
 
 use crate::faults::LexFault;
 use crate::head::{HeadPlace, HeadTurn, is_word, place_behind, take_head};
@@ -106,6 +106,10 @@ fn scan_head<F: Files>(
     ensures more { window.old.given ≤ window.new.given }
     ensures err { IfErr result (λ fault. fault ≡ LexFault.Read) }
     ensures cause { IsErr result → Rose (F.faults files.old) (F.faults files.new) ⊎ (16777216 < window.new.given) }
+    ensures unfinished { IsErr result → is_behind from ≡ false → IsTrue (F.is_honest files.old) →
+        StaysOpen (λ bytes. (head_found from word.old.items lines.old bytes).rest)
+        (to_come (F.sources files.old) (F.openings files.old) window.old)
+        (window.new.given - 16777216) (unread (F.sources files.old) (F.openings files.new)) }
     ensures on { IsErr result → window.new.is_over ≡ false }
     ensures given { min (F.given files.old + (window.new.given - window.old.given)) last_count ≤ F.given files.new }
     ensures depth { F.depth files.new ≡ F.depth files.old }
@@ -270,6 +274,7 @@ impl Lexer {
     /// comment that ends it. The lexer's source is the one that was opened last and is not closed.
     ///
     /// `Read` comes where the source could not be read, or has more than 16,777,216 bytes, and after every refusal.
+    #[tactic(auto, using(crate::proofs::Heading::goes_on_is))]
     pub fn next_head_word<F: Files>(
         &mut self,
         files: &mut F,
@@ -287,6 +292,8 @@ impl Lexer {
         ensures heard { IfOk result (λ is_word. Heard HeadRead (F.is_honest files.old) (F.sources files.old)
             (F.openings files.old) (F.openings files.new) self.old.window self.new.window
             (head_out is_word place.new word.new.items self.new) (next_head_word place.old self.old.lines)) }
+        ensures goes_to { IfOk result (λ is_word. place.new ≡ goes_on_at is_word) }
+        ensures took { IfOk result (λ is_word. TookWord is_word place.old self.old.window self.new.window) }
         ensures end { IsTrue (F.is_honest files.old) → Ends (F.sources files.old) (F.openings files.old) self.old.window →
             Ends (F.sources files.old) (F.openings files.new) self.new.window }
         ensures still { IsTrue (F.is_honest files.old) → StillGives (F.openings files.old) self.old.window →
@@ -302,10 +309,14 @@ impl Lexer {
             ≤ F.given files.new }
         ensures few { OnOk result (self.new.window.given ≤ 16777216) }
 
-        // A refusal has its cause, leaves the place, and is the last answer but `Read`.
+        // A refusal has its cause, leaves the place, and is the last answer but `Read`. What was given then ends neither the word nor the
+        // head.
         ensures read { IfErr result (λ fault. fault ≡ LexFault.Read) }
         ensures cause { IsErr result → (self.old.has_failed ≡ true)
             ⊎ (Rose (F.faults files.old) (F.faults files.new) ⊎ (16777216 < self.new.window.given)) }
+        ensures unfinished { self.old.has_failed ≡ false → is_behind place.old ≡ false → IsErr result → IsTrue (F.is_honest files.old) →
+            HeadStaysOpen place.old self.old.lines (to_come (F.sources files.old) (F.openings files.old) self.old.window)
+            (self.new.window.given - 16777216) (unread (F.sources files.old) (F.openings files.new)) }
         ensures on { self.old.has_failed ≡ false → IsErr result → self.new.window.is_over ≡ false }
         ensures unmoved { OnErr result (place.new ≡ place.old) }
         ensures failed { self.new.has_failed ≡ is_err result }

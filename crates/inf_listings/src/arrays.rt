@@ -64,7 +64,7 @@ fn kind_in(tokens: &UnitTokens) -> ArrayKind
     array_kind(tokens.kind(at), tokens.bytes_at(at))
 }
 
-/// What is wrong with an entry that its array refuses. That there are too many bytes is no error of the unit.
+/// Returns what is wrong with an entry that its array refuses. That there are too many bytes is no error of the unit.
 pub fn refused(fault: Option<ArrayFault>) -> Option<Finding>
     ensures { result ≡ refused fault }
 {
@@ -76,14 +76,14 @@ pub fn refused(fault: Option<ArrayFault>) -> Option<Finding>
     }
 }
 
-/// Whether an item is a string variable.
+/// Returns whether an item is a string variable.
 fn is_variable(item: TextItem) -> bool
     ensures { result ≡ is_variable item }
 {
     matches!(item, TextItem::Variable(_))
 }
 
-/// Whether a string variable is among some items.
+/// Returns whether a string variable is among some items.
 pub fn has_variables(items: &[TextItem]) -> bool
     ensures { result ≡ variables_from items.now false }
 {
@@ -115,7 +115,7 @@ fn codes_of(alloc: Global, items: &[TextItem]) -> Result<Vec<u8>, AllocError>
     Ok(codes)
 }
 
-/// What an entry with a value adds, which is alone or not.
+/// Returns what an entry with `value` adds, which is alone or not.
 fn adding(is_alone: bool, value: Value) -> Entries<'static>
     ensures { adding_of result ≡ adding is_alone value }
 {
@@ -250,7 +250,7 @@ fn array_header<B: Bounds>(
     header_with(compilation, context, first, name, declared)
 }
 
-/// The same, where so much is known of its name.
+/// Opens the array of a header, of whose name this was found.
 fn header_with<B: Bounds>(
     compilation: &mut Compilation<B>,
     context: &Context<'_>,
@@ -322,7 +322,7 @@ pub fn text_at<B: Bounds>(
     }
 }
 
-/// What is wrong with what an entry adds.
+/// Returns what is wrong with what an entry adds.
 fn added_finding<B: Bounds>(compilation: &Compilation<B>, entries: Entries<'_>) -> Option<Finding>
     ensures { result ≡ added_finding B.most (adding_of entries.entry) (work compilation.now) }
 {
@@ -333,7 +333,7 @@ fn added_finding<B: Bounds>(compilation: &Compilation<B>, entries: Entries<'_>) 
     })
 }
 
-/// What is wrong with the characters of an entry that is a text alone.
+/// Returns what is wrong with the characters of an entry that is a text alone.
 fn items_finding<B: Bounds>(
     compilation: &Compilation<B>,
     items: &[TextItem],
@@ -347,7 +347,7 @@ fn items_finding<B: Bounds>(
     Ok(added_finding(compilation, Entries::Characters(codes.as_slice())))
 }
 
-/// What is wrong with an entry that is the text at a place alone.
+/// Returns what is wrong with an entry that is the text at a place alone.
 fn text_finding<B: Bounds>(
     compilation: &Compilation<B>,
     context: &Context<'_>,
@@ -380,7 +380,7 @@ pub fn looked_value<B: Bounds>(
     Ok(value_in(&forest))
 }
 
-/// What is wrong with an entry, beside its expression, which is alone or not.
+/// Returns what is wrong with an entry, beside its expression, which is alone or not.
 fn own_entry_finding<B: Bounds>(
     compilation: &Compilation<B>,
     context: &Context<'_>,
@@ -400,7 +400,7 @@ fn own_entry_finding<B: Bounds>(
     }
 }
 
-/// What is wrong with an entry, which is alone or not.
+/// Returns what is wrong with an entry, which is alone or not.
 fn entry_finding<B: Bounds>(
     compilation: &Compilation<B>,
     context: &Context<'_>,

@@ -1,33 +1,34 @@
 -- Assignments and steps.
-use Rattle.std.proofs.Common.{◌≡◌, ℕ, List, [], ◌∷◌, ◌++◌, Option, Some, None, Bool, true, false, refl, ◌∙◌, ap, sym, subst}
+use Rattle.std.proofs.Common.{arith, ◌≡◌, ◌≤◌, ℕ, List, [], ◌∷◌, ◌++◌, Option, Some, None, Bool, true, false, refl, ◌∙◌, ap, sym, subst}
 use Rattle.std.proofs.lemmas.Bool.{eq-eqb}
-use Rattle.std.specs.Prelude.{length, take, not, ◌==◌, ◌||◌, if◌then◌else◌}
+use Rattle.std.specs.Prelude.{length, not, ◌+◌, ◌==◌, ◌||◌, if◌then◌else◌}
 use Rattle.inf_settings.specs.Bounds.{Limits}
 use Rattle.inf_opcode.specs.declared.instructions.Label.{Label}
 use Rattle.inf_opcode.specs.declared.opcodes.Opcode.TheVariants as opcode
 use Rattle.inf_expressions.specs.declared.operators.Operand.{Operand}
 use Rattle.inf_expressions.specs.declared.operators.Operand.TheVariants as operand
 use Rattle.inf_expressions.specs.declared.operators.Step.{Step}
+use Rattle.inf_expressions.specs.declared.operators.Step.TheVariants as step
 use Rattle.inf_expressions.specs.declared.operators.Unary.TheVariants as unary
 use Rattle.inf_expressions.specs.declared.operators.Binary.TheVariants as binary
 use Rattle.inf_expressions.specs.Trees.{Leaf}
-use Rattle.inf_output.specs.declared.operands.Simple.{Simple}
 use Rattle.inf_output.specs.Output.{Code, nothing, ◌▸◌}
-use Rattle.inf_templates.specs.Parts.{Part, TEMP, call_opcode, call_routine, calling, calling_routine, evaluated, load, operands, put}
+use Rattle.inf_templates.specs.Parts.{Part, call_routine, evaluated, is, load, operands, put}
 use Rattle.inf_templates.specs.Parts.{simple}
 use Rattle.inf_templates.specs.Meaning.{Meaning, InMemory, meaning, part}
 use Rattle.inf_templates.specs.Meaning as code
-use Rattle.inf_output.specs.declared.veneer.Veneer.{Veneer}
 use Rattle.inf_meaning_laws.specs.Machine.{World, Store, State, Place, ◌then◌, given, with_variable}
-use Rattle.inf_meaning_laws.specs.Values.{forgotten, Width, Bytes, Words, Named, Element, Arg, Sense, Taker, answer, arg, is_own}
-use Rattle.inf_meaning_laws.specs.Values.{leaf_value, nobody, sense}
+use Rattle.inf_meaning_laws.specs.Values.{forgotten, Width, Bytes, Words, Properties, Named, Element, Arg, Sense, Taker, answer, arg}
+use Rattle.inf_meaning_laws.specs.Values.{is_own, leaf_value, nobody, number, sense}
 use Rattle.inf_meaning_laws.specs.Values as values
 use Rattle.inf_meaning_laws.specs.Laws.{Claim, Comes, Kept, GivesNothing, GivesValue, state, taken, taker}
-use Rattle.inf_meaning_laws.proofs.Laying.{Always, routined, instruction_, so, then_}
+use Rattle.inf_meaning_laws.proofs.Laying.{Always, so, then_}
 use Rattle.inf_meaning_laws.proofs.Running.{given_taken, comes_then, kept_here, none_some, opened, same_some}
-use Rattle.inf_meaning_laws.proofs.Working.{works_all, AreParts, IsPart}
+use Rattle.inf_meaning_laws.proofs.Working.{AreParts, IsPart}
 use Rattle.inf_meaning_laws.proofs.Instructions.{left_as, finish, load_, step_, writes_, without}
-use Rattle.inf_meaning_laws.proofs.Meant.{memory_of, part_of, leaf_put, leaf_alone, valued_means, Means}
+use Rattle.inf_meaning_laws.proofs.Meant.{memory_of, part_of, leaf_put, leaf_alone, simple_part, valued_means, Means}
+use Rattle.inf_meaning_laws.proofs.Groups.{same_length}
+use Rattle.inf_meaning_laws.proofs.Supplying.{supplied_means, writes_property}
 
 pub taken_own : (v n : ℕ) (stack : List ℕ) (left : ℕ) (s : Store) → is_own v ≡ false → taken v n stack left s ≡ state stack left s
 taken_own v n stack left s e = ap (λ b. if b then given v n (state stack left s) else state stack left s) e
@@ -46,7 +47,7 @@ goes_to {keeps} w value v own at from to h stack temp s n t e =
 
 pub assigned_value : {keeps : Bool} (w : World) (limits : Limits) (v : ℕ) (own : Bool) → is_own v ≡ own → (m : Meaning) (a : Sense) →
     Means keeps w limits m a → (d : ℕ) →
-    Always (m.value v ▸ load limits v d) (GivesValue keeps w (values.assigned w (values.aim_at v own) a).value d)
+    Always w (m.value v ▸ load limits v d) (GivesValue keeps w (values.assigned w (values.aim_at v own) a).value d)
 assigned_value {keeps} w limits v true own m a h d =
     so (λ at from to p stack temp s n t e. none_some e) (then_ (h.value v) (load_ w limits v d))
 assigned_value {keeps} w limits v false own m a h d =
@@ -59,7 +60,7 @@ assigned_value {keeps} w limits v false own m a h d =
 
 pub assigned_alone : {keeps : Bool} (w : World) (limits : Limits) (v : ℕ) (own : Bool) → is_own v ≡ own → (m : Meaning) (a : Sense) →
     Means keeps w limits m a →
-    Always (m.value v) (GivesNothing w (forgotten (values.assigned w (values.aim_at v own) a).value))
+    Always w (m.value v) (GivesNothing w (forgotten (values.assigned w (values.aim_at v own) a).value))
 assigned_alone {keeps} w limits v true own m a h = so (λ at from to p stack temp s t e. none_some e) (h.value v)
 assigned_alone {keeps} w limits v false own m a h =
     so (λ at from to p stack temp s t e.
@@ -71,7 +72,7 @@ assigned_alone {keeps} w limits v false own m a h =
 
 -- what has no meaning may be laid as anything
 pub silent : {keeps : Bool} (w : World) (limits : Limits) (value : Taker → Store → Option (ℕ × Store)) (c : ℕ → Code) (alone : Code) →
-    ((d : ℕ) → Always (c d) (GivesValue keeps w value d)) → Always alone (GivesNothing w (forgotten value)) →
+    ((d : ℕ) → Always w (c d) (GivesValue keeps w value d)) → Always w alone (GivesNothing w (forgotten value)) →
     Means keeps w limits (code.valued limits c alone) values.no_value
 silent {keeps} w limits value c alone h k =
     valued_means w limits (λ take s. None) c alone (λ d. so (λ at from to p stack temp s n t e. none_some e) (h d))
@@ -106,75 +107,107 @@ assign_means {keeps} w limits (operand.Later n) m a h = silent_assigned w limits
 assign_means {keeps} w limits (operand.Function n) m a h = silent_assigned w limits m a h
 assign_means {keeps} w limits operand.Unknown m a h = silent_assigned w limits m a h
 
--- Elements of arrays: their value has no meaning here, so of the call that gives it only that it lays something
-pub are_joined : {keeps : Bool} (w : World) (ps : List Part) (args : List Arg) (p : Part) (a : Arg) → AreParts keeps w ps args →
-    IsPart keeps w p a →
-    AreParts keeps w (ps ++ p ∷ []) (args ++ a ∷ [])
-are_joined {keeps} w [] [] p a h k = (k, tt)
-are_joined {keeps} w [] (b ∷ args) p a h k = absurd h
-are_joined {keeps} w (q ∷ ps) [] p a h k = absurd h
-are_joined {keeps} w (q ∷ ps) (b ∷ args) p a h k = (h.0, are_joined w ps args p a h.1 k)
+-- Elements of arrays and properties of objects
+pub are_joined : (keeps : Bool) (w : World) (ps : List Part) (args : List Arg) (qs : List Part) (others : List Arg) →
+    AreParts keeps w ps args → AreParts keeps w qs others → AreParts keeps w (ps ++ qs) (args ++ others)
+are_joined keeps w [] [] qs others h k = k
+are_joined keeps w [] (b ∷ args) qs others h k = absurd h
+are_joined keeps w (p ∷ ps) [] qs others h k = absurd h
+are_joined keeps w (p ∷ ps) (b ∷ args) qs others h k = (h.0, are_joined keeps w ps args qs others h.1 k)
 
-abbrev pub Whatever : Claim
-Whatever at from to = Unit {0}
+joined_length : (args others : List Arg) → length (args ++ others) ≡ length args + length others
+joined_length [] others = omega arith
+joined_length (a ∷ args) others = let e = joined_length args others in omega (arith, e)
 
-pub calls : (limits : Limits) (r : Simple) (operands : List Simple) (store : Option ℕ) → Always (calling limits r operands store) Whatever
-unfolding calling
-calls limits r operands store =
-    so (λ at from to e. tt) (instruction_ limits (call_opcode store (length (take 7 operands))) (r ∷ take 7 operands) store None)
+-- the routine that assigns a value and answers it, and the one that steps it
+setter_is : (width : Width) → code.setter (memory_of width) ≡ values.setter width
+setter_is Bytes = refl
+setter_is Words = refl
+setter_is Properties = refl
 
-pub calls_veneer : (limits : Limits) (v : Veneer) (operands : List Simple) (store : Option ℕ) →
-    Always (calling_routine limits v operands store) Whatever
-unfolding calling_routine
-calls_veneer limits v operands store = routined limits v (λ r. calls limits r operands store)
+stepper_is : (width : Width) → code.stepper (memory_of width) ≡ values.stepper width
+stepper_is Bytes = refl
+stepper_is Words = refl
+stepper_is Properties = refl
 
-pub element_value : {keeps : Bool} (w : World) (limits : Limits) (v : Veneer) (ps : List Part) (args : List Arg) →
-    AreParts keeps w ps args → (d : ℕ) →
-    Always (call_routine limits v ps (Some d)) (GivesValue keeps w (λ take s. None) d)
-element_value {keeps} w limits v ps args h d =
-    so (λ at from to p stack temp s n t e. none_some e) (then_ (works_all w ps args h) (calls_veneer limits v (operands ps) (Some d)))
+element_alone : (keeps : Bool) (w : World) (limits : Limits) (width : Width) (ps : List Part) (args : List Arg) →
+    AreParts keeps w ps args → length ps ≤ 7 →
+    Always w (evaluated ps ▸ code.stored limits (memory_of width) (operands ps)) (GivesNothing w (values.element_assigned w width args))
+element_alone keeps w limits Bytes ps args h few = writes_ keeps w limits opcode.Storeb (values.with_element w Bytes) ps args refl h
+element_alone keeps w limits Words ps args h few = writes_ keeps w limits opcode.Storew (values.with_element w Words) ps args refl h
+element_alone keeps w limits Properties ps args h few = writes_property keeps w limits ps args h few
 
-pub element_alone : (keeps : Bool) (w : World) (limits : Limits) (width : Width) (ps : List Part) (args : List Arg) →
-    AreParts keeps w ps args →
-    Always (evaluated ps ▸ code.stored limits (memory_of width) (operands ps)) (GivesNothing w (values.element_assigned w width args))
-element_alone keeps w limits Bytes ps args h = writes_ keeps w limits opcode.Storeb (values.with_element Bytes) ps args refl h
-element_alone keeps w limits Words ps args h = writes_ keeps w limits opcode.Storew (values.with_element Words) ps args refl h
-
-pub element_means : {keeps : Bool} (w : World) (limits : Limits) (width : Width) (n : Meaning) (b : Sense) (args : List Arg) →
-    b.aim ≡ Element width args →
-    (m : Meaning) (a : Sense) → Means keeps w limits n b → Means keeps w limits m a →
-    Means keeps w limits (code.two limits binary.Assign n m) (values.assigned w (Element width args) a)
+pub element_means : (keeps : Bool) (w : World) (limits : Limits) (width : Width) (args : List Arg) (n : Meaning) (b : Sense) →
+    b.aim ≡ Element width args → length args ≡ 2 → (m : Meaning) (a : Sense) → Means keeps w limits n b → Means keeps w limits m a →
+    Means false w limits (code.two limits binary.Assign n m) (values.assigned w (Element width args) a)
 unfolding code.assign_value code.assign_alone
-element_means {keeps} w limits width n b args e m a k h =
+element_means keeps w limits width args n b e two m a k h =
     let q = k.aims width args e in
-    let are = are_joined w q.0 args (part m) (arg a) q.2 (part_of w limits m a h) in
-    subst (λ t. Means keeps w limits (code.valued limits (code.assigned_value limits t m) (code.assigned_alone limits t m))
+    let ps = q.0 ++ part m ∷ [] in
+    let all = args ++ arg a ∷ [] in
+    let are = are_joined keeps w q.0 args (part m ∷ []) (arg a ∷ []) q.2 (part_of w limits m a h, tt) in
+    let long = joined_length args (arg a ∷ []) in
+    let same = same_length keeps w ps all are in
+    let few : length ps ≤ 7 = omega (arith, long, same, two) in
+    let alone = element_alone keeps w limits width ps all are few in
+    subst (λ t. Means false w limits (code.valued limits (code.assigned_value limits t m) (code.assigned_alone limits t m))
     (values.assigned w (Element width args) a)) (sym q.1)
-    (let c = valued_means w limits (λ take s. None) (code.assigned_value limits (InMemory (memory_of width) q.0) m)
-    (call_routine limits (code.setter (memory_of width)) (q.0 ++ part m ∷ []) (Some TEMP))
-    (element_value w limits (code.setter (memory_of width)) (q.0 ++ part m ∷ []) (args ++ arg a ∷ []) are)
-    (so (without w (λ take s. None)) (element_value w limits (code.setter (memory_of width)) (q.0 ++ part m ∷ [])
-    (args ++ arg a ∷ []) are TEMP)) in
+    (subst (λ v. Means false w limits (code.valued limits (λ d. call_routine limits v ps (Some d))
+    (code.assigned_alone limits (InMemory (memory_of width) q.0) m)) (values.assigned w (Element width args) a)) (sym (setter_is width))
+    (let c = supplied_means keeps w limits (values.setter width) ps all are few in
     record {
       operand = c.operand;
       first = c.first;
       others = c.others;
       value = c.value;
-      alone = element_alone keeps w limits width (q.0 ++ part m ∷ []) (args ++ arg a ∷ []) are;
+      alone = alone;
       aims = c.aims;
       branch = c.branch;
-    })
+    }))
+
+-- how much a step is, and whether it answers the new value
+by_part : {keeps : Bool} (w : World) (how : Step) → IsPart keeps w (is (code.by how)) (number (values.step_by how))
+by_part w step.Up = simple_part w (operand.Known 1) (λ s. Some (1, s))
+by_part w step.Down = simple_part w (operand.Known 65535) (λ s. Some (65535, s))
+
+abbrev pub new_of : Bool → ℕ
+new_of true = 1
+new_of false = 0
+
+new_part : {keeps : Bool} (w : World) (before : Bool) → IsPart keeps w (is (code.leaves_new before)) (number (new_of before))
+new_part w true = simple_part w (operand.Known 1) (λ s. Some (1, s))
+new_part w false = simple_part w (operand.Known 0) (λ s. Some (0, s))
+
+pub element_steps : (keeps : Bool) (w : World) (limits : Limits) (before : Bool) (how : Step) (width : Width) (args : List Arg)
+    (n : Meaning) (b : Sense) → b.aim ≡ Element width args → length args ≡ 2 → Means keeps w limits n b →
+    Means false w limits (code.stepped limits before how n) (values.element_stepped w (new_of before) how width args)
+unfolding code.step_value code.step_alone
+element_steps keeps w limits before how width args n b e two k =
+    let q = k.aims width args e in
+    let added = is (code.by how) ∷ is (code.leaves_new before) ∷ [] in
+    let others = number (values.step_by how) ∷ number (new_of before) ∷ [] in
+    let ps = q.0 ++ added in
+    let all = args ++ others in
+    let are = are_joined keeps w q.0 args added others q.2 (by_part w how, (new_part w before, tt)) in
+    let long = joined_length args others in
+    let same = same_length keeps w ps all are in
+    let few : length ps ≤ 7 = omega (arith, long, same, two) in
+    subst (λ t. Means false w limits (code.valued limits (code.stepped_value limits before how t n)
+    (code.stepped_alone limits before how t n)) (values.element_stepped w (new_of before) how width args)) (sym q.1)
+    (subst (λ v. Means false w limits (code.called limits (call_routine limits v ps))
+    (values.element_stepped w (new_of before) how width args)) (sym (stepper_is width))
+    (supplied_means keeps w limits (values.stepper width) ps all are few))
 
 -- Steps
-pub before_valued : (how : Step) (v : ℕ) (own : Bool) →
-    values.valued (values.stepped_before how (values.aim_at v own)).value ≡ values.stepped_before how (values.aim_at v own)
-before_valued how v true = refl
-before_valued how v false = refl
+pub before_valued : (w : World) (how : Step) (v : ℕ) (own : Bool) →
+    values.valued (values.stepped_before w how (values.aim_at v own)).value ≡ values.stepped_before w how (values.aim_at v own)
+before_valued w how v true = refl
+before_valued w how v false = refl
 
-pub behind_valued : (how : Step) (v : ℕ) (own : Bool) →
-    values.valued (values.stepped_behind how (values.aim_at v own)).value ≡ values.stepped_behind how (values.aim_at v own)
-behind_valued how v true = refl
-behind_valued how v false = refl
+pub behind_valued : (w : World) (how : Step) (v : ℕ) (own : Bool) →
+    values.valued (values.stepped_behind w how (values.aim_at v own)).value ≡ values.stepped_behind w how (values.aim_at v own)
+behind_valued w how v true = refl
+behind_valued w how v false = refl
 
 pub same_number : (n : ℕ) → (n == n) ≡ true
 same_number n = eq-eqb n n refl
@@ -183,7 +216,7 @@ pub stepped_is : (how : Step) (v : ℕ) (s : Store) → (values.with_step how v 
 stepped_is how v s = ap (λ b. if b then values.next how v s else s.variables v) (same_number v)
 
 pub before_value : {keeps : Bool} (w : World) (limits : Limits) (how : Step) (v : ℕ) (own : Bool) → is_own v ≡ own → (d : ℕ) →
-    Always (code.stepping limits how v ▸ load limits v d) (GivesValue keeps w (values.stepped_before how (values.aim_at v own)).value d)
+    Always w (code.stepping limits how v ▸ load limits v d) (GivesValue keeps w (values.stepped_before w how (values.aim_at v own)).value d)
 before_value {keeps} w limits how v true own d =
     so (λ at from to p stack temp s n t e. none_some e) (then_ (step_ w limits how v) (load_ w limits v d))
 before_value {keeps} w limits how v false own d =
@@ -219,7 +252,7 @@ step_taken how v d n stack left s =
     ∙ ap (λ t. taken d n stack left t) (always_left (is_own d) (values.with_step how v s) s)
 
 pub behind_value : {keeps : Bool} (w : World) (limits : Limits) (how : Step) (v : ℕ) (own : Bool) → is_own v ≡ own → (d : ℕ) →
-    Always (load limits v d ▸ code.stepping limits how v) (GivesValue keeps w (values.stepped_behind how (values.aim_at v own)).value d)
+    Always w (load limits v d ▸ code.stepping limits how v) (GivesValue keeps w (values.stepped_behind w how (values.aim_at v own)).value d)
 behind_value {keeps} w limits how v true own d =
     so (λ at from to p stack temp s n t e. none_some e) (then_ (load_ w limits v d) (step_ w limits how v))
 behind_value {keeps} w limits how v false own d =
@@ -235,7 +268,7 @@ behind_value {keeps} w limits how v false own d =
     (then_ (load_ w limits v d) (step_ w limits how v))
 
 pub step_alone : (w : World) (limits : Limits) (how : Step) (v : ℕ) (own : Bool) → is_own v ≡ own →
-    Always (code.stepping limits how v) (GivesNothing w (forgotten (values.stepped_before how (values.aim_at v own)).value))
+    Always w (code.stepping limits how v) (GivesNothing w (forgotten (values.stepped_before w how (values.aim_at v own)).value))
 step_alone w limits how v true own = so (λ at from to p stack temp s t e. none_some e) (step_ w limits how v)
 step_alone w limits how v false own =
     so (λ at from to p stack temp s t e.
@@ -243,7 +276,7 @@ step_alone w limits how v false own =
     (step_ w limits how v)
 
 pub step_alone_behind : (w : World) (limits : Limits) (how : Step) (v : ℕ) (own : Bool) → is_own v ≡ own →
-    Always (code.stepping limits how v) (GivesNothing w (forgotten (values.stepped_behind how (values.aim_at v own)).value))
+    Always w (code.stepping limits how v) (GivesNothing w (forgotten (values.stepped_behind w how (values.aim_at v own)).value))
 step_alone_behind w limits how v true own = so (λ at from to p stack temp s t e. none_some e) (step_ w limits how v)
 step_alone_behind w limits how v false own =
     so (λ at from to p stack temp s t e.
@@ -256,8 +289,8 @@ unfolding code.step_value code.step_alone
 before_means {keeps} w limits how (operand.Variable v) =
     subst (λ e. Means keeps w limits (code.valued limits (λ d. code.stepping limits how v ▸ load limits v d)
     (code.stepping limits how v)) e)
-    (before_valued how v (is_own v))
-    (valued_means w limits (values.stepped_before how (values.aim_at v (is_own v))).value
+    (before_valued w how v (is_own v))
+    (valued_means w limits (values.stepped_before w how (values.aim_at v (is_own v))).value
     (λ d. code.stepping limits how v ▸ load limits v d)
     (code.stepping limits how v) (before_value w limits how v (is_own v) refl) (step_alone w limits how v (is_own v) refl))
 before_means {keeps} w limits how (operand.Known n) = silent_leaf w limits (operand.Known n)
@@ -271,8 +304,8 @@ unfolding code.step_value code.step_alone
 behind_means {keeps} w limits how (operand.Variable v) =
     subst (λ e. Means keeps w limits (code.valued limits (λ d. load limits v d ▸ code.stepping limits how v)
     (code.stepping limits how v)) e)
-    (behind_valued how v (is_own v))
-    (valued_means w limits (values.stepped_behind how (values.aim_at v (is_own v))).value
+    (behind_valued w how v (is_own v))
+    (valued_means w limits (values.stepped_behind w how (values.aim_at v (is_own v))).value
     (λ d. load limits v d ▸ code.stepping limits how v)
     (code.stepping limits how v) (behind_value w limits how v (is_own v) refl) (step_alone_behind w limits how v (is_own v) refl))
 behind_means {keeps} w limits how (operand.Known n) = silent_leaf w limits (operand.Known n)

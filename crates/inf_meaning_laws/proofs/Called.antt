@@ -49,9 +49,9 @@ pub calls_means : (keeps : Bool) (w : World) (limits : Limits) (p : Part) (ps : 
     AreParts keeps w (p ∷ ps) args → length ps ≤ 7 → Means false w limits (code.called limits (call limits p ps)) (values.calls w args)
 calls_means keeps w limits p ps args h few =
     valued_means w limits (call_value w args) (λ d. call limits p ps (Some d)) (call limits p ps None)
-    (λ d. subst (λ c. Always c (GivesValue false w (call_value w args) d)) (call_code limits p ps few (Some d))
+    (λ d. subst (λ c. Always w c (GivesValue false w (call_value w args) d)) (call_code limits p ps few (Some d))
     (calls_ keeps w limits (call_opcode (Some d) (length (operands ps))) (p ∷ ps) args (call_acts w (Some d) (length (operands ps))) h d))
-    (subst (λ c. Always c (GivesNothing w (forgotten (call_value w args)))) (call_code limits p ps few None)
+    (subst (λ c. Always w c (GivesNothing w (forgotten (call_value w args)))) (call_code limits p ps few None)
     (calls_alone keeps w limits (call_opcode None (length (operands ps))) (p ∷ ps) args (call_acts w None (length (operands ps))) h))
 
 -- What is no property is called as a value.

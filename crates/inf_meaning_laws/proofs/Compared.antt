@@ -60,12 +60,12 @@ opposite_tests keeps w h args label sense at from to k stack temp s b t e =
 abbrev pub Instructs : Bool → World → Limits → List Part → (ℕ → List Arg) → Type 0
 Instructs keeps w limits ps args =
     (op : Opcode) (g : Store → List ℕ → Option Bool) → action_of w op ≡ Tests g → (sense : Bool) (label : Label) →
-    Always (evaluated ps ▸ instruction limits op (operands ps) None (to sense label))
+    Always w (evaluated ps ▸ instruction limits op (operands ps) None (to sense label))
     (BranchesBy keeps w (λ temp. tested_of w g (args temp)) sense label)
 
 pub instructed : (keeps : Bool) (w : World) (limits : Limits) (t : Test) → IsDirect t → (ps : List Part) (args : ℕ → List Arg) →
     Instructs keeps w limits ps args → (sense : Bool) (label : Label) →
-    Always (code.tested limits t ps sense label) (BranchesBy keeps w (λ temp. values.tested w t (args temp)) sense label)
+    Always w (code.tested limits t ps sense label) (BranchesBy keeps w (λ temp. values.tested w t (args temp)) sense label)
 instructed keeps w limits test.Equal d ps args h sense label = h opcode.Je (λ s. first_is_any) refl sense label
 instructed keeps w limits test.Less d ps args h sense label = h opcode.Jl (λ s. test_of_two (λ a b. less a b)) refl sense label
 instructed keeps w limits test.Greater d ps args h sense label = h opcode.Jg (λ s. test_of_two (λ a b. less b a)) refl sense label
@@ -81,7 +81,7 @@ instructed keeps w limits test.Provides d ps args h sense label = absurd d
 -- operands that are parts
 pub compares : {keeps : Bool} (w : World) (limits : Limits) (t : Test) → IsDirect t → (ps : List Part) (args : List Arg) →
     AreParts keeps w ps args → (sense : Bool) (label : Label) →
-    Always (code.tested limits t ps sense label) (Branches keeps w (values.tested w t args) sense label)
+    Always w (code.tested limits t ps sense label) (Branches keeps w (values.tested w t args) sense label)
 compares {keeps} w limits t d ps args h sense label =
     instructed keeps w limits t d ps (λ temp. args) (λ op g act how l. tests_ w limits op g ps args act h how l) sense label
 

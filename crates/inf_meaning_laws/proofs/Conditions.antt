@@ -115,7 +115,7 @@ chain_opened false a b s r t e =
 
 pub both_ : {keeps : Bool} (w : World) (limits : Limits) (x : Bool) (m n : Meaning) (a b : Sense) → Means keeps w limits m a →
     Means keeps w limits n b → (label : Label) →
-    Always (code.both limits m n x label) (Branches keeps w (chain x a.truth b.truth) x label)
+    Always w (code.both limits m n x label) (Branches keeps w (chain x a.truth b.truth) x label)
 both_ {keeps} w limits x m n a b h k label =
     labelled λ over. so (λ at from to p stack temp s r t e.
     let o = chain_opened x a.truth b.truth s r t e in
@@ -127,7 +127,7 @@ both_ {keeps} w limits x m n a b h k label =
 
 pub either_ : {keeps : Bool} (w : World) (limits : Limits) (x : Bool) (m n : Meaning) (a b : Sense) → Means keeps w limits m a →
     Means keeps w limits n b → (label : Label) →
-    Always (code.either m n (not x) label) (Branches keeps w (chain x a.truth b.truth) (not x) label)
+    Always w (code.either m n (not x) label) (Branches keeps w (chain x a.truth b.truth) (not x) label)
 either_ {keeps} w limits x m n a b h k label =
     so (λ at from to p stack temp s r t e.
     let o = chain_opened x a.truth b.truth s r t e in
@@ -138,14 +138,14 @@ either_ {keeps} w limits x m n a b h k label =
 
 pub and_branches : {keeps : Bool} (w : World) (limits : Limits) (m n : Meaning) (a b : Sense) → Means keeps w limits m a →
     Means keeps w limits n b → (sense : Bool) (label : Label) →
-    Always (code.and_branch limits m n sense label) (Branches keeps w (values.both a.truth b.truth) sense label)
+    Always w (code.and_branch limits m n sense label) (Branches keeps w (values.both a.truth b.truth) sense label)
 unfolding code.and_branch
 and_branches {keeps} w limits m n a b h k true label = both_ w limits true m n a b h k label
 and_branches {keeps} w limits m n a b h k false label = either_ w limits true m n a b h k label
 
 pub or_branches : {keeps : Bool} (w : World) (limits : Limits) (m n : Meaning) (a b : Sense) → Means keeps w limits m a →
     Means keeps w limits n b → (sense : Bool) (label : Label) →
-    Always (code.or_branch limits m n sense label) (Branches keeps w (values.either a.truth b.truth) sense label)
+    Always w (code.or_branch limits m n sense label) (Branches keeps w (values.either a.truth b.truth) sense label)
 unfolding code.or_branch
 or_branches {keeps} w limits m n a b h k true label = either_ w limits false m n a b h k label
 or_branches {keeps} w limits m n a b h k false label = both_ w limits false m n a b h k label

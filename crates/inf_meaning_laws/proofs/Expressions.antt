@@ -7,13 +7,16 @@ use Rattle.inf_opcode.specs.declared.instructions.Label.{Label}
 use Rattle.inf_opcode.specs.declared.opcodes.Opcode.TheVariants as opcode
 use Rattle.inf_expressions.specs.declared.operators.Operand.TheVariants as operand
 use Rattle.inf_expressions.specs.declared.operators.Operation.TheVariants as operation
+use Rattle.inf_expressions.specs.declared.operators.PropertyPart.TheVariants as property
 use Rattle.inf_expressions.specs.declared.operators.Single.TheVariants as single
+use Rattle.inf_expressions.specs.declared.operators.Step.{Step}
 use Rattle.inf_expressions.specs.declared.operators.Unary.{Unary}
 use Rattle.inf_expressions.specs.declared.operators.Unary.TheVariants as unary
 use Rattle.inf_expressions.specs.declared.operators.Binary.{Binary}
 use Rattle.inf_expressions.specs.declared.operators.Binary.TheVariants as binary
 use Rattle.inf_expressions.specs.Trees.{Tree, Leaf, One, Two}
 use Rattle.inf_output.specs.declared.operands.Simple.TheVariants.{Known}
+use Rattle.inf_output.specs.declared.veneer.Veneer.TheVariants as veneer
 use Rattle.inf_templates.specs.Parts.{is, Part, worked}
 use Rattle.inf_templates.specs.Meaning.{meaning, part, parts, Meaning}
 use Rattle.inf_templates.specs.Meaning as code
@@ -21,18 +24,19 @@ use Rattle.inf_expressions.specs.declared.operators.Relative.{Relative}
 use Rattle.inf_expressions.specs.declared.operators.Relative.TheVariants as relative
 use Rattle.inf_expressions.specs.declared.operators.Test.{Test}
 use Rattle.inf_meaning_laws.specs.Machine.{World}
-use Rattle.inf_meaning_laws.specs.Values.{Arg, Sense, Bytes, Words, arg, number, opposite, sense, together}
+use Rattle.inf_meaning_laws.specs.Values.{Arg, Element, Sense, Width, Bytes, Words, Properties, arg, number, opposite, sense, together}
 use Rattle.inf_meaning_laws.specs.Values as values
-use Rattle.inf_meaning_laws.specs.Covered.{Covered, CoversOne, CoversTwo, Fits, IsLeaf, IsDirect}
+use Rattle.inf_meaning_laws.specs.Covered.{Covered, CoversOne, CoversTwo, Fits, IsElement, IsLeaf, IsDirect}
 use Rattle.inf_meaning_laws.specs.Laws.{BranchesAreTaken, EffectsAreDone, ValuesAreComputed, GivesValue, Branches}
 use Rattle.inf_meaning_laws.proofs.Laying.{so, Always, labelled}
 use Rattle.inf_meaning_laws.proofs.Instructions.{opposed, computed_of, finds_, drawn_value, draws_}
-use Rattle.inf_meaning_laws.proofs.Assigned.{assign_means, element_means, before_means, behind_means}
+use Rattle.inf_meaning_laws.proofs.Assigned.{assign_means, element_means, element_steps, before_means, behind_means}
 use Rattle.inf_meaning_laws.proofs.Counting.{few_of, none_more}
 use Rattle.inf_meaning_laws.proofs.Conditions.{then_means, comma_means, not_means, and_branches, or_branches}
 use Rattle.inf_meaning_laws.proofs.Meant.{part_of, simple_part, leaf_means, condition_means, computed_means, operation_means, Means}
 use Rattle.inf_meaning_laws.proofs.Meant.{no_leaf, stored_means}
 use Rattle.inf_meaning_laws.proofs.Called.{calls_means, call_of_means}
+use Rattle.inf_meaning_laws.proofs.Supplying.{property_means, supplied_means}
 use Rattle.inf_meaning_laws.proofs.Groups.{test_means}
 use Rattle.inf_meaning_laws.proofs.Working.{AreParts}
 
@@ -43,7 +47,7 @@ unkept {keeps} w limits m e none h = subst (λ k. Means k w limits m e) (sym non
 
 relative_acts : {keeps : Bool} (w : World) (how : Relative) (limits : Limits) (ps : List Part) (args : List Arg) →
     AreParts keeps w ps args →
-    (d : ℕ) (next : Label) → Always (worked limits (code.related_opcode how) ps (Some d) (to true next) ▸ marked limits next)
+    (d : ℕ) (next : Label) → Always w (worked limits (code.related_opcode how) ps (Some d) (to true next) ▸ marked limits next)
     (GivesValue keeps w (computed_of w (values.relative_of w how) args) d)
 relative_acts {keeps} w relative.Child limits ps args h d next =
     finds_ {keeps = keeps} w limits opcode.GetChild w.child ps args refl h d next
@@ -57,6 +61,65 @@ relative_means {keeps} w limits how m a h =
     stored_means {keeps = keeps} w limits (computed_of w (values.relative_of w how) (arg a ∷ [])) (code.related limits
     (code.related_opcode how) (part m))
     (λ d. labelled λ next. relative_acts {keeps = keeps} w how limits (part m ∷ []) (arg a ∷ []) (part_of w limits m a h, tt) d next)
+
+-- An element of an array or a property is assigned and stepped by its parts.
+element_aim : (w : World) (v : Tree) → IsElement v →
+    (width : Width) × (parts : List Arg) × ((sense w v).aim ≡ Element width parts) × (length parts ≡ 2)
+element_aim w (Leaf x) h = absurd h
+element_aim w (One op a) h = absurd h
+element_aim w (Two (binary.Operation operation.Add) a c) h = absurd h
+element_aim w (Two (binary.Operation operation.Subtract) a c) h = absurd h
+element_aim w (Two (binary.Operation operation.Multiply) a c) h = absurd h
+element_aim w (Two (binary.Operation operation.Divide) a c) h = absurd h
+element_aim w (Two (binary.Operation operation.Remainder) a c) h = absurd h
+element_aim w (Two (binary.Operation operation.BitAnd) a c) h = absurd h
+element_aim w (Two (binary.Operation operation.BitOr) a c) h = absurd h
+element_aim w (Two (binary.Operation operation.Byte) a c) h = (Bytes, arg (sense w a) ∷ arg (sense w c) ∷ [], refl, refl)
+element_aim w (Two (binary.Operation operation.Word) a c) h = (Words, arg (sense w a) ∷ arg (sense w c) ∷ [], refl, refl)
+element_aim w (Two (binary.Property property.Value) a c) h = (Properties, arg (sense w a) ∷ arg (sense w c) ∷ [], refl, refl)
+element_aim w (Two (binary.Property property.Address) a c) h = absurd h
+element_aim w (Two (binary.Property property.Length) a c) h = absurd h
+element_aim w (Two (binary.Test t) a c) h = absurd h
+element_aim w (Two (binary.Fails t) a c) h = absurd h
+element_aim w (Two binary.Assign a c) h = absurd h
+element_aim w (Two binary.Comma a c) h = absurd h
+element_aim w (Two binary.And a c) h = absurd h
+element_aim w (Two binary.Or a c) h = absurd h
+element_aim w (Two binary.Call a c) h = absurd h
+element_aim w (Two binary.Then a c) h = absurd h
+element_aim w (Two binary.To a c) h = absurd h
+
+assigned_element : (keeps : Bool) (w : World) (limits : Limits) (v b : Tree) → keeps ≡ false → IsElement v →
+    Means keeps w limits (meaning limits v) (sense w v) → Means keeps w limits (meaning limits b) (sense w b) →
+    Means keeps w limits (code.two limits binary.Assign (meaning limits v) (meaning limits b)) (values.two w binary.Assign (sense w v)
+    (sense w b))
+assigned_element keeps w limits v b none h k l =
+    let p = element_aim w v h in
+    unkept {keeps = keeps} w limits (code.two limits binary.Assign (meaning limits v) (meaning limits b)) (values.two w binary.Assign
+    (sense w v) (sense w b)) none
+    (subst (λ aim. Means false w limits (code.two limits binary.Assign (meaning limits v) (meaning limits b))
+    (values.assigned w aim (sense w b))) (sym p.2)
+    (element_means keeps w limits p.0 p.1 (meaning limits v) (sense w v) p.2 p.3 (meaning limits b) (sense w b) k l))
+
+before_element : (keeps : Bool) (w : World) (limits : Limits) (how : Step) (v : Tree) → keeps ≡ false → IsElement v →
+    Means keeps w limits (meaning limits v) (sense w v) →
+    Means keeps w limits (code.one limits (unary.Before how) (meaning limits v)) (values.one w (unary.Before how) (sense w v))
+before_element keeps w limits how v none h k =
+    let p = element_aim w v h in
+    unkept {keeps = keeps} w limits (code.one limits (unary.Before how) (meaning limits v)) (values.one w (unary.Before how)
+    (sense w v)) none
+    (subst (λ aim. Means false w limits (code.stepped limits true how (meaning limits v)) (values.stepped_before w how aim)) (sym p.2)
+    (element_steps keeps w limits true how p.0 p.1 (meaning limits v) (sense w v) p.2 p.3 k))
+
+behind_element : (keeps : Bool) (w : World) (limits : Limits) (how : Step) (v : Tree) → keeps ≡ false → IsElement v →
+    Means keeps w limits (meaning limits v) (sense w v) →
+    Means keeps w limits (code.one limits (unary.Behind how) (meaning limits v)) (values.one w (unary.Behind how) (sense w v))
+behind_element keeps w limits how v none h k =
+    let p = element_aim w v h in
+    unkept {keeps = keeps} w limits (code.one limits (unary.Behind how) (meaning limits v)) (values.one w (unary.Behind how)
+    (sense w v)) none
+    (subst (λ aim. Means false w limits (code.stepped limits false how (meaning limits v)) (values.stepped_behind w how aim)) (sym p.2)
+    (element_steps keeps w limits false how p.0 p.1 (meaning limits v) (sense w v) p.2 p.3 k))
 
 one_means : {keeps : Bool} (w : World) (limits : Limits) (op : Unary) (a : Tree) → CoversOne keeps op a →
     Means keeps w limits (meaning limits a) (sense w a) →
@@ -84,13 +147,16 @@ one_means {keeps} w limits (unary.Single single.Random) a h k =
       tt,
     ))
 one_means {keeps} w limits (unary.Before how) (Leaf x) h k = before_means {keeps = keeps} w limits how x
-one_means w limits (unary.Before how) (One op a) h k = absurd h
-one_means w limits (unary.Before how) (Two op a b) h k = absurd h
+one_means {keeps} w limits (unary.Before how) (One op a) h k = before_element keeps w limits how (One op a) h.0 h.1 k
+one_means {keeps} w limits (unary.Before how) (Two op a b) h k = before_element keeps w limits how (Two op a b) h.0 h.1 k
 one_means {keeps} w limits (unary.Behind how) (Leaf x) h k = behind_means {keeps = keeps} w limits how x
-one_means w limits (unary.Behind how) (One op a) h k = absurd h
-one_means w limits (unary.Behind how) (Two op a b) h k = absurd h
+one_means {keeps} w limits (unary.Behind how) (One op a) h k = behind_element keeps w limits how (One op a) h.0 h.1 k
+one_means {keeps} w limits (unary.Behind how) (Two op a b) h k = behind_element keeps w limits how (Two op a b) h.0 h.1 k
 one_means {keeps} w limits (unary.Relative how) a h k = relative_means {keeps = keeps} w limits how (meaning limits a) (sense w a) k
-one_means w limits unary.Children a h k = absurd h
+one_means {keeps} w limits unary.Children a h k =
+    unkept {keeps = keeps} w limits (code.one limits unary.Children (meaning limits a)) (values.one w unary.Children (sense w a)) h
+    (supplied_means keeps w limits veneer.Children (part (meaning limits a) ∷ []) (arg (sense w a) ∷ [])
+    (part_of w limits (meaning limits a) (sense w a) k, tt) (omega arith))
 one_means {keeps} w limits unary.Call a h k =
     unkept {keeps = keeps} w limits (code.one limits unary.Call (meaning limits a)) (values.one w unary.Call (sense w a)) h.0
     (call_of_means keeps w limits a h.1 [] (arg (sense w a) ∷ []) (part_of w limits (meaning limits a) (sense w a) k, tt) (omega arith))
@@ -99,36 +165,14 @@ one_means {keeps} w limits unary.Indirect a h k =
     (calls_means keeps w limits (meaning limits a).first (meaning limits a).others (values.args (sense w a)) (k.first, k.others)
     (let few = few_of limits a 8 h.1 in omega (arith, few)))
 
--- assignments to a variable, and to an element of an array
+-- assignments to a variable, and to an element of an array or a property
 assigned_means : {keeps : Bool} (w : World) (limits : Limits) (v b : Tree) (AreKept : Type 0) → CoversTwo keeps binary.Assign v b AreKept →
     Means keeps w limits (meaning limits v) (sense w v) → Means keeps w limits (meaning limits b) (sense w b) →
     Means keeps w limits (code.two limits binary.Assign (meaning limits v) (meaning limits b)) (values.two w binary.Assign (sense w v)
     (sense w b))
 assigned_means {keeps} w limits (Leaf x) b kept h k l = assign_means {keeps = keeps} w limits x (meaning limits b) (sense w b) l
-assigned_means w limits (One op a) b kept h k l = absurd h
-assigned_means w limits (Two (binary.Operation operation.Add) a c) b kept h k l = absurd h
-assigned_means w limits (Two (binary.Operation operation.Subtract) a c) b kept h k l = absurd h
-assigned_means w limits (Two (binary.Operation operation.Multiply) a c) b kept h k l = absurd h
-assigned_means w limits (Two (binary.Operation operation.Divide) a c) b kept h k l = absurd h
-assigned_means w limits (Two (binary.Operation operation.Remainder) a c) b kept h k l = absurd h
-assigned_means w limits (Two (binary.Operation operation.BitAnd) a c) b kept h k l = absurd h
-assigned_means w limits (Two (binary.Operation operation.BitOr) a c) b kept h k l = absurd h
-assigned_means {keeps} w limits (Two (binary.Operation operation.Byte) a c) b kept h k l =
-    element_means {keeps = keeps} w limits Bytes (code.two limits (binary.Operation operation.Byte) (meaning limits a) (meaning limits c))
-    (sense w (Two (binary.Operation operation.Byte) a c)) (arg (sense w a) ∷ arg (sense w c) ∷ []) refl (meaning limits b) (sense w b) k l
-assigned_means {keeps} w limits (Two (binary.Operation operation.Word) a c) b kept h k l =
-    element_means {keeps = keeps} w limits Words (code.two limits (binary.Operation operation.Word) (meaning limits a) (meaning limits c))
-    (sense w (Two (binary.Operation operation.Word) a c)) (arg (sense w a) ∷ arg (sense w c) ∷ []) refl (meaning limits b) (sense w b) k l
-assigned_means w limits (Two (binary.Property p) a c) b kept h k l = absurd h
-assigned_means w limits (Two (binary.Test t) a c) b kept h k l = absurd h
-assigned_means w limits (Two (binary.Fails t) a c) b kept h k l = absurd h
-assigned_means w limits (Two binary.Assign a c) b kept h k l = absurd h
-assigned_means w limits (Two binary.Comma a c) b kept h k l = absurd h
-assigned_means w limits (Two binary.And a c) b kept h k l = absurd h
-assigned_means w limits (Two binary.Or a c) b kept h k l = absurd h
-assigned_means w limits (Two binary.Call a c) b kept h k l = absurd h
-assigned_means w limits (Two binary.Then a c) b kept h k l = absurd h
-assigned_means w limits (Two binary.To a c) b kept h k l = absurd h
+assigned_means {keeps} w limits (One op a) b kept h k l = assigned_element keeps w limits (One op a) b h.0 h.1 k l
+assigned_means {keeps} w limits (Two op a c) b kept h k l = assigned_element keeps w limits (Two op a c) b h.0 h.1 k l
 
 -- alternatives, which keep variable 255 where a value waits in it
 leaf_has_none : {B : Type 0} (w : World) (a : Tree) → IsLeaf a → (sense w a).leaf ≡ None → B
@@ -139,7 +183,7 @@ leaf_has_none w (Two op a b) h e = absurd h
 fitting_means : {keeps : Bool} (w : World) (limits : Limits) (t : Test) (a b : Tree) → IsDirect t → Fits keeps t a b (Covered true b) →
     Means keeps w limits (meaning limits a) (sense w a) → Means keeps w limits (meaning limits b) (sense w b) →
     (Covered true b → Means true w limits (meaning limits b) (sense w b)) → (how : Bool) (label : Label) →
-    Always (code.test_branch limits t (meaning limits a) (meaning limits b) how label)
+    Always w (code.test_branch limits t (meaning limits a) (meaning limits b) how label)
     (Branches keeps w (values.compared w t (sense w a).leaf (sense w a) (values.args (sense w b))) how label)
 fitting_means {keeps} w limits t a b d fits k l kept how label =
     test_means {keeps = keeps} w limits t d (meaning limits a) (meaning limits b) (sense w a) (sense w b) k l (calm fits) how label
@@ -156,7 +200,11 @@ two_means : {keeps : Bool} (w : World) (limits : Limits) (op : Binary) (a b : Tr
     Means keeps w limits (code.two limits op (meaning limits a) (meaning limits b)) (values.two w op (sense w a) (sense w b))
 two_means {keeps} w limits (binary.Operation o) a b h k l kept =
     operation_means {keeps = keeps} w limits o (meaning limits a) (meaning limits b) (sense w a) (sense w b) k l
-two_means w limits (binary.Property p) a b h k l kept = absurd h
+two_means {keeps} w limits (binary.Property p) a b h k l kept =
+    unkept {keeps = keeps} w limits (code.two limits (binary.Property p) (meaning limits a) (meaning limits b)) (values.two w
+    (binary.Property p) (sense w a) (sense w b)) h
+    (property_means w limits p (meaning limits a) (meaning limits b) (sense w a) (sense w b)
+    (subst (λ x. Means x w limits (meaning limits a) (sense w a)) h k) (subst (λ x. Means x w limits (meaning limits b) (sense w b)) h l))
 two_means {keeps} w limits (binary.Test t) a b h k l kept =
     condition_means {keeps = keeps} w limits (values.compared w t (sense w a).leaf (sense w a) (values.args (sense w b)))
     (code.test_branch limits t (meaning limits a) (meaning limits b)) (fitting_means {keeps = keeps} w limits t a b h.0 h.1 k l kept)

@@ -34,7 +34,7 @@ use Rattle.inf_meaning_laws.proofs.Compared.{BranchesBy, instructed, compares, k
 pub record Stays (keeps : Bool) (w : World) (limits : Limits) (x : Simple) (a : ℕ → Arg) : Type 0 where
   pub same : (temp left : ℕ) → Kept keeps temp left → a left ≡ a temp
   pub tests : (t : Test) → IsDirect t → (ps : List Part) (args : List Arg) → AreParts keeps w ps args → (sense : Bool) (label : Label) →
-      Always (code.tested limits t (is x ∷ ps) sense label) (BranchesBy keeps w (λ temp. values.tested w t (a temp ∷ args)) sense label)
+      Always w (code.tested limits t (is x ∷ ps) sense label) (BranchesBy keeps w (λ temp. values.tested w t (a temp ∷ args)) sense label)
 
 leaf_stays : (keeps : Bool) (w : World) (limits : Limits) (x : Operand) (value : Store → Option (ℕ × Store)) →
     Stays keeps w limits (simple x) (λ temp. record { leaf = Some x; value = value })
@@ -56,8 +56,8 @@ abbrev Over : Label → Claim → Claim
 Over over P at from to = (at over ≡ to) × P at from to
 
 last_group : {keeps : Bool} (w : World) (limits : Limits) (c : Code) (holds : ℕ → Store → Option (Bool × Store)) (sense : Bool)
-    (label over : Label) → Always c (BranchesBy keeps w holds sense label) →
-    Always (c ▸ marked limits over) (Over over (BranchesBy keeps w holds sense label))
+    (label over : Label) → Always w c (BranchesBy keeps w holds sense label) →
+    Always w (c ▸ marked limits over) (Over over (BranchesBy keeps w holds sense label))
 last_group {keeps} w limits c holds sense label over h =
     so (λ at from to p. (
       p.2.1,
@@ -75,9 +75,9 @@ either_by w at from m to label over start now false e c = moved e c
 
 two_groups : {keeps : Bool} (w : World) (limits : Limits) (c d : Code) (first others : ℕ → Store → Option (Bool × Store)) (sense : Bool)
     (label over : Label) → ((temp left : ℕ) → Kept keeps temp left → others left ≡ others temp) →
-    Always c (BranchesBy keeps w first true (if sense then label else over)) →
-    Always d (Over over (BranchesBy keeps w others sense label)) →
-    Always (c ▸ d) (Over over (BranchesBy keeps w (λ temp. either (first temp) (others temp)) sense label))
+    Always w c (BranchesBy keeps w first true (if sense then label else over)) →
+    Always w d (Over over (BranchesBy keeps w others sense label)) →
+    Always w (c ▸ d) (Over over (BranchesBy keeps w (λ temp. either (first temp) (others temp)) sense label))
 two_groups {keeps} w limits c d first others sense label over stays h k =
     so (λ at from to p. (
       p.2.0,
@@ -107,7 +107,7 @@ two_groups {keeps} w limits c d first others sense label over stays h k =
 threes_ : {keeps : Bool} (w : World) (limits : Limits) (x : Simple) (a : ℕ → Arg) → Stays keeps w limits x a →
     (p : Part) (others : List Part)
     (args : List Arg) → AreParts keeps w (p ∷ others) args → (sense : Bool) (label over : Label) →
-    Always (code.triple_tests limits x (p ∷ others) sense label (if sense then label else over) ▸ marked limits over)
+    Always w (code.triple_tests limits x (p ∷ others) sense label (if sense then label else over) ▸ marked limits over)
     (Over over (BranchesBy keeps w (λ temp. by_threes w (a temp) args) sense label))
 unfolding code.triple_tests
 threes_ {keeps} w limits x a g p [] (b ∷ []) h sense label over =
@@ -139,7 +139,7 @@ threes_ w limits x a g p (p1 ∷ p2 ∷ p3 ∷ others) (b ∷ b1 ∷ b2 ∷ []) 
 
 ones_ : {keeps : Bool} (w : World) (limits : Limits) (t : Test) → IsDirect t → (x : Simple) (a : ℕ → Arg) → Stays keeps w limits x a →
     (p : Part) (others : List Part) (args : List Arg) → AreParts keeps w (p ∷ others) args → (sense : Bool) (label over : Label) →
-    Always (code.single_tests limits t x (p ∷ others) sense label (if sense then label else over) ▸ marked limits over)
+    Always w (code.single_tests limits t x (p ∷ others) sense label (if sense then label else over) ▸ marked limits over)
     (Over over (BranchesBy keeps w (λ temp. one_by_one w t (a temp) args) sense label))
 unfolding code.single_tests
 ones_ {keeps} w limits t d x a g p [] (b ∷ []) h sense label over =
@@ -170,7 +170,7 @@ three_is_equal test.Provides = refl
 
 groups_ : {keeps : Bool} (w : World) (limits : Limits) (t : Test) → IsDirect t → (x : Simple) (a : ℕ → Arg) → Stays keeps w limits x a →
     (p : Part) (others : List Part) (args : List Arg) → AreParts keeps w (p ∷ others) args → (sense : Bool) (label over : Label) →
-    Always (code.tests limits t x (p ∷ others) sense label (if sense then label else over) ▸ marked limits over)
+    Always w (code.tests limits t x (p ∷ others) sense label (if sense then label else over) ▸ marked limits over)
     (Over over (BranchesBy keeps w (λ temp. in_groups (compares_three t) w t (a temp) args) sense label))
 unfolding code.tests
 groups_ {keeps} w limits test.Equal d x a g p others args h sense label over =
@@ -213,9 +213,9 @@ most_is test.Provides = refl
 
 at_once : {keeps : Bool} (w : World) (limits : Limits) (t : Test) → IsDirect t → (m : Meaning) (a : Sense) → Means keeps w limits m a →
     (ps : List Part) (args : List Arg) → AreParts keeps w ps args → length ps ≤ together t → (sense : Bool) (label : Label) →
-    Always (code.tested_at_once limits t (part m) ps sense label) (Branches keeps w (values.tested w t (arg a ∷ args)) sense label)
+    Always w (code.tested_at_once limits t (part m) ps sense label) (Branches keeps w (values.tested w t (arg a ∷ args)) sense label)
 at_once {keeps} w limits t d m a h ps args k few sense label =
-    subst (λ l. Always (evaluated (part m ∷ ps) ▸ code.compared limits t l sense label) (Branches keeps w (values.tested w t
+    subst (λ l. Always w (evaluated (part m ∷ ps) ▸ code.compared limits t l sense label) (Branches keeps w (values.tested w t
     (arg a ∷ args)) sense label))
     (sym (taken_whole (operands (part m ∷ ps)) (code.most_compared t) (fits)))
     (compares {keeps = keeps} w limits t d (part m ∷ ps) (arg a ∷ args) (part_of w limits m a h, k) sense label)
@@ -227,7 +227,7 @@ at_once {keeps} w limits t d m a h ps args k few sense label =
         omega (arith, all, most, few)
 
 passed : {keeps : Bool} (w : World) (limits : Limits) (c : Code) (holds : Store → Option (Bool × Store)) (how : Bool) (label over : Label) →
-    Always c (Branches keeps w holds how label) → Always (c ▸ marked limits over) (Branches keeps w holds how label)
+    Always w c (Branches keeps w holds how label) → Always w (c ▸ marked limits over) (Branches keeps w holds how label)
 passed {keeps} w limits c holds how label over h =
     so (λ at from to p. λ stack temp s r u g.
     let q = p.1 stack temp s r u g in
@@ -237,7 +237,7 @@ passed {keeps} w limits c holds how label over h =
 -- the value is put into variable 255, which all alternatives keep
 kept_tests_ : {keeps : Bool} (w : World) (limits : Limits) (t : Test) → IsDirect t → (m : Meaning) (a : Sense) → Means keeps w limits m a →
     (p : Part) (others : List Part) (args : List Arg) → AreParts true w (p ∷ others) args → (sense : Bool) (label over : Label) →
-    Always (code.kept_tests limits true t m (p ∷ others) sense label (if sense then label else over) ▸ marked limits over)
+    Always w (code.kept_tests limits true t m (p ∷ others) sense label (if sense then label else over) ▸ marked limits over)
     (Branches false w (values.worked_first true w t a args) sense label)
 kept_tests_ {keeps} w limits t d m a h p others args k sense label over =
     so (λ at from to q stack temp s b u e.
@@ -249,18 +249,18 @@ kept_tests_ {keeps} w limits t d m a h p others args k sense label over =
     (then_ (h.value TEMP) (groups_ {keeps = true} w limits t d (Variable TEMP) number
     (temp_stays w limits) p others args k sense label over)))
   where
-    regrouped : {P : Claim} (c d : Code) (l : Label) → Always (c ▸ (d ▸ marked limits l)) P → Always ((c ▸ d) ▸ marked limits l) P
+    regrouped : {P : Claim} (c d : Code) (l : Label) → Always w (c ▸ (d ▸ marked limits l)) P → Always w ((c ▸ d) ▸ marked limits l) P
     regrouped c d l f = f
 
 worked_by : {keeps : Bool} (w : World) (limits : Limits) (t : Test) → IsDirect t → (m : Meaning) (a : Sense) → Means keeps w limits m a →
     (p : Part) (others : List Part) (args : List Arg) → AreParts keeps w (p ∷ others) args → (z : Bool) →
     nat_lt (together t) (length args) ≡ z → (z ≡ true → (keeps ≡ false) × AreParts true w (p ∷ others) args) →
     (sense : Bool) (label over : Label) →
-    Always (code.kept_tests limits z t m (p ∷ others) sense label (if sense then label else over) ▸ marked limits over)
+    Always w (code.kept_tests limits z t m (p ∷ others) sense label (if sense then label else over) ▸ marked limits over)
     (Branches keeps w (values.worked_first z w t a args) sense label)
 worked_by {keeps} w limits t d m a h p others args k true e calm sense label over =
     let c = calm refl in
-    subst (λ x. Always (code.kept_tests limits true t m (p ∷ others) sense label (if sense then label else over) ▸ marked limits over)
+    subst (λ x. Always w (code.kept_tests limits true t m (p ∷ others) sense label (if sense then label else over) ▸ marked limits over)
     (Branches x w (values.worked_first true w t a args) sense label)) (sym c.0)
     (kept_tests_ {keeps = keeps} w limits t d m a h p others args c.1 sense label over)
 worked_by {keeps} w limits t d m a h p others args k false e calm sense label over =
@@ -273,7 +273,7 @@ compared_by : {keeps : Bool} (w : World) (limits : Limits) (t : Test) → IsDire
     (p : Part) (others : List Part) (args : List Arg) → AreParts keeps w (p ∷ others) args → (leaf : Option Operand) →
     (leaf ≡ None → nat_lt (together t) (length args) ≡ true → (keeps ≡ false) × AreParts true w (p ∷ others) args) →
     (sense : Bool) (label over : Label) →
-    Always (code.tests_by limits (leaf_simple leaf) t m (p ∷ others) sense label (if sense then label else over) ▸ marked limits over)
+    Always w (code.tests_by limits (leaf_simple leaf) t m (p ∷ others) sense label (if sense then label else over) ▸ marked limits over)
     (Branches keeps w (values.compared w t leaf a args) sense label)
 compared_by {keeps} w limits t d m a h p others args k (Some x) calm sense label over =
     so (λ at from to q. q.1)
@@ -282,7 +282,7 @@ compared_by {keeps} w limits t d m a h p others args k (Some x) calm sense label
 compared_by {keeps} w limits t d m a h p others args k None calm sense label over =
     let e = ap (λ n. nat_lt n (length (p ∷ others))) (group_is t)
     ∙ ap (λ n. nat_lt (together t) n) (sym (same_length keeps w (p ∷ others) args k)) in
-    subst (λ z. Always (code.kept_tests limits z t m (p ∷ others) sense label (if sense then label else over) ▸ marked limits over)
+    subst (λ z. Always w (code.kept_tests limits z t m (p ∷ others) sense label (if sense then label else over) ▸ marked limits over)
     (Branches keeps w (values.compared w t None a args) sense label)) (sym e)
     (worked_by {keeps = keeps} w limits t d m a h p others args k (nat_lt (together t) (length args)) refl (calm refl) sense label over)
 
@@ -291,11 +291,11 @@ pub test_means : {keeps : Bool} (w : World) (limits : Limits) (t : Test) → IsD
     Means keeps w limits m a → Means keeps w limits n b →
     (a.leaf ≡ None → nat_lt (together t) (length (values.args b)) ≡ true → (keeps ≡ false) × Means true w limits n b) →
     (how : Bool) (label : Label) →
-    Always (code.test_branch limits t m n how label) (Branches keeps w (values.compared w t a.leaf a (values.args b)) how label)
+    Always w (code.test_branch limits t m n how label) (Branches keeps w (values.compared w t a.leaf a (values.args b)) how label)
 unfolding code.test_branch
 test_means {keeps} w limits t d m n a b h k calm how label =
     labelled λ over.
-    subst (λ o. Always (code.tests_by limits o t m (n.first ∷ n.others) how label (if how then label else over) ▸ marked limits over)
+    subst (λ o. Always w (code.tests_by limits o t m (n.first ∷ n.others) how label (if how then label else over) ▸ marked limits over)
     (Branches keeps w (values.compared w t a.leaf a (values.args b)) how label)) (sym h.operand)
     (compared_by {keeps = keeps} w limits t d m a h n.first n.others (values.args b) (k.first, k.others) a.leaf
     (λ none more. let c = calm none more in (c.0, (c.1.first, c.1.others))) how label over)

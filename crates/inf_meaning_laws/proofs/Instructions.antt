@@ -68,7 +68,7 @@ one_value : (w : World) (x : Simple) (s t : State) (n : ℕ) → operand_value w
 one_value w x s t n e = ap (λ m. m then λ p. and_first p.0 (operand_values w [] p.1)) e
 
 put_by : (w : World) (limits : Limits) (x : Simple) (d : ℕ) (b : Bool) → (d == 0) ≡ b →
-    Always (if b then instruction limits opcode.Push (x ∷ []) None None else naming limits opcode.Store d (x ∷ []) None None) (Puts w x d)
+    Always w (if b then instruction limits opcode.Push (x ∷ []) None None else naming limits opcode.Store d (x ∷ []) None None) (Puts w x d)
 put_by w limits x d true e =
     so (λ at from to place s n v.
     stepping w at (instruction_of opcode.Push (x ∷ []) None None) from to s (to, given d n s) place
@@ -86,7 +86,7 @@ put_by w limits x d false e =
     ∙ ap (λ b. Some (to, if b then record s { stack = with_top n s.stack } else given d n s)) e))
     (naming_ limits opcode.Store d (x ∷ []) None None)
 
-pub put_ : (w : World) (limits : Limits) (x : Simple) (d : ℕ) → Always (put limits x d) (Puts w x d)
+pub put_ : (w : World) (limits : Limits) (x : Simple) (d : ℕ) → Always w (put limits x d) (Puts w x d)
 put_ w limits x d = put_by w limits x d (d == 0) refl
 
 -- a variable that an expression may name
@@ -112,7 +112,7 @@ put_in_is v n s e = front_by (v == 0) (v == 255) (record s { stack = with_top n 
 abbrev pub Loads : World → ℕ → ℕ → Claim
 Loads w v d at from to = (s : State) → is_own v ≡ false → Comes w at from s to (given d (s.store.variables v) s)
 
-pub load_ : (w : World) (limits : Limits) (v d : ℕ) → Always (load limits v d) (Loads w v d)
+pub load_ : (w : World) (limits : Limits) (v d : ℕ) → Always w (load limits v d) (Loads w v d)
 load_ w limits v d =
     so (λ at from to place s own.
     stepping w at (naming_of opcode.Load v [] (Some d) None) from to s (to, given d (s.store.variables v) s) place
@@ -121,7 +121,7 @@ load_ w limits v d =
 abbrev pub MakesStep : World → Step → ℕ → Claim
 MakesStep w how v at from to = (s : State) → is_own v ≡ false → Comes w at from s to (record s { store = with_step how v s.store })
 
-pub step_ : (w : World) (limits : Limits) (how : Step) (v : ℕ) → Always (code.stepping limits how v) (MakesStep w how v)
+pub step_ : (w : World) (limits : Limits) (how : Step) (v : ℕ) → Always w (code.stepping limits how v) (MakesStep w how v)
 step_ w limits step.Up v =
     so (λ at from to place s own.
     stepping w at (naming_of opcode.Inc v [] None None) from to s (to, record s { store = with_step step.Up v s.store }) place
@@ -153,7 +153,7 @@ JumpsZero w x sense label at from to =
     Comes w at from s (if same (not (n == 0)) sense then at label else to) t
 
 pub jump_zero_ : (w : World) (limits : Limits) (x : Simple) (sense : Bool) (label : Label) →
-    Always (jump_zero limits x sense label) (JumpsZero w x sense label)
+    Always w (jump_zero limits x sense label) (JumpsZero w x sense label)
 jump_zero_ w limits x sense label =
     so (λ at from rest place s n t v.
     stepping w at (instruction_of opcode.Jz (x ∷ []) None (to (not sense) label)) from rest s
@@ -191,7 +191,7 @@ computed_of w f args take s = values w args s then λ p. f p.1 p.0 then λ n. an
 pub computes_ : {keeps : Bool} (w : World) (limits : Limits) (op : Opcode) (f : Store → List ℕ → Option ℕ) (parts : List Part)
     (args : List Arg) →
     action_of w op ≡ Computes f → AreParts keeps w parts args → (d : ℕ) →
-    Always (worked limits op parts (Some d) None) (GivesValue keeps w (computed_of w f args) d)
+    Always w (worked limits op parts (Some d) None) (GivesValue keeps w (computed_of w f args) d)
 computes_ {keeps} w limits op f parts args act h d =
     so (λ at from rest p stack temp s n t e.
     let o = opened (values w args s) (λ p. f p.1 p.0 then λ n. answer (taker d) n p.1) (n, t) e in
@@ -214,7 +214,7 @@ tested_of w g args s = values w args s then λ p. g p.1 p.0 then λ b. Some (b, 
 pub tests_ : {keeps : Bool} (w : World) (limits : Limits) (op : Opcode) (g : Store → List ℕ → Option Bool) (parts : List Part)
     (args : List Arg) →
     action_of w op ≡ Tests g → AreParts keeps w parts args → (sense : Bool) (label : Label) →
-    Always (evaluated parts ▸ instruction limits op (operands parts) None (to sense label)) (Branches keeps w
+    Always w (evaluated parts ▸ instruction limits op (operands parts) None (to sense label)) (Branches keeps w
     (tested_of w g args) sense label)
 tests_ {keeps} w limits op g parts args act h sense label =
     so (λ at from rest p stack temp s b t e.
@@ -245,9 +245,9 @@ without {keeps} w value at from to h stack temp s t e =
     (o.0.0, subst (λ u. Comes w at from (state stack temp s) to (state stack o.0.0 u)) (same_some o.2) r.2)
 
 pub zero_tested : {keeps : Bool} (w : World) (limits : Limits) (value : Taker → Store → Option (ℕ × Store)) (c : Code) →
-    Always c (GivesValue keeps w value SP) →
+    Always w c (GivesValue keeps w value SP) →
     (sense : Bool) (label : Label) →
-    Always (c ▸ jump_zero limits (Variable SP) sense label) (Branches keeps w (λ s. is_not_zero (value nobody s)) sense label)
+    Always w (c ▸ jump_zero limits (Variable SP) sense label) (Branches keeps w (λ s. is_not_zero (value nobody s)) sense label)
 zero_tested {keeps} w limits value c h sense label =
     so (λ at from rest p stack temp s b t e.
     let o = opened (value nobody s) (λ p. Some (not (p.0 == 0), p.1)) (b, t) e in
@@ -273,8 +273,8 @@ abbrev pub truth_value : (Store → Option (Bool × Store)) → Taker → Store 
 truth_value holds take s = holds s then λ p. answer take (truth p.0) p.1
 
 pub truth_ : {keeps : Bool} (w : World) (limits : Limits) (holds : Store → Option (Bool × Store)) (branch : Bool → Label → Code) →
-    ((sense : Bool) (label : Label) → Always (branch sense label) (Branches keeps w holds sense label)) → (d : ℕ) →
-    Always (code.truth limits branch d) (GivesValue keeps w (truth_value holds) d)
+    ((sense : Bool) (label : Label) → Always w (branch sense label) (Branches keeps w holds sense label)) → (d : ℕ) →
+    Always w (code.truth limits branch d) (GivesValue keeps w (truth_value holds) d)
 truth_ {keeps} w limits holds branch h d =
     labelled λ fails. labelled λ last. so (λ at from rest p stack temp s n t e.
     let o = opened (holds s) (λ p. answer (taker d) (truth p.0) p.1) (n, t) e in
@@ -296,7 +296,7 @@ found_of w f args take s = values w args s then λ p. machine.found_one (f p.1) 
 
 pub finds_ : {keeps : Bool} (w : World) (limits : Limits) (op : Opcode) (f : Store → ℕ → ℕ) (parts : List Part) (args : List Arg) →
     action_of w op ≡ machine.Finds f → AreParts keeps w parts args → (d : ℕ) (next : Label) →
-    Always (worked limits op parts (Some d) (to true next) ▸ marked limits next) (GivesValue keeps w (found_of w f args) d)
+    Always w (worked limits op parts (Some d) (to true next) ▸ marked limits next) (GivesValue keeps w (found_of w f args) d)
 finds_ {keeps} w limits op f parts args act h d next =
     so (λ at from rest p stack temp s n t e.
     let o = opened (values w args s) (λ p. machine.found_one (f p.1) p.0 then λ n. answer (taker d) n p.1) (n, t) e in
@@ -321,7 +321,7 @@ abbrev pub drawn_value : World → List Arg → Taker → Store → Option (ℕ 
 drawn_value w args take s = values w args s then λ p. machine.drawn w p.0 p.1 then λ r. answer take r.0 r.1
 
 pub draws_ : {keeps : Bool} (w : World) (limits : Limits) (parts : List Part) (args : List Arg) → AreParts keeps w parts args → (d : ℕ) →
-    Always (worked limits opcode.Random parts (Some d) None) (GivesValue keeps w (drawn_value w args) d)
+    Always w (worked limits opcode.Random parts (Some d) None) (GivesValue keeps w (drawn_value w args) d)
 draws_ {keeps} w limits parts args h d =
     so (λ at from rest p stack temp s n t e.
     let o = opened (values w args s) (λ p. machine.drawn w p.0 p.1 then λ r. answer (taker d) r.0 r.1) (n, t) e in
@@ -346,7 +346,8 @@ draws_ {keeps} w limits parts args h d =
 pub writes_ : (keeps : Bool) (w : World) (limits : Limits) (op : Opcode) (f : List ℕ → Store → Option Store) (parts : List Part)
     (args : List Arg) →
     action_of w op ≡ Writes f → AreParts keeps w parts args →
-    Always (evaluated parts ▸ instruction limits op (operands parts) None None) (GivesNothing w (λ s. values w args s then λ p. f p.0 p.1))
+    Always w (evaluated parts ▸ instruction limits op (operands parts) None None)
+    (GivesNothing w (λ s. values w args s then λ p. f p.0 p.1))
 writes_ keeps w limits op f parts args act h =
     so (λ at from rest p stack temp s t e.
     let o = opened (values w args s) (λ p. f p.0 p.1) t e in
@@ -384,7 +385,7 @@ call_value w args take s = values w args s then λ p. called w p.0 p.1 then λ r
 
 pub calls_ : (keeps : Bool) (w : World) (limits : Limits) (op : Opcode) (parts : List Part) (args : List Arg) → action_of w op ≡ Calls →
     AreParts keeps w parts args →
-    (d : ℕ) → Always (evaluated parts ▸ instruction limits op (operands parts) (Some d) None) (GivesValue false w (call_value w args) d)
+    (d : ℕ) → Always w (evaluated parts ▸ instruction limits op (operands parts) (Some d) None) (GivesValue false w (call_value w args) d)
 calls_ keeps w limits op parts args act h d =
     so (λ at from rest p stack temp s n t e.
     let o = opened (values w args s) (λ p. called w p.0 p.1 then λ r. answer (taker d) r.0 r.2) (n, t) e in
@@ -401,7 +402,7 @@ calls_ keeps w limits op parts args act h d =
 
 pub calls_alone : (keeps : Bool) (w : World) (limits : Limits) (op : Opcode) (parts : List Part) (args : List Arg) →
     action_of w op ≡ Calls → AreParts keeps w parts args →
-    Always (evaluated parts ▸ instruction limits op (operands parts) None None) (GivesNothing w (forgotten (call_value w args)))
+    Always w (evaluated parts ▸ instruction limits op (operands parts) None None) (GivesNothing w (forgotten (call_value w args)))
 calls_alone keeps w limits op parts args act h =
     so (λ at from rest p stack temp s t e.
     let f = opened (call_value w args nobody s) (λ p. Some p.1) t e in

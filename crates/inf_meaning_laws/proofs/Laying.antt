@@ -23,8 +23,10 @@ use Rattle.inf_output.specs.Veneer.{name_of}
 use Rattle.inf_names.specs.declared.symbols.ReferFault.{ReferFault}
 use Rattle.inf_names.specs.Symbols.{refer_fault}
 use Rattle.inf_templates.specs.Parts.{operands}
-use Rattle.inf_meaning_laws.specs.Machine.{Place, Stands}
+use Rattle.inf_meaning_laws.specs.Machine.{World, State, Place, Stands, operand_value}
+use Rattle.inf_meaning_laws.specs.Supplied.{Contracts, NamesStay}
 use Rattle.inf_meaning_laws.specs.Laws.{Claim, Does, Laid, all_grown, code_behind, kept_behind}
+use Rattle.inf_meaning_laws.proofs.Naming.{names_equal, names_then, supplies_before, used_operand, used_stays}
 
 not_none : {A : Type 0} {B : Type 0} {a : A} → Some a ≡ None → B
 not_none e = absurd (cc e)
@@ -108,6 +110,23 @@ item_laid limits item o = record {
   code = by_code limits o.kept item o;
 }
 
+-- An item names nothing.
+fitted_names : (limits : Limits) (f : Option Limit) (item : Item) (o : Out) → (fitted limits f item o).names ≡ o.names
+fitted_names limits None item o = refl
+fitted_names limits (Some limit) item o = refl
+
+in_names : (limits : Limits) (p : Option Past) (item : Item) (o : Out) → (in_routine limits p item o).names ≡ o.names
+in_names limits None item o = fitted_names limits (full_item item o.code) item o
+in_names limits (Some past) item o = refl
+
+by_names : (limits : Limits) (k : Option (List Item)) (item : Item) (o : Out) → (laid_by limits k item o).names ≡ o.names
+by_names limits None item o = in_names limits o.past item o
+by_names limits (Some before) item o = refl
+
+item_names : (limits : Limits) (item : Item) (o : Out) → NamesStay o (laid limits item o)
+unfolding laid
+item_names limits item o = names_equal o (laid limits item o) (by_names limits o.kept item o)
+
 -- Marks of joined items
 
 stands_front : (a b : List Item) (at : Label → Place) (rest : Place) → Stands at (a ++ b) rest → Stands at a (b ++ rest)
@@ -122,8 +141,8 @@ stands_back ((Mark l) ∷ a) b at rest s = stands_back a b at rest s.1
 
 -- Claims, which hold whatever was laid before
 
-abbrev pub Always : Code → Claim → Type 0
-Always c P = (o : Out) → Does c P o
+abbrev pub Always : World → Code → Claim → Type 0
+Always w c P = (o : Out) → Does w c P o
 
 abbrev pub Then : Claim → Claim → Claim
 Then P Q at from to = (middle : Place) × P at from middle × Q at middle to
@@ -137,30 +156,43 @@ Lies item at from to = from ≡ item ∷ to
 abbrev pub Marks : Label → Claim
 Marks l at from to = (from ≡ Mark l ∷ to) × (at l ≡ to)
 
-pub then_ : {c d : Code} {P Q : Claim} → Always c P → Always d Q → Always (c ▸ d) (Then P Q)
-then_ {c} {d} {P} {Q} f g o =
+pub then_ : {w : World} {c d : Code} {P Q : Claim} → Always w c P → Always w d Q → Always w (c ▸ d) (Then P Q)
+then_ {w} {c} {d} {P} {Q} f g o =
     let x = f o in
     let y = g (c o) in
     record {
       items = x.items ++ y.items;
       laid = laid_then x.items y.items o (c o) (d (c o)) x.laid y.laid;
+      names = names_then o (c o) (d (c o)) x.names y.names;
       runs =
-          λ at rest s. subst (λ from. Then P Q at from rest) (sym (append_assoc x.items y.items rest)) (
+          λ at rest k s. subst (λ from. Then P Q at from rest) (sym (append_assoc x.items y.items rest)) (
             y.items ++ rest,
-            x.runs at (y.items ++ rest) (stands_front x.items y.items at rest s),
-            y.runs at rest
-                (stands_back x.items y.items at rest s),
+            x.runs at (y.items ++ rest) (supplies_before w (c o) (d (c o)) y.names y.laid.fits k)
+                (stands_front x.items y.items at rest s),
+            y.runs at rest k (stands_back x.items y.items at rest s),
           );
     }
 
-pub so : {c : Code} {P Q : Claim} → ((at : Label → Place) (from to : Place) → P at from to → Q at from to) → Always c P → Always c Q
-so {c} {P} {Q} h f o =
-    let x = f o in record { items = x.items; laid = x.laid; runs = λ at rest s. h at (x.items ++ rest) rest (x.runs at rest s) }
+pub so : {w : World} {c : Code} {P Q : Claim} → ((at : Label → Place) (from to : Place) → P at from to → Q at from to) → Always w c P →
+    Always w c Q
+so {w} {c} {P} {Q} h f o =
+    let x = f o in
+    record {
+      items = x.items;
+      laid = x.laid;
+      names = x.names;
+      runs = λ at rest k s. h at (x.items ++ rest) rest (x.runs at rest k s);
+    }
 
-pub labelled : {body : Label → Code} {P : Claim} → ((l : Label) → Always (body l) P) → Always (with_label body) P
-labelled {body} {P} f o =
+pub labelled : {w : World} {body : Label → Code} {P : Claim} → ((l : Label) → Always w (body l) P) → Always w (with_label body) P
+labelled {w} {body} {P} f o =
     let x = f (next_label o) (record o { next = behind o.next }) in
-    record { items = x.items; laid = record { kept = x.laid.kept; fits = x.laid.fits; code = x.laid.code }; runs = x.runs }
+    record {
+      items = x.items;
+      laid = record { kept = x.laid.kept; fits = x.laid.fits; code = x.laid.code };
+      names = record { stays = x.names.stays };
+      runs = x.runs;
+    }
 
 -- Code that calls a supplied routine uses its name first, which lays nothing.
 by_used_kept : (limits : Limits) (f : Option ReferFault) (name : List ℕ) (o : Out) → (used_by limits f name o).kept ≡ o.kept
@@ -187,31 +219,51 @@ pub used_code : (limits : Limits) (v : Veneer) (o : Out) → (used limits v o).c
 unfolding used
 used_code limits v o = by_used_code limits (refer_fault limits (name_of v) o.names) (name_of v) o
 
-pub routined : {body : Simple → Code} {P : Claim} (limits : Limits) (v : Veneer) → ((r : Simple) → Always (body r) P) →
-    Always (with_routine limits v body) P
-routined {body} {P} limits v f o =
-    let x = f (routine limits v o) (used limits v o) in
+-- In a world that supplies the routine, the operand is its number, and calling it comes to what its contract says.
+pub record Supplied (w : World) (v : Veneer) (x : Simple) : Type 0 where
+  pub number : (s : State) → operand_value w (written x) s ≡ Some (w.routine v, s)
+  pub contracts : Contracts w
+
+pub routined : {w : World} {body : Simple → Code} {P : Claim} (limits : Limits) (v : Veneer) →
+    ((x : Simple) → Always w (body x) (λ at from to. Supplied w v x → P at from to)) → Always w (with_routine limits v body) P
+routined {w} {body} {P} limits v f o =
+    let called = routine limits v o in
+    let named = used limits v o in
+    let x = f called named in
     record {
       items = x.items;
       laid = record {
         kept = x.laid.kept ∙ ap (λ k. kept_behind k x.items) (used_kept limits v o);
         fits = λ e. used_fits limits v o (x.laid.fits e);
         code =
-            λ e. x.laid.code e ∙ ap (λ k. code_behind k x.items (used limits v o).code) (used_kept limits v o)
+            λ e. x.laid.code e ∙ ap (λ k. code_behind k x.items named.code) (used_kept limits v o)
             ∙ ap (λ c. code_behind o.kept x.items c) (used_code limits v o);
       };
-      runs = x.runs;
+      names = names_then o named (body called named) (used_stays limits v o) x.names;
+      runs =
+          λ at rest k s.
+          let before = supplies_before w named (body called named) x.names x.laid.fits k in
+          x.runs at rest k s (record {
+            number = before.numbers v called (used_operand limits v o before.fits);
+            contracts = before.contracts;
+          });
     }
 
-pub nothing_ : Always nothing Nothing
+pub nothing_ : {w : World} → Always w nothing Nothing
 nothing_ o = record {
   items = [];
   laid = record { kept = kept_none o.kept; fits = λ e. e; code = λ e. code_none o.kept o.code };
-  runs = λ at rest s. refl;
+  names = names_equal o o refl;
+  runs = λ at rest k s. refl;
 }
 
-laid_ : (limits : Limits) (i : Parts) → Always (laid limits (Instruction i)) (Lies (Instruction i))
-laid_ limits i o = record { items = Instruction i ∷ []; laid = item_laid limits (Instruction i) o; runs = λ at rest s. refl }
+laid_ : {w : World} (limits : Limits) (i : Parts) → Always w (laid limits (Instruction i)) (Lies (Instruction i))
+laid_ limits i o = record {
+  items = Instruction i ∷ [];
+  laid = item_laid limits (Instruction i) o;
+  names = item_names limits (Instruction i) o;
+  runs = λ at rest k s. refl;
+}
 
 abbrev pub instruction_of : Opcode → List Simple → Option ℕ → Option Branch → Item
 instruction_of op operands store branch =
@@ -224,20 +276,25 @@ naming_of op v operands store branch =
 abbrev pub jump_to : Label → Item
 jump_to l = Instruction (record { opcode = opcode.Jump; operands = Offset l ∷ []; store = None; branch = None; text = [] })
 
-pub instruction_ : (limits : Limits) (op : Opcode) (operands : List Simple) (store : Option ℕ) (branch : Option Branch) →
-    Always (instruction limits op operands store branch) (Lies (instruction_of op operands store branch))
+pub instruction_ : {w : World} (limits : Limits) (op : Opcode) (operands : List Simple) (store : Option ℕ) (branch : Option Branch) →
+    Always w (instruction limits op operands store branch) (Lies (instruction_of op operands store branch))
 unfolding instruction
 instruction_ limits op operands store branch o = laid_ limits _ o
 
-pub naming_ : (limits : Limits) (op : Opcode) (v : ℕ) (operands : List Simple) (store : Option ℕ) (branch : Option Branch) →
-    Always (naming limits op v operands store branch) (Lies (naming_of op v operands store branch))
+pub naming_ : {w : World} (limits : Limits) (op : Opcode) (v : ℕ) (operands : List Simple) (store : Option ℕ) (branch : Option Branch) →
+    Always w (naming limits op v operands store branch) (Lies (naming_of op v operands store branch))
 unfolding naming
 naming_ limits op v operands store branch o = laid_ limits _ o
 
-pub jumped_ : (limits : Limits) (l : Label) → Always (jumped limits l) (Lies (jump_to l))
+pub jumped_ : {w : World} (limits : Limits) (l : Label) → Always w (jumped limits l) (Lies (jump_to l))
 unfolding jumped
 jumped_ limits l o = laid_ limits _ o
 
-pub marked_ : (limits : Limits) (l : Label) → Always (marked limits l) (Marks l)
+pub marked_ : {w : World} (limits : Limits) (l : Label) → Always w (marked limits l) (Marks l)
 unfolding marked
-marked_ limits l o = record { items = Mark l ∷ []; laid = item_laid limits (Mark l) o; runs = λ at rest s. (refl, s.0) }
+marked_ limits l o = record {
+  items = Mark l ∷ [];
+  laid = item_laid limits (Mark l) o;
+  names = item_names limits (Mark l) o;
+  runs = λ at rest k s. (refl, s.0);
+}

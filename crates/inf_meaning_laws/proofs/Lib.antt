@@ -3,14 +3,12 @@ mod Called
 mod Compared
 mod Conditions
 mod Counting
-mod Examples
-mod Expressions
+pub mod Expressions
 mod Groups
 mod Instructions
-mod Laying
+pub mod Laying
 mod Meant
-mod OwnRows
-mod Owning
-mod Programs
+mod Naming
 mod Running
+mod Supplying
 mod Working

@@ -19,7 +19,8 @@ use Rattle.inf_templates.specs.Meaning as code
 use Rattle.inf_templates.specs.declared.tasks.Memory.{Memory}
 use Rattle.inf_templates.specs.declared.tasks.Memory.TheVariants as memory
 use Rattle.inf_meaning_laws.specs.Machine.{World, Store, State, Computes, ◌then◌, action_of}
-use Rattle.inf_meaning_laws.specs.Values.{forgotten, Width, Bytes, Words, Aim, Nowhere, Named, Element, Arg, Sense, Taker, answer, arg}
+use Rattle.inf_meaning_laws.specs.Values.{forgotten, Width, Bytes, Words, Properties, Aim, Nowhere, Named, Element, Arg, Sense, Taker}
+use Rattle.inf_meaning_laws.specs.Values.{answer, arg}
 use Rattle.inf_meaning_laws.specs.Values.{is_not_zero, is_own, leaf_value, nobody, read, sense}
 use Rattle.inf_meaning_laws.specs.Values as values
 use Rattle.inf_meaning_laws.specs.Laws.{Branches, Comes, GivesNothing, GivesValue, state, taker}
@@ -32,17 +33,18 @@ use Rattle.inf_meaning_laws.proofs.Instructions.{without, zero_tested}
 abbrev pub memory_of : Width → Memory
 memory_of Bytes = memory.Byte
 memory_of Words = memory.Word
+memory_of Properties = memory.Property
 
 -- What is proved of the code and the meaning of a tree together, use by use.
 pub record Means (keeps : Bool) (w : World) (limits : Limits) (m : Meaning) (e : Sense) : Type 0 where
   pub operand : m.operand ≡ leaf_simple e.leaf
   pub first : IsPart keeps w m.first e.first
   pub others : AreParts keeps w m.others e.others
-  pub value : (d : ℕ) → Always (m.value d) (GivesValue keeps w e.value d)
-  pub alone : Always m.alone (GivesNothing w e.alone)
+  pub value : (d : ℕ) → Always w (m.value d) (GivesValue keeps w e.value d)
+  pub alone : Always w m.alone (GivesNothing w e.alone)
   pub aims : (width : Width) (args : List Arg) → e.aim ≡ Element width args →
       (ps : List Part) × (m.target ≡ InMemory (memory_of width) ps) × AreParts keeps w ps args
-  pub branch : (sense : Bool) (label : Label) → Always (m.branch sense label) (Branches keeps w e.truth sense label)
+  pub branch : (sense : Bool) (label : Label) → Always w (m.branch sense label) (Branches keeps w e.truth sense label)
 
 pub no_leaf : {A : Type 0} {B : Type 0} {a : A} → Some a ≡ None → B
 no_leaf e = absurd (cc e)
@@ -58,7 +60,7 @@ simple_part {keeps} w x value = record { operand = refl; pushes = no_leaf }
 -- Leaves: a branch on a number that is known is a jump or nothing
 
 pub jumped_by : (w : World) (limits : Limits) (b : Bool) (label : Label) →
-    Always (code.jump_if limits b label) (λ at from to. (s : State) → Comes w at from s (if b then at label else to) s)
+    Always w (code.jump_if limits b label) (λ at from to. (s : State) → Comes w at from s (if b then at label else to) s)
 jumped_by w limits true label = so (λ at from to place s. jump_comes w at label from to s place) (jumped_ limits label)
 jumped_by w limits false label = so (λ at from to e s. moved e (here w at from s)) nothing_
 
@@ -69,7 +71,7 @@ truth_of_sense false true = refl
 truth_of_sense false false = refl
 
 pub tested_leaf : {keeps : Bool} (w : World) (limits : Limits) (x : Operand) (sense : Bool) (label : Label) →
-    Always (jump_zero limits (simple x) sense label) (Branches keeps w (λ s. is_not_zero (leaf_value w x nobody s)) sense label)
+    Always w (jump_zero limits (simple x) sense label) (Branches keeps w (λ s. is_not_zero (leaf_value w x nobody s)) sense label)
 tested_leaf {keeps} w limits x sense label =
     so (λ at from to h stack temp s b t e.
     let o = opened (leaf_value w x nobody s) (λ p. Some (not (p.0 == 0), p.1)) (b, t) e in
@@ -84,7 +86,7 @@ tested_leaf {keeps} w limits x sense label =
 
 pub known_leaf : {keeps : Bool} (w : World) (limits : Limits) (x : Operand) (n : ℕ) → ((s : Store) (m : ℕ) → read w x s ≡ Some m → n ≡ m) →
     (sense : Bool) (label : Label) →
-    Always (code.leaf_branch limits (Known n) sense label) (Branches keeps w (λ s. is_not_zero (leaf_value w x nobody s)) sense label)
+    Always w (code.leaf_branch limits (Known n) sense label) (Branches keeps w (λ s. is_not_zero (leaf_value w x nobody s)) sense label)
 known_leaf {keeps} w limits x n is_n sense label =
     so (λ at from to h stack temp s b t e.
     let o = opened (leaf_value w x nobody s) (λ p. Some (not (p.0 == 0), p.1)) (b, t) e in
@@ -100,7 +102,7 @@ known_leaf {keeps} w limits x n is_n sense label =
     (jumped_by w limits (if sense then code.is_true n else not (code.is_true n)) label)
 
 pub leaf_branches : {keeps : Bool} (w : World) (limits : Limits) (x : Operand) (sense : Bool) (label : Label) →
-    Always (code.leaf_branch limits (simple x) sense label) (Branches keeps w (λ s. is_not_zero (leaf_value w x nobody s)) sense label)
+    Always w (code.leaf_branch limits (simple x) sense label) (Branches keeps w (λ s. is_not_zero (leaf_value w x nobody s)) sense label)
 leaf_branches {keeps} w limits (operand.Known n) sense label =
     known_leaf {keeps = keeps} w limits (operand.Known n) n (λ s m e. same_some e) sense label
 leaf_branches {keeps} w limits (operand.Variable v) sense label = tested_leaf {keeps = keeps} w limits (operand.Variable v) sense label
@@ -111,7 +113,7 @@ leaf_branches {keeps} w limits operand.Unknown sense label =
     known_leaf {keeps = keeps} w limits operand.Unknown 0 (λ s m e. none_some e) sense label
 
 pub leaf_put : {keeps : Bool} (w : World) (limits : Limits) (x : Operand) (d : ℕ) →
-    Always (put limits (simple x) d) (GivesValue keeps w (leaf_value w x) d)
+    Always w (put limits (simple x) d) (GivesValue keeps w (leaf_value w x) d)
 leaf_put {keeps} w limits x d =
     so (λ at from to h stack temp s n t e.
     let q = opened (read w x s) (λ n. answer (taker d) n s) (n, t) e in
@@ -119,7 +121,7 @@ leaf_put {keeps} w limits x d =
     (h (state stack temp s) q.0 (looked_up w x (state stack temp s) q.0 q.1)) q.2)
     (put_ w limits (simple x) d)
 
-pub leaf_alone : (w : World) (x : Operand) → Always nothing (GivesNothing w (forgotten (leaf_value w x)))
+pub leaf_alone : (w : World) (x : Operand) → Always w nothing (GivesNothing w (forgotten (leaf_value w x)))
 leaf_alone w x =
     so (λ at from to place stack temp s t e.
     let o = opened (leaf_value w x nobody s) (λ p. Some p.1) t e in
@@ -158,7 +160,7 @@ leaf_means {keeps} w limits x = record {
 
 -- Values, by their code into a variable and their code as a statement
 pub valued_means : {keeps : Bool} (w : World) (limits : Limits) (value : Taker → Store → Option (ℕ × Store)) (c : ℕ → Code) (alone : Code) →
-    ((d : ℕ) → Always (c d) (GivesValue keeps w value d)) → Always alone (GivesNothing w (forgotten value)) →
+    ((d : ℕ) → Always w (c d) (GivesValue keeps w value d)) → Always w alone (GivesNothing w (forgotten value)) →
     Means keeps w limits (code.valued limits c alone) (values.valued value)
 valued_means {keeps} w limits value c alone h k = record {
   operand = refl;
@@ -172,11 +174,11 @@ valued_means {keeps} w limits value c alone h k = record {
 
 -- as a statement the value is stored in variable 255
 pub stored_means : {keeps : Bool} (w : World) (limits : Limits) (value : Taker → Store → Option (ℕ × Store)) (c : ℕ → Code) →
-    ((d : ℕ) → Always (c d) (GivesValue keeps w value d)) → Means keeps w limits (code.valued limits c (c TEMP)) (values.valued value)
+    ((d : ℕ) → Always w (c d) (GivesValue keeps w value d)) → Means keeps w limits (code.valued limits c (c TEMP)) (values.valued value)
 stored_means {keeps} w limits value c h = valued_means w limits value c (c TEMP) h (so (without w value) (h TEMP))
 
 pub condition_means : {keeps : Bool} (w : World) (limits : Limits) (holds : Store → Option (Bool × Store)) (branch : Bool → Label → Code) →
-    ((sense : Bool) (label : Label) → Always (branch sense label) (Branches keeps w holds sense label)) →
+    ((sense : Bool) (label : Label) → Always w (branch sense label) (Branches keeps w holds sense label)) →
     Means keeps w limits (code.condition limits branch) (values.condition holds)
 condition_means {keeps} w limits holds branch h = record {
   operand = refl;

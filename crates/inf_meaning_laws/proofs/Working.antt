@@ -28,7 +28,7 @@ Pushes keeps w value at from to =
 -- A part of the code belongs to a part of the expression: both are one leaf, or the code pushes the value.
 pub record IsPart (keeps : Bool) (w : World) (p : Part) (a : Arg) : Type 0 where
   pub operand : p.operand ≡ leaf_simple a.leaf
-  pub pushes : a.leaf ≡ None → Always (p.value SP) (Pushes keeps w a.value)
+  pub pushes : a.leaf ≡ None → Always w (p.value SP) (Pushes keeps w a.value)
 
 abbrev pub AreParts : Bool → World → List Part → List Arg → Type 0
 AreParts keeps w [] [] = Unit {0}
@@ -58,7 +58,7 @@ stays : (w : World) (at : Label → Place) (from to : Place) (s t : State) → f
 stays w at from to s t e f = subst (λ p. Comes w at from s p t) e (subst (λ u. Comes w at from s from u) f (here w at from s))
 
 works_by : {keeps : Bool} (w : World) (leaf : Option Operand) (value : Store → Option (ℕ × Store)) (c : Code) →
-    (leaf ≡ None → Always c (Pushes keeps w value)) → Always (evaluated_by (leaf_simple leaf) c) (Works keeps w leaf value)
+    (leaf ≡ None → Always w c (Pushes keeps w value)) → Always w (evaluated_by (leaf_simple leaf) c) (Works keeps w leaf value)
 works_by {keeps} w (Some x) value c h =
     so (λ at from to e stack temp s a t f. let g = same_some f in
     (temp, kept_here keeps temp, stays w at from to _ _ e (λ i. state (with_worked ((g i).0) stack) temp (g i).1))) nothing_
@@ -69,12 +69,12 @@ works_by {keeps} w None value c h =
     let r = p stack temp s o.0.0 o.0.1 o.1 in
     (r.0, r.1, subst (λ x. Comes w at from (state stack temp s) to (state (with_worked x.0 stack) r.0 x.1)) g r.2)) (h refl)
 
-works : {keeps : Bool} (w : World) (p : Part) (a : Arg) → IsPart keeps w p a → Always (worked_out p) (Works keeps w a.leaf a.value)
-works {keeps} w p a h = subst (λ o. Always (evaluated_by o (p.value SP)) (Works keeps w a.leaf a.value)) (sym h.operand)
+works : {keeps : Bool} (w : World) (p : Part) (a : Arg) → IsPart keeps w p a → Always w (worked_out p) (Works keeps w a.leaf a.value)
+works {keeps} w p a h = subst (λ o. Always w (evaluated_by o (p.value SP)) (Works keeps w a.leaf a.value)) (sym h.operand)
     (works_by {keeps = keeps} w a.leaf a.value (p.value SP) h.pushes)
 
 pub works_all : {keeps : Bool} (w : World) (parts : List Part) (args : List Arg) → AreParts keeps w parts args →
-    Always (evaluated parts) (WorksAll keeps w args)
+    Always w (evaluated parts) (WorksAll keeps w args)
 works_all {keeps} w [] [] h =
     so (λ at from to e stack temp s all t f. let g = same_some f in
     (temp, kept_here keeps temp, stays w at from to _ _ e (λ i. state (with_all_worked (g i).0 stack) temp (g i).1))) nothing_
@@ -179,7 +179,7 @@ Looks keeps w args all at from to =
     × Comes w at from (state stack temp s) to now
 
 pub looks : {keeps : Bool} (w : World) (parts : List Part) (args : List Arg) → AreParts keeps w parts args →
-    Always (evaluated parts) (Looks keeps w args (operands parts))
+    Always w (evaluated parts) (Looks keeps w args (operands parts))
 looks {keeps} w parts args h =
     so (λ at from to f stack temp s ns t e.
     let o = opened (worked_all args s) (λ p. settled_all w p.0 p.1 then λ ns. Some (ns, p.1)) (ns, t) e in

@@ -16,18 +16,25 @@ abbrev pub count : Tree → ℕ
 count (Two binary.Then a b) = suc (count b)
 count b = 1
 
--- What is called is a value. Where it is a property, the call is a message, which a supplied routine sends.
+-- A tree that can be called by its value. A call of a property is a message, which a supplied routine sends, and is not covered.
 abbrev pub IsCalled : Tree → Type 0
 IsCalled (Two (binary.Property property.Value) a b) = ⊥
 IsCalled f = Unit {0}
 
--- `x++` and the like of a variable alone; calls keep nothing
+-- An element of an array or a property of an object: where its value is assigned or stepped, a supplied routine does it.
+abbrev pub IsElement : Tree → Type 0
+IsElement (Two (binary.Operation operation.Byte) a i) = Unit {0}
+IsElement (Two (binary.Operation operation.Word) a i) = Unit {0}
+IsElement (Two (binary.Property property.Value) a p) = Unit {0}
+IsElement a = ⊥
+
+-- calls keep nothing, nor do supplied routines
 abbrev pub CoversOne : Bool → Unary → Tree → Type 0
 CoversOne keeps (unary.Before s) (Leaf x) = Unit {0}
-CoversOne keeps (unary.Before s) a = ⊥
+CoversOne keeps (unary.Before s) a = (keeps ≡ false) × IsElement a
 CoversOne keeps (unary.Behind s) (Leaf x) = Unit {0}
-CoversOne keeps (unary.Behind s) a = ⊥
-CoversOne keeps unary.Children a = ⊥
+CoversOne keeps (unary.Behind s) a = (keeps ≡ false) × IsElement a
+CoversOne keeps unary.Children a = keeps ≡ false
 CoversOne keeps unary.Call f = (keeps ≡ false) × IsCalled f
 CoversOne keeps unary.Indirect list = (keeps ≡ false) × (count list ≤ 8)
 CoversOne keeps op a = Unit {0}
@@ -52,8 +59,8 @@ CoversTwo keeps (binary.Operation o) a b AreKept = Unit {0}
 CoversTwo keeps (binary.Test t) a b AreKept = IsDirect t × Fits keeps t a b AreKept
 CoversTwo keeps (binary.Fails t) a b AreKept = IsDirect t × Fits keeps t a b AreKept
 CoversTwo keeps binary.Assign (Leaf x) b AreKept = Unit {0}
-CoversTwo keeps binary.Assign (Two (binary.Operation operation.Byte) a i) b AreKept = Unit {0}
-CoversTwo keeps binary.Assign (Two (binary.Operation operation.Word) a i) b AreKept = Unit {0}
+CoversTwo keeps binary.Assign a b AreKept = (keeps ≡ false) × IsElement a
+CoversTwo keeps (binary.Property p) a b AreKept = keeps ≡ false
 CoversTwo keeps binary.Comma a b AreKept = keeps ≡ false
 CoversTwo keeps binary.And a b AreKept = Unit {0}
 CoversTwo keeps binary.Or a b AreKept = Unit {0}

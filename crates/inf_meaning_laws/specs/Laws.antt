@@ -12,6 +12,7 @@ use Rattle.inf_templates.specs.Meaning.{meaning}
 use Rattle.inf_meaning_laws.specs.Machine.{World, Store, State, Place, Stands, given, run, with_variable}
 use Rattle.inf_meaning_laws.specs.Values.{Taker, is_own, nobody, truth_of, value_of, sense}
 use Rattle.inf_meaning_laws.specs.Covered.{Covered}
+use Rattle.inf_meaning_laws.specs.Supplied.{NamesStay, Supplies}
 
 -- Which items were laid between two moments: they stand behind those that are kept apart, or, where none are, in the open routine, as
 -- long as no limit is passed.
@@ -36,14 +37,16 @@ pub record Laid (before : Out) (items : List Item) (now : Out) : Type 0 where
 pub record Comes (w : World) (at : Label → Place) (from : Place) (s : State) (to : Place) (now : State) : Type 0 where
   pub steps : (k : ℕ) → (j : ℕ) × (run w at j from s ≡ run w at k to now)
 
--- What is claimed of the code between two places, by where the labels stand.
+-- A claim about the code between two places, by the places of the labels.
 abbrev pub Claim : Type 1
 Claim = (Label → Place) → Place → Place → Type 0
 
-pub record Does (c : Code) (P : Claim) (o : Out) : Type 0 where
+-- In a world that supplies the routines which the code calls, the claim holds of the items that are laid.
+pub record Does (w : World) (c : Code) (P : Claim) (o : Out) : Type 0 where
   pub items : List Item
   pub laid : Laid o items (c o)
-  pub runs : (at : Label → Place) (rest : Place) → Stands at items rest → P at (items ++ rest) rest
+  pub names : NamesStay o (c o)
+  pub runs : (at : Label → Place) (rest : Place) → Supplies w (c o) → Stands at items rest → P at (items ++ rest) rest
 
 -- Who takes a value that is laid into a variable: nobody in the store, where it is the stack or variable 255.
 abbrev pub taker : ℕ → Taker
@@ -56,7 +59,7 @@ state stack temp store = record { stack = stack; temp = temp; store = store }
 abbrev pub taken : ℕ → ℕ → List ℕ → ℕ → Store → State
 taken d n stack temp store = if is_own d then given d n (state stack temp store) else state stack temp store
 
--- What variable 255 has behind some code: what it had before, where it is kept, and else anything.
+-- Variable 255, behind some code, has the value that it had before where the code keeps it, and else any value.
 pub record Kept (keeps : Bool) (temp left : ℕ) : Type 0 where
   pub same : keeps ≡ true → left ≡ temp
 
@@ -81,63 +84,14 @@ Branches keeps w truth sense label at from to =
 abbrev pub ValuesAreComputed : Type 0
 ValuesAreComputed =
     (keeps : Bool) (w : World) (limits : Limits) (t : Tree) → Covered keeps t → (d : ℕ) (o : Out) →
-    Does ((meaning limits t).value d) (GivesValue keeps w (sense w t).value d) o
+    Does w ((meaning limits t).value d) (GivesValue keeps w (sense w t).value d) o
 
 abbrev pub EffectsAreDone : Type 0
 EffectsAreDone =
     (keeps : Bool) (w : World) (limits : Limits) (t : Tree) → Covered keeps t → (o : Out) →
-    Does (meaning limits t).alone (GivesNothing w (sense w t).alone) o
+    Does w (meaning limits t).alone (GivesNothing w (sense w t).alone) o
 
 abbrev pub BranchesAreTaken : Type 0
 BranchesAreTaken =
     (keeps : Bool) (w : World) (limits : Limits) (t : Tree) → Covered keeps t → (sense : Bool) (label : Label) (o : Out) →
-    Does ((meaning limits t).branch sense label) (Branches keeps w (truth_of w t) sense label) o
-
--- Programs
-
--- a label stands behind its first mark
-abbrev pub behind_mark : List Item → Label → Place
-behind_mark [] l = []
-behind_mark ((Instruction i) ∷ items) l = behind_mark items l
-behind_mark ((Mark m) ∷ items) l = if m.number == l.number then items else behind_mark items l
-
-abbrev pub marks : List Item → List ℕ
-marks [] = []
-marks ((Instruction i) ∷ items) = marks items
-marks ((Mark m) ∷ items) = m.number ∷ marks items
-
--- All labels that a program marks are different.
-abbrev pub IsAbsent : ℕ → List ℕ → Type 0
-IsAbsent n [] = Unit {0}
-IsAbsent n (m ∷ others) = ((n == m) ≡ false) × IsAbsent n others
-
-abbrev pub AreDifferent : List ℕ → Type 0
-AreDifferent [] = Unit {0}
-AreDifferent (n ∷ others) = IsAbsent n others × AreDifferent others
-
--- what code lays, kept apart from all that was laid before
-abbrev pub items_laid : Code → Out → List Item
-items_laid c o = items_of (c (apart o)).kept
-
--- Wherever these items stand in a program, some number of steps leads from their front to their end.
-abbrev pub RunsTo : World → List Item → List Item → State → (ℕ → State) → Type 0
-RunsTo w program items start now =
-    (rest : Place) → (front : List Item) → program ≡ front ++ (items ++ rest) → AreDifferent (marks program) →
-    (left : ℕ) × (steps : ℕ) × (run w (behind_mark program) steps (items ++ rest) start ≡ Some (rest, now left))
-
--- In every program the code of an expression gives its value to a variable or the stack.
-abbrev pub ProgramsCompute : Type 0
-ProgramsCompute =
-    (keeps : Bool) (w : World) (limits : Limits) (tree : Tree) → Covered keeps tree → (d : ℕ) (o : Out) (program : List Item)
-    (stack : List ℕ)
-    (temp : ℕ) (s t : Store) (n : ℕ) → (sense w tree).value (taker d) s ≡ Some (n, t) →
-    RunsTo w program (items_laid ((meaning limits tree).value d) o) (state stack temp s) (λ left. taken d n stack left t)
-
--- Where the value goes to the stack, one number more is on it.
-abbrev pub ProgramsPush : Type 0
-ProgramsPush =
-    (keeps : Bool) (w : World) (limits : Limits) (tree : Tree) → Covered keeps tree → (o : Out) (program : List Item) (stack : List ℕ)
-    (temp : ℕ)
-    (s t : Store) (n : ℕ) →
-    value_of w tree s ≡ Some (n, t) →
-    RunsTo w program (items_laid ((meaning limits tree).value 0) o) (state stack temp s) (λ left. state (n ∷ stack) left t)
+    Does w ((meaning limits t).branch sense label) (Branches keeps w (truth_of w t) sense label) o

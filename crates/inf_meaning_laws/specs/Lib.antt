@@ -1,6 +1,5 @@
 pub mod Covered
-pub mod Examples
-pub mod Labels
 pub mod Laws
 pub mod Machine
+pub mod Supplied
 pub mod Values

@@ -15,6 +15,7 @@ use Rattle.inf_opcode.specs.declared.opcodes.Opcode.TheVariants as opcode
 use Rattle.inf_opcode.specs.Instructions.{Parts}
 use Rattle.inf_output.specs.declared.items.Item.{Item}
 use Rattle.inf_output.specs.declared.items.Item.TheVariants.{Instruction, Mark}
+use Rattle.inf_output.specs.declared.veneer.Veneer.{Veneer}
 use Rattle.inf_expressions.specs.Numbers.{magnitude, negated, same, shifted}
 
 -- A result that may be missing is handed on to the next step, which is left out where it is missing.
@@ -23,8 +24,8 @@ abbrev pub ◌then◌ : {A B : Type 0} → Option A → (A → Option B) → Opt
 (None then next) = None
 ((Some a) then next) = next a
 
--- What expressions read and write: each variable by its number (a local by 1 to 15, a global from 16 on), and each byte of memory by its
--- address. Globals are held apart from the bytes that they are in a story. And what the next random number depends on.
+-- A store, which expressions read and write: each variable by its number (a local by 1 to 15, a global from 16 on), and each byte of memory
+-- by its address. Globals are held apart from the bytes that they are in a story. And what the next random number depends on.
 pub record Store : Type 0 where
   pub variables : ℕ → ℕ
   pub bytes : ℕ → ℕ
@@ -36,9 +37,11 @@ pub record State : Type 0 where
   pub temp : ℕ
   pub store : Store
 
--- What is given from outside of an expression: the numbers that are known when the story is laid out, what is true of objects in a store,
--- the random number up to another one, with what the next one depends on, and what calling a routine comes to: its result, what variable
--- 255 has behind it, and the store. A call that does not return has none.
+-- A world, which is given from outside of an expression: the numbers that are known when the story is laid out, what is true of objects in
+-- a store, the random number up to another one, with what the next one depends on, and what calling a routine comes to: its result, what
+-- variable 255 has behind it, and the store. A call that does not return has none. And by which number each routine that the compiler
+-- supplies is called, and what these routines find and change: the value, the address and the length of an object's property, its value
+-- written, what a message to an object comes to, how many children an object has, of which class it is, and whether it has a property.
 pub record World : Type 0 where
   pub later : Target → ℕ
   pub has : Store → ℕ → ℕ → Bool
@@ -49,6 +52,15 @@ pub record World : Type 0 where
   pub random : ℕ → ℕ → ℕ
   pub renewed : ℕ → ℕ → ℕ
   pub called : Store → ℕ → List ℕ → Option (ℕ × ℕ × Store)
+  pub routine : Veneer → ℕ
+  pub property : Store → ℕ → ℕ → ℕ
+  pub property_address : Store → ℕ → ℕ → ℕ
+  pub property_length : Store → ℕ → ℕ → ℕ
+  pub with_property : ℕ → ℕ → ℕ → Store → Store
+  pub message : Store → ℕ → ℕ → List ℕ → Option (ℕ × Store)
+  pub children : Store → ℕ → ℕ
+  pub of_class : Store → ℕ → ℕ → Bool
+  pub provides : Store → ℕ → ℕ → Bool
 
 abbrev pub with_variable : ℕ → ℕ → Store → Store
 with_variable v n s = record s { variables = λ u. if u == v then n else s.variables u }

@@ -20,10 +20,15 @@ use Rattle.inf_expressions.specs.declared.operators.Unary.{Unary}
 use Rattle.inf_expressions.specs.declared.operators.Unary.TheVariants as unary
 use Rattle.inf_expressions.specs.declared.operators.Binary.{Binary}
 use Rattle.inf_expressions.specs.declared.operators.Binary.TheVariants as binary
+use Rattle.inf_expressions.specs.declared.operators.PropertyPart.{PropertyPart}
+use Rattle.inf_expressions.specs.declared.operators.PropertyPart.TheVariants as property
 use Rattle.inf_expressions.specs.Numbers.{negated, truth}
 use Rattle.inf_expressions.specs.Trees.{Tree, Leaf, One, Two}
+use Rattle.inf_output.specs.declared.veneer.Veneer.{Veneer}
+use Rattle.inf_output.specs.declared.veneer.Veneer.TheVariants as veneer
 use Rattle.inf_meaning_laws.specs.Machine.{World, Store, called, ◌then◌, byte_at, divided, first_is_any, left_over, less, of_one, of_two}
 use Rattle.inf_meaning_laws.specs.Machine.{test_of_two}
+use Rattle.inf_meaning_laws.specs.Supplied.{supplied}
 use Rattle.inf_meaning_laws.specs.Machine.{drawn, found_one, with_byte, with_variable, with_word, word_at, write_of_three}
 
 -- The value of a leaf. The stack and variable 255 are none that an expression may name, and a name that is wrong has no value.
@@ -78,18 +83,19 @@ settled_all w (a ∷ all) s = settled w a s then λ n. settled_all w all s then 
 abbrev pub values : World → List Arg → Store → Option (List ℕ × Store)
 values w args s = worked_all args s then λ p. settled_all w p.0 p.1 then λ ns. Some (ns, p.1)
 
--- What an expression is as the left side of `=`: a variable, an element of an array, or nothing that is covered here.
+-- The left side of `=` that an expression is: a variable, an element of an array, a property of an object, or nothing that is covered here.
 pub data Width : Type 0 where
   Bytes : Width
   Words : Width
+  Properties : Width
 
 pub data Aim : Type 0 where
   Nowhere : Aim
   Named : ℕ → Aim
   Element : Width → List Arg → Aim
 
--- What an expression means in each of its uses: as a leaf, as what is assigned to, as a list of members, with its value, as a statement,
--- and as a condition.
+-- The meaning of an expression in each of its uses: as a leaf, as what is assigned to, as a list of members, with its value, as a
+-- statement, and as a condition.
 pub record Sense : Type 0 where
   pub leaf : Option Operand
   pub aim : Aim
@@ -188,6 +194,23 @@ number n = record { leaf = Some (operand.Known n); value = λ s. Some (n, s) }
 abbrev pub truth_found : Bool → Store → Option (Bool × Store)
 truth_found b s = Some (b, s)
 
+-- what a supplied routine is asked for
+abbrev pub supplied_value : World → Veneer → List Arg → Taker → Store → Option (ℕ × Store)
+supplied_value w v parts take s = values w parts s then λ p. supplied w v p.0 p.1 then λ r. answer take r.0 r.1
+
+abbrev pub supplied_by : World → Veneer → List Arg → Sense
+supplied_by w v parts = valued (supplied_value w v parts)
+
+abbrev pub asked : PropertyPart → Veneer
+asked property.Value = veneer.ReadProperty
+asked property.Address = veneer.PropertyAddress
+asked property.Length = veneer.PropertyLength
+
+abbrev pub property_aim : PropertyPart → List Arg → Aim
+property_aim property.Value parts = Element Properties parts
+property_aim property.Address parts = Nowhere
+property_aim property.Length parts = Nowhere
+
 -- Tests: the first value against the others, of which `==` may have any number.
 abbrev pub test_of : World → Test → Store → List ℕ → Option Bool
 test_of w test.Equal s = first_is_any
@@ -246,19 +269,31 @@ abbrev pub compared : World → Test → Option Operand → Sense → List Arg �
 compared w t (Some x) a others s = in_groups (compares_three t) w t (record { leaf = Some x; value = a.value nobody }) others s
 compared w t None a others s = worked_first (nat_lt (together t) (length others)) w t a others s
 
--- Assignments: the value of one to a variable is read from that variable. One to an element of an array is covered as a statement alone;
--- where its value is used, a supplied routine makes it.
-abbrev pub with_element : Width → List ℕ → Store → Option Store
-with_element Bytes = write_of_three (λ a i n. with_byte ((a + i) % 65536) n)
-with_element Words = write_of_three (λ a i n. with_word ((a + 2 * i) % 65536) n)
+-- Assignments: the value of one to a variable is read from that variable. Where the value of one to an element of an array or to a property
+-- is used, a supplied routine makes it, and the value is the one that is assigned, whatever a byte keeps of it.
+abbrev pub with_element : World → Width → List ℕ → Store → Option Store
+with_element w Bytes = write_of_three (λ a i n. with_byte ((a + i) % 65536) n)
+with_element w Words = write_of_three (λ a i n. with_word ((a + 2 * i) % 65536) n)
+with_element w Properties = write_of_three w.with_property
+
+abbrev pub setter : Width → Veneer
+setter Bytes = veneer.WriteByte
+setter Words = veneer.WriteWord
+setter Properties = veneer.WriteProperty
+
+abbrev pub stepper : Width → Veneer
+stepper Bytes = veneer.StepByte
+stepper Words = veneer.StepWord
+stepper Properties = veneer.StepProperty
 
 abbrev pub element_assigned : World → Width → List Arg → Store → Option Store
-element_assigned w width parts s = values w parts s then λ p. with_element width p.0 p.1
+element_assigned w width parts s = values w parts s then λ p. with_element w width p.0 p.1
 
 abbrev pub assigned : World → Aim → Sense → Sense
 assigned w Nowhere a = no_value
 assigned w (Named v) a = valued (λ take s. a.value (with_variable v) s then λ p. answer take (p.1.variables v) p.1)
-assigned w (Element width parts) a = record no_value { alone = element_assigned w width (parts ++ arg a ∷ []) }
+assigned w (Element width parts) a =
+    record (supplied_by w (setter width) (parts ++ arg a ∷ [])) { alone = element_assigned w width (parts ++ arg a ∷ []) }
 
 abbrev pub step_by : Step → ℕ
 step_by step.Up = 1
@@ -270,15 +305,19 @@ next how v s = (s.variables v + step_by how) % 65536
 abbrev pub with_step : Step → ℕ → Store → Store
 with_step how v s = with_variable v (next how v s) s
 
-abbrev pub stepped_before : Step → Aim → Sense
-stepped_before how Nowhere = no_value
-stepped_before how (Element width parts) = no_value
-stepped_before how (Named v) = valued (λ take s. answer take (next how v s) (with_step how v s))
+-- By a supplied routine, a step answers the new value or the one before.
+abbrev pub element_stepped : World → ℕ → Step → Width → List Arg → Sense
+element_stepped w new how width parts = supplied_by w (stepper width) (parts ++ number (step_by how) ∷ number new ∷ [])
 
-abbrev pub stepped_behind : Step → Aim → Sense
-stepped_behind how Nowhere = no_value
-stepped_behind how (Element width parts) = no_value
-stepped_behind how (Named v) = valued (λ take s. Some (s.variables v, with_step how v (take (s.variables v) s)))
+abbrev pub stepped_before : World → Step → Aim → Sense
+stepped_before w how Nowhere = no_value
+stepped_before w how (Element width parts) = element_stepped w 1 how width parts
+stepped_before w how (Named v) = valued (λ take s. answer take (next how v s) (with_step how v s))
+
+abbrev pub stepped_behind : World → Step → Aim → Sense
+stepped_behind w how Nowhere = no_value
+stepped_behind w how (Element width parts) = element_stepped w 0 how width parts
+stepped_behind w how (Named v) = valued (λ take s. Some (s.variables v, with_step how v (take (s.variables v) s)))
 
 abbrev pub in_order : Sense → Sense → Sense
 in_order a b = valued (λ take s. a.alone s then λ t. b.value take t)
@@ -300,14 +339,15 @@ one w unary.Not a = condition (opposite a.truth)
 one w (unary.Single single.Random) a = drawn_of w (arg a ∷ [])
 one w (unary.Single how) a = computed w (single_of w how) (arg a ∷ [])
 one w (unary.Relative how) a = computed w (relative_of w how) (arg a ∷ [])
-one w (unary.Before how) a = stepped_before how a.aim
-one w (unary.Behind how) a = stepped_behind how a.aim
+one w (unary.Before how) a = stepped_before w how a.aim
+one w (unary.Behind how) a = stepped_behind w how a.aim
+one w unary.Children a = supplied_by w veneer.Children (arg a ∷ [])
 one w unary.Call a = calls w (arg a ∷ [])
 one w unary.Indirect a = calls w (args a)
-one w _ a = no_value
 
 abbrev pub two : World → Binary → Sense → Sense → Sense
 two w (binary.Operation o) a b = record (computed w (operation_of o) (arg a ∷ arg b ∷ [])) { aim = element_of o (arg a ∷ arg b ∷ []) }
+two w (binary.Property p) a b = let parts = arg a ∷ arg b ∷ [] in record (supplied_by w (asked p) parts) { aim = property_aim p parts }
 two w (binary.Test t) a b = condition (compared w t a.leaf a (args b))
 two w (binary.Fails t) a b = condition (opposite (compared w t a.leaf a (args b)))
 two w binary.Assign a b = assigned w a.aim b

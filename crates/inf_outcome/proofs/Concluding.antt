@@ -2,7 +2,6 @@
 use Rattle.std.proofs.Common.{◌≡◌, ◌⊎◌, ℕ, zero, ◌+◌, ◌-◌, ◌<◌, ◌≤◌, List, [], ◌∷◌, ◌++◌, length, length-append, map, min, reverse, get_or}
 use Rattle.std.proofs.Common.{unwrap_or, cond, drop, Bool, true, false, Option, Some, None, arith, Result, Ok, Err, IfOk, IfErr, OnErr, inl}
 use Rattle.std.proofs.Common.{inr, refl, sym, ap, subst, ◌∙◌, append_assoc}
-use Rattle.inf_letters.specs.Letters.{set_of}
 use Rattle.inf_settings.specs.Bounds.{limits_of, Limits}
 use Rattle.inf_files.specs.Files.{Opening, Openings, Sources, last_count, opened}
 use Rattle.inf_files.specs.declared.files.Files.{Ghosts as Files}
@@ -12,7 +11,8 @@ use Rattle.inf_lexer.specs.Readers.{Reader, at_front}
 use Rattle.inf_lexer.specs.Unread.{View, innermost, innermost_place, unread as unread_now, unread_of}
 use Rattle.inf_sources.specs.Calls.{IsUnreadable, Kept, Went, given_all, given_to}
 use Rattle.inf_sources.specs.Cursors.{Cursor, Unfinished}
-use Rattle.inf_sources.specs.Inclusions.{Nesting, cursors, cursors_of, main_opened}
+use Rattle.inf_sources.specs.Heading.{head_front}
+use Rattle.inf_sources.specs.Inclusions.{Nesting, cursors, cursors_of, innermost_name}
 use Rattle.inf_sources.specs.Open.{AllGiven, AreNested, AreTracked, Each, Fits, IsCounted, IsFrontOf, IsGiven, IsNested, Open, closed_to}
 use Rattle.inf_sources.specs.Open.{cursor_of, files_of, lexers, lexers_of, nesting, opened_since, rest_of, waiting_at}
 use Rattle.inf_sources.specs.declared.open_file.OpenFile.{OpenFile}
@@ -22,12 +22,12 @@ use Rattle.inf_compilation.specs.Actions.{Compilation}
 use Rattle.inf_unit.specs.Messages.{FileNames}
 use Rattle.inf_reader.specs.Reading.{ReaderState}
 use Rattle.inf_reader.specs.Standing.{standing}
-use Rattle.inf_session.specs.Choices.{Choices, most_quoted}
+use Rattle.inf_session.specs.Choices.{Choices}
 use Rattle.inf_session.specs.Delivered.{Delivers, TakesFront}
 use Rattle.inf_session.specs.Ending.{Outcome, finished, missing}
 use Rattle.inf_session.specs.Faults.{Caused, IfRead}
 use Rattle.inf_session.specs.Leading.{CutsShort, GivenUp, IsFront, OpensAll, StopsAtInclusion, StopsFor, StopsInToken, Writes}
-use Rattle.inf_session.specs.Session.{IsRead, State, begun_with, has_ended, run, start, stepped}
+use Rattle.inf_session.specs.Session.{IsRead, State, begun_with, first_state, has_ended, run, start, stepped}
 use Rattle.inf_session.specs.Standing.{state}
 use Rattle.inf_session.specs.declared.compiled.Compiled.{Compiled}
 use Rattle.inf_session.specs.declared.faults.Fault.{Fault}
@@ -37,10 +37,10 @@ use Rattle.inf_session.proofs.Leadings.{end_begins, front_more, front_then, same
 use Rattle.inf_session.proofs.Standings.{if_read_more}
 use Rattle.inf_session.proofs.Supplying.{supplied_begins}
 use Rattle.inf_session.specs.Veneer.{supplied}
-use Rattle.inf_outcome.specs.Comes.{AreAt, AreNear, Begins, BreaksOff, BreaksOffAll, Comes, Concludes, Ends, EndsAll, Heard}
-use Rattle.inf_outcome.specs.Comes.{SuppliesAll, SuppliesPart}
-use Rattle.inf_outcome.specs.Comes.{IsUnread, OpenedBy, OpenedSome, Stops, StopsReading}
-use Rattle.inf_outcome.specs.Comes.{WereOpened, numbers_of}
+use Rattle.inf_outcome.specs.Comes.{AreAt, AreNear, Begins, BreaksOff, BreaksOffAll, Comes, Concludes, Ends, EndsAll, GivenUpFrom, Heard}
+use Rattle.inf_outcome.specs.Comes.{IsUnread, OpenedBy, OpenedSome, Stops, StopsReading, SuppliesAll, SuppliesPart}
+use Rattle.inf_outcome.specs.Comes.{WereOpened, main_front, numbers_of}
+use Rattle.inf_outcome.proofs.Heading.{heard_in_head}
 use Rattle.inf_compilation.specs.Works.{work as work_of}
 use Rattle.std.proofs.Common.{OnOk}
 use Rattle.inf_outcome.specs.Outcome.{IsCompiled, IsOutcomeOf, ending_of}
@@ -204,6 +204,15 @@ stops_reading limits sources o serial was old new turns cut = record {
       (front_then cut.front (run limits sources o turns s).told final.told (cut.begins []) some)
       (front_then final.told v.told (ending_of limits o serial final).messages (supplied_begins limits o final)
       (front_more v.told (finished limits serial v.nesting.names v.work).messages));
+}
+
+-- nothing was written
+pub stops_none : (limits : Limits) (sources : Sources) (o : Choices) (serial : List ℕ) (s : State) (old : Option (List ℕ))
+    → Stops limits sources o serial s old old
+stops_none limits sources o serial s old = record {
+  front = [];
+  takes = takes_none old;
+  begins = λ final read. record { rest = (ending_of limits o serial final).messages; is_cut = refl };
 }
 
 -- all was read, and what comes behind it was not all written
@@ -379,32 +388,31 @@ begins_of s o serial name was before after there begun k = record {
       (k.begins c.final (subst (λ (x : State). IsRead (limits_of o.settings) s o x c.final) (sym begun) c.is_read));
 }
 
--- a session at the front of the main source
-pub begun_is : {B : Type 0} (s : Sources) (o : Choices) (name : List ℕ) (old now : Openings) (x : Session B) →
-    nesting s old now x.open_files ≡ main_opened (set_of o.letters) (most_quoted o) s name
+-- a session before its first token
+pub begun_is : {B : Type 0} (s : Sources) (o : Choices) (old now : Openings) (n : Nesting) (x : Session B) (told : List ℕ) →
+    nesting s old now x.open_files ≡ n
     → standing x.progress ≡ begun_with o x.open_files.nest.names → x.is_over ≡ false → x.conditionals ≡ no_conditions → x.quoted
-    ≡ 0 → x.passed ≡ 0 → state s old now x [] ≡ start s o name
-begun_is s o name old now x files at going none unquoted unpassed =
-    let main = main_opened (set_of o.letters) (most_quoted o) s name in
-    let front = begun_with o main.names in
-    let stands : standing x.progress ≡ front = at ∙ ap (λ (n : Nesting). begun_with o n.names) files in
-    ap (λ (n : Nesting). made n x.conditionals (standing x.progress) x.is_over x.quoted x.passed) files
-    ∙ ap (λ (p : ReaderState). made main x.conditionals p x.is_over x.quoted x.passed) stands
-    ∙ ap (λ (b : Bool). made main x.conditionals front b x.quoted x.passed) going
-    ∙ ap (λ (c : Conditions). made main c front false x.quoted x.passed) none
-    ∙ ap (λ (n : ℕ). made main no_conditions front false n x.passed) unquoted
-    ∙ ap (λ (n : ℕ). made main no_conditions front false 0 n) unpassed
+    ≡ 0 → x.passed ≡ 0 → state s old now x told ≡ first_state o n told
+begun_is s o old now n x told files at going none unquoted unpassed =
+    let front = begun_with o n.names in
+    let stands : standing x.progress ≡ front = at ∙ ap (λ (m : Nesting). begun_with o m.names) files in
+    ap (λ (m : Nesting). made m x.conditionals (standing x.progress) x.is_over x.quoted x.passed) files
+    ∙ ap (λ (p : ReaderState). made n x.conditionals p x.is_over x.quoted x.passed) stands
+    ∙ ap (λ (b : Bool). made n x.conditionals front b x.quoted x.passed) going
+    ∙ ap (λ (c : Conditions). made n c front false x.quoted x.passed) none
+    ∙ ap (λ (k : ℕ). made n no_conditions front false k x.passed) unquoted
+    ∙ ap (λ (k : ℕ). made n no_conditions front false 0 k) unpassed
   where
     made : Nesting → Conditions → ReaderState → Bool → ℕ → ℕ → State
-    made n c p b q m = record {
-      nesting = n;
+    made m c p b q k = record {
+      nesting = m;
       conditions = c;
       reading = p.reading;
       work = p.work;
-      told = [];
+      told = told;
       is_over = b;
       quoted = q;
-      passed = m;
+      passed = k;
     }
 
 -- Where reading was given up
@@ -479,7 +487,7 @@ heard_of : (failed : Type 0) (s : Sources) (o : Choices) (name : List ℕ) (was 
     failed s o was before
     after old now f told
     → Heard failed s o name old new before after told
-heard_of failed s o name was old now new f before after told begun all nested given g = inr (record {
+heard_of failed s o name was old now new f before after told begun all nested given g = inr (inr (record {
   turns = g.turns;
   takes = subst (λ (x : State). Takes before after (run (limits_of o.settings) s o g.turns x).told) begun
       (subst (λ (lines : List ℕ). Takes before after lines) (sym (g.wrote.same [])) g.wrote.takes);
@@ -488,17 +496,29 @@ heard_of failed s o name was old now new f before after told begun all nested gi
       (stepped (limits_of o.settings) o (run (limits_of o.settings) s o g.turns x)) (opened_since old new) told) begun
       (stops_of (limits_of o.settings) failed s o (run (limits_of o.settings) s o g.turns (was [])) old now new f told all nested given
       (g.stops []));
-})
+}))
 
-pub heard_from : {T : Type 0} (r : Result T Fault) (failed : Type 0) (s : Sources) (o : Choices) (name : List ℕ) (was : List ℕ → State)
-    (old now new : Openings) (f : Open)
-    (before after : Option (List ℕ)) → was [] ≡ start s o name → new.all ≡ now.all → IsNested old now f → AllGiven s (length old.all) now f
-    → IfErr r (λ x. IfRead x (λ told. GivenUp (limits_of o.settings) failed s o was before after old now f told)) → IfErr r
-    (λ x. IfRead x (λ told. Heard failed s o name old new before after told))
-heard_from r failed s o name was old now new f before after begun all nested given g =
-    if_read_more r (λ told. GivenUp (limits_of o.settings) failed s o was before after old now f told)
+-- in the head of the main source, or behind it
+heard_front : (failed : Type 0) (s : Sources) (o : Choices) (name : List ℕ) (front : Nesting) (was : List ℕ → State)
+    (old now new : Openings) (f : Open) (before after : Option (List ℕ)) (told : List ℕ)
+    → head_front front.cursor ≡ main_front s name → front.openings ≡ name ∷ [] → innermost_name front ≡ name
+    → was [] ≡ start s o name → new.all ≡ now.all → IsNested old now f → AllGiven s (length old.all) now f
+    → GivenUpFrom (limits_of o.settings) failed s o front was before after old now f told → Heard failed s o name old new before after told
+heard_front failed s o name front was old now new f before after told at alone named begun all nested given (inl g) =
+    inr (inl (heard_in_head failed s name front old now new f before after told at alone named all nested given g))
+heard_front failed s o name front was old now new f before after told at alone named begun all nested given (inr g) =
+    heard_of failed s o name was old now new f before after told begun all nested given g
+
+pub heard_from : {T : Type 0} (r : Result T Fault) (failed : Type 0) (s : Sources) (o : Choices) (name : List ℕ) (front : Nesting)
+    (was : List ℕ → State) (old now new : Openings) (f : Open) (before after : Option (List ℕ))
+    → head_front front.cursor ≡ main_front s name → front.openings ≡ name ∷ [] → innermost_name front ≡ name
+    → was [] ≡ start s o name → new.all ≡ now.all → IsNested old now f → AllGiven s (length old.all) now f
+    → IfErr r (λ x. IfRead x (λ told. GivenUpFrom (limits_of o.settings) failed s o front was before after old now f told))
+    → IfErr r (λ x. IfRead x (λ told. Heard failed s o name old new before after told))
+heard_from r failed s o name front was old now new f before after at alone named begun all nested given g =
+    if_read_more r (λ told. GivenUpFrom (limits_of o.settings) failed s o front was before after old now f told)
     (λ told. Heard failed s o name old new before after told)
-    (λ told h. heard_of failed s o name was old now new f before after told begun all nested given h) g
+    (λ told h. heard_front failed s o name front was old now new f before after told at alone named begun all nested given h) g
 
 -- the cause lies between later moments
 given_up_more : (limits : Limits) (failed more : Type 0) (s : Sources) (o : Choices) (was : List ℕ → State) (old new : Option (List ℕ))
@@ -521,6 +541,32 @@ given_up_between limits r failed more s o was old new start now f later g =
     if_read_more r (λ told. GivenUp limits failed s o was old new start now f told)
     (λ told. GivenUp limits more s o was old new start now f told)
     (λ told h. given_up_more limits failed more s o was old new start now f told later h) g
+
+-- the same of reading that was given up in the head, or behind it
+given_up_from_more : (limits : Limits) (failed more : Type 0) (s : Sources) (o : Choices) (front : Nesting) (was : List ℕ → State)
+    (old new : Option (List ℕ)) (start now : Openings) (f : Open) (told : List ℕ) → (failed → more)
+    → GivenUpFrom limits failed s o front was old new start now f told → GivenUpFrom limits more s o front was old new start now f told
+given_up_from_more limits failed more s o front was old new start now f told later (inl g) = inl (record {
+  takes = g.takes;
+  cause = elim g.cause as (λ _. more ⊎ (16777216 < f.lexer.window.given)) [ inl fails ↦ inl (later fails) | inr long ↦ inr long ];
+  not_ended = g.not_ended;
+  goes_on = g.goes_on;
+  openings = g.openings;
+  names = g.names;
+  numbers = g.numbers;
+  name_is = g.name_is;
+})
+given_up_from_more limits failed more s o front was old new start now f told later (inr g) =
+    inr (given_up_more limits failed more s o was old new start now f told later g)
+
+pub given_up_from_between : {T : Type 0} (limits : Limits) (r : Result T Fault) (failed more : Type 0) (s : Sources) (o : Choices)
+    (front : Nesting) (was : List ℕ → State) (old new : Option (List ℕ)) (start now : Openings) (f : Open)
+    → (failed → more) → IfErr r (λ x. IfRead x (λ told. GivenUpFrom limits failed s o front was old new start now f told))
+    → IfErr r (λ x. IfRead x (λ told. GivenUpFrom limits more s o front was old new start now f told))
+given_up_from_between limits r failed more s o front was old new start now f later g =
+    if_read_more r (λ told. GivenUpFrom limits failed s o front was old new start now f told)
+    (λ told. GivenUpFrom limits more s o front was old new start now f told)
+    (λ told h. given_up_from_more limits failed more s o front was old new start now f told later h) g
 
 -- before the first turn nothing is
 pub heard_none : (failed : Type 0) (s : Sources) (o : Choices) (name : List ℕ) (old new : Openings) (before after : Option (List ℕ))
@@ -545,6 +591,14 @@ begins_missing sources o serial name old new lines absent is t = record {
       subst (λ l. IsFront t.front l) (is ∙ ap (λ (x : Outcome). x.messages) (sym same)) t.begins;
 }
 
+-- before a main source is open nothing was written
+pub begins_none : (sources : Sources) (o : Choices) (serial name : List ℕ) (old : Option (List ℕ)) → Begins sources o serial name old old
+begins_none sources o serial name old = record {
+  front = [];
+  takes = takes_none old;
+  begins = λ e outcome. record { rest = e.messages; is_cut = refl };
+}
+
 -- what was opened where reading was given up
 pub opened_some : (s : Sources) (o : Choices) (name : List ℕ) (old now new : Openings) (f : Open) (was : List ℕ → State) (turns : ℕ) →
     was [] ≡ start s o name
@@ -556,17 +610,6 @@ opened_some s o name old now new f was turns begun closed given h = record {
   names =
       ap (λ (p : Openings). opened_since old p) closed ∙ h []
       ∙ ap (λ (x : State). (run (limits_of o.settings) s o turns x).nesting.openings) begun;
-  closed = ap (λ (p : Openings). p.open_places) closed;
-  each = subst (λ (p : Openings). Each (IsFrontOf s) (length old.all) p.all) (sym closed) given.each;
-}
-
--- before the first turn the main source alone is open
-pub opened_first : (s : Sources) (o : Choices) (name : List ℕ) (old now new : Openings) (f : Open) (set : CharSet) (limit : ℕ) →
-    new ≡ closed_to old now → AllGiven s (length old.all) now f
-    → nesting s old now f ≡ main_opened set limit s name → OpenedSome s o name old new
-opened_first s o name old now new f set limit closed given is = record {
-  turns = zero;
-  names = ap (λ (p : Openings). opened_since old p) closed ∙ ap (λ (n : Nesting). n.openings) is;
   closed = ap (λ (p : Openings). p.open_places) closed;
   each = subst (λ (p : Openings). Each (IsFrontOf s) (length old.all) p.all) (sym closed) given.each;
 }

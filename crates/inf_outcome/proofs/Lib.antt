@@ -1,3 +1,4 @@
+pub mod Heading
 pub mod Concluding
 pub mod OutcomeLaws
 pub mod Examples

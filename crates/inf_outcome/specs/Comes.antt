@@ -5,12 +5,15 @@ use Rattle.inf_settings.specs.Bounds.{limits_of, Limits}
 use Rattle.inf_files.specs.Files.{Opening, Openings, Rose, Sources, last_count, opened}
 use Rattle.inf_files.specs.declared.files.Files.{Ghosts as Files}
 use Rattle.inf_sinks.specs.Sinks.{Takes}
+use Rattle.inf_lexer.specs.declared.head.HeadPlace.TheVariants.{Line}
+use Rattle.inf_scanner.specs.Lines.{first_line}
 use Rattle.inf_session.specs.Choices.{Choices}
-use Rattle.inf_lexer.specs.Unread.{unread_of}
-use Rattle.inf_session.specs.Leading.{CutsShort, IsFront, StopsAtInclusion, Writes}
+use Rattle.inf_lexer.specs.Unread.{unread, unread_of}
+use Rattle.inf_session.specs.Leading.{CutsShort, GivenUp, IsFront, StopsAtInclusion, Writes}
 use Rattle.inf_sources.specs.Cursors.{Cursor, Unfinished}
+use Rattle.inf_sources.specs.Heading.{HeadAt, StopsInHead, head_front}
 use Rattle.inf_sources.specs.Inclusions.{Nesting, cursors, innermost_name}
-use Rattle.inf_sources.specs.Open.{Each, IsFrontOf, IsGiven, IsNested, Open, nesting, opened_since}
+use Rattle.inf_sources.specs.Open.{Each, IsFrontOf, IsGiven, IsNested, Open, files_of, lexers, nesting, opened_since}
 use Rattle.inf_session.specs.Delivered.{Delivers}
 use Rattle.inf_session.specs.Ending.{Outcome}
 use Rattle.inf_outcome.specs.Outcome.{IsOutcome, ending_of}
@@ -173,11 +176,47 @@ pub record HeardNothing (failed : Type 0) (name : List ℕ) (old new : Openings)
     pub takes : Takes before after []
     pub name_is : told ≡ name
 
+-- the front of the main source of a name, where its head begins
+abbrev pub main_front : Sources → List ℕ → HeadAt
+main_front sources name = record { place = Line; lines = first_line; rest = unwrap_or (sources name) [] }
+
+-- Reading was given up in the head of the main source, which alone was opened, and nothing was written: of its opening, which was not read
+-- out, just so much was given that the head is not ended by it, or, of a source that has too many bytes, by as many as it may have.
+pub record HeardInHead (failed : Type 0) (sources : Sources) (name : List ℕ) (old new : Openings)
+    (before after : Option (List ℕ)) (told : List ℕ) : Type 0 where
+  pub openings : opened_since old new ≡ name ∷ []
+  pub cause : failed ⊎ (most_source_bytes < length (get_or new.all (length old.all) (opened [])).given)
+  pub not_ended : StopsInHead (main_front sources name) (length (get_or new.all (length old.all) (opened [])).given - most_source_bytes)
+      (unread_of sources (get_or new.all (length old.all) (opened [])))
+  pub goes_on : (get_or new.all (length old.all) (opened [])).is_read_out ≡ false
+  pub takes : Takes before after []
+  pub name_is : told ≡ name
+
 -- what was written where a file of the name that is told was not read, and why not
 abbrev pub Heard : Type 0 → Sources → Choices → List ℕ → Openings → Openings → Option (List ℕ) → Option (List ℕ) → List ℕ → Type 0
 Heard failed sources o name old new before after told =
-    HeardNothing failed name old new before after told ⊎ HeardTurns (limits_of o.settings) failed sources o (start sources o name) old new
-    before after told
+    HeardNothing failed name old new before after told
+    ⊎ (HeardInHead failed sources name old new before after told
+    ⊎ HeardTurns (limits_of o.settings) failed sources o (start sources o name) old new before after told)
+
+-- Of files of which nothing was read before, the head of the innermost was not read, and nothing was written: it is not ended by what was
+-- given of it, of a source that has too many bytes by as many as it may have. The device failed, or the source has too many.
+pub record GivenUpInHead (failed : Type 0) (sources : Sources) (was : Nesting) (old new : Option (List ℕ)) (start now : Openings)
+    (files : Open) (name : List ℕ) : Type 0 where
+  pub takes : Takes old new []
+  pub cause : failed ⊎ (16777216 < files.lexer.window.given)
+  pub not_ended : StopsInHead (head_front was.cursor) (files.lexer.window.given - 16777216) (unread sources now)
+  pub goes_on : files.lexer.window.is_over ≡ false
+  pub openings : opened_since start now ≡ was.openings
+  pub names : files.nest.names ≡ was.names
+  pub numbers : files_of (lexers files) ≡ numbers_of was
+  pub name_is : name ≡ innermost_name was
+
+-- Reading was given up there, or behind the head, which leads to this state.
+abbrev pub GivenUpFrom : Limits → Type 0 → Sources → Choices → Nesting → (List ℕ → State) → Option (List ℕ) → Option (List ℕ) → Openings →
+    Openings → Open → List ℕ → Type 0
+GivenUpFrom limits failed sources o was begun old new start now files name =
+    GivenUpInHead failed sources was old new start now files name ⊎ GivenUp limits failed sources o begun old new start now files name
 
 -- A file could not be opened or read, with any reader, between two moments: the device failed; or it gave more bytes than a source may
 -- have; or

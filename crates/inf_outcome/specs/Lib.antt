@@ -1,3 +1,4 @@
+pub mod Chosen
 pub mod Outcome
 pub mod Comes
 pub mod OutcomeLaws

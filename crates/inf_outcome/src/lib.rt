@@ -1,6 +1,7 @@
 //! The outcome of a main source with the files that it includes, and `translate`, which gives it.
 #![tactic(auto)]
 
+pub mod heads;
 mod laws;
 pub mod translation;
 

@@ -63,7 +63,7 @@ impl<B: Bounds> Progress<B> {
         })
     }
 
-    /// Whether there is nothing left to read.
+    /// Returns whether there is nothing left to read.
     pub fn has_ended(&self) -> bool
         ensures { result ≡ has_ended_at (standing self.now) }
     {
@@ -85,7 +85,7 @@ impl<B: Bounds> Progress<B> {
         }
     }
 
-    /// Whether the next token comes between the pieces of a source.
+    /// Returns whether the next token comes between the pieces of a source.
     pub fn is_between(&self) -> bool
         ensures { result ≡ is_between (standing self.now).reading }
     {

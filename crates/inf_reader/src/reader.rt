@@ -37,7 +37,7 @@ impl Reader {
         self.machine.start(PIECE)
     }
 
-    /// Whether a token fits; where it does, it is taken, with the actions on the way to it.
+    /// Returns whether a token fits; where it does, it is taken, with the actions on the way to it.
     pub fn read(&mut self, atom: u8, actions: &mut Vec<Action>) -> Result<bool, AllocError>
         ensures fits { IfOk result (λ is_taken. is_taken ≡ fits grammar known atom (reading self.old).stack) }
         ensures reading { let before = reading self.old in IfOk result (λ is_taken. is_taken ≡ true →

@@ -8,7 +8,7 @@ use inf_scanner::{BadToken, TokenKind};
 use inf_settings::setting::Setting;
 use inf_unit::tokens::SourceToken;
 
-/// What a bad token is blamed for.
+/// Returns the message about a bad token.
 fn message_of(bad: BadToken) -> Message<'static>
     ensures { meant result ≡ message_of bad }
 {

@@ -14,6 +14,7 @@ use Rattle.inf_report.specs.Messages.{Message, NoInclude, TooManyFiles}
 use Rattle.inf_letters.specs.Letters.{set_of}
 use Rattle.inf_sources.specs.Choosing.{nesting_with}
 use Rattle.inf_sources.specs.Cursors.{behind, read}
+use Rattle.inf_sources.specs.Heading.{past_head}
 use Rattle.inf_sources.specs.Inclusions.{Inclusion, Nesting, Opens, OpensNone, Waiting, inclusion, main_opened, resumed, with_opened}
 use Rattle.inf_sources.specs.declared.open_files.Included.{Included}
 use Rattle.inf_sources.specs.declared.open_files.Included.TheVariants as answer
@@ -66,21 +67,24 @@ begun_with o names =
     let w = letters_chosen o.letters s.work in
     record s { work = record w { report = with_full names first_place (tables_full o.settings) w.report } }
 
--- before the first token of the main source of this name
-abbrev pub start : Sources → Choices → List ℕ → State
-start sources o name =
-    let main = main_opened (set_of o.letters) (most_quoted o) sources name in
-    let s = begun_with o main.names in
+-- before the first token of what these open files are, where these messages were written
+abbrev pub first_state : Choices → Nesting → List ℕ → State
+first_state o n told =
+    let s = begun_with o n.names in
     record {
-      nesting = main;
+      nesting = n;
       conditions = no_conditions;
       reading = s.reading;
       work = s.work;
-      told = [];
+      told = told;
       is_over = false;
       quoted = 0;
       passed = 0;
     }
+
+-- before the first token of the main source of this name: behind its head
+abbrev pub start : Sources → Choices → List ℕ → State
+start sources o name = first_state o (past_head (main_opened (set_of o.letters) (most_quoted o) sources name)) []
 
 -- how it is read and what was compiled
 abbrev pub stand_of : State → ReaderState

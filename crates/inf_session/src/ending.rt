@@ -130,7 +130,7 @@ fn finish_from<B: Bounds>(
     laid(alloc, files, told_of(serial, &work), main, work)
 }
 
-/// Whether no error and no fatal message was told.
+/// Returns whether no error and no fatal message was told.
 fn is_clean(report: &Diagnostics) -> bool
     ensures { result ≡ is_clean report.now }
 {

@@ -69,8 +69,8 @@ pub enum Step {
 }
 
 impl<'a, B: Bounds> Session<'a, B> {
-    /// Makes a session by `setup` at the front of the main source of `open_files`, of which nothing was read yet. Where there is no memory
-    /// the files are given back.
+    /// Makes a session by `setup` behind the head of the main source of `open_files`, of which no token was read yet. Where there is no
+    /// memory the files are given back.
     pub fn new(
         alloc: Global,
         setup: Setup<'a>,
@@ -103,7 +103,7 @@ impl<'a, B: Bounds> Session<'a, B> {
         })
     }
 
-    /// Whether nothing more is read.
+    /// Returns whether nothing more is read.
     pub(crate) fn has_ended(&self) -> bool
         ensures { result ≡ ended self.now }
     {
@@ -247,7 +247,7 @@ impl<'a, B: Bounds> Session<'a, B> {
         (open_files, compiled)
     }
 
-    /// Whether a part has ended here, and none has begun.
+    /// Returns whether a part has ended here, and none has begun.
     fn has_parted(&self) -> bool
         ensures { result ≡ parted self.now }
     {
@@ -267,7 +267,7 @@ impl<'a, B: Bounds> Session<'a, B> {
         }
     }
 
-    /// Whether the reading stands between two directives, and in no conditional one.
+    /// Returns whether the reading stands between two directives, and in no conditional one.
     fn is_resting(&self) -> bool
         ensures { result ≡ resting self.now }
     {

@@ -1,5 +1,6 @@
 //! The routines that the compiler supplies where a source uses them and has none of its own.
-ghost use Rattle.std.specs.Prelude.{◌≡◌, ℕ, ◌≤◌, ◌<◌, ◌⊎◌, List, IfErr, IfOk, IfSome, Ok, OnErr, OnOk, false, is_none, is_some, length, true};
+ghost use Rattle.std.specs.Prelude.{◌≡◌, ℕ, ◌≤◌, ◌<◌, ◌⊎◌, List, IfErr, IfOk, IfSome, Ok, OnErr};
+ghost use Rattle.std.specs.Prelude.{OnOk, false, is_none, is_some, length, true};
 ghost use Rattle.inf_files.specs.Files.{Openings, Rose, Sources};
 ghost use Rattle.inf_session.specs.Choices.{chosen, most_quoted};
 ghost use Rattle.inf_session.specs.Delivered.{Appends};
@@ -129,7 +130,7 @@ impl<'a, B: Bounds> Session<'a, B> {
         None
     }
 
-    /// Whether the veneer's routine of a number is used and not declared.
+    /// Returns whether the veneer's routine of a number is used and not declared.
     fn wants(&self, number: usize) -> bool
         ensures { result ≡ is_wanted number self.now.progress.work.output.names }
     {

@@ -1,7 +1,10 @@
 -- What is read of the head of the innermost file.
-use Rattle.std.specs.Prelude.{◌≡◌, ℕ, List, Bool}
-use Rattle.inf_lexer.specs.Heads.{HeadRead, next_head_word}
+use Rattle.std.specs.Prelude.{◌≡◌, ℕ, zero, suc, List, Bool}
+use Rattle.inf_lexer.specs.Heads.{HeadRead, WholeHead, next_head_word, whole_head}
+use Rattle.inf_lexer.specs.Readers.{HeadStaysOpen}
+use Rattle.inf_scanner.specs.declared.lines.Lines.{Lines}
 use Rattle.inf_lexer.specs.declared.head.HeadPlace.{HeadPlace}
+use Rattle.inf_lexer.specs.declared.head.HeadPlace.TheVariants.{Line}
 use Rattle.inf_sources.specs.Cursors.{Cursor}
 use Rattle.inf_sources.specs.Inclusions.{Nesting}
 
@@ -19,3 +22,47 @@ pub record ReadsHead (is_word : Bool) (place : HeadPlace) (word : List ℕ) (fro
   pub goes_to : place ≡ (read_head from was.cursor).place
   pub spelled : word ≡ (read_head from was.cursor).word
   pub goes_on : now ≡ record was { cursor = behind_head was.cursor (read_head from was.cursor) }
+
+-- what is still to come of a head that goes on at this place ends neither its next word nor the head
+abbrev pub UnfinishedHead : HeadPlace → Cursor → ℕ → List ℕ → Type 0
+UnfinishedHead from c past unread = HeadStaysOpen from c.lines c.rest past unread
+
+-- the head of a file that is open at its front
+abbrev pub head_in : Cursor → WholeHead
+head_in c = whole_head c.lines c.rest
+
+-- what is still to come behind all of it
+abbrev pub past_head : Nesting → Nesting
+past_head n = record n { cursor = record n.cursor { rest = (head_in n.cursor).rest; lines = (head_in n.cursor).lines } }
+
+-- where a head goes on, and what is still to come then
+pub record HeadAt : Type 0 where
+  pub place : HeadPlace
+  pub lines : Lines
+  pub rest : List ℕ
+
+abbrev pub head_at : HeadPlace → Cursor → HeadAt
+head_at p c = record { place = p; lines = c.lines; rest = c.rest }
+
+-- at the front of a file
+abbrev pub head_front : Cursor → HeadAt
+head_front c = head_at Line c
+
+-- behind one word
+abbrev pub behind_word : HeadAt → HeadAt
+behind_word h =
+    let r = next_head_word h.place h.lines h.rest in
+    record { place = r.place; lines = r.lines; rest = r.rest }
+
+-- behind so many words
+abbrev pub behind_words : ℕ → HeadAt → HeadAt
+behind_words zero h = h
+behind_words (suc n) h = behind_words n (behind_word h)
+
+abbrev pub UnfinishedAt : HeadAt → ℕ → List ℕ → Type 0
+UnfinishedAt h past unread = HeadStaysOpen h.place h.lines h.rest past unread
+
+-- Behind so many words of a head, what is still to come ends neither the next one nor the head.
+pub record StopsInHead (front : HeadAt) (past : ℕ) (unread : List ℕ) : Type 0 where
+  pub words : ℕ
+  pub not_ended : UnfinishedAt (behind_words words front) past unread

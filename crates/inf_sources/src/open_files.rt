@@ -3,13 +3,14 @@ ghost use Rattle.std.specs.Prelude.{◌≡◌, ◌≢◌, ◌+◌, ◌-◌, min,
 ghost use Rattle.std.specs.Prelude.{IfNone, IfOk, IfSome, OnOk, OnErr, IsErrOf, IsOk, IsTrue, None, Some, length, map, reverse, slice_get};
 ghost use Rattle.std.specs.Prelude.{ℕ, IsErr, is_err, unwrap_or};
 ghost use Rattle.inf_files.specs.Files.{Openings, Rose, Sources, last_count};
+ghost use Rattle.inf_lexer.specs.Heads.{goes_on_at, is_behind};
 ghost use Rattle.inf_lexer.specs.Names.{can_name, innermost_name};
-ghost use Rattle.inf_lexer.specs.Readers.{Took, at_front};
+ghost use Rattle.inf_lexer.specs.Readers.{Took, TookWord, at_front};
 ghost use Rattle.inf_lexer.specs.Unread.{IsAtEnd, unread};
 ghost use Rattle.inf_sources.specs.Calls.{AskedTooMany, Honestly, Kept, StaysFit, Went, given_all};
 ghost use Rattle.inf_sources.specs.Choosing.{chosen, file_with, nesting_chosen, nesting_with, open_with};
 ghost use Rattle.inf_sources.specs.Cursors.{Unfinished};
-ghost use Rattle.inf_sources.specs.Heading.{ReadsHead};
+ghost use Rattle.inf_sources.specs.Heading.{ReadsHead, UnfinishedHead};
 ghost use Rattle.inf_sources.specs.Inclusions.{OpenedInVain, OpensTooMany, answer_of, closed, inclusion, main_opened, nested_by};
 ghost use Rattle.inf_sources.specs.Quoted.{KeepsFew};
 ghost use Rattle.inf_sources.specs.Open.{AllGiven, Each, Fits, IsNested, Reads, closed_to, nesting, opened_since, waits};
@@ -228,6 +229,11 @@ impl OpenFiles {
             (nesting (F.sources files.old) start (F.openings files.new) self.new))) }
         ensures opened { Honestly F.Files files.old self.old
             (λ start. opened_since start (F.openings files.new) ≡ opened_since start (F.openings files.old)) }
+        ensures unfinished { IsTrue (F.is_honest files.old) → (start : Openings) → is_behind place.old ≡ false → IsErr result →
+            UnfinishedHead place.old (nesting (F.sources files.old) start (F.openings files.old) self.old).cursor
+            (self.new.lexer.window.given - 16777216) (unread (F.sources files.old) (F.openings files.new)) }
+        ensures goes_to { IfOk result (λ is_word. place.new ≡ goes_on_at is_word) }
+        ensures took { IfOk result (λ is_word. TookWord is_word place.old self.old.lexer.window self.new.lexer.window) }
         ensures went { Went F.Files files.old files.new self.old self.new }
         ensures fits { OnOk result (StaysFit F.Files files.old files.new self.old) }
         ensures failed { self.new.lexer.has_failed ≡ is_err result }

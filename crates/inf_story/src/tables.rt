@@ -1,5 +1,5 @@
 //! The areas of a story, one by one.
-ghost use Rattle.std.specs.Prelude.{◌≡◌, ◌-◌, ◌++◌, [], IfOk, OnOk};
+ghost use Rattle.std.specs.Prelude.{◌≡◌, ℕ, List, ◌-◌, ◌++◌, [], IfOk, OnOk};
 ghost use Rattle.inf_area.specs.Fixups.{with_fixups};
 ghost use Rattle.inf_arrays.specs.Arrays.{all_of, arrays_cells};
 ghost use Rattle.inf_arrays.specs.Globals.{globals_cells};
@@ -293,8 +293,31 @@ fn put_lists<B: Bounds>(
     Ok(())
 }
 
-/// All areas, with the fixups of all: there are none yet.
+/// Puts the code and what `tables` has into their areas of `written`, all but the strings, and the fixups of all behind those of `refs`, of
+/// which there are none. The first routine of the code calls the one at the place `main`.
 #[tactic(auto, using(crate::proofs::Areas::all_fixups, crate::proofs::Areas::known_bytes))]
+fn put_all<B: Bounds>(
+    alloc: Global,
+    main: usize,
+    routines: Code<B>,
+    tables: &Tables<B>,
+    written: &mut Areas<PagedArea>,
+    refs: &mut Refs,
+) -> Result<(), AllocError>
+    requires none { refs.old.list ≡ [] }
+    ensures bytes { (strings : List ℕ) → OnOk result (record written.new { strings = strings }
+        ≡ cells_contents (areas main routines.finished strings tables.now)) }
+    ensures fixups { (strings : List ℕ) → OnOk result (refs.new.list ≡ cells_fixups (areas main routines.finished strings tables.now)) }
+{
+    written.low_strings = low_strings(alloc, &tables.low_strings)?;
+    written.abbreviations = abbreviations(alloc, tables.low_strings.abbreviation_places(), refs)?;
+    put_world(alloc, &tables.world, written, refs)?;
+    put_lists(alloc, tables, written, refs)?;
+    written.code = code(routines, main, refs)?;
+    Ok(())
+}
+
+/// Returns all areas, and puts the fixups of all into `refs`, where there are none yet.
 pub(crate) fn areas<B: Bounds>(
     alloc: Global,
     main: usize,
@@ -307,14 +330,11 @@ pub(crate) fn areas<B: Bounds>(
     ensures bytes { IfOk result (λ written. written ≡ cells_contents (areas main routines.finished strings tables.now)) }
     ensures fixups { OnOk result (refs.new.list ≡ cells_fixups (areas main routines.finished strings tables.now)) }
 {
-    let mut areas = no_areas(alloc);
-    areas.low_strings = low_strings(alloc, &tables.low_strings)?;
-    areas.abbreviations = abbreviations(alloc, tables.low_strings.abbreviation_places(), refs)?;
-    put_world(alloc, &tables.world, &mut areas, refs)?;
-    put_lists(alloc, tables, &mut areas, refs)?;
-    areas.code = code(routines, main, refs)?;
-    areas.strings = strings;
-    Ok(areas)
+    let mut written = no_areas(alloc);
+    let put = put_all(alloc, main, routines, tables, &mut written, refs);
+    written.strings = strings;
+    put?;
+    Ok(written)
 }
 
 /// Returns the places of the areas in a story with `tables` and the values `names`, in which targets are looked up.

@@ -73,7 +73,7 @@ fn noun_named(name: &[u8]) -> Option<Noun>
     }
 }
 
-/// Whether a name can be that of a routine, by what looking for it found.
+/// Returns whether a name can be that of a routine, by what looking for it found.
 fn can_be_routine(found: Found<Place>) -> bool
     ensures { result ≡ can_be_routine found }
 {
@@ -93,21 +93,21 @@ fn attribute_in(found: Found<Place>) -> Option<u8>
     }
 }
 
-/// Whether a word stands before the sign of a filter.
+/// Returns whether a word stands before the sign of a filter.
 fn is_filter_word(name: &[u8]) -> bool
     ensures { result ≡ is_filter_word name.now }
 {
     name.eq_ignore_ascii_case(b"noun")
 }
 
-/// Whether a word can stand before a sign.
+/// Returns whether a word can stand before a sign.
 fn is_sign_word(name: &[u8]) -> bool
     ensures { result ≡ is_sign_word name.now }
 {
     is_filter_word(name) | name.eq_ignore_ascii_case(b"scope")
 }
 
-/// What the name behind a sign is, by the word before that.
+/// Returns what the name behind a sign is, by the word before that sign.
 fn named_behind(word: &[u8]) -> Named
     ensures { result ≡ named_behind word.now }
 {
@@ -118,7 +118,7 @@ fn named_behind(word: &[u8]) -> Named
     }
 }
 
-/// What the name at a place of a line is.
+/// Returns what the name at the place `at` of a line is.
 pub fn named_at(tokens: &UnitTokens, at: usize) -> Named
     ensures { result ≡ named_at tokens.now at }
 {
@@ -131,14 +131,14 @@ pub fn named_at(tokens: &UnitTokens, at: usize) -> Named
     }
 }
 
-/// Whether a name by itself can be a token of a line: a noun, or what looking for it found.
+/// Returns whether a name by itself can be a token of a line: a noun, or what looking for it found.
 fn is_lone_name(noun: Option<Noun>, found: Found<Place>) -> bool
     ensures { result ≡ is_lone_name noun found }
 {
     noun.is_some() | (attribute_in(found).is_some() | can_be_routine(found))
 }
 
-/// Whether a name can stand where it does in a line.
+/// Returns whether a name can stand where it does in a line.
 fn is_right<B: Bounds>(named: Named, name: &[u8], names: &Symbols<Place, B>) -> bool
     requires { length name.now ≤ 32 }
     ensures { result ≡ is_right named name.now names.now }
@@ -150,7 +150,7 @@ fn is_right<B: Bounds>(named: Named, name: &[u8], names: &Symbols<Place, B>) -> 
     }
 }
 
-/// That the token at a place is of another kind, unless it is right.
+/// Returns the finding that the token at a place is of another kind, unless it is right.
 fn wrong_unless(is_right: bool, at: usize) -> Option<Finding>
     ensures { result ≡ wrong_unless is_right at }
 {
@@ -161,7 +161,7 @@ fn wrong_unless(is_right: bool, at: usize) -> Option<Finding>
     }
 }
 
-/// What is wrong with the token at a place of a line.
+/// Returns what is wrong with the token at a place of a line.
 fn token_finding<B: Bounds>(
     tokens: &UnitTokens,
     at: usize,
@@ -362,7 +362,7 @@ fn action_by<B: Bounds>(name: Option<NameToken<'_>>, out: &mut Output<B>) -> Res
     }
 }
 
-/// Whether more stands behind the action behind an arrow.
+/// Returns whether more stands behind the action behind an arrow.
 fn is_reverse(tokens: &UnitTokens, arrow: usize) -> bool
     ensures { result ≡ is_reverse tokens.now arrow }
 {
@@ -415,7 +415,7 @@ fn keep_line<B: Bounds>(
     }
 }
 
-/// What stands behind the tokens of a line: an arrow and an action, which appears there. The line is one of the verb whose lines are read.
+/// Adds what follows the tokens of a line: an arrow and an action, which appears there. The line is one of the verb whose lines are read.
 fn add_behind<B: Bounds>(
     extending: Extending,
     tokens: &UnitTokens,
@@ -443,7 +443,7 @@ fn add_line<B: Bounds>(
     add_behind(extending, tokens, arrow, line.as_slice(), out)
 }
 
-/// What a line does with which nothing is wrong, whose action stands behind an arrow.
+/// Lays a line with which nothing is wrong, whose action follows an arrow.
 fn lay_line<B: Bounds>(
     compilation: &mut Compilation<B>,
     found: Option<Finding>,
@@ -463,7 +463,7 @@ fn lay_line<B: Bounds>(
     }
 }
 
-/// The same at the end of a line that begins at a place, of which this was found.
+/// Ends a line that begins at a place, of which this was found.
 fn end_found<B: Bounds>(
     compilation: &mut Compilation<B>,
     context: &Context<'_>,
@@ -477,7 +477,7 @@ fn end_found<B: Bounds>(
     end_of_verb(compilation, context, first, found)
 }
 
-/// What is wrong with the tokens of a line whose action stands behind an arrow.
+/// Returns what is wrong with the tokens of a line whose action stands behind an arrow.
 fn line_finding<B: Bounds>(compilation: &Compilation<B>, arrow: usize) -> Option<Finding>
     ensures { let w = work compilation.now in result ≡ tokens_finding arrow w.unit.tokens w.output.names }
 {
@@ -510,7 +510,7 @@ pub fn end_line<B: Bounds>(
     judge_line(compilation, context, first, arrow)
 }
 
-/// Whether a name is a noun of the language where it stands in a line. Each other one is a name of the source.
+/// Returns whether a name is a noun of the language where it stands in a line. Each other one is a name of the source.
 fn is_noun(named: Named, name: &[u8]) -> bool
     ensures { result ≡ is_noun named name.now }
 {
@@ -540,7 +540,7 @@ fn bring_token(
     }
 }
 
-/// The same of the last token of a unit, if it is a line that has too many.
+/// Brings the last token of `unit`, if this is a line that has too many.
 fn bring_last(unit: &mut Unit, settings: &Settings) -> Result<bool, AllocError>
     ensures { IfOk result (λ is_new. (unit_of unit.new, is_new) ≡ last_brought settings.now (unit_of unit.old)) }
 {
@@ -551,7 +551,7 @@ fn bring_last(unit: &mut Unit, settings: &Settings) -> Result<bool, AllocError>
     }
 }
 
-/// What is wrong with the last token of a line, to which the word before a sign belongs.
+/// Returns what is wrong with the last token of a line, to which the word before a sign belongs.
 fn last_finding<B: Bounds>(unit: &Unit, names: &Symbols<Place, B>) -> Option<Finding>
     ensures { result ≡ last_finding (unit_of unit.now) names.now }
 {
@@ -562,7 +562,7 @@ fn last_finding<B: Bounds>(unit: &Unit, names: &Symbols<Place, B>) -> Option<Fin
     )
 }
 
-/// What is wrong with the last token of a line, and where it was not too long before, with all so far.
+/// Returns what is wrong with the last token of a line, and where it was not too long before, with all so far.
 fn new_finding<B: Bounds>(unit: &Unit, names: &Symbols<Place, B>) -> Option<Finding>
     ensures { result ≡ new_finding (unit_of unit.now) names.now }
 {

@@ -54,7 +54,7 @@ pub struct Opened {
     pub lines: Option<u8>,
 }
 
-/// Whether the token at a place is this mark.
+/// Returns whether the token at a place is this mark.
 pub(crate) fn is_mark_at(tokens: &UnitTokens, at: usize, mark: Mark) -> bool
     ensures { result ≡ is_mark_at tokens.now at mark }
 {
@@ -64,7 +64,7 @@ pub(crate) fn is_mark_at(tokens: &UnitTokens, at: usize, mark: Mark) -> bool
     }
 }
 
-/// Whether a token is a name, if there is one.
+/// Returns whether a token is a name, if there is one.
 fn is_name_in(kind: Option<TokenKind>) -> bool
     ensures { result ≡ is_name_in kind }
 {
@@ -88,7 +88,7 @@ fn word_at(tokens: &UnitTokens, at: usize) -> Option<DictionaryWord>
     word_in(tokens.kind(at))
 }
 
-/// What is wrong with a unit of a verb: what there are too many of is verbs.
+/// Returns what is wrong with a unit of a verb: what there are too many of is verbs.
 fn verb_findings(found: Option<Finding>) -> Findings
     ensures { found_as result ≡ verb_findings found }
 {
@@ -99,7 +99,7 @@ fn verb_findings(found: Option<Finding>) -> Findings
     }
 }
 
-/// What is wrong with a fake action: its name.
+/// Returns what is wrong with a fake action: its name.
 fn fake_findings(again: Option<Again>) -> Findings
     ensures { found_as result ≡ fake_findings (option_map again_as again) }
 {
@@ -110,7 +110,7 @@ fn fake_findings(again: Option<Again>) -> Findings
     }
 }
 
-/// That the word at a place is, or is not, one of a verb.
+/// Returns the finding that the word at a place is, or is not, one of a verb.
 fn wrong_verb(at: usize) -> Finding
     ensures { result ≡ wrong_verb at }
 {
@@ -153,7 +153,7 @@ fn like_at(has_sign: bool, count: usize) -> Option<usize>
     }
 }
 
-/// What stands in the header of a unit with these tokens.
+/// Returns what the header of a unit with these tokens has.
 fn verb_head(tokens: &UnitTokens) -> VerbHead
     ensures { result ≡ verb_head tokens.now }
 {
@@ -179,7 +179,7 @@ fn verb_named<B: Bounds>(tokens: &UnitTokens, at: usize, out: &Output<B>) -> Opt
     }
 }
 
-/// That the word at a place is none of a verb, unless it is one.
+/// Returns the finding that the word at a place is none of a verb, unless it is one.
 fn no_verb_finding(at: usize, verb: Option<u8>) -> Option<Finding>
     ensures { result ≡ no_verb_finding at verb }
 {
@@ -189,14 +189,14 @@ fn no_verb_finding(at: usize, verb: Option<u8>) -> Option<Finding>
     }
 }
 
-/// Whether there are as many verbs as there may be.
+/// Returns whether there are as many verbs as there may be.
 fn has_most_verbs<B: Bounds>(out: &Output<B>) -> bool
     ensures { result ≡ has_most_verbs out.now }
 {
     out.tables.verbs.len() >= MOST_VERBS
 }
 
-/// Whether a verb has this number.
+/// Returns whether a verb has this number.
 pub(crate) fn has_verb<B: Bounds>(number: u8, out: &Output<B>) -> bool
     ensures value { result ≡ has_verb number out.now }
     ensures there { result ≡ true → number < length out.now.tables.verbs.list }
@@ -204,7 +204,7 @@ pub(crate) fn has_verb<B: Bounds>(number: u8, out: &Output<B>) -> bool
     (number as usize) < out.tables.verbs.len()
 }
 
-/// What is wrong with the verb that gets words: behind a sign none is named, or there are too many for another one.
+/// Returns what is wrong with the verb that gets words: behind a sign none is named, or there are too many for another one.
 fn like_finding<B: Bounds>(
     like: Option<usize>,
     tokens: &UnitTokens,
@@ -247,7 +247,7 @@ fn place_behind(first: usize, place: usize) -> usize
     first.saturating_add(place)
 }
 
-/// That a word is one of a verb's, by its place among words of which the first has a place.
+/// Returns the finding that a word is one of a verb's, by its place among words of which the first has a place.
 fn misfit_finding(first: usize, place: Option<usize>) -> Option<Finding>
     ensures { result ≡ misfit_finding first place }
 {
@@ -257,7 +257,7 @@ fn misfit_finding(first: usize, place: Option<usize>) -> Option<Finding>
     }
 }
 
-/// What is wrong with the words of a header.
+/// Returns what is wrong with the words of a header.
 fn words_finding<B: Bounds>(
     alloc: Global,
     head: VerbHead,
@@ -271,7 +271,7 @@ fn words_finding<B: Bounds>(
     Ok(misfit_finding(head.first, misfit))
 }
 
-/// What is wrong with the header of `Verb`.
+/// Returns what is wrong with the header of `Verb`.
 fn head_finding<B: Bounds>(
     alloc: Global,
     head: VerbHead,

@@ -103,7 +103,9 @@ impl<'a> Options<'a> {
     /// What these words choose over those of the source's `head`: on each matter of which none of these speaks, what the head says.
     ///
     /// The name that a story has of itself goes by the words of the command alone.
-    pub fn with_head(&self, head: &'a Head) -> Options<'a>
+    pub fn with_head<'h>(&self, head: &'h Head) -> Options<'h>
+    where
+        'a: 'h,
         ensures { result ≡ with_head head.now self.now }
     {
         Options {

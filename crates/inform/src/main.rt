@@ -1,13 +1,17 @@
 #![tactic(auto)]
 
+mod limits;
+mod reason;
+
 use inf_compile::{Fault, NameHashing, Status, compile};
-use inf_disk::disk::{DiskFiles, OutputSink, StoryPlace, StorySink, Trouble};
+use inf_disk::disk::{DiskFiles, OutputSink, StoryPlace, StorySink};
 use inf_words::command_line::{self, CommandLine, Options, WordFault};
 use inf_words::dates;
 use jiff::Timestamp;
 use jiff::tz::Offset;
+use limits::{Limited, Limits};
+use reason::Reason;
 use std::alloc::AllocError;
-use std::fmt::Display;
 use std::io::{self, ErrorKind};
 use std::process::ExitCode;
 use std::random::RandomSource;
@@ -16,13 +20,15 @@ use std::{env, fs};
 
 /// Why a run could not go on.
 #[derive(Clone, Copy)]
-enum Failure {
+pub(crate) enum Failure {
     /// No memory was left.
     Memory,
+    /// The limit on the stack is lower than what a run may need.
+    Stack,
     /// The words of the command could not be had.
-    Words(ErrorKind),
+    Words(Reason),
     /// The standard output failed.
-    Output(ErrorKind),
+    Output(Reason),
     /// The clock gave no date.
     Clock,
     /// A compilation was given up, which is told already.
@@ -31,9 +37,16 @@ enum Failure {
 
 impl Failure {
     /// Says on standard error what failed, and why.
-    fn tell(self, rt: &impl Eprint) {
+    fn tell<R: Files + Eprint>(self, rt: &R, limits: Limits) {
+        if !may_tell(rt, limits, "") {
+            return;
+        }
         let _ = match self {
             Failure::Memory => rt.eprintln("no memory was left"),
+            Failure::Stack => rt.eprintln(format_args!(
+                "the stack: may grow to fewer than {} bytes",
+                limits::LEAST_STACK
+            )),
             Failure::Words(reason) => rt.eprintln(format_args!("words of the command: {reason}")),
             Failure::Output(reason) => rt.eprintln(format_args!("standard output: {reason}")),
             Failure::Clock => rt.eprintln("the clock: no date"),
@@ -57,58 +70,88 @@ impl From<jiff::Error> for Failure {
 /// Compiles what the words of the command line name. The status is 0 where there is no error,
 /// 1 where there are errors, 2 where a word is refused, and 3 where a device or the memory failed.
 fn main(rt: HostRuntime) -> ExitCode {
-    match run(&rt) {
+    let limits = Limits::of_run(&rt);
+    match run(&rt, limits) {
         Ok(code) => code,
         Err(failure) => {
-            failure.tell(&rt);
-            let _ = rt.println("Device or memory fault");
+            failure.tell(&rt, limits);
+            if has_room(&rt, limits, FAULT) {
+                let _ = rt.println(FAULT);
+            }
             ExitCode::from(3)
         }
     }
 }
 
+/// The last line of a run that was given up.
+const FAULT: &str = "Device or memory fault";
+
+/// Returns whether the limit on the size of files leaves room for `line` in the output.
+fn has_room<R: Files>(rt: &R, limits: Limits, line: &str) -> bool {
+    (line.len() as u64) < limits.room_behind(rt, limits::OUTPUT)
+}
+
+/// How many bytes a reason has at most, without the name that it begins with.
+const LONGEST_REASON: u64 = 256;
+
+/// Returns whether the limit on the size of files leaves room on standard error for a reason behind `name`.
+fn may_tell<R: Files>(rt: &R, limits: Limits, name: &str) -> bool {
+    LONGEST_REASON.saturating_add(name.len() as u64) <= limits.room_behind(rt, limits::REASONS)
+}
+
 fn run<R: Env + Clock + Files + RandomSource + Print + Eprint + AllocGlobal>(
     rt: &R,
+    limits: Limits,
 ) -> Result<ExitCode, Failure> {
+    let hashing = limits::grow_stack(rt, limits)?;
     let args = match env::args(rt) {
         Ok(args) => args,
         // An argument is no text.
         Err(error) if error.kind() == ErrorKind::InvalidData => {
-            return refused(rt, "Bad word: ?");
+            return refused(rt, limits, "Bad word: ", "?");
         }
         Err(error) if error.kind() == ErrorKind::OutOfMemory => return Err(Failure::Memory),
-        Err(error) => return Err(Failure::Words(error.kind())),
+        Err(error) => return Err(Failure::Words(Reason::of(&error))),
     };
     let words: Vec<String> = args.skip(1).collect(rt.alloc())?;
     let words: Vec<&str> = words.iter().map(|word| word.as_str()).collect(rt.alloc())?;
     match CommandLine::read(&words) {
-        Ok(options) => compile_files(rt, &options),
-        Err(WordFault::NoSource) => refused(rt, "no source"),
+        Ok(options) => compile_files(rt, limits, &options, hashing),
+        Err(WordFault::NoSource) => refused(rt, limits, "no source", ""),
         Err(WordFault::Unknown(place) | WordFault::BadSetting(place) | WordFault::TooMany(place)) =>
             {
                 let word = words.get(place).copied().unwrap_or("?");
-                refused(rt, format_args!("Bad word: {word}"))
+                refused(rt, limits, "Bad word: ", word)
             }
     }
 }
 
 /// Compiles the source that the options name, with the date of the clock in UTC, and writes the
-/// messages to the standard output.
-fn compile_files<R: Clock + Files + RandomSource + Print + Eprint + AllocGlobal>(
+/// messages to the standard output. Its frame is a large one, which `main` would have from its start if this were inlined.
+#[inline(never)]
+fn compile_files<R: Clock + Files + Print + Eprint + AllocGlobal>(
     rt: &R,
+    limits: Limits,
     options: &Options<'_>,
+    hashing: NameHashing,
 ) -> Result<ExitCode, Failure> {
     let date = dates::serial(Offset::UTC.to_datetime(Timestamp::now(rt)?).date());
     let story_name = command_line::story_name(rt.alloc(), options)?;
     let place = StoryPlace::new(story_name.as_str());
     let mut files = DiskFiles::new(rt.alloc(), rt, &place);
-    let mut messages = OutputSink::new(io::writer(rt));
-    let mut story = StorySink::new(rt, &place);
+    let mut messages = Limited::new(
+        OutputSink::new(io::writer(rt)),
+        limits.room_behind(rt, limits::OUTPUT),
+    );
+    let mut story = Limited::new(
+        StorySink::new(rt, &place),
+        limits.room_of_story(rt, story_name.as_str()),
+    );
     let answer = compile::compile(
         rt.alloc(),
         options,
         date,
-        name_hashing(rt),
+        hashing,
         &mut files,
         &mut messages,
         &mut story,
@@ -118,33 +161,26 @@ fn compile_files<R: Clock + Files + RandomSource + Print + Eprint + AllocGlobal>
         Ok(Status::Errors) => Ok(ExitCode::from(1)),
         Err(Fault::Memory) => Err(Failure::Memory),
         Err(Fault::Read(name)) => {
-            tell_source(rt, name.as_str(), &files);
+            tell_source(rt, limits, name.as_str(), &files);
             Err(Failure::Told)
         }
-        Err(Fault::Messages) => Err(Failure::Output(reason_of(&messages.trouble))),
+        Err(Fault::Messages) => Err(Failure::Output(Reason::of_trouble(
+            messages.is_full,
+            &messages.sink.trouble,
+        ))),
         Err(Fault::Story(count)) => {
+            let reason = Reason::of_trouble(story.is_full, &story.sink.trouble);
             tell_story(
                 rt,
+                limits,
                 story_name.as_str(),
                 count,
                 place.is_source(),
-                &story.trouble,
+                reason,
             );
             Err(Failure::Told)
         }
     }
-}
-
-/// How names are hashed: by bytes that no source can know, where the system gives some.
-fn name_hashing(rt: &impl RandomSource) -> NameHashing {
-    let mut secret = [0; 16];
-    let _ = rt.fill_bytes(&mut secret);
-    NameHashing::new(&secret)
-}
-
-/// Why a device failed last.
-fn reason_of(trouble: &Trouble) -> ErrorKind {
-    trouble.reason.unwrap_or(ErrorKind::Other)
 }
 
 /// The most bytes of a source.
@@ -153,7 +189,7 @@ const MOST_BYTES: u64 = 16_777_216;
 /// The most names that the files of a run may have.
 const MOST_NAMES: u64 = 65_535;
 
-/// Whether the system knows no file of this name that is too long.
+/// Returns whether the system knows no file of this name that is too long.
 fn is_short<R: Files>(rt: &R, name: &str) -> bool {
     match fs::metadata(rt, name) {
         Ok(metadata) => metadata.len() <= MOST_BYTES,
@@ -162,9 +198,15 @@ fn is_short<R: Files>(rt: &R, name: &str) -> bool {
 }
 
 /// Says on standard error why a source was not read. Where the system gave no reason, its name is one too many, or it is too long.
-fn tell_source<R: Files + Eprint>(rt: &R, name: &str, files: &DiskFiles<'_, R>) {
+fn tell_source<R: Files + Eprint>(rt: &R, limits: Limits, name: &str, files: &DiskFiles<'_, R>) {
+    if !may_tell(rt, limits, name) {
+        return;
+    }
     let _ = match files.trouble.reason {
-        Some(reason) => rt.eprintln(format_args!("{name}: {reason}")),
+        Some(_) => {
+            let reason = Reason::of_trouble(false, &files.trouble);
+            rt.eprintln(format_args!("{name}: {reason}"))
+        }
         None if files.opened >= MOST_NAMES && is_short(rt, name) => {
             rt.eprintln(format_args!("{name}: over {MOST_NAMES} files by name"))
         }
@@ -173,19 +215,37 @@ fn tell_source<R: Files + Eprint>(rt: &R, name: &str, files: &DiskFiles<'_, R>) 
 }
 
 /// Says on standard error why a story was not written whole, and how many of its bytes were.
-fn tell_story(rt: &impl Eprint, name: &str, count: usize, is_source: bool, trouble: &Trouble) {
+fn tell_story<R: Files + Eprint>(
+    rt: &R,
+    limits: Limits,
+    name: &str,
+    count: usize,
+    is_source: bool,
+    reason: Reason,
+) {
+    if !may_tell(rt, limits, name) {
+        return;
+    }
     let _ = if is_source {
         rt.eprintln(format_args!("{name}: is a source of this story; nothing was written"))
     } else {
-        let reason = reason_of(trouble);
         rt.eprintln(format_args!("{name}: {reason}; {count} bytes were written"))
     };
 }
 
-/// Prints why the words were refused.
-fn refused(rt: &impl Print, line: impl Display + Drop) -> Result<ExitCode, Failure> {
-    match rt.println(line) {
+/// Prints why the words were refused: a text, and the word behind it.
+fn refused<R: Files + Print>(
+    rt: &R,
+    limits: Limits,
+    text: &str,
+    word: &str,
+) -> Result<ExitCode, Failure> {
+    let count = (text.len() as u64).saturating_add(word.len() as u64);
+    if limits.room_behind(rt, limits::OUTPUT) <= count {
+        return Err(Failure::Output(Reason::of_kind(ErrorKind::FileTooLarge)));
+    }
+    match rt.println(format_args!("{text}{word}")) {
         Ok(()) => Ok(ExitCode::from(2)),
-        Err(error) => Err(Failure::Output(error.kind())),
+        Err(error) => Err(Failure::Output(Reason::of(&error))),
     }
 }

@@ -1,4 +1,5 @@
-//! Each call of a device fails in turn, on a source with an included file and conditionals.
+//! Each call of a device fails in turn: openings and reads of files, writes of messages and of the story.
+use crate::fault_rows::{ROWS, Row};
 use crate::running::{assert_holds, assert_written, fail_to_read, read};
 use inf_compile::{Fault, Status};
 use inf_sinks::memory_sink::MemorySink;
@@ -8,104 +9,166 @@ use std::alloc::Global;
 use std::process::Abort;
 use std::test::Fail;
 
-/// A source and a file that it includes.
-static FILES: [(&str, &[u8]); 2] = [
-    (
-        "t.inf",
-        b"Include \"c.h\";\nIfdef K; Message \"yes\"; Ifnot; Message \"no\"; Endif;\n[ Main; #Ifdef L; new_line; #Endif; ];\nConstant L;\n\
-            Ifdef M;",
-    ),
-    ("c.h", b"Constant K;"),
-];
-
-/// All its messages.
-const LINES: &str =
-    "yes\nt.inf(5): Error: Conditional without its other end\nErrors: 1, warnings: 0 (no output)\n";
-
-/// The calls of a reader that gives one byte a read, up to the semicolon behind the message: `t.inf` is opened, 14 bytes of it are
-/// read, `c.h` is opened, its 11 bytes and its end are read, and 24 bytes more of `t.inf`.
-const CALLS_BEFORE_THE_MESSAGE: usize = 1 + 14 + 1 + 12 + 24;
-
-/// The first of these calls that `c.h` has, and the first behind them.
-const CALLS_OF_THE_INNER_FILE: (usize, usize) = (15, 28);
-
-/// The file that is named where this call fails, and the messages that stand before it.
-fn told_at(failing: usize) -> (&'static str, &'static str) {
-    let (first, behind) = CALLS_OF_THE_INNER_FILE;
-    let is_inner = first <= failing && failing < behind;
-    let name = if is_inner { "c.h" } else { "t.inf" };
-    let is_early = failing < CALLS_BEFORE_THE_MESSAGE;
-    (name, if is_early { "" } else { "yes\n" })
+/// The file that is named where the call behind `calls` others fails, and the messages that stand before it.
+fn told_at(row: &Row, calls: usize) -> (&'static str, &'static str) {
+    let mut told = ("t.inf", "");
+    for (first, name, lines) in row.told {
+        if *first <= calls {
+            told = (*name, *lines);
+        }
+    }
+    told
 }
 
-/// All calls: both files are opened, and read to their ends.
-const CALLS: usize = 2 + FILES[0].1.len() + 1 + FILES[1].1.len() + 1;
-
-/// The files, of which the call behind so many fails.
-fn fused(alloc: Global, calls: usize) -> Result<Fused, Fail> {
-    Ok(Fused::new(folder_of(alloc, &FILES)?, calls))
-}
-
-/// Asserts what is told where the call behind so many fails.
-fn fail_behind(rt: &impl Abort, alloc: Global, calls: usize) -> Result<(), Fail> {
-    let mut files = fused(alloc, calls)?;
-    let (name, lines) = told_at(calls);
+/// Asserts what is told where the call behind `calls` others fails.
+fn fail_behind(rt: &impl Abort, alloc: Global, row: &Row, calls: usize) -> Result<(), Fail> {
+    let mut files = Fused::new(folder_of(alloc, row.files)?, calls);
+    let (name, lines) = told_at(row, calls);
     fail_to_read(rt, alloc, &mut files, name, lines)
 }
 
-/// Asserts that nothing fails where so many calls are allowed.
-fn succeed_in(rt: &impl Abort, alloc: Global, calls: usize) -> Result<(), Fail> {
-    let mut files = fused(alloc, calls)?;
-    read(rt, alloc, &mut files, LINES)
+/// Asserts that nothing fails where as many calls are allowed as there are.
+fn succeed(rt: &impl Abort, alloc: Global, row: &Row) -> Result<(), Fail> {
+    let mut files = Fused::new(folder_of(alloc, row.files)?, row.calls);
+    read(rt, alloc, &mut files, row.lines)
 }
 
 #[test]
 fn each_open_and_each_read_fails_in_turn(rt: HostRuntime) -> Result<(), Fail> {
-    for calls in 0..CALLS {
-        fail_behind(&rt, rt.alloc(), calls)?;
+    for row in &ROWS {
+        for calls in 0..row.calls {
+            fail_behind(&rt, rt.alloc(), row, calls)?;
+        }
+        succeed(&rt, rt.alloc(), row)?;
     }
-    succeed_in(&rt, rt.alloc(), CALLS)
+    Ok(())
 }
 
-/// Compiles the source by these devices.
-fn write_to(
-    alloc: Global,
-    messages: &mut Narrow,
-    story: &mut MemorySink,
-) -> Result<Result<Status, Fault>, Fail> {
-    let mut files = folder_of(alloc, &FILES)?;
-    run(alloc, &mut files, messages, story)
+/// A source whose head has two words, each behind more spaces than a window has bytes.
+fn with_a_long_head(alloc: Global) -> Result<Vec<u8>, Fail> {
+    let spaces = b" ".as_slice().repeat(alloc, 5000)?;
+    let mut source = Vec::from_slice(alloc, b"!% -D")?;
+    source.extend_from_slice(spaces.as_slice())?;
+    source.extend_from_slice(b"-w\n!%")?;
+    source.extend_from_slice(spaces.as_slice())?;
+    source.extend_from_slice(b"$MAX_CODE=999\n[ Main x; ]; #Ifdef DEBUG; Message \"d\"; #Endif;")?;
+    Ok(source)
 }
 
-/// Asserts that the first so many bytes of the messages were written, as far as there are so many, and no story.
-fn assert_cut(rt: &impl Abort, messages: &[u8], story: &[u8], room: usize) {
-    let count = room.min(LINES.len());
-    assert_written(rt, messages, &LINES.as_bytes()[..count]);
-    assert_holds(rt, &room, story.is_empty());
+/// Asserts what is told of that source, given 1,000 bytes a read, where the call behind `calls` others fails, and where none does.
+fn read_a_long_head(rt: &impl Abort, alloc: Global, calls: usize) -> Result<(), Fail> {
+    let source = with_a_long_head(alloc)?;
+    let folder = folder_of(alloc, &[("t.inf", source.as_slice())])?;
+    let mut files = Fused::in_parts(folder, calls, 1000);
+    if calls < CALLS_OF_A_LONG_HEAD {
+        let lines = if calls + 1 < CALLS_OF_A_LONG_HEAD {
+            ""
+        } else {
+            "d\n"
+        };
+        fail_to_read(rt, alloc, &mut files, "t.inf", lines)
+    } else {
+        read(rt, alloc, &mut files, "d\nErrors: 0, warnings: 0\n")
+    }
 }
 
-/// Whether all messages were written. Asserts that it was they that failed where not.
-fn is_whole(rt: &impl Abort, ended: &Result<Status, Fault>, room: usize) -> bool {
-    let is_whole = matches!(ended, Ok(Status::Errors));
-    let is_cut = matches!(ended, Err(Fault::Messages));
-    assert_holds(rt, &room, is_whole || is_cut);
-    is_whole
+/// The calls of that source: it is opened, its 10,071 bytes come in eleven reads, and its end is read.
+const CALLS_OF_A_LONG_HEAD: usize = 1 + 11 + 1;
+
+#[test]
+fn each_read_of_a_long_head_fails_in_turn(rt: HostRuntime) -> Result<(), Fail> {
+    for calls in 0..=CALLS_OF_A_LONG_HEAD {
+        read_a_long_head(&rt, rt.alloc(), calls)?;
+    }
+    Ok(())
 }
 
-/// Compiles the source where so many bytes of messages are taken, one a write. Answers whether all were.
-fn is_told(rt: &impl Abort, alloc: Global, room: usize) -> Result<bool, Fail> {
+/// Asserts that of the messages the first `room` bytes were written, or all where they are fewer, and no story before the last of them.
+fn assert_cut(rt: &impl Abort, row: &Row, messages: &[u8], story: &[u8], room: usize) {
+    let count = room.min(row.lines.len());
+    assert_written(rt, messages, &row.lines.as_bytes()[..count]);
+    assert_holds(rt, &room, count == row.lines.len() || story.is_empty());
+}
+
+/// Asserts what is told where `room` bytes of messages are taken, one a write: all, or else that they failed.
+fn tell_in_part(rt: &impl Abort, alloc: Global, row: &Row, room: usize) -> Result<(), Fail> {
+    let mut files = folder_of(alloc, row.files)?;
     let mut messages = Narrow::new(alloc, 1, room);
     let mut story = MemorySink::new(alloc);
-    let ended = write_to(alloc, &mut messages, &mut story)?;
-    assert_cut(rt, messages.whole.bytes(), story.bytes(), room);
-    Ok(is_whole(rt, &ended, room))
+    let ended = run(alloc, &mut files, &mut messages, &mut story)?;
+    assert_cut(rt, row, messages.whole.bytes(), story.bytes(), room);
+    let is_right = match &ended {
+        Ok(_) => room >= row.lines.len(),
+        Err(Fault::Messages) => room < row.lines.len(),
+        Err(_) => false,
+    };
+    assert_holds(rt, &room, is_right);
+    Ok(())
 }
 
 #[test]
-fn each_write_fails_in_turn(rt: HostRuntime) -> Result<(), Fail> {
-    for room in 0..=LINES.len() {
-        let is_told = is_told(&rt, rt.alloc(), room)?;
-        assert_holds(&rt, &room, is_told == (room == LINES.len()));
+fn each_write_of_messages_fails_in_turn(rt: HostRuntime) -> Result<(), Fail> {
+    for row in &ROWS {
+        for room in 0..=row.lines.len() {
+            tell_in_part(&rt, rt.alloc(), row, room)?;
+        }
+    }
+    Ok(())
+}
+
+/// The story of a source: no bytes where it has errors.
+fn story_of(alloc: Global, row: &Row) -> Result<MemorySink, Fail> {
+    let mut files = folder_of(alloc, row.files)?;
+    let mut messages = MemorySink::new(alloc);
+    let mut story = MemorySink::new(alloc);
+    let _ = run(alloc, &mut files, &mut messages, &mut story)?;
+    Ok(story)
+}
+
+/// Asserts that of a story the first `room` bytes were written, that the fault says how many they are, and that all messages were told.
+fn write_in_part(
+    rt: &impl Abort,
+    alloc: Global,
+    row: &Row,
+    whole: &[u8],
+    room: usize,
+) -> Result<(), Fail> {
+    let mut files = folder_of(alloc, row.files)?;
+    let mut messages = MemorySink::new(alloc);
+    let mut story = Narrow::new(alloc, 100, room);
+    let ended = run(alloc, &mut files, &mut messages, &mut story)?;
+    assert_written(rt, messages.bytes(), row.lines.as_bytes());
+    let count = room.min(whole.len());
+    assert_written(rt, story.whole.bytes(), &whole[..count]);
+    let is_right = match &ended {
+        Ok(status) => *status == Status::Success && room >= whole.len(),
+        Err(Fault::Story(written)) => *written == room && room < whole.len(),
+        Err(_) => false,
+    };
+    assert_holds(rt, &room, is_right);
+    Ok(())
+}
+
+/// Whether a sink is tried that takes `room` of `length` bytes: it fails at the front of a write, which has 100 bytes, or at the last one.
+fn is_tried(room: usize, length: usize) -> bool {
+    length > 0 && (room % 100 == 0 || room % 100 == 99 || room == length)
+}
+
+/// Asserts what is written of the story of a source where each of the writes fails in turn, before its first byte and before its last.
+fn write_each_part(rt: &impl Abort, alloc: Global, row: &Row) -> Result<(), Fail> {
+    let whole = story_of(alloc, row)?;
+    for room in 0..=whole.bytes().len() {
+        if is_tried(room, whole.bytes().len()) {
+            write_in_part(rt, alloc, row, whole.bytes(), room)?;
+        }
+    }
+    Ok(())
+}
+
+#[test]
+fn each_write_of_the_story_fails_in_turn(rt: HostRuntime) -> Result<(), Fail> {
+    for row in &ROWS {
+        write_each_part(&rt, rt.alloc(), row)?;
     }
     Ok(())
 }

@@ -6,7 +6,11 @@ mod compile;
 #[cfg(test)]
 mod conditionals;
 #[cfg(test)]
+mod fault_rows;
+#[cfg(test)]
 mod faults;
+#[cfg(test)]
+mod heads;
 #[cfg(test)]
 mod including;
 #[cfg(test)]

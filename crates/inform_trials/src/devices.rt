@@ -207,20 +207,28 @@ impl Files for Locked<'_> {
     }
 }
 
-/// The files of a folder, given one byte a read, of which one call of `open` or `read` fails.
+/// The files of a folder, of which one call of `open` or `read` fails.
 #[derive(Drop)]
 pub struct Fused {
     files: MemoryFiles,
+    /// How many bytes a read gives at most.
+    most: usize,
     /// How many calls are still to come before the one that fails.
     calls: usize,
     failures: Failures,
 }
 
 impl Fused {
-    /// These files, of which the call behind so many fails.
+    /// These files, given one byte a read, of which the call behind `calls` others fails.
     pub fn new(files: MemoryFiles, calls: usize) -> Fused {
+        Fused::in_parts(files, calls, 1)
+    }
+
+    /// These files, given at most `most` bytes a read, of which the call behind `calls` others fails.
+    pub fn in_parts(files: MemoryFiles, calls: usize, most: usize) -> Fused {
         Fused {
             files,
+            most,
             calls,
             failures: Failures::none(),
         }
@@ -257,7 +265,7 @@ impl Files for Fused {
             return Err(ReadFault::Device);
         }
         self.calls -= 1;
-        let most = to.len().min(1);
+        let most = to.len().min(self.most.max(1));
         self.files.read(&mut to[..most])
     }
 

@@ -1,5 +1,5 @@
-use Rattle.std.proofs.Common.{◌≡◌, ℕ, ◌+◌, ◌-◌, ◌≤◌, List, ◌++◌, drop, length}
-use Rattle.inf_lexer.specs.Heads.{head_found}
+use Rattle.std.proofs.Common.{◌≡◌, ℕ, ◌+◌, ◌-◌, ◌≤◌, List, ◌++◌, drop, false, length}
+use Rattle.inf_lexer.specs.Heads.{head_found, is_behind}
 use Rattle.inf_lexer.proofs.head.take_head.Given as goal
 
 -- what is found from here in the bytes that are left is what was found in all of them
@@ -9,6 +9,7 @@ invariant-loop-byte l =
       found : (rest : List ℕ) → head_found l.place l.word.items l.lines (drop l.taken l.bytes ++ rest) ≡ head_found l.fn.from
           l.fn.word.items l.fn.lines (l.bytes ++ rest);
       within : l.taken ≤ length l.bytes;
+      before : is_behind l.fn.from ≡ false → is_behind l.place ≡ false;
       few : l.lines.line ≤ l.fn.lines.line + l.taken;
     }
 

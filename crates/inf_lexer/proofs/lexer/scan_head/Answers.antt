@@ -1,7 +1,7 @@
 use Rattle.std.proofs.Common.{◌++◌, Bool, IsTrue, subst, ℕ, List, drop, length, refl, sym, ap, ◌∙◌, arith, length-drop}
-use Rattle.inf_lexer.specs.Heads.{HeadFound, head_after, head_found, is_head_on}
+use Rattle.inf_lexer.specs.Heads.{HeadFound, head_after, head_found, is_behind, is_head_on, turn_place}
 use Rattle.inf_lexer.specs.declared.head.HeadTurn.{HeadTurn}
-use Rattle.inf_lexer.proofs.Heading.{head_end}
+use Rattle.inf_lexer.proofs.Heading.{head_end, head_stays_open}
 use Rattle.inf_lexer.proofs.Hearing.{ends_on, ends_taken, heard_on, heard_taken, still_taken}
 use Rattle.inf_lexer.proofs.Scanned.{none_left, some_left}
 use Rattle.inf_lexer.proofs.lexer.scan_head.Goals as goal
@@ -41,6 +41,7 @@ windows-preserved g c =
           filled.end honest ends);
       still = λ honest still. still_taken (files.openings c.refill.new.files) c.refill.new.self c.pass.new.self c.pass.ensures.over
           (filled.still (subst (λ (b : Bool). IsTrue b) (sym inv.honesty) honest) (inv.still honest still));
+      before = λ not. sym (ap (λ (t : HeadTurn). is_behind (turn_place t)) c.in-On.is) ∙ took.before (inv.before not);
       room = omega (
         arith,
         ap (λ (l : List ℕ). length l) c.pass.ensures.left,
@@ -140,3 +141,14 @@ returns-in-Stopped-clause-heard g c =
     (drop c.take_head-taken.result.0 c.left-in-windows.result.now ++ rest)) (sym c.in-Stopped.is)
     ∙ took.found rest
     ∙ ap (λ (l : List ℕ). head_found c.windows.place c.windows.word.items c.windows.lines (l ++ rest)) c.left-in-windows.ensures)
+
+pub returns-in_err-refill-clause-unfinished : goal.returns-in_err-refill-clause-unfinished
+returns-in_err-refill-clause-unfinished g c = λ refused not honest.
+    let files = g.F.Files in
+    let inv = c.windows.invariant in
+    let filled = c.in_err-refill.ensures in
+    head_stays_open (files.is_honest c.args.files.now) (files.is_honest c.windows.files) (files.sources c.args.files.now)
+    (files.sources c.windows.files) (files.openings c.args.files.now)
+    (files.openings c.windows.files) (files.openings c.refill.new.files) c.args.window.now c.windows.window c.refill.new.self c.args.from
+    c.windows.place c.args.word.now.items c.windows.word.items c.args.lines.now c.windows.lines
+    inv.heard inv.honesty inv.sources filled.reads (inv.before not) (filled.refused refl) inv.few (filled.unread refl) honest

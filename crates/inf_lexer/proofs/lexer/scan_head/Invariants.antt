@@ -1,6 +1,6 @@
-use Rattle.std.proofs.Common.{◌≡◌, ◌+◌, ◌-◌, ◌≤◌, length, min, IsTrue}
+use Rattle.std.proofs.Common.{◌≡◌, ◌+◌, ◌-◌, ◌≤◌, false, length, min, IsTrue}
 use Rattle.inf_files.specs.Files.{last_count}
-use Rattle.inf_lexer.specs.Heads.{HeadFound, head_found}
+use Rattle.inf_lexer.specs.Heads.{HeadFound, head_found, is_behind}
 use Rattle.inf_lexer.specs.Unread.{Ends, Heard, StillGives}
 use Rattle.inf_lexer.proofs.lexer.scan_head.Given as goal
 
@@ -16,6 +16,7 @@ invariant-windows g l =
           Ends sources (files.openings l.files) l.window;
       still : IsTrue (files.is_honest l.fn.files) → StillGives (files.openings l.fn.files) l.fn.window →
           StillGives (files.openings l.files) l.window;
+      before : is_behind l.fn.from ≡ false → is_behind l.place ≡ false;
       room : l.lines.line + length l.window.left ≤ l.window.given + 1;
       window : length l.window.left ≤ 4096;
       few : l.window.given ≤ 16777216;

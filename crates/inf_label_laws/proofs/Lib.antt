@@ -1,0 +1,4 @@
+mod Examples
+mod OwnRows
+mod Owning
+mod Programs

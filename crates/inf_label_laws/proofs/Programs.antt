@@ -1,0 +1,57 @@
+-- Code at any place of a program whose labels are looked up.
+use Rattle.std.proofs.Common.{◌≡◌, ℕ, List, [], ◌∷◌, ◌++◌, false, refl, ◌∙◌, ap, sym, subst, append_assoc}
+use Rattle.std.proofs.lemmas.Bool.{eq-eqb}
+use Rattle.std.specs.Prelude.{◌==◌, if◌then◌else◌}
+use Rattle.inf_opcode.specs.declared.instructions.Label.{Label}
+use Rattle.inf_output.specs.declared.items.Item.{Item}
+use Rattle.inf_output.specs.declared.items.Item.TheVariants.{Instruction, Mark}
+use Rattle.inf_output.specs.Output.{Code, Out, apart, items_of}
+use Rattle.inf_templates.specs.Meaning.{meaning}
+use Rattle.inf_meaning_laws.specs.Machine.{World, Place, Stands, ◌then◌}
+use Rattle.inf_meaning_laws.specs.Laws.{Does}
+use Rattle.inf_label_laws.specs.Programs.{AreDifferent, IsAbsent, ProgramsCompute, ProgramsPush, RunsTo, behind_mark, items_laid}
+use Rattle.inf_meaning_laws.specs.Laws.{Claim, GivesValue, state, taken}
+use Rattle.inf_label_laws.specs.Programs.{marks}
+use Rattle.inf_meaning_laws.specs.Values.{sense}
+use Rattle.inf_meaning_laws.proofs.Expressions.{values_are_computed}
+
+absent_before : (n : ℕ) (front tail : List Item) (l : Label) → IsAbsent n (marks (front ++ Mark l ∷ tail)) → (n == l.number) ≡ false
+absent_before n [] tail l h = h.0
+absent_before n ((Instruction i) ∷ front) tail l h = absent_before n front tail l h
+absent_before n ((Mark m) ∷ front) tail l h = absent_before n front tail l h.1
+
+found_mark : (front tail : List Item) (l : Label) → AreDifferent (marks (front ++ Mark l ∷ tail)) →
+    behind_mark (front ++ Mark l ∷ tail) l ≡ tail
+found_mark [] tail l h = ap (λ b. if b then tail else behind_mark tail l) (eq-eqb l.number l.number refl)
+found_mark ((Instruction i) ∷ front) tail l h = found_mark front tail l h
+found_mark ((Mark m) ∷ front) tail l h =
+    ap (λ b. if b then front ++ Mark l ∷ tail else behind_mark (front ++ Mark l ∷ tail) l) (absent_before m.number front tail l h.0)
+    ∙ found_mark front tail l h.1
+
+-- so the labels of a piece stand where the program marks them
+stand : (program front items : List Item) (rest : Place) → program ≡ front ++ (items ++ rest) → AreDifferent (marks program) →
+    Stands (behind_mark program) items rest
+stand program front [] rest e h = tt
+stand program front ((Instruction i) ∷ items) rest e h =
+    stand program (front ++ Instruction i ∷ []) items rest (e ∙ sym (append_assoc front (Instruction i ∷ []) (items ++ rest))) h
+stand program front ((Mark l) ∷ items) rest e h = (
+  ap (λ p. behind_mark p l) e ∙ found_mark front (items ++ rest) l (subst (λ p. AreDifferent (marks p)) e h),
+  stand program (front ++ Mark l ∷ []) items rest (e ∙ sym (append_assoc front (Mark l ∷ []) (items ++ rest))) h,
+)
+
+laid_apart : (w : World) (c : Code) (P : Claim) (o : Out) (x : Does w c P (apart o)) → items_laid c o ≡ x.items
+laid_apart w c P o x = ap items_of x.laid.kept
+
+pub programs_compute : ProgramsCompute
+programs_compute keeps w limits tree h d o program stack temp s t n k v =
+    let x = values_are_computed keeps w limits tree h d (apart o) in
+    subst (λ items. RunsTo w program items (state stack temp s) (λ left. taken d n stack left t))
+    (sym (laid_apart w ((meaning limits tree).value d) (GivesValue keeps w (sense w tree).value d) o x))
+    (λ rest front e different.
+    let r = x.runs (behind_mark program) rest k (stand program front x.items rest e different) stack temp s n t v in
+    let q = r.2.steps 0 in
+    (r.0, q.0, q.1))
+
+pub programs_push : ProgramsPush
+programs_push keeps w limits tree h o program stack temp s t n k v =
+    programs_compute keeps w limits tree h 0 o program stack temp s t n k v

@@ -1,0 +1,132 @@
+-- Some expressions at a store where `x` is 2 and `y` is 4: what a machine has on the stack behind their code, and what they mean.
+use Rattle.std.specs.Prelude.{◌≡◌, ℕ, zero, suc, ◌==◌, false, List, [], ◌∷◌, Option, Some, None, if◌then◌else◌}
+use Rattle.inf_settings.specs.Bounds.{Limits}
+use Rattle.inf_opcode.specs.declared.instructions.Label.{Label}
+use Rattle.inf_expressions.specs.declared.operators.Operand.TheVariants.{Known, Variable}
+use Rattle.inf_expressions.specs.declared.operators.Operation.{Operation}
+use Rattle.inf_expressions.specs.declared.operators.Operation.TheVariants as operation
+use Rattle.inf_expressions.specs.declared.operators.Test.{Test}
+use Rattle.inf_expressions.specs.declared.operators.Test.TheVariants as test
+use Rattle.inf_expressions.specs.declared.operators.Binary.TheVariants as binary
+use Rattle.inf_expressions.specs.Trees.{Tree, Leaf, Two}
+use Rattle.inf_cells.specs.declared.scale.Scale.TheVariants.{Four}
+use Rattle.inf_code.specs.Code.{no_routines}
+use Rattle.inf_names.specs.Symbols.{no_names}
+use Rattle.inf_output.specs.Strings.{no_strings}
+use Rattle.inf_output.specs.Texts.{no_texts}
+use Rattle.inf_tables.specs.Tables.{no_tables}
+use Rattle.inf_output.specs.declared.items.Item.{Item}
+use Rattle.inf_output.specs.Output.{Out}
+use Rattle.inf_templates.specs.Meaning.{meaning}
+use Rattle.inf_meaning_laws.specs.Machine.{State, Store, World, ◌then◌, stepped}
+use Rattle.inf_meaning_laws.specs.Values.{value_of}
+use Rattle.inf_meaning_laws.specs.Laws.{state}
+use Rattle.inf_label_laws.specs.Programs.{behind_mark, items_laid}
+
+abbrev pub many : Limits
+many s = 1000
+
+abbrev pub empty : Out
+empty = record {
+  code = no_routines Four;
+  strings = no_strings Four;
+  tables = no_tables;
+  texts = no_texts;
+  names = no_names false;
+  seen = no_names false;
+  first = record { file = 0; line = 1 };
+  next = 7;
+  past = None;
+  kept = None;
+}
+
+-- no objects, and no routines
+abbrev pub bare : World
+bare = record {
+  later = λ t. 0;
+  has = λ s a b. false;
+  inside = λ s a b. false;
+  parent = λ s a. 0;
+  child = λ s a. 0;
+  sibling = λ s a. 0;
+  random = λ chance n. n;
+  renewed = λ chance n. chance;
+  called = λ s f arguments. None;
+  routine = λ v. 0;
+  property = λ s a b. 0;
+  property_address = λ s a b. 0;
+  property_length = λ s a b. 0;
+  with_property = λ a b n s. s;
+  message = λ s a b arguments. None;
+  children = λ s a. 0;
+  of_class = λ s a b. false;
+  provides = λ s a b. false;
+}
+
+abbrev pub store : Store
+store = record { variables = λ v. if v == 1 then 2 else if v == 2 then 4 else 0; bytes = λ a. 0; chance = 0 }
+
+abbrev pub x : Tree
+x = Leaf (Variable 1)
+
+abbrev pub y : Tree
+y = Leaf (Variable 2)
+
+abbrev pub number : ℕ → Tree
+number n = Leaf (Known n)
+
+abbrev pub operated : Operation → Tree → Tree → Tree
+operated o a b = Two (binary.Operation o) a b
+
+abbrev pub tested : Test → Tree → Tree → Tree
+tested t a b = Two (binary.Test t) a b
+
+-- the alternative `a`, and others behind it
+abbrev pub or_others : Tree → Tree → Tree
+or_others a others = Two binary.Then a others
+
+-- the stack at the end of some items, which at most this number of steps leads to
+abbrev pub ended : (Label → List Item) → ℕ → List Item → State → Option (List ℕ)
+ended at n [] s = Some s.stack
+ended at zero (item ∷ rest) s = None
+ended at (suc n) (item ∷ rest) s = stepped bare at item rest s then λ m. ended at n m.0 m.1
+
+-- the stack behind the code of an expression, which began with 77 on it
+abbrev pub stack_behind : Tree → Option (List ℕ)
+stack_behind t =
+    let items = items_laid ((meaning many t).value 0) empty in ended (behind_mark items) 100 items (state (77 ∷ []) 0 store)
+
+-- `x + (x = 9)`: the variable is read last
+abbrev pub late : Tree
+late = operated operation.Add x (Two binary.Assign x (number 9))
+
+-- `(x - 9) / y` is -1
+abbrev pub rounded : Tree
+rounded = operated operation.Divide (operated operation.Subtract x (number 9)) y
+
+-- `(x == 2 or 3 && y > 5)`
+abbrev pub condition : Tree
+condition = Two binary.And (tested test.Equal x (or_others (number 2) (number 3))) (tested test.Greater y (number 5))
+
+-- `(x + 1 == 10 or 11 or 12 or (y + 1 == 1 or 2 or 3 or 4) or 3)`: the fourth alternative puts a value of its own into variable 255, where
+-- `x + 1` waits for the fifth. So the laws do not cover it: it is true, and its code finds it false, as frotz does, which prints 0.
+abbrev pub inner : Tree
+inner =
+    tested test.Equal (operated operation.Add y (number 1))
+    (or_others (number 1) (or_others (number 2) (or_others (number 3) (number 4))))
+
+abbrev pub disturbed : Tree
+disturbed =
+    tested test.Equal (operated operation.Add x (number 1))
+    (or_others (number 10) (or_others (number 11) (or_others (number 12) (or_others inner (number 3)))))
+
+abbrev pub WaitingValuesAreLost : Type 0
+WaitingValuesAreLost =
+    ((t : Store) × (value_of bare disturbed store ≡ Some (1, t))) × (stack_behind disturbed ≡ Some (0 ∷ 77 ∷ []))
+
+-- frotz prints 18, -1 and 0 for these, where `x` is 2 and `y` is 4.
+abbrev pub ExamplesAreEvaluated : Type 0
+ExamplesAreEvaluated =
+    (stack_behind late ≡ Some (18 ∷ 77 ∷ []))
+    × (stack_behind rounded ≡ Some (65535 ∷ 77 ∷ []))
+    × (stack_behind condition ≡ Some (0 ∷ 77 ∷ []))

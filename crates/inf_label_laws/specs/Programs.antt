@@ -1,0 +1,62 @@
+-- The code of an expression wherever it stands in a program, with the labels looked up.
+use Rattle.std.specs.Prelude.{◌≡◌, ℕ, ◌==◌, Bool, false, List, [], ◌∷◌, ◌++◌, Option, Some, if◌then◌else◌}
+use Rattle.inf_settings.specs.Bounds.{Limits}
+use Rattle.inf_opcode.specs.declared.instructions.Label.{Label}
+use Rattle.inf_expressions.specs.Trees.{Tree}
+use Rattle.inf_output.specs.declared.items.Item.{Item}
+use Rattle.inf_output.specs.declared.items.Item.TheVariants.{Instruction, Mark}
+use Rattle.inf_output.specs.Output.{Code, Out, apart, items_of}
+use Rattle.inf_templates.specs.Meaning.{meaning}
+use Rattle.inf_meaning_laws.specs.Machine.{World, Store, State, Place, run}
+use Rattle.inf_meaning_laws.specs.Supplied.{Supplies}
+use Rattle.inf_meaning_laws.specs.Values.{sense, value_of}
+use Rattle.inf_meaning_laws.specs.Covered.{Covered}
+use Rattle.inf_meaning_laws.specs.Laws.{state, taken, taker}
+
+-- a label stands behind its first mark
+abbrev pub behind_mark : List Item → Label → Place
+behind_mark [] l = []
+behind_mark ((Instruction i) ∷ items) l = behind_mark items l
+behind_mark ((Mark m) ∷ items) l = if m.number == l.number then items else behind_mark items l
+
+abbrev pub marks : List Item → List ℕ
+marks [] = []
+marks ((Instruction i) ∷ items) = marks items
+marks ((Mark m) ∷ items) = m.number ∷ marks items
+
+-- All labels that a program marks are different.
+abbrev pub IsAbsent : ℕ → List ℕ → Type 0
+IsAbsent n [] = Unit {0}
+IsAbsent n (m ∷ others) = ((n == m) ≡ false) × IsAbsent n others
+
+abbrev pub AreDifferent : List ℕ → Type 0
+AreDifferent [] = Unit {0}
+AreDifferent (n ∷ others) = IsAbsent n others × AreDifferent others
+
+-- what code lays, kept apart from all that was laid before
+abbrev pub items_laid : Code → Out → List Item
+items_laid c o = items_of (c (apart o)).kept
+
+-- Wherever these items stand in a program, some number of steps leads from their front to their end.
+abbrev pub RunsTo : World → List Item → List Item → State → (ℕ → State) → Type 0
+RunsTo w program items start now =
+    (rest : Place) → (front : List Item) → program ≡ front ++ (items ++ rest) → AreDifferent (marks program) →
+    (left : ℕ) × (steps : ℕ) × (run w (behind_mark program) steps (items ++ rest) start ≡ Some (rest, now left))
+
+-- In every program the code of an expression gives its value to a variable or the stack.
+abbrev pub ProgramsCompute : Type 0
+ProgramsCompute =
+    (keeps : Bool) (w : World) (limits : Limits) (tree : Tree) → Covered keeps tree → (d : ℕ) (o : Out) (program : List Item)
+    (stack : List ℕ)
+    (temp : ℕ) (s t : Store) (n : ℕ) → Supplies w ((meaning limits tree).value d (apart o)) →
+    (sense w tree).value (taker d) s ≡ Some (n, t) →
+    RunsTo w program (items_laid ((meaning limits tree).value d) o) (state stack temp s) (λ left. taken d n stack left t)
+
+-- Where the value goes to the stack, one number more is on it.
+abbrev pub ProgramsPush : Type 0
+ProgramsPush =
+    (keeps : Bool) (w : World) (limits : Limits) (tree : Tree) → Covered keeps tree → (o : Out) (program : List Item) (stack : List ℕ)
+    (temp : ℕ)
+    (s t : Store) (n : ℕ) → Supplies w ((meaning limits tree).value 0 (apart o)) →
+    value_of w tree s ≡ Some (n, t) →
+    RunsTo w program (items_laid ((meaning limits tree).value 0) o) (state stack temp s) (λ left. state (n ∷ stack) left t)

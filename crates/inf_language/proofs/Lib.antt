@@ -1,0 +1,10 @@
+pub mod TextsActed
+pub mod UnitsAlone
+pub mod UnitsNamed
+pub mod HeadersRead
+pub mod TextsSplit
+pub mod ExpressionsTold
+pub mod Derivations
+pub mod ConstantsDone
+pub mod ConstantsRead
+pub mod ConstantExample

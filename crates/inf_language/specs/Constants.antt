@@ -1,0 +1,141 @@
+-- The directive `Constant NAME = expression ;` as a tree, and what it does as a whole: no machine reads it, and no unit is filled token by
+-- token.
+use Rattle.std.specs.Prelude.{◌≡◌, ℕ, ◌+◌, ◌<◌, List, [], ◌∷◌, ◌++◌, length, max, nat_lt, Bool, true, false, ◌&&◌, Option, Some, None}
+use Rattle.std.specs.Prelude.{if◌then◌else◌}
+use Rattle.inf_settings.specs.Bounds.{Limits}
+use Rattle.inf_settings.specs.declared.setting.Setting.TheVariants as setting
+use Rattle.inf_scanner.specs.declared.tokens.Mark.TheVariants as mark
+use Rattle.inf_scanner.specs.declared.tokens.Place.{Place}
+use Rattle.inf_scanner.specs.declared.tokens.TokenKind.TheVariants as kind
+use Rattle.inf_report.specs.Messages.{Exceeded}
+use Rattle.inf_machine.specs.Grammar.{Event, IsText}
+use Rattle.inf_syntax.specs.Atoms.{mark_atom}
+use Rattle.inf_syntax.specs.Parts.{piece}
+use Rattle.inf_syntax.specs.declared.actions.Action.{Action}
+use Rattle.inf_syntax.specs.declared.words.Keyword.TheVariants as keyword_of
+use Rattle.inf_grammar.specs.Language.{grammar}
+use Rattle.inf_expressions.specs.Sources.{Source}
+use Rattle.inf_gathering.specs.Gatherings.{nothing_gathered}
+use Rattle.inf_constructs.specs.Constructs.{depth as open_depth}
+use Rattle.inf_unit.specs.Messages.{location, with_fatal}
+use Rattle.inf_unit.specs.Tokens.{SourceToken, keyword}
+use Rattle.inf_unit.specs.Units.{Unit, depth_behind, no_unit, place_at}
+use Rattle.inf_compilation.specs.Context.{Context, longest}
+use Rattle.inf_compilation.specs.Actions.{Compilation, code_begun, constant, most_nested, nested, opens, piece_begun}
+use Rattle.inf_expression_laws.specs.Gathered.{AreSeen, with_source}
+use Rattle.inf_expression_laws.specs.Precedence.{Written, assignments}
+use Rattle.inf_statement_laws.specs.Laid.{passed}
+use Rattle.inf_statement_laws.specs.Readings.{Seen, all_taken}
+use Rattle.inf_language.specs.Headers.{as_name}
+use Rattle.inf_language.specs.Texts.{NoneClosesAhead, atoms_of, tokens_of}
+
+-- What the tokens of an expression tell
+
+-- At a token its expression has so many tokens. Where one of these is the first too many, a message there ends the compilation; where none
+-- is, the tokens count for the longest expression.
+abbrev pub length_told : Context → Option Place → ℕ → Compilation → Compilation
+length_told context None count w = record w { most_tokens = max w.most_tokens count }
+length_told context (Some too_many) count w =
+    record w { report = with_fatal (location context.names too_many) (Exceeded setting.ExpressionNodes) w.report }
+
+-- whether brackets stand too deep in one another and in statements
+abbrev pub is_too_deep : ℕ → ℕ → ℕ → Bool
+is_too_deep brackets statements more = nat_lt most_nested (brackets + statements + more)
+
+-- A token of an expression, with which so many brackets are open, may also be a bracket that stands too deep.
+abbrev pub token_told : Context → SourceToken → ℕ → Option Place → ℕ → Compilation → Compilation
+token_told context t brackets too_many count w =
+    let v = length_told context too_many count w in
+    nested context t.place (opens t.kind && is_too_deep brackets (open_depth v.constructs) 0) v
+
+-- where the first of some tokens stands that are too many
+abbrev pub first_past : ℕ → List SourceToken → Option Place
+first_past most tokens = if nat_lt most (length tokens) then place_at tokens most else None
+
+-- The tokens of an expression, one by one, each with the conditional directives that end behind it. Some of its tokens stand before these,
+-- and so many brackets are open there.
+abbrev pub expression_told : Context → List SourceToken → ℕ → List Seen → Compilation → Compilation
+expression_told context front brackets [] w = w
+expression_told context front brackets (s ∷ seen) w =
+    let so_far = front ++ s.token ∷ [] in
+    let behind = depth_behind s.token.kind brackets in
+    expression_told context so_far behind seen
+    (passed s.behind (token_told context s.token behind (first_past (longest context) so_far) (length so_far) w))
+
+-- how many brackets are open behind some tokens
+abbrev pub brackets_behind : List SourceToken → ℕ → ℕ
+brackets_behind [] brackets = brackets
+brackets_behind (t ∷ tokens) brackets = brackets_behind tokens (depth_behind t.kind brackets)
+
+-- The directive
+
+-- its tokens in their order, and the expression that those behind its sign are
+pub record Constant : Type 0 where
+  pub word : Seen
+  pub name : Seen
+  pub sign : Seen
+  pub tokens : List Seen
+  pub value : Source
+  pub semicolon : Seen
+
+-- all of them, and those of its unit, which ends before the semicolon
+abbrev pub all_seen : Constant → List Seen
+all_seen k = k.word ∷ k.name ∷ k.sign ∷ (k.tokens ++ k.semicolon ∷ [])
+
+abbrev pub unit_tokens : Constant → List SourceToken
+unit_tokens k = k.word.token ∷ k.name.token ∷ k.sign.token ∷ tokens_of k.tokens
+
+-- The unit that it is: its expression begins behind three tokens, and all that is gathered is that expression.
+abbrev pub unit_of : Constant → Unit
+unit_of k = record no_unit {
+  tokens = unit_tokens k;
+  gathering = with_source (Some 3) 0 (unit_tokens k) k.value nothing_gathered;
+  outer = Some 3;
+  is_sure = true;
+  depth = brackets_behind (tokens_of k.tokens) 0;
+}
+
+-- What it does: the conditional directives behind its word, its name and its sign, what the tokens of its expression tell, then the end of
+-- its unit, with which code begins and which declares the name, and the conditional directives behind its semicolon.
+abbrev pub declares : Limits → Context → Constant → Compilation → Compilation
+declares limits context k w =
+    let told = expression_told context [] 0 k.tokens (passed k.sign.behind (passed k.name.behind (passed k.word.behind w))) in
+    passed k.semicolon.behind
+    (constant limits context k.word.token.place (as_name k.name.token ∷ []) (code_begun limits (record told { unit = unit_of k })))
+
+-- Between two pieces there is no unit, and no word waits to be told.
+abbrev pub piece_done : Compilation → Compilation
+piece_done w = record w { unit = no_unit; opening = None }
+
+-- the atom of the word `Constant`
+abbrev pub constant_atom : ℕ
+constant_atom = 47
+
+-- Tokens begin as the directive does: with the word `Constant`, a name and the sign `=`. Of those behind the sign each that has the atom
+-- of a mark is that mark, they are few enough for their orders to differ, and the last opens no bracket.
+pub record BeginsConstant (word name sign : Seen) (seen : List Seen) : Type 0 where
+  pub is_word : word.atom ≡ constant_atom
+  pub is_sign : sign.atom ≡ mark_atom mark.Assign
+  pub word_kind : word.token.kind ≡ kind.Name
+  pub word_means : keyword word.token ≡ Some keyword_of.Constant
+  pub name_kind : name.token.kind ≡ kind.Name
+  pub sign_kind : sign.token.kind ≡ kind.Mark mark.Assign
+  pub are_seen : AreSeen (atoms_of seen) (tokens_of seen)
+  pub few : length (tokens_of seen) + 3 < 4294967295
+  pub plain_last : (front : List Seen) (last : Seen) → seen ≡ front ++ last ∷ [] → opens last.token.kind ≡ false
+
+-- Tokens are a directive of this kind, whose value is the expression that those behind the sign are by the levels of operators, and taking
+-- them does what the directive does.
+pub record IsConstant (limits : Limits) (seen : List Seen) : Type 0 where
+  pub tree : Constant
+  pub same : all_seen tree ≡ seen
+  pub written : Written assignments 3 0 (atoms_of tree.tokens) tree.value
+  pub does : (context : Context) (w : Compilation)
+      → piece_done (all_taken limits context seen (piece ∷ []) (piece_begun w)) ≡ piece_done (declares limits context tree (piece_begun w))
+
+-- So it is of all tokens that are a text of a piece and begin so.
+abbrev pub ConstantsAreRead : Limits → Type 0
+ConstantsAreRead limits =
+    (word name sign : Seen) (seen : List Seen) (events : List (Event Action)) → BeginsConstant word name sign seen
+    → IsText grammar (piece ∷ []) (atoms_of (word ∷ name ∷ sign ∷ seen)) events → NoneClosesAhead (word ∷ name ∷ sign ∷ seen)
+    → IsConstant limits (word ∷ name ∷ sign ∷ seen)

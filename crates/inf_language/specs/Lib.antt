@@ -1,0 +1,6 @@
+pub mod Texts
+pub mod Units
+pub mod NamedLocals
+pub mod Headers
+pub mod HeaderNames
+pub mod Constants

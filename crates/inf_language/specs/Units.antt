@@ -1,0 +1,67 @@
+-- What the unit at hand has while it is read: it depends on its tokens and actions alone, and on nothing that is compiled or told
+-- meanwhile.
+use Rattle.std.specs.Prelude.{◌≡◌, List, [], ◌∷◌, Bool, true, false, is_some}
+use Rattle.inf_settings.specs.Bounds.{Limits}
+use Rattle.inf_scanner.specs.declared.tokens.Place.{Place}
+use Rattle.inf_machine.specs.Grammar.{Event, Took, Did}
+use Rattle.inf_syntax.specs.declared.actions.Action.{Action}
+use Rattle.inf_unit.specs.Roles.{role_of}
+use Rattle.inf_unit.specs.Steps.{step_of}
+use Rattle.inf_unit.specs.declared.roles.Note.{Note}
+use Rattle.inf_unit.specs.declared.roles.Note.TheVariants as note
+use Rattle.inf_unit.specs.declared.roles.Role.{Role}
+use Rattle.inf_unit.specs.declared.roles.Role.TheVariants as role
+use Rattle.inf_compilation.specs.Context.{Context}
+use Rattle.inf_compilation.specs.Actions.{Compilation}
+use Rattle.inf_expression_laws.specs.Gathered.{read_by}
+use Rattle.inf_statement_laws.specs.Laid.{run}
+use Rattle.inf_statement_laws.specs.Readings.{Seen}
+use Rattle.inf_language.specs.Texts.{happenings_before, tokens_of}
+
+-- Whether all is kept of what is noted, however much there is. Four things are not kept where a setting would be passed by them: a text
+-- that is printed, an arrow before the name of an object, the end of an operand, and a token of a line of grammar.
+abbrev pub is_kept_whole : Note → Bool
+is_kept_whole note.PrintText = false
+is_kept_whole note.Arrow = false
+is_kept_whole note.OuterEnd = false
+is_kept_whole note.LineToken = false
+is_kept_whole _ = true
+
+-- whether an action only changes the unit at hand, and in a way that depends on that unit alone
+abbrev pub gathers_in : Role → Bool
+gathers_in (role.Gather s) = true
+gathers_in (role.Note n) = is_kept_whole n
+gathers_in _ = false
+
+abbrev pub gathers : Action → Bool
+gathers a = gathers_in (role_of a)
+
+-- All actions among some events are such.
+abbrev pub AllGather : List (Event Action) → Type 0
+AllGather [] = Unit {0}
+AllGather (Did a ∷ events) = (gathers a ≡ true) × AllGather events
+AllGather (Took atom ∷ events) = AllGather events
+
+-- Then the unit in a compilation is what the same events and tokens make of the unit by itself.
+abbrev pub UnitsAreReadAlone : Limits → Type 0
+UnitsAreReadAlone limits =
+    (context : Context) (next : Place) (events : List (Event Action)) (seen : List Seen) (w : Compilation) → AllGather events
+    → (run limits context (happenings_before next events seen) w).unit ≡ read_by events (tokens_of seen) w.unit
+
+-- whether an action gathers a step of an expression, and notes nothing
+abbrev pub is_step : Action → Bool
+is_step a = is_some (step_of a)
+
+-- All actions among some events are such.
+abbrev pub AllSteps : List (Event Action) → Type 0
+AllSteps [] = Unit {0}
+AllSteps (Did a ∷ events) = (is_step a ≡ true) × AllSteps events
+AllSteps (Took atom ∷ events) = AllSteps events
+
+-- By some events as many tokens are taken as there are.
+abbrev pub TakeAll : List (Event Action) → List Seen → Type 0
+TakeAll [] [] = Unit {0}
+TakeAll [] (s ∷ seen) = ⊥
+TakeAll (Did a ∷ events) seen = TakeAll events seen
+TakeAll (Took atom ∷ events) [] = ⊥
+TakeAll (Took atom ∷ events) (s ∷ seen) = TakeAll events seen

@@ -1,0 +1,10 @@
+//! The language by its pieces: what tokens that are a text of the grammar do as a whole, with no machine that reads them one by one. Each
+//! function carries a law as its clause, and does nothing.
+#![tactic(auto)]
+
+mod laws;
+
+pub use laws::{
+    constants_are_read, headers_have_their_locals, headers_note_their_names,
+    texts_do_their_actions, units_are_read_alone, units_name_their_locals,
+};

@@ -1,6 +1,0 @@
--- The lemma is the answer.
-use Rattle.inf_meaning_laws.proofs.OwnRows.{labels_are_own}
-use Rattle.inf_meaning_laws.proofs.laws.labels_are_own.Goals as goal
-
-pub returns : goal.returns
-returns c = labels_are_own
