@@ -55,6 +55,11 @@ System_file;
     print "[", (name) thing, " (", thing, ") ", (string) text, "]^";
 ];
 
+! Whether the library looks at what a thing's printed_name prints to find its article.
+[ LooksForArticle thing;
+    return thing provides printed_name && ~~(thing provides article || thing has proper || thing has several);
+];
+
 ! How many letters the name of a thing has.
 Array name_text -> 1000;
 
@@ -80,7 +85,8 @@ Array name_text -> 1000;
         if (thing provides time_out && ~~thing provides time_left) Complain(thing, "has time_out and no time_left");
         if (parent(thing) && thing hasnt concealed && ~~(thing provides name || thing provides parse_name))
             Complain(thing, "has no name that can be typed");
-        if (LengthOfName(thing) > LINE_LENGTH) Complain(thing, "has a name of more letters than LINE_LENGTH");
+        if (LooksForArticle(thing) && LengthOfName(thing) > LINE_LENGTH)
+            Complain(thing, "has a printed_name of more letters than LINE_LENGTH, and no article");
     }
 ];
 

@@ -170,18 +170,20 @@ Global details;
 Global invent_stage;
 Global tracing;
 
-! The line of the commands that are done, the text of the last command, and the line that is read. Some interpreters write more
-! letters into that than it has room for: behind it stands what is made anew for each command.
+! The line of the commands that are done, the text of the last command, the words of a line, and the line that is read. Some
+! interpreters write more letters into that than it has room for, and a name may be longer than it, whose article is looked for
+! there: behind it stands what is made anew for each command.
 Array line -> (LINE_LENGTH + 3);
 Array saved -> (LINE_LENGTH + 3);
 Array multiple --> (MOST_OBJECTS + 1);
 Array timers --> MOST_TIMERS;
+Array words -> (4 * MOST_WORDS + 2);
+Array first_letters --> 1;
 Array answer -> (LINE_LENGTH + 3);
 Array matches --> (MOST_OBJECTS + 1);
 Array gathered --> (MOST_OBJECTS + 1);
 Array values --> 3;
 Array value_kinds -> 3;
-Array words -> (4 * MOST_WORDS + 2);
 
 Constant END_OF_COMMAND = -1;
 

@@ -4,9 +4,14 @@
 !
 !     Include "library";
 !
-! and is compiled with this folder in its path: inform +lib game.inf. Each setting of the compiler may be as it stands without a
-! word of the command. Behind the line a game declares an object `game`: its short name is the title, its property `start` the
-! first room. docs/LIBRARY.md has all the rest.
+! and is compiled with this folder in its path: inform +lib game.inf. Behind the line a game declares an object `game`: its short
+! name is the title, its property `start` the first room. docs/LIBRARY.md has all the rest.
+!
+! Each setting of the compiler may be as it stands without a word of the command. A game of one room is compiled with these, also
+! with the word -D, without a warning; other rooms, things and verbs add to them:
+!     MAX_SYMBOLS 670, MAX_DICT_ENTRIES 162, MAX_OBJECTS 21, MAX_VERBS 81, MAX_ACTIONS 92, MAX_LINESPACE 1,200,
+!     MAX_PROP_TABLE_SIZE 320, MAX_STATIC_DATA 1,510, MAX_LOW_STRINGS 2, MAX_CODE 19,800, MAX_STATIC_STRINGS 328,
+!     MAX_REFS 1,440, MAX_LABELS 470, MAX_EXPRESSION_NODES 62, MAX_QTEXT_SIZE 70
 !
 ! Constants that a game may declare before the line, with the numbers that they have otherwise:
 !     LINE_LENGTH 70, MOST_WORDS 16, MOST_OBJECTS 32, MOST_TIMERS 8    the sizes of what the parser and the timers keep

@@ -46,12 +46,19 @@ System_file;
     PrintShortName(thing);
 ];
 
-! Whether the name of a thing begins with a vowel: it is printed to memory, and its first letter looked at.
-[ BeginsWithVowel thing;
+! Whether the name of a thing begins with a vowel: it is printed to memory, and its first letter looked at. Of a short name only
+! the first word of its text is printed, so that it may be as long as it likes; of a `printed_name` all that it prints.
+[ BeginsWithVowel thing  at;
     @output_stream 3 answer;
-    PrintShortName(thing);
+    if (thing provides printed_name) PrintShortName(thing);
+    else {
+        at = (0-->5 + 14 * thing + 124)-->0;
+        first_letters-->0 = (at + 1)-->0 | $8000;
+        print (address) first_letters;
+    }
     @output_stream (-3);
-    return answer->2 == 'a' or 'e' or 'i' or 'o' or 'u' or 'A' or 'E' or 'I' or 'O' or 'U';
+    if (answer-->0 > LINE_LENGTH + 1) print "[longer than LINE_LENGTH, and without article:] ";
+    return answer-->0 && answer->2 == 'a' or 'e' or 'i' or 'o' or 'u' or 'A' or 'E' or 'I' or 'O' or 'U';
 ];
 
 ! Words that go by how many a thing is: is, are; them, him, her, it; They're, It's.
@@ -203,7 +210,7 @@ System_file;
     }
 ];
 
-! Prints a thing with its article and what is to be said of it, or so many of its kind.
+! Prints a thing with its article and what is to be said of it, or how many of its kind there are.
 [ WriteThing thing alike;
     if (alike > 1) {
         print (number) alike, " ";

@@ -126,7 +126,7 @@ System_file;
     for (i = 0 : i < MOST_TIMERS : i++) if (timers-->i == value) timers-->i = 0;
 ];
 
-! Has a thing's time_out run after so many turns.
+! Has a thing's time_out run when `count` turns have passed.
 [ StartTimer thing count;
     if (~~thing provides time_left) { print "[", (name) thing, " has no property time_left.]^"; return; }
     thing.time_left = count;

@@ -169,7 +169,7 @@ class Machine:
         return line or ""
 
     def file(self):
-        """The name of a file, which is typed, too."""
+        """The name of a file, which is typed, too. There are no folders: a name with a stroke in it is that of no file."""
         name = next(self.lines, "")
         self.printed.append(f"(file: {name})\n")
         return name

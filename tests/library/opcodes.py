@@ -237,8 +237,7 @@ def output_stream(m, number, table=0):
         m.put(table, len(codes))
         m.memory[table + 2 : table + 2 + len(codes)] = bytes(codes)
     elif number == 2 and not m.memory[17] & 1:
-        m.file()
-        m.memory[17] |= 1
+        m.memory[17] |= "/" not in m.file()
     elif number == -2:
         m.memory[17] &= 254
 
@@ -296,7 +295,10 @@ def restore_undo(m):
 
 @opcode("EXT", 0, "S")
 def save(m):
-    m.files[m.file()] = m.kept()
+    name = m.file()
+    if "/" in name:
+        return 0
+    m.files[name] = m.kept()
     return 1
 
 

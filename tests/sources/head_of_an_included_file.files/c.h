@@ -1,0 +1,2 @@
+!% -v8 -D
+Message "c";
