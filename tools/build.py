@@ -7,9 +7,10 @@ RT is the toolchain's command. FOLDER has a crates.txt and the crates that it na
 Its gate (`rt ci`) proves crates that do not stand on each other side by side, as many as processors and memory allow, keeps on
 this machine what it proved, and takes what it kept (but with --anew): so a build that was interrupted goes on where it was.
 
-How many functions a crate has, and how long its proof takes, is taken from the table in docs/GATE.md; it is guessed from the
-sources of a crate that is not there. The time of the whole is that of a plan by these times, as much slower or faster as
-the crates that are proved so far were.
+tools/checks.tsv has a line for each crate that was measured: its name, how many functions the prover names in it, and how many
+seconds of a processor their proof takes from nothing, with tabs between them. What is not there, or left empty, is guessed from the
+crate's sources. The time of the whole is that of a plan by these times, as much slower or faster as the crates that are proved so
+far were.
 """
 
 import os
@@ -19,30 +20,35 @@ import sys
 import time
 from pathlib import Path
 
-TABLE = Path(__file__).resolve().parent.parent / "docs" / "GATE.md"
-ROW = re.compile(r"\| `(\w+)` \| [\d,]+ \| (\d+) \| \d* \| (\d+) s \|")
+TABLE = Path(__file__).resolve().parent / "checks.tsv"
 DONE = re.compile(r"rt: (\w+) (proved$|is kept:)")
 
 
 class Crate:
     """A crate with those of the folder that it stands on, its functions, and the seconds of a processor that its proof takes."""
 
-    def __init__(self, folder, name, below, known):
-        self.name, self.below = name, below
-        if name in known:
-            self.functions, self.seconds = known[name]
-        else:
+    def __init__(self, folder, name, below, functions, seconds):
+        self.name, self.below, self.functions, self.seconds = name, below, functions, seconds
+        if functions is None or seconds is None:
             texts = [file.read_text(encoding="utf-8") for file in (folder / "crates" / name).rglob("*") if file.suffix in (".rt", ".antt")]
+        if functions is None:
             self.functions = sum(len(re.findall(r"\bfn \w", text)) for text in texts)
+        if seconds is None:
             self.seconds = 20 + sum(text.count("\n") for text in texts) // 25
+
+
+def measured():
+    """The functions and the seconds of each crate in the table, by its name; None stands for what was not measured."""
+    rows = [line.split("\t") for line in TABLE.read_text(encoding="utf-8").splitlines()[1:]]
+    return {name: tuple(int(it) if it else None for it in numbers) for name, *numbers in rows}
 
 
 def crates_of(folder):
     """The crates of a folder, by their names."""
-    known = {name: (int(functions), int(seconds)) for name, functions, seconds in ROW.findall(TABLE.read_text(encoding="utf-8"))}
+    known = measured()
     lines = [line.split(":") for line in (folder / "crates.txt").read_text(encoding="utf-8").splitlines() if line.strip()]
     names = [name for name, _ in lines]
-    return {name: Crate(folder, name, [it for it in uses.split() if it in names], known) for name, uses in lines}
+    return {name: Crate(folder, name, [it for it in uses.split() if it in names], *known.get(name, (None, None))) for name, uses in lines}
 
 
 def chain_above(crates):

@@ -38,14 +38,14 @@ lines_of() {
 }
 
 # The sum of what the compiler is proved and built from: of its crates the lines of the list of crates, the handles, and all
-# files of these crates but their edits.
+# files of these crates but their edits and their pages.
 sum_of_sources() {
     local names
     mapfile -t names < <(crates_below inform)
     (
         cd "$root" || exit
         lines_of "${names[@]}"
-        find HANDLES "${names[@]/#/crates/}" \( -name out -o -name 'must-fail*' \) -prune -o -type f -print |
+        find HANDLES "${names[@]/#/crates/}" \( -name out -o -name 'must-fail*' -o -name README.md \) -prune -o -type f -print |
             LC_ALL=C sort | xargs -d '\n' sha256sum
     ) | sha256sum | cut -d ' ' -f 1
 }
@@ -66,7 +66,7 @@ is_built() {
     [[ -x $out/inform && -e $out/built ]] || return 1
     mapfile -t folders < <(crates_below inform | sed "s|^|$root/crates/|")
     newer=$(find "$root/crates.txt" "$root/HANDLES" "${folders[@]}" \
-        \( -name out -o -name 'must-fail*' \) -prune -o -type f -newer "$out/built" -print -quit)
+        \( -name out -o -name 'must-fail*' -o -name README.md \) -prune -o -type f -newer "$out/built" -print -quit)
     [[ -z $newer ]]
 }
 
@@ -75,7 +75,7 @@ mark_built() {
     touch -r "$1" "$root/crates/inform/out/built"
 }
 
-# Copies these crates, without the edits that must be refused, with their lines of crates.txt, to a folder.
+# Copies these crates, without the edits that must be refused and without their pages, with their lines of crates.txt, to a folder.
 copy_crates() {
     local to=$1 name
     shift
@@ -83,6 +83,7 @@ copy_crates() {
     cp "$root/HANDLES" "$to"
     lines_of "$@" >"$to/crates.txt"
     for name in "$@"; do
-        tar -C "$root/crates" -c --exclude="$name/out" --exclude="$name/must-fail*" "$name" | tar -C "$to/crates" -x
+        tar -C "$root/crates" -c --exclude="$name/out" --exclude="$name/must-fail*" --exclude="$name/README.md" "$name" |
+            tar -C "$to/crates" -x
     done
 }

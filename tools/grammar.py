@@ -288,7 +288,7 @@ class Tables:
                 "use Rattle.inf_syntax.specs.declared.words.Keyword.{Keyword}\n"
                 "use Rattle.inf_syntax.specs.declared.words.Keyword.TheVariants as keyword\n\n"
                 "abbrev pub words : List (List ℕ)\nwords =\n" + listed + "\n    ∷ []\n\n"
-                "-- as they are told apart\n"
+                "-- the same words as keywords, in the same order\n"
                 "unfoldable pub keywords : List Keyword\nkeywords =\n" + keywords + "\n    ∷ []\n")
 
     def set_term(self, name):
@@ -394,7 +394,7 @@ class Tables:
                              + ["    " + ("∷ " if at else "") + " ∷ ".join(values[at:at + 4]) for at in range(0, len(values), 4)]
                              + ["    ∷ []", ""])
         rules = list(self.page.rules)
-        return ("-- What is computed of each rule, in the order of their numbers. Made from docs/grammar.txt; that it holds is proved.\n"
+        return ("-- Facts computed of each rule, in the order of their numbers. Made from docs/grammar.txt; that they hold is proved.\n"
                 "use Rattle.std.specs.Prelude.{ℕ, List, [], ◌∷◌, Bool, true, false}\n\n"
                 "-- the atoms that begin it\n" + listed("beginnings", "ℕ", [hex(self.facts.begins[r]) for r in rules])
                 + "\n-- the atoms that may stand behind it\n" + listed("followers", "ℕ", [hex(self.facts.follows[r]) for r in rules])
@@ -412,7 +412,7 @@ class Tables:
                 "#[derive(Clone, Copy, Debug, PartialEq, Eq)]\npub enum Keyword {\n" + variants + "}\n\n"
                 "/// The words, in the order of the alphabet.\n"
                 f"pub(crate) static WORDS: [&[u8]; {count}] = [\n{words}];\n"
-                + static("KEYWORDS", "The same as they are told apart.", "Keyword",
+                + static("KEYWORDS", "The words as keywords, in the same order.", "Keyword",
                          [f"Keyword::{keyword(word)}" for word in self.page.words], 5)
                 + static("SLOTS", f"The place of the word with each slot: {count} where there is none.", "u8",
                          [str(place) for place in self.word_slots()], 26))
@@ -460,7 +460,7 @@ class Tables:
 
     def actions_code(self):
         listed = "".join(f"    {action(part)},\n" for part in self.actions)
-        return ("//! What reading does on its way. Made from docs/grammar.txt.\n\n"
+        return ("//! The actions of the grammar. Made from docs/grammar.txt.\n\n"
                 "/// An action of the grammar. Where it speaks of the last token, that is the one taken last.\n"
                 "#[derive(Clone, Copy, Debug, PartialEq, Eq)]\npub enum Action {\n" + listed + "}\n")
 

@@ -8,7 +8,7 @@ length-front : (to from k : ℕ) (xs : List ℕ) → to ≤ from → from + k �
 length-front to from k xs before within =
     omega (arith, length-append (take to xs) (take k (drop from xs)), length-take to xs, length-take k (drop from xs), length-drop from xs)
 
--- what is read has not been written over
+-- a byte that is to be moved has not been written over
 pub moved_get : (to from k : ℕ) (xs : List ℕ) → to ≤ from → from + k < length xs →
     get_or (moved to from k xs) (from + k) 0 ≡ get_or xs (from + k) 0
 moved_get to from k xs before within =
@@ -41,7 +41,7 @@ moved_none to from n xs e before within =
     ∙ ap (λ ys. ys ++ drop (to + 0) xs) (sym (append-nil (take to xs)))
     ∙ ap (λ i. moved to from i xs) (sym e)
 
--- what is moved to the front, up to its end
+-- the bytes up to the new end are those in front and those that were moved
 pub take_moved : (to from n : ℕ) (xs : List ℕ) → to ≤ from → from + n ≡ length xs →
     take (to + n) (moved to from n xs) ≡ take to xs ++ drop from xs
 take_moved to from n xs before whole =

@@ -53,7 +53,7 @@ module _ (X : Type 0) (f : X → List ℕ) where
   whole_get (x ∷ xs) zero e whole within = whole.0
   whole_get (x ∷ xs) (suc p) e whole within = whole_get xs p e whole.1 (omega arith)
 
-  -- a page behind the others
+  -- pages stay whole with a whole page behind them
   pub whole_push : (xs : List X) (y : X) → AllByRecursion (λ x. length (f x) ≡ 1024) xs → length (f y) ≡ 1024 →
       AllByRecursion (λ x. length (f x) ≡ 1024) (xs ++ y ∷ [])
   whole_push [] y whole new = (new, tt)
@@ -65,14 +65,14 @@ module _ (X : Type 0) (f : X → List ℕ) where
       ap (take n) (flat_map-append f xs (y ∷ []))
       ∙ take-append-le n (flat_map f xs) (flat_map f (y ∷ [])) (omega (arith, length-pages xs whole))
 
--- the first bytes, of which one is set
+-- setting a byte sets it among the first bytes
 pub take_set : (n i b : ℕ) (xs : List ℕ) → take n (set xs i b) ≡ set (take n xs) i b
 take_set zero i b xs = refl
 take_set (suc n) i b [] = refl
 take_set (suc n) zero b (x ∷ xs) = refl
 take_set (suc n) (suc i) b (x ∷ xs) = ap (λ ys. x ∷ ys) (take_set n i b xs)
 
--- the first bytes of pages that were written through a slice
+-- the first bytes of pages that were written through a slice are those of the new pages
 pub take_written : (n : ℕ) (pages : Vec (Box (List ℕ))) (new : List (Box (List ℕ))) → length new ≡ pages.len →
     take n (page_bytes (with_items pages new).items) ≡ take n (page_bytes new)
 take_written n pages new same = ap (λ ps. take n (page_bytes ps)) (with_items_is pages new same)

@@ -2,11 +2,11 @@
 use Rattle.std.specs.Prelude.{ℕ, List}
 use Rattle.inf_area.specs.declared.fixups.Fixup.{Fixup}
 
--- the fixups in order, and how many there may be
+-- the fixups in order, and the greatest number of them
 pub record Fixups : Type 0 where
   pub list : List Fixup
   pub limit : ℕ
 
--- others under the same limit
+-- other fixups under the same limit
 abbrev pub with_fixups : List Fixup → Fixups → Fixups
 with_fixups list fixups = record fixups { list = list }

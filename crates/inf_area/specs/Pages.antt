@@ -7,11 +7,11 @@ use Rattle.std.specs.Global.{Box}
 abbrev pub page_bytes : List (Box (List ℕ)) → List ℕ
 page_bytes pages = flat_map (λ page. page.value) pages
 
--- that each page has 1,024 bytes
+-- tells whether each page has 1,024 bytes
 abbrev pub AreWhole : List (Box (List ℕ)) → Type 0
 AreWhole pages = AllByRecursion (λ page. length page.value ≡ 1024) pages
 
--- that an area's bytes lie within its pages, whose number is one that a place can count
+-- tells whether an area's bytes are within its pages, and their number is one that a place can count
 pub record IsPaged (pages : List (Box (List ℕ))) (len : ℕ) : Type 0 where
   pub whole : AreWhole pages
   pub within : len ≤ 1024 * length pages

@@ -10,17 +10,17 @@ use std::marker::Model;
 
 /// An area of a story under construction, which is a list of bytes.
 ///
-/// Places count from 0, in bytes. Each place that is asked for lies within the area.
+/// Places count from 0, in bytes. Each place in a call has to be within the area.
 pub trait Area {
     /// The bytes, in order.
     ghost bytes: { Self → List ℕ };
 
-    /// The number of bytes, which is under 2 ^ 63 as that of any list.
+    /// Returns the number of bytes, which is below 2 ^ 63 as that of any list.
     fn len(&self) -> usize
         ensures value { result ≡ length (bytes self.now) }
         ensures small { result < 2 ^ 63 };
 
-    /// The byte at the place `at`, which lies within.
+    /// Returns the byte at the place `at`, which is within the area.
     fn byte(&self, at: usize) -> u8
         requires { at < length (bytes self.now) }
         ensures { result ≡ slice_index (bytes self.now) at };
@@ -46,18 +46,18 @@ pub trait Area {
         Ok(())
     }
 
-    /// Sets the byte at the place `at`, which lies within.
+    /// Sets the byte at the place `at`, which is within the area.
     fn patch_byte(&mut self, at: usize, byte: u8)
         requires { at < length (bytes self.old) }
         ensures { bytes self.new ≡ slice_set (bytes self.old) at byte };
 
-    /// Sets the bytes at `at` and `at + 1`, which lie within, to a word, its high byte first.
+    /// Sets the bytes at `at` and `at + 1`, which are within the area, to a word, its high byte first.
     fn patch_word(&mut self, at: usize, word: u16)
         requires { at + 1 < length (bytes self.old) }
         ensures { bytes self.new ≡ with_word (bytes self.old) at word };
 
-    /// Writes the bytes from the place `from` up to the place `end` over those from the place `to` on.
-    /// The three stand in the order `to`, `from`, `end`, and `end` is at most the length.
+    /// Writes the bytes from the place `from` up to the place `end` over those from the place `to` on. The places come in the
+    /// order `to`, `from`, `end`, and `end` is at most the length.
     fn move_left(&mut self, to: usize, from: usize, end: usize)
         requires before { to ≤ from }
         requires ordered { from ≤ end }
@@ -71,13 +71,13 @@ pub trait Area {
         }
     }
 
-    /// Takes out the `n` bytes from the place `at` on, all of which lie within.
+    /// Takes out the `n` bytes from the place `at` on, all of which are within the area.
     fn cut(&mut self, at: usize, n: usize)
         requires { at + n ≤ length (bytes self.old) }
         ensures { bytes self.new ≡ take at (bytes self.old) ++ drop (at + n) (bytes self.old) };
 }
 
-/// An area whose bytes lie in one piece.
+/// An area whose bytes are in one piece.
 #[derive(Debug, Drop)]
 pub struct FlatArea {
     content: Vec<u8>,
@@ -90,7 +90,7 @@ impl Model for FlatArea {
 }
 
 impl FlatArea {
-    /// An area with no bytes. It takes no memory until the first `push`.
+    /// Returns an area of no bytes. It takes no memory until the first `push`.
     pub fn new(alloc: Global) -> Self
         ensures { result ≡ [] }
     {
@@ -99,7 +99,7 @@ impl FlatArea {
         }
     }
 
-    /// The bytes, in order.
+    /// Returns the bytes, in order.
     pub fn as_slice(&self) -> &[u8]
         ensures { result.now ≡ self.now }
     {

@@ -1,4 +1,4 @@
-//! Fixups: the places of numbers that are known when the story is laid out.
+//! Fixups: the places of numbers that are known only when the story is laid out.
 ghost use Rattle.std.specs.Prelude.{◌≡◌, ◌+◌, ◌<◌, ◌≤◌, [], ◌∷◌, ◌++◌, length, take, IsTrue, ◌↔◌, OnOk, OnErr, IfErr};
 ghost use Rattle.inf_area.specs.declared.fixups.AddFault.TheVariants.{Full, Memory};
 
@@ -6,7 +6,7 @@ use crate::targets::{AreaName, Target};
 use std::alloc::{AllocError, AllocFailed, Global};
 use std::marker::Model;
 
-/// Two zero bytes of an area, in whose place a target's number is put.
+/// Two zero bytes of an area that the number of a target replaces.
 #[derive(Clone, Copy, Debug, PartialEq, Eq)]
 pub struct Fixup {
     pub area: AreaName,
@@ -15,7 +15,7 @@ pub struct Fixup {
     pub target: Target,
 }
 
-/// Why a fixup was not added.
+/// The reason for which a fixup was not added.
 #[derive(Clone, Copy, Debug, PartialEq, Eq)]
 pub enum AddFault {
     /// The list has as many fixups as it may have.
@@ -40,7 +40,7 @@ impl<T: Drop> From<AllocFailed<T>> for AddFault {
     }
 }
 
-/// The fixups of all areas, in the order in which they were added, and how many there may be.
+/// The fixups of all areas, in the order in which they were added, and the greatest number of them.
 #[derive(Debug, Drop)]
 pub struct Refs {
     fixups: Vec<Fixup>,
@@ -61,7 +61,7 @@ impl Model for Refs {
 impl Refs {
     ghost use Rattle.inf_area.specs.Fixups.{Fixups, with_fixups};
 
-    /// A list with no fixups, of at most `limit`. It takes no memory until the first `add`.
+    /// Returns a list of no fixups, which takes at most `limit` of them. It takes no memory until the first `add`.
     pub fn new(alloc: Global, limit: usize) -> Self
         ensures { result ≡ record { list = []; limit = limit } }
     {
@@ -71,7 +71,7 @@ impl Refs {
         }
     }
 
-    /// The number of fixups, which is never above the limit.
+    /// Returns the number of fixups, which is never above the limit.
     pub fn len(&self) -> usize
         ensures value { result ≡ length self.now.list }
         ensures limited { result ≤ self.now.limit }
@@ -79,29 +79,28 @@ impl Refs {
         self.fixups.len()
     }
 
-    /// How many fixups there may be.
+    /// Returns the greatest number of fixups.
     pub fn limit(&self) -> usize
         ensures { result ≡ self.now.limit }
     {
         self.limit
     }
 
-    /// Whether there are no fixups.
+    /// Returns whether there are no fixups.
     pub fn is_empty(&self) -> bool
         ensures { IsTrue result ↔ (self.now.list ≡ []) }
     {
         self.fixups.is_empty()
     }
 
-    /// The fixups, in the order in which they were added.
+    /// Returns the fixups, in the order in which they were added.
     pub fn as_slice(&self) -> &[Fixup]
         ensures { result.now ≡ self.now.list }
     {
         self.fixups.as_slice()
     }
 
-    /// Adds a fixup at the end. Refuses first where there are as many as there may be, then where no
-    /// memory is left; the list then stays as it was.
+    /// Adds a fixup at the end. Refuses it first where the list is full, then where no memory is left; the list then stays as it was.
     pub fn add(&mut self, fixup: Fixup) -> Result<(), AddFault>
         ensures ok { OnOk result (self.new ≡ with_fixups (self.old.list ++ fixup ∷ []) self.old) }
         ensures room { OnOk result (length self.old.list < self.old.limit) }
@@ -116,8 +115,8 @@ impl Refs {
         Ok(())
     }
 
-    /// Adds all of some fixups at the end. Refuses first where there would be more than there may be, then where no memory is
-    /// left; the list then stays as it was.
+    /// Adds several fixups at the end. Refuses them first where there would be more than the limit, then where no memory is left;
+    /// the list then stays as it was.
     pub fn extend(&mut self, added: &[Fixup]) -> Result<(), AddFault>
         ensures ok { OnOk result (self.new ≡ with_fixups (self.old.list ++ added.now) self.old) }
         ensures room { OnOk result (length self.old.list + length added.now ≤ self.old.limit) }
@@ -132,7 +131,7 @@ impl Refs {
         Ok(())
     }
 
-    /// Keeps the first `n` fixups, of which there are at least so many.
+    /// Keeps the first `n` fixups, of which there are at least `n`, and forgets the others.
     pub fn keep(&mut self, n: usize)
         requires { n ≤ length self.old.list }
         ensures { self.new ≡ with_fixups (take n self.old.list) self.old }

@@ -1,4 +1,4 @@
-//! Areas whose bytes lie in pages.
+//! Areas whose bytes are in pages.
 ghost use Rattle.std.specs.Prelude.{◌≡◌, ◌+◌, ◌*◌, ◌^◌, ◌<◌, ◌≤◌, ℕ, List, [], ◌∷◌, ◌++◌, length, take, drop, slice_index, slice_set, OnOk};
 ghost use Rattle.std.specs.Prelude.{OnErr};
 ghost use Rattle.inf_area.specs.Pages.{page_bytes, AreWhole};
@@ -8,16 +8,16 @@ use crate::words::word_bytes;
 use std::alloc::{AllocError, Global};
 use std::marker::Model;
 
-// The bytes of a page.
+// The number of bytes of a page.
 const PAGE_LEN: usize = 1024;
 
 type Page = Box<[u8; PAGE_LEN]>;
 
-/// An area whose bytes lie in pages of 1,024 bytes. What it holds is never moved when it grows.
+/// An area whose bytes are in pages of 1,024 bytes, which are never moved when the area grows.
 #[derive(Debug, Drop)]
 pub struct PagedArea {
     alloc: Global,
-    // Every page is there whole; those behind the bytes are kept for what is appended next.
+    // The pages, each with all its bytes; pages behind the bytes of the area are kept for those that are appended next.
     pages: Vec<Page>,
     len: usize,
 }
@@ -34,7 +34,7 @@ impl Model for PagedArea {
 }
 
 impl PagedArea {
-    /// An area with no bytes. It takes no memory until the first `push`.
+    /// Returns an area of no bytes. It takes no memory until the first `push`.
     pub fn new(alloc: Global) -> Self
         ensures { result ≡ [] }
     {
@@ -46,7 +46,7 @@ impl PagedArea {
     }
 }
 
-// The byte at a place of the pages.
+// Returns the byte at a place of the pages.
 fn byte_at(pages: &[Page], at: usize) -> u8
     requires whole { AreWhole pages.now }
     requires within { at < 1024 * length pages.now }
@@ -66,7 +66,7 @@ fn set_byte(pages: &mut [Page], at: usize, byte: u8)
     page[at % PAGE_LEN] = byte;
 }
 
-// Appends a page of zeros. As for any list, there are no more pages than a number of bytes can count.
+// Appends a page of zeros. There are at most as many pages as keep the number of bytes below 2 ^ 63, as for any list.
 fn add_page(alloc: Global, pages: &mut Vec<Page>) -> Result<(), AllocError>
     requires { AreWhole pages.old.items }
     ensures count { OnOk result (length pages.new.items ≡ length pages.old.items + 1) }

@@ -4,7 +4,7 @@ ghost use Rattle.inf_area.specs.Words.{word};
 
 use byteorder::{BigEndian, ByteOrder};
 
-/// Returns the two bytes of `number` as a story has them, the high one first (Z-Machine Standard 1.1, section 2.1).
+/// Returns the two bytes of `number` in a story, the high one first (Z-Machine Standard 1.1, section 2.1).
 pub fn word_bytes(number: u16) -> [u8; 2]
     ensures { result ≡ word number }
 {

@@ -1,12 +1,13 @@
--- Bytes of arrays, and numbers in them that are known later: of joined lists, of one with more entries, and as they are written.
+-- Numbers of bytes of arrays, and of numbers in them that are known later: of joined lists, of one array with more entries,
+-- and as they are written.
 use Rattle.std.proofs.Common.{◌≡◌, ℕ, ◌+◌, ◌*◌, ◌-◌, ◌≤◌, ◌<◌, zero, suc, List, [], ◌∷◌, ◌++◌, length, replicate, refl, arith, ap, ◌∙◌}
 use Rattle.std.proofs.Common.{length-append, append_assoc, append-nil, sym}
 use Rattle.std.proofs.lemmas.List.{length-replicate}
 use Rattle.inf_area.specs.declared.targets.Value.{Value}
 use Rattle.inf_area.specs.declared.targets.Value.TheVariants as value
-use Rattle.inf_cells.specs.Cells.{bytes_of, later_count, value_cells, values_cells}
-use Rattle.inf_cells.specs.declared.cells.Cell.{Cell}
-use Rattle.inf_cells.specs.declared.cells.Cell.TheVariants as cell
+use Rattle.inf_area.specs.Cells.{bytes_of, later_count, value_cells, values_cells}
+use Rattle.inf_area.specs.declared.cells.Cell.{Cell}
+use Rattle.inf_area.specs.declared.cells.Cell.TheVariants as cell
 use Rattle.inf_arrays.specs.declared.kinds.ArrayKind.{ArrayKind}
 use Rattle.inf_arrays.specs.declared.kinds.ArrayKind.TheVariants as kind
 use Rattle.inf_arrays.specs.Arrays.{Listed, array_cells, array_size, arrays_cells, arrays_laters, arrays_size, more_entries}
@@ -37,7 +38,7 @@ entries_more kind.Words xs ys = omega (arith, length-append xs ys)
 entries_more kind.String xs ys = omega (arith, length-append xs ys)
 entries_more kind.Table xs ys = omega (arith, length-append xs ys)
 
--- the last one has more entries
+-- the size of arrays of which the last has more entries
 pub size_more : (xs : List Listed) (a : Listed) (ys : List Value)
     → arrays_size (xs ++ more_entries ys a ∷ []) ≡ arrays_size (xs ++ a ∷ []) + entry_size a.kind * length ys
 size_more xs a ys =
@@ -48,7 +49,7 @@ pub laters_more : (xs : List Listed) (a : Listed) (ys : List Value)
 laters_more xs a ys =
     omega (arith, all_laters_joined xs (more_entries ys a ∷ []), all_laters_joined xs (a ∷ []), laters_of_joined a.kind a.entries ys)
 
--- one more, without entries
+-- the size of arrays with one more, which has no entries
 pub size_opened : (xs : List Listed) (k : ArrayKind) →
     arrays_size (xs ++ record { kind = k; entries = [] } ∷ []) ≡ arrays_size xs + count_size k
 size_opened xs kind.Bytes = omega (arith, size_joined xs (record { kind = kind.Bytes; entries = [] } ∷ []))
@@ -65,7 +66,7 @@ no_laters kind.Table = refl
 pub laters_opened : (xs : List Listed) (k : ArrayKind) → arrays_laters (xs ++ record { kind = k; entries = [] } ∷ []) ≡ arrays_laters xs
 laters_opened xs k = omega (arith, all_laters_joined xs (record { kind = k; entries = [] } ∷ []), no_laters k)
 
--- what holds of arrays of which one was opened
+-- the invariant of arrays of which one was opened
 pub opened_stands : (closed : List Listed) (k : ArrayKind) (size later limit n : ℕ)
     → size ≡ arrays_size (closed ++ []) → later ≡ arrays_laters (closed ++ []) → later ≤ size → size + n ≤ limit → n ≡ count_size k
     → (size + n ≡ arrays_size (closed ++ record { kind = k; entries = [] } ∷ [])) ×
@@ -78,7 +79,7 @@ opened_stands closed k size later limit n of_size of_later less room is = (
   room,
 )
 
--- what holds of arrays of which the last has more entries
+-- the invariant of arrays of which the last has more entries
 pub grown_stands : (closed : List Listed) (a : Listed) (ys : List Value) (size later limit e l : ℕ)
     → size ≡ arrays_size (closed ++ a ∷ []) → later ≡ arrays_laters (closed ++ a ∷ []) → later ≤ size
     → size + entry_size a.kind * length ys ≤ limit → e ≡ entry_size a.kind * length ys → l ≡ laters_of a.kind ys → l ≤ entry_size a.kind *
@@ -151,7 +152,7 @@ pub size_written : (xs : List Listed) → length (bytes_of (arrays_cells xs)) �
 size_written [] = refl
 size_written (x ∷ xs) = omega (arith, bytes_joined (array_cells x) (arrays_cells xs), array_bytes x.kind x.entries, size_written xs)
 
--- and as many numbers that are known later
+-- as many numbers that are known later are written as are counted
 pub laters_written : (xs : List Listed) → later_count (arrays_cells xs) ≡ arrays_laters xs
 laters_written [] = refl
 laters_written (x ∷ xs) = omega (arith, later_joined (array_cells x) (arrays_cells xs), array_later x.kind x.entries, laters_written xs)

@@ -1,4 +1,4 @@
--- What the code's entries stand for.
+-- The items of a source that add entries, by those of the code.
 use Rattle.inf_arrays.specs.Arrays.{Adding, One, Zeros, Characters}
 use Rattle.inf_arrays.specs.declared.arrays.Entries.{Entries}
 use Rattle.inf_arrays.specs.declared.arrays.Entries.TheVariants as entries

@@ -3,7 +3,7 @@ use Rattle.std.specs.Prelude.{ℕ, ◌+◌, ◌*◌, ◌≤◌, List, [], ◌∷
 use Rattle.std.specs.Prelude.{option_to_list, replicate, if◌then◌else◌}
 use Rattle.inf_area.specs.declared.targets.Value.{Value}
 use Rattle.inf_area.specs.declared.targets.Value.TheVariants as value
-use Rattle.inf_cells.specs.declared.cells.Cell.{Cell}
+use Rattle.inf_area.specs.declared.cells.Cell.{Cell}
 use Rattle.inf_settings.specs.Bounds.{Limits}
 use Rattle.inf_settings.specs.declared.setting.Setting.TheVariants as setting
 use Rattle.inf_arrays.specs.Kinds.{are_bytes, count_cells, count_size, entries_cells, entry_size, laters_of, misfit_by}
@@ -15,30 +15,30 @@ pub record Listed : Type 0 where
   pub kind : ArrayKind
   pub entries : List Value
 
--- those that ended, and the one that is open
+-- the arrays that ended, and the one that is open
 pub record AllArrays : Type 0 where
   pub closed : List Listed
   pub open_one : Option Listed
 
--- all, in order
+-- all arrays, in order
 abbrev pub all_of : AllArrays → List Listed
 all_of arrays = arrays.closed ++ option_to_list arrays.open_one
 
 abbrev pub no_arrays : AllArrays
 no_arrays = record { closed = []; open_one = None }
 
--- the open one ends
+-- the arrays where the open one ends
 abbrev pub closed_one : AllArrays → AllArrays
 closed_one arrays = record { closed = all_of arrays; open_one = None }
 
--- one is opened, where another ends
+-- the arrays where one is opened, and another ends
 abbrev pub opened : ArrayKind → AllArrays → AllArrays
 opened kind arrays = record { closed = all_of arrays; open_one = Some (record { kind = kind; entries = [] }) }
 
 abbrev pub more_entries : List Value → Listed → Listed
 more_entries values array = record { kind = array.kind; entries = array.entries ++ values }
 
--- the open one has more entries
+-- the arrays where the open one has more entries
 abbrev pub with_entries : List Value → AllArrays → AllArrays
 with_entries values arrays =
     record { closed = arrays.closed; open_one = option_map (more_entries values) arrays.open_one }
@@ -48,7 +48,7 @@ abbrev pub characters : List ℕ → List Value
 characters [] = []
 characters (c ∷ text) = value.Known c ∷ characters text
 
--- their bytes
+-- the number of bytes of an array, and of several
 abbrev pub array_size : Listed → ℕ
 array_size array = count_size array.kind + entry_size array.kind * length array.entries
 
@@ -56,12 +56,12 @@ abbrev pub arrays_size : List Listed → ℕ
 arrays_size [] = 0
 arrays_size (array ∷ arrays) = array_size array + arrays_size arrays
 
--- how many entries are known later
+-- the number of entries that are known later
 abbrev pub arrays_laters : List Listed → ℕ
 arrays_laters [] = 0
 arrays_laters (array ∷ arrays) = laters_of array.kind array.entries + arrays_laters arrays
 
--- that there is an open one, and room for so many more entries
+-- Tells whether an array is open and there is room for `added` more entries.
 abbrev pub RoomIn : Limits → Option Listed → ℕ → AllArrays → Type 0
 RoomIn limits None added arrays = ⊥
 RoomIn limits (Some array) added arrays = arrays_size (all_of arrays) + entry_size array.kind * added ≤ limits setting.Arrays
@@ -69,12 +69,12 @@ RoomIn limits (Some array) added arrays = arrays_size (all_of arrays) + entry_si
 abbrev pub HasRoom : Limits → ℕ → AllArrays → Type 0
 HasRoom limits added arrays = RoomIn limits arrays.open_one added arrays
 
--- why one cannot be opened
+-- the fault for which an array cannot be opened
 abbrev pub open_fault : Limits → ArrayKind → AllArrays → Option ArrayFault
 open_fault limits kind arrays =
     if nat_lt (limits setting.Arrays) (arrays_size (all_of arrays) + count_size kind) then Some fault.Full else None
 
--- why the open one cannot have so many more entries, where it is known whether they are bytes
+-- the fault of `added` more entries of the open array, where `fit` says whether they are bytes
 abbrev pub more_fault : Limits → ℕ → Bool → AllArrays → Listed → Option ArrayFault
 more_fault limits added fit arrays array = option_or (misfit_by array.kind (length array.entries) added fit)
     (if nat_lt (limits setting.Arrays) (arrays_size (all_of arrays) + entry_size array.kind * added) then Some fault.Full else None) where
@@ -92,15 +92,15 @@ fault_by limits added fit arrays = fault_in limits arrays.open_one added fit arr
 abbrev pub entries_fault : Limits → List Value → AllArrays → Option ArrayFault
 entries_fault limits values arrays = fault_by limits (length values) (are_bytes values) arrays
 
--- zeros are bytes; there is one at least
+-- the fault of zeros, which are bytes, and of which there is one at least
 abbrev pub zeros_fault : Limits → ℕ → AllArrays → Option ArrayFault
 zeros_fault limits count arrays = if nat_lt count 1 then Some fault.NoEntries else fault_by limits count true arrays
 
--- characters are bytes
+-- the fault of characters, which are bytes
 abbrev pub characters_fault : Limits → List ℕ → AllArrays → Option ArrayFault
 characters_fault limits text arrays = fault_by limits (length text) true arrays
 
--- What an entry of a source adds: a value, so many zeros, or characters.
+-- An item of a source that adds entries: a value, a number of zeros, or characters.
 pub data Adding : Type 0 where
   One : (v : Value) → Adding
   Zeros : (count : ℕ) → Adding
@@ -116,7 +116,7 @@ added_fault limits (One v) arrays = entries_fault limits (v ∷ []) arrays
 added_fault limits (Zeros count) arrays = zeros_fault limits count arrays
 added_fault limits (Characters text) arrays = characters_fault limits text arrays
 
--- as they are written
+-- arrays as they are written
 abbrev pub array_cells : Listed → List Cell
 array_cells array = count_cells array.kind (length array.entries) ++ entries_cells array.kind array.entries
 

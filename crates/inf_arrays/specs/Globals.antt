@@ -1,11 +1,11 @@
--- The global variables of a story: the first values of those that were declared, in order (Z-Machine Standard 1.1, section 6.2).
+-- The global variables of a story: the first values of the declared ones, in order (Z-Machine Standard 1.1, section 6.2).
 use Rattle.std.specs.Prelude.{ℕ, ◌-◌, List, ◌++◌, length, replicate}
 use Rattle.inf_area.specs.declared.targets.Value.{Value}
 use Rattle.inf_area.specs.declared.targets.Value.TheVariants as value
-use Rattle.inf_cells.specs.Cells.{values_cells}
-use Rattle.inf_cells.specs.declared.cells.Cell.{Cell}
+use Rattle.inf_area.specs.Cells.{values_cells}
+use Rattle.inf_area.specs.declared.cells.Cell.{Cell}
 
--- there are 240; those that were not declared begin with 0
+-- all 240 variables; the ones that were not declared begin with 0
 abbrev pub all_globals : List Value → List Value
 all_globals declared = declared ++ replicate (240 - length declared) (value.Known 0)
 

@@ -1,11 +1,12 @@
--- Kinds of arrays: what may stand in them, and how it is written (Designer's Manual, fourth edition, section 2.4).
+-- Kinds of arrays: the entries that fit in them, and how these are written (Designer's Manual, fourth edition, section
+-- 2.4).
 use Rattle.std.specs.Prelude.{ℕ, ◌+◌, ◌*◌, ◌/◌, ◌%◌, List, [], ◌∷◌, ◌++◌, Option, Some, None, Bool, true, false, ◌&&◌, not, nat_le, nat_lt}
 use Rattle.std.specs.Prelude.{length, if◌then◌else◌}
 use Rattle.inf_area.specs.declared.targets.Value.{Value}
 use Rattle.inf_area.specs.declared.targets.Value.TheVariants as value
-use Rattle.inf_cells.specs.Cells.{values_cells, word_cells}
-use Rattle.inf_cells.specs.declared.cells.Cell.{Cell}
-use Rattle.inf_cells.specs.declared.cells.Cell.TheVariants as cell
+use Rattle.inf_area.specs.Cells.{values_cells, word_cells}
+use Rattle.inf_area.specs.declared.cells.Cell.{Cell}
+use Rattle.inf_area.specs.declared.cells.Cell.TheVariants as cell
 use Rattle.inf_arrays.specs.declared.arrays.ArrayFault.{ArrayFault}
 use Rattle.inf_arrays.specs.declared.arrays.ArrayFault.TheVariants as fault
 use Rattle.inf_arrays.specs.declared.kinds.ArrayKind.{ArrayKind}
@@ -24,14 +25,14 @@ is_string kind.Words = false
 is_string kind.String = true
 is_string kind.Table = false
 
--- the bytes of an entry
+-- the number of bytes of an entry
 abbrev pub entry_size : ArrayKind → ℕ
 entry_size kind.Bytes = 1
 entry_size kind.Words = 2
 entry_size kind.String = 1
 entry_size kind.Table = 2
 
--- the bytes of the count before the entries
+-- the number of bytes of the count before the entries
 abbrev pub count_size : ArrayKind → ℕ
 count_size kind.Bytes = 0
 count_size kind.Words = 0
@@ -46,7 +47,7 @@ abbrev pub are_bytes : List Value → Bool
 are_bytes [] = true
 are_bytes (v ∷ values) = is_byte v && are_bytes values
 
--- how many are known later
+-- the number of values that are known later
 abbrev pub later_in : Value → ℕ
 later_in (value.Known number) = 0
 later_in (value.Later target) = 1
@@ -58,23 +59,23 @@ laters (v ∷ values) = later_in v + laters values
 abbrev pub laters_of : ArrayKind → List Value → ℕ
 laters_of k values = if is_of_bytes k then 0 else laters values
 
--- why so many values cannot stand in an array behind so many, where it is known whether they are bytes
+-- the fault of `added` values behind `count` entries, where `fit` says whether they are bytes
 abbrev pub misfit_by : ArrayKind → ℕ → ℕ → Bool → Option ArrayFault
 misfit_by k count added fit =
     if is_string k && nat_lt 255 (count + added) then Some fault.TooMany else if is_of_bytes k && not fit then Some fault.NotAByte else None
 
--- a `string` has at most 255 entries; bytes are known and 0 to 255
+-- the fault of values: a `string` has at most 255 entries; bytes are known and 0 to 255
 abbrev pub misfit : ArrayKind → ℕ → List Value → Option ArrayFault
 misfit k count values = misfit_by k count (length values) (are_bytes values)
 
--- As it is written: the count, and the entries.
+-- The count of an array and its entries as they are written.
 abbrev pub count_cells : ArrayKind → ℕ → List Cell
 count_cells kind.Bytes count = []
 count_cells kind.Words count = []
 count_cells kind.String count = cell.Byte (count % 256) ∷ []
 count_cells kind.Table count = word_cells (count % 65536)
 
--- a byte; no other value stands where it is one
+-- the byte of a value that is known to be one, as each entry of an array of bytes is
 abbrev pub low_byte : Value → ℕ
 low_byte (value.Known number) = number % 256
 low_byte (value.Later target) = 0

@@ -1,4 +1,4 @@
--- What the code's arrays stand for.
+-- The arrays of a story, by those of the code.
 use Rattle.std.specs.Prelude.{List, Option, map, option_map}
 use Rattle.inf_arrays.specs.Arrays.{AllArrays, Listed}
 use Rattle.inf_arrays.specs.declared.arrays.Array.{Array}

@@ -4,8 +4,8 @@ ghost use Rattle.std.specs.Prelude.{MatchResult, is_some, length, map, option_ma
 ghost use Rattle.inf_area.specs.Fixups.{with_fixups};
 ghost use Rattle.inf_area.specs.declared.targets.AreaName.TheVariants as area_name;
 ghost use Rattle.inf_area.specs.declared.targets.Value.TheVariants.{Known};
-ghost use Rattle.inf_cells.specs.Cells.{bytes_of, fixups_of, later_count};
-ghost use Rattle.inf_cells.specs.declared.cells.WriteFault.TheVariants as write_fault;
+ghost use Rattle.inf_area.specs.Cells.{bytes_of, fixups_of, later_count};
+ghost use Rattle.inf_area.specs.declared.cells.WriteFault.TheVariants as write_fault;
 ghost use Rattle.inf_arrays.specs.Adding.{added};
 ghost use Rattle.inf_arrays.specs.Arrays.{HasRoom, added_fault, all_of, array_cells, arrays_cells, arrays_laters, arrays_size, characters};
 ghost use Rattle.inf_arrays.specs.Arrays.{characters_fault, closed_one, entries_fault, fault_by, no_arrays, opened, open_fault, values_in};
@@ -16,8 +16,7 @@ ghost use Rattle.inf_arrays.specs.declared.arrays.ArrayFault.TheVariants.{Memory
 ghost use Rattle.inf_settings.specs.declared.setting.Setting.TheVariants as setting;
 
 use crate::kinds::{ArrayKind, is_byte, misfit_by};
-use inf_area::{Area, AreaName, Refs, Value};
-use inf_cells::{Cells, WriteFault, append_cells};
+use inf_area::{Area, AreaName, Cells, Refs, Value, WriteFault, append_cells};
 use inf_settings::bounds::Bounds;
 use std::alloc::{AllocError, AllocFailed, Global};
 use std::marker::{Model, PhantomData};
@@ -45,30 +44,30 @@ impl From<AllocError> for ArrayFault {
     }
 }
 
-/// What an entry of a source adds to its array.
+/// The entries that one item of a source adds to its array.
 #[derive(Clone, Copy, Debug)]
 pub enum Entries<'a> {
     One(Value),
-    /// So many zeros: a number alone.
+    /// The number of zeros that a number alone asks for.
     Zeros(u16),
     /// The characters of a text alone, in ZSCII.
     Characters(&'a [u8]),
 }
 
-/// An array, as far as it was read.
+/// An array, with the entries read so far.
 #[derive(Debug, Drop)]
 struct Array {
     kind: ArrayKind,
     entries: Vec<Value>,
 }
 
-/// The arrays of a story so far, of which the last may be open, and how many bytes they may have together.
+/// The arrays of a story so far, of which the last may be open, and the most bytes of all.
 #[derive(Drop)]
 pub struct Arrays<B: Bounds> {
     alloc: Global,
     closed: Vec<Array>,
     growing: Option<Array>,
-    // The bytes of all, and how many of their entries are known later.
+    // The bytes of all arrays, and the number of entries that are known later.
     size: usize,
     later: usize,
     limit: usize,
@@ -91,7 +90,7 @@ impl<B: Bounds> Model for Arrays<B> {
         (a.size ≤ a.limit) };
 }
 
-/// The cells of an array, behind others.
+/// Appends the cells of an array.
 fn add_array(cells: &mut Cells, array: &Array) -> Result<(), AllocError>
     ensures { OnOk result (cells.new ≡ cells.old ++ array_cells (listed array.now)) }
 {
@@ -99,7 +98,8 @@ fn add_array(cells: &mut Cells, array: &Array) -> Result<(), AllocError>
     add_entries(cells, array.kind, &array.entries)
 }
 
-/// The count of an array's entries, behind other cells. It is written modulo what a byte or two bytes can hold.
+/// Appends the cells of the count of an array's entries, where its kind has one. The count is written modulo the range of
+/// its byte or two bytes.
 fn add_count(cells: &mut Cells, kind: ArrayKind, count: usize) -> Result<(), AllocError>
     ensures { OnOk result (cells.new ≡ cells.old ++ count_cells kind count) }
 {
@@ -110,7 +110,7 @@ fn add_count(cells: &mut Cells, kind: ArrayKind, count: usize) -> Result<(), All
     }
 }
 
-/// The entries of an array, behind other cells.
+/// Appends the cells of an array's entries.
 fn add_entries(cells: &mut Cells, kind: ArrayKind, entries: &[Value]) -> Result<(), AllocError>
     ensures { OnOk result (cells.new ≡ cells.old ++ entries_cells kind entries.now) }
 {
@@ -120,7 +120,7 @@ fn add_entries(cells: &mut Cells, kind: ArrayKind, entries: &[Value]) -> Result<
     }
 }
 
-/// Values as bytes, behind other cells.
+/// Appends values as bytes.
 fn add_bytes(cells: &mut Cells, values: &[Value]) -> Result<(), AllocError>
     ensures { OnOk result (cells.new ≡ cells.old ++ bytes_cells values.now) }
 {
@@ -130,7 +130,7 @@ fn add_bytes(cells: &mut Cells, values: &[Value]) -> Result<(), AllocError>
     Ok(())
 }
 
-/// The byte of a value that is one.
+/// Returns the byte of a value that is known to be one.
 fn low_byte(value: Value) -> u8
     ensures { result ≡ low_byte value }
 {
@@ -141,7 +141,8 @@ fn low_byte(value: Value) -> u8
 }
 
 impl<B: Bounds> Arrays<B> {
-    /// No arrays, which may have so many bytes together. It takes no memory until the second array is opened or the first entry comes.
+    /// Creates an empty list of arrays, of at most `limit` bytes together. It takes no memory until the second array is
+    /// opened or the first entry comes.
     pub fn new(alloc: Global, limit: usize) -> Arrays<B>
         requires { limit ≡ B.most setting.Arrays }
         ensures { result ≡ no_arrays }
@@ -157,7 +158,7 @@ impl<B: Bounds> Arrays<B> {
         }
     }
 
-    /// The bytes of all arrays, the open one as if it ended here, which are never more than there may be.
+    /// Returns the number of bytes of all arrays, with the open one as if it ended here. It never passes the limit.
     pub fn size(&self) -> usize
         ensures value { result ≡ arrays_size (all_of self.now) }
         ensures limited { result ≤ B.most setting.Arrays }
@@ -165,23 +166,24 @@ impl<B: Bounds> Arrays<B> {
         self.size
     }
 
-    /// How many of all entries are known later, and so how many fixups are written.
+    /// Returns the number of entries that are known later, which is the number of fixups that are written.
     pub fn later_count(&self) -> usize
         ensures { result ≡ arrays_laters (all_of self.now) }
     {
         self.later
     }
 
-    /// Whether there is an open array.
+    /// Returns whether there is an open array.
     pub fn is_open(&self) -> bool
         ensures { result ≡ is_some self.now.open_one }
     {
         self.growing.is_some()
     }
 
-    /// Opens an array behind the others. Answers where it begins: how many bytes those before it have.
+    /// Opens an array behind the others. Returns the place where it begins: the number of bytes before it.
     ///
-    /// Refuses first where there would be more bytes than there may be, then where no memory is left. All then stay as they were.
+    /// The call is refused first where there would be more bytes than there may be, then for want of memory; all arrays
+    /// then stay unchanged.
     pub fn open(&mut self, kind: ArrayKind) -> Result<usize, ArrayFault>
         ensures ok { OnOk result (self.new ≡ opened kind self.old) }
         ensures place { IfOk result (λ place. place ≡ arrays_size (all_of self.old)) }
@@ -198,7 +200,7 @@ impl<B: Bounds> Arrays<B> {
         Ok(place)
     }
 
-    // An array begins, where none is open and there is room for it.
+    // Begins an array, where none is open and there is room for it.
     fn begin(&mut self, kind: ArrayKind)
         requires none { self.old.open_one ≡ None }
         requires room { arrays_size (all_of self.old) + count_size kind ≤ B.most setting.Arrays }
@@ -212,7 +214,7 @@ impl<B: Bounds> Arrays<B> {
         self.size += kind.count_size();
     }
 
-    /// Puts the open array behind those that ended. Where no memory is left it stays open.
+    /// Puts the open array behind the ended ones. Where no memory is left it stays open.
     fn close(&mut self) -> Result<(), AllocError>
         ensures ok { OnOk result (self.new ≡ closed_one self.old) }
         ensures err { OnErr result (self.new ≡ self.old) }
@@ -226,10 +228,10 @@ impl<B: Bounds> Arrays<B> {
         Ok(())
     }
 
-    /// An entry of the open array. Where none is open nothing happens.
+    /// Adds an entry to the open array. Where none is open nothing happens.
     ///
-    /// Refuses first a value that cannot stand there (`ArrayKind::misfit`), then where there would be more bytes than there may be, then
-    /// where no memory is left. All then stay as they were.
+    /// The call is refused first where the value does not fit (`ArrayKind::misfit`), then where there would be more bytes
+    /// than there may be, then for want of memory; all arrays then stay unchanged.
     pub fn entry(&mut self, value: Value) -> Result<(), ArrayFault>
         ensures ok { OnOk result (self.new ≡ with_entries (value ∷ []) self.old) }
         ensures err { OnErr result (self.new ≡ self.old) }
@@ -246,9 +248,9 @@ impl<B: Bounds> Arrays<B> {
         Ok(())
     }
 
-    /// As many zeros as entries of the open array, as a number alone asks for. Where none is open nothing happens.
+    /// Adds `count` zeros to the open array, as a number alone asks for. Where none is open nothing happens.
     ///
-    /// Refuses a size of 0 first, and then as `entry` does.
+    /// The call is refused first where `count` is 0, then as `entry` is.
     pub fn zeros(&mut self, count: u16) -> Result<(), ArrayFault>
         ensures ok { OnOk result (self.new ≡ with_entries (replicate count (Known 0)) self.old) }
         ensures err { OnErr result (self.new ≡ self.old) }
@@ -269,9 +271,10 @@ impl<B: Bounds> Arrays<B> {
         Ok(())
     }
 
-    /// The characters of a text, in ZSCII, as entries of the open array, as a text alone gives them. Where none is open nothing happens.
+    /// Adds the characters of a text, in ZSCII, to the open array, as a text alone asks for. Where none is open nothing
+    /// happens.
     ///
-    /// Refuses as `entry` does.
+    /// The call is refused as `entry` is.
     pub fn characters(&mut self, text: &[u8]) -> Result<(), ArrayFault>
         ensures ok { OnOk result (self.new ≡ with_entries (characters text.now) self.old) }
         ensures err { OnErr result (self.new ≡ self.old) }
@@ -289,9 +292,9 @@ impl<B: Bounds> Arrays<B> {
         Ok(())
     }
 
-    /// Adds what an entry of a source adds to the open array. Where none is open nothing happens.
+    /// Adds the entries of one item of a source to the open array. Where none is open nothing happens.
     ///
-    /// Refuses as `entry`, `zeros` and `characters` do.
+    /// The call is refused as `entry`, `zeros` and `characters` are.
     pub fn add(&mut self, entries: Entries<'_>) -> Result<(), ArrayFault>
         ensures ok { OnOk result (self.new ≡ with_entries (values_in (added entries.entry)) self.old) }
         ensures err { OnErr result (self.new ≡ self.old) }
@@ -305,7 +308,7 @@ impl<B: Bounds> Arrays<B> {
         }
     }
 
-    /// Why `add` would refuse these, but for want of memory.
+    /// Returns the fault for which `add` would refuse `entries`, without regard to memory; `None` where there is none.
     pub fn add_fault(&self, entries: Entries<'_>) -> Option<ArrayFault>
         ensures { result ≡ added_fault B.most (added entries.entry) self.now }
     {
@@ -317,7 +320,8 @@ impl<B: Bounds> Arrays<B> {
         }
     }
 
-    // Why there cannot be so many more entries, where it is known whether they are bytes; nothing, where no array is open.
+    // Returns the fault of `added` more entries, where `fit` says whether all of them are bytes; `None` where no array is
+    // open.
     fn fault_of(&self, added: usize, fit: bool) -> Option<ArrayFault>
         requires { added < 2 ^ 63 }
         ensures { result ≡ fault_by B.most added fit self.now }
@@ -328,7 +332,8 @@ impl<B: Bounds> Arrays<B> {
         self.fault(added, fit)
     }
 
-    // Why the open array cannot have so many more entries, whatever memory there is, where it is known whether they are bytes.
+    // Returns the fault of `added` more entries of the open array, without regard to memory, where `fit` says whether all
+    // of them are bytes.
     fn fault(&self, added: usize, fit: bool) -> Option<ArrayFault>
         requires small { added < 2 ^ 63 }
         requires there { IsSome self.now.open_one }
@@ -345,7 +350,7 @@ impl<B: Bounds> Arrays<B> {
         None
     }
 
-    // More entries of the open array, for which there is room.
+    // Appends entries to the open array, for which there is room.
     fn append(&mut self, values: &[Value]) -> Result<(), AllocError>
         requires { HasRoom B.most (length values.now) self.old }
         ensures ok { OnOk result (self.new ≡ with_entries values.now self.old) }
@@ -359,10 +364,11 @@ impl<B: Bounds> Arrays<B> {
         Ok(())
     }
 
-    /// Puts all arrays behind the area of arrays, one behind the other, and the fixups of what is known later behind others.
+    /// Appends all arrays, one behind the other, to the area of arrays, and the fixups of the entries that are known later
+    /// to `refs`.
     ///
-    /// It is refused first where there would be more fixups than there may be, then where no memory is left; area and fixups then
-    /// stay as they were.
+    /// The call is refused first where there would be more fixups than there may be, then for want of memory; area and
+    /// fixups then stay unchanged.
     #[tactic(auto, using(crate::proofs::Sizes::laters_written))]
     pub fn write<A: Area>(&self, area: &mut A, refs: &mut Refs) -> Result<(), WriteFault>
         ensures bytes { OnOk result (A.bytes area.new ≡ A.bytes area.old ++ bytes_of (arrays_cells (all_of self.now))) }
@@ -385,7 +391,7 @@ impl<B: Bounds> Arrays<B> {
         append_cells(self.alloc, AreaName::Arrays, area, refs, cells.as_slice())
     }
 
-    // The cells of all arrays.
+    // Returns the cells of all arrays.
     #[tactic(auto, using(crate::proofs::Sizes::cells_joined))]
     fn cells(&self) -> Result<Cells, AllocError>
         ensures { IfOk result (λ cells. cells ≡ arrays_cells (all_of self.now)) }
@@ -396,7 +402,7 @@ impl<B: Bounds> Arrays<B> {
     }
 }
 
-/// The cells of an array, if there is one, behind others.
+/// Appends the cells of an array, if there is one.
 fn add_open(cells: &mut Cells, last: &Option<Array>) -> Result<(), AllocError>
     ensures { OnOk result (cells.new ≡ cells.old ++ arrays_cells (option_to_list (option_map listed last.now))) }
 {
@@ -406,7 +412,7 @@ fn add_open(cells: &mut Cells, last: &Option<Array>) -> Result<(), AllocError>
     }
 }
 
-/// The cells of some arrays.
+/// Returns the cells of some arrays.
 fn cells_of(alloc: Global, arrays: &[Array]) -> Result<Cells, AllocError>
     ensures { IfOk result (λ cells. cells ≡ arrays_cells (map listed arrays.now)) }
 {
@@ -417,7 +423,7 @@ fn cells_of(alloc: Global, arrays: &[Array]) -> Result<Cells, AllocError>
     Ok(cells)
 }
 
-/// The characters of a text as values.
+/// Returns the characters of a text as values.
 fn characters(alloc: Global, text: &[u8]) -> Result<Vec<Value>, AllocError>
     ensures value { IfOk result (λ values. values.items ≡ characters text.now) }
     ensures count { IfOk result (λ values. length values.items ≡ length text.now) }

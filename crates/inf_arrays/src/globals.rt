@@ -2,25 +2,24 @@
 ghost use Rattle.std.specs.Prelude.{◌≡◌, ◌<◌, ◌≤◌, ◌+◌, ◌++◌, ◌∷◌, [], OnOk, OnErr, IfOk, IfErr, length};
 ghost use Rattle.inf_area.specs.Fixups.{with_fixups};
 ghost use Rattle.inf_area.specs.declared.targets.AreaName.TheVariants as area_name;
-ghost use Rattle.inf_cells.specs.Cells.{bytes_of, fixups_of};
-ghost use Rattle.inf_cells.specs.declared.cells.WriteFault.TheVariants as write_fault;
+ghost use Rattle.inf_area.specs.Cells.{bytes_of, fixups_of};
+ghost use Rattle.inf_area.specs.declared.cells.WriteFault.TheVariants as write_fault;
 ghost use Rattle.inf_arrays.specs.Globals.{globals_cells};
 ghost use Rattle.inf_arrays.specs.Kinds.{laters};
 ghost use Rattle.inf_arrays.specs.declared.globals.GlobalFault.TheVariants.{TooMany, Memory};
 
 use crate::kinds::laters;
-use inf_area::{Area, AreaName, Refs, Value};
-use inf_cells::{Cells, WriteFault, append_cells};
+use inf_area::{Area, AreaName, Cells, Refs, Value, WriteFault, append_cells};
 use std::alloc::{AllocError, AllocFailed, Global};
 use std::marker::Model;
 
 // The number of the first variable that a source declares; those before it are the stack and locals.
 const FIRST: u8 = 16;
 
-// How many a source may declare.
+// The most variables that a source may declare.
 const MOST: usize = 235;
 
-// How many there are in a story.
+// The number of variables of a story.
 const ALL: usize = 240;
 
 /// Why a variable was not added.
@@ -61,7 +60,7 @@ impl Model for Globals {
 }
 
 impl Globals {
-    /// No variables. It takes no memory until the first one comes.
+    /// Creates an empty list of variables. It takes no memory until the first one comes.
     pub fn new(alloc: Global) -> Globals
         ensures { result ≡ [] }
     {
@@ -72,7 +71,7 @@ impl Globals {
         }
     }
 
-    /// How many variables were declared, which are at most 235.
+    /// Returns the number of declared variables, which is at most 235.
     pub fn len(&self) -> usize
         ensures value { result ≡ length self.now }
         ensures limited { result ≤ 235 }
@@ -80,16 +79,16 @@ impl Globals {
         self.values.len()
     }
 
-    /// How many of their first values are known later, and so how many fixups are written.
+    /// Returns the number of first values that are known later, which is the number of fixups that are written.
     pub fn later_count(&self) -> usize
         ensures { result ≡ laters self.now }
     {
         self.later
     }
 
-    /// A variable with its first value. Answers its number, which counts from 16.
+    /// Adds a variable with its first value. Returns its number, which counts from 16.
     ///
-    /// Refuses first where there are 235, then where no memory is left. All then stay as they were.
+    /// The call is refused first where there are 235, then for want of memory; the variables then stay unchanged.
     #[tactic(auto, using(crate::proofs::Sizes::laters_joined))]
     pub fn add(&mut self, value: Value) -> Result<u8, GlobalFault>
         ensures ok { OnOk result (self.new ≡ self.old ++ value ∷ []) }
@@ -108,11 +107,11 @@ impl Globals {
         Ok(FIRST + count as u8)
     }
 
-    /// Puts the first values of all 240 variables behind the area of globals, two bytes each, and the fixups of what is known later
-    /// behind others. A variable that was not declared begins with 0.
+    /// Appends the first values of all 240 variables, two bytes each, to the area of globals, and the fixups of those that
+    /// are known later to `refs`. A variable that was not declared begins with 0.
     ///
-    /// It is refused first where there would be more fixups than there may be, then where no memory is left; area and fixups then
-    /// stay as they were.
+    /// The call is refused first where there would be more fixups than there may be, then for want of memory; area and
+    /// fixups then stay unchanged.
     #[tactic(auto, using(crate::proofs::Sizes::globals_later))]
     pub fn write<A: Area>(&self, area: &mut A, refs: &mut Refs) -> Result<(), WriteFault>
         ensures bytes { OnOk result (A.bytes area.new ≡ A.bytes area.old ++ bytes_of (globals_cells self.now)) }
@@ -133,7 +132,7 @@ impl Globals {
         append_cells(self.alloc, AreaName::Globals, area, refs, cells.as_slice())
     }
 
-    // The cells of all variables.
+    // Returns the cells of all variables.
     fn cells(&self) -> Result<Cells, AllocError>
         ensures { IfOk result (λ cells. cells ≡ globals_cells self.now) }
     {

@@ -1,11 +1,11 @@
-//! Kinds of arrays, and what may stand in them.
+//! Kinds of arrays, and the entries that fit in them.
 ghost use Rattle.std.specs.Prelude.{◌≡◌, ◌<◌, ◌^◌, ◌≤◌, ◌*◌, length};
 ghost use Rattle.inf_arrays.specs.Kinds.{are_bytes, count_size, entry_size, is_byte, is_of_bytes, laters, laters_of, misfit, misfit_by};
 
 use crate::arrays::ArrayFault;
 use inf_area::Value;
 
-/// The kind of an array: how long an entry is, and whether their count stands before them.
+/// The kind of an array: the size of an entry, and whether the count of entries precedes them.
 #[derive(Clone, Copy, Debug, PartialEq, Eq)]
 pub enum ArrayKind {
     /// `->`: a byte each.
@@ -18,7 +18,7 @@ pub enum ArrayKind {
     Table,
 }
 
-/// Whether a value is known and 0 to 255.
+/// Returns whether a value is known and 0 to 255.
 pub(crate) fn is_byte(value: Value) -> bool
     ensures { result ≡ is_byte value }
 {
@@ -28,7 +28,7 @@ pub(crate) fn is_byte(value: Value) -> bool
     }
 }
 
-/// Whether all of some values are.
+/// Returns whether all values are known and 0 to 255.
 fn are_bytes(values: &[Value]) -> bool
     ensures { result ≡ are_bytes values.now }
 {
@@ -40,7 +40,7 @@ fn are_bytes(values: &[Value]) -> bool
     true
 }
 
-/// How many of some values are known later.
+/// Returns the number of values that are known later.
 pub(crate) fn laters(values: &[Value]) -> usize
     ensures value { result ≡ laters values.now }
     ensures few { result ≤ length values.now }
@@ -55,14 +55,14 @@ pub(crate) fn laters(values: &[Value]) -> usize
 }
 
 impl ArrayKind {
-    /// Whether an entry is a byte.
+    /// Returns whether an entry of this kind is a byte.
     fn is_of_bytes(self) -> bool
         ensures { result ≡ is_of_bytes self }
     {
         matches!(self, ArrayKind::Bytes | ArrayKind::String)
     }
 
-    /// The bytes of an entry.
+    /// Returns the number of bytes of an entry.
     pub(crate) fn entry_size(self) -> usize
         ensures { result ≡ entry_size self }
     {
@@ -72,7 +72,7 @@ impl ArrayKind {
         }
     }
 
-    /// The bytes of the count before the entries.
+    /// Returns the number of bytes of the count before the entries.
     pub(crate) fn count_size(self) -> usize
         ensures { result ≡ count_size self }
     {
@@ -83,7 +83,7 @@ impl ArrayKind {
         }
     }
 
-    /// How many of some entries are known later.
+    /// Returns the number of entries that are known later; none, where entries are bytes.
     pub(crate) fn laters(self, values: &[Value]) -> usize
         ensures value { result ≡ laters_of self values.now }
         ensures few { result ≤ entry_size self * length values.now }
@@ -94,8 +94,8 @@ impl ArrayKind {
         laters(values)
     }
 
-    /// Why some values cannot stand in an array of this kind behind so many entries, if they cannot: a `string` would have more than
-    /// 255, or one of them is to be a byte and is not known or over 255.
+    /// Returns the fault of `values` behind `count` entries of an array of this kind, if there is one: a `string` would
+    /// have more than 255 entries, or one of them has to be a byte and is not known or over 255.
     pub fn misfit(self, count: usize, values: &[Value]) -> Option<ArrayFault>
         requires { count < 2 ^ 63 }
         ensures { result ≡ misfit self count values.now }
@@ -104,7 +104,8 @@ impl ArrayKind {
     }
 }
 
-/// Why so many values cannot stand in an array behind so many entries, where it is known whether all are bytes.
+/// Returns the fault of `added` values behind `count` entries of an array of kind `kind`, if there is one, where `fit` says
+/// whether all of them are bytes.
 pub(crate) fn misfit_by(
     kind: ArrayKind,
     count: usize,

@@ -8,7 +8,8 @@
 //!   `PagedArea` in pages.
 //! - `Refs::{new, add, extend, keep, len}`: the places of two bytes each into which the number of a `Target` is put at the end;
 //!   `AddFault` says why one was not added.
-//! - `Routine::open` begins a routine; `Routine::{emit, label}` write to it; `Routine::{mark, back}` go back; `Routine::close` answers where
+//! - `Routine::open` begins a routine; `Routine::{emit, label}` write to it; `Routine::{mark, back}` go back; `Routine::close` answers
+//!   where
 //!   it stands, or a `CloseFault`. `Limits` say what it may hold, `Limit` which of them would be passed.
 #![tactic(auto)]
 

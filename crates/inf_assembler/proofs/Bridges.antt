@@ -1,4 +1,4 @@
--- What is computed from what is kept is what the cells say.
+-- The results computed from the kept entries are those of the cells.
 use Rattle.std.proofs.Common.{◌≡◌, ℕ, ◌+◌, ◌-◌, ◌≤◌, Bool, true, false, cond, List, [], ◌∷◌, ◌++◌, length, take, drop, Option, Some, None}
 use Rattle.std.proofs.Common.{is_some, refl, sym, ◌∙◌, ap, arith, append-nil, append_assoc, length-append, length-drop}
 use Rattle.std.proofs.lemmas.List.{drop_at, drop-drop, take_at}
@@ -15,7 +15,7 @@ use Rattle.inf_opcode.proofs.Growing.{length-special}
 use Rattle.inf_assembler.proofs.Passes.{saving_nowhere, closed_size, size_le, kept_place-push}
 use Rattle.inf_assembler.proofs.Placing.{length-placed, take-placed_all, drop-placed}
 
--- what is kept stands in order
+-- the kept entries are in order
 pub order_kept : (from place end : ℕ) (cells : List Cell) → from ≤ place → place + length (long_bytes cells) ≡ end →
     AreInOrder from (kept_from place cells) end
 order_kept from place end [] before e = omega arith
@@ -26,7 +26,7 @@ order_kept from place end ((Of what) ∷ cells) before e = (
       (omega (arith, length-append (special_bytes what) (long_bytes cells), length-special what)),
 )
 
--- a size and what is saved are the long size
+-- a size and the saving are the long size
 cond_saving : (b : Bool) → cond b 1 0 + cond b 1 2 ≡ 2
 cond_saving true = refl
 cond_saving false = refl
@@ -78,7 +78,7 @@ missing_bridge places place ((Plain byte) ∷ cells) = missing_bridge places (pl
 missing_bridge places place ((Of what) ∷ cells) =
     ap (first_of (unplaced places (used_by what))) (missing_bridge places (place + special_size what) cells)
 
--- a value behind something that may be none
+-- functions of a value that may be none may be joined
 with_some-map : {A B C : Type 0} (f : B → C) (g : A → B) (h : A → C) → ((x : A) → h x ≡ f (g x)) → (o : Option A) →
     with_some h o ≡ with_some f (with_some g o)
 with_some-map f g h same None = refl
@@ -88,7 +88,7 @@ with_some-same : {A B : Type 0} (f h : A → B) → ((x : A) → h x ≡ f x) �
 with_some-same f h same None = refl
 with_some-same f h same (Some x) = ap Some (same x)
 
--- one thing kept, whose bytes are moved and written
+-- one entry, whose bytes are moved and written
 squeezed_special : (long places : Places) (what : Special) (cells : List Cell) (mid : List ℕ) (from to : ℕ) (xs : List ℕ) → to ≤ from →
     from ≤ length xs → drop from xs ≡ mid ++ long_bytes (Of what ∷ cells)
     → ((from to : ℕ) (xs : List ℕ) → to ≤ from → from ≤ length xs → drop from xs ≡ long_bytes cells → squeezed long places from to
@@ -171,7 +171,7 @@ squeezed_cells long places ((Of what) ∷ cells) mid from to xs before within e 
     ap whole back
     ∙ squeezed_special long places what cells mid from to xs before within e next (closed_special long places (from + n) (to + n) what) refl
 
--- those of a routine whose cells stand behind a front
+-- the bytes of a routine whose cells follow a front
 pub squeezed_bridge : (long places : Places) (cells : List Cell) (front : List ℕ) (start : ℕ) → start ≡ length front
     → squeezed long places start start (kept_from start cells) (front ++ long_bytes cells) ≡ with_some (λ rest. front ++ rest)
     (closed_bytes long places start start cells)

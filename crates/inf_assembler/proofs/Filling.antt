@@ -1,4 +1,4 @@
--- What passes a limit.
+-- The limits that additions pass.
 use Rattle.std.proofs.Common.{◌≡◌, ℕ, ◌+◌, ◌≤◌, Bool, true, false, ltb, cond, List, length, Option, Some, None, refl, ◌∙◌, ap, arith}
 use Rattle.std.proofs.lemmas.Bool.Decides.{nat_tests}
 use Rattle.inf_area.specs.Fixups.{Fixups}
@@ -41,7 +41,7 @@ cond_none false x o e = (refl, e)
 not_below : (m n : ℕ) → ltb m n ≡ false → n ≤ m
 not_below m n e = grind (arith, nat_tests)
 
--- where none is passed
+-- there is room where no limit is passed
 pub room_is : (labels bytes fixups len : ℕ) (state : State) (refs : Fixups) → full_by labels bytes fixups state len refs ≡ None
     → (state.labels + labels ≤ state.limits.labels) × (length refs.list + state.fixups + fixups ≤ refs.limit)
 room_is labels bytes fixups len state refs e =

@@ -1,4 +1,4 @@
--- What is computed at the end is what the routine's cells say.
+-- The results computed at the end are those of the routine's cells.
 use Rattle.std.specs.Prelude.{Result, Ok, Err, OnOk}
 use Rattle.std.proofs.Common.{◌≡◌, ℕ, ◌+◌, List, [], ◌∷◌, ◌++◌, length, Option, Some, None, refl, sym, ◌∙◌, ap, arith, append_assoc}
 use Rattle.std.proofs.Common.{length-append}
@@ -87,7 +87,7 @@ module _ (start : ℕ) (contents : Contents) (kept : List Kept) (is : kept ≡ k
       (g ∙ sym (append_assoc front (contents.locals ∷ []) (long_bytes contents.cells)))
       ∙ squeezed_bridge (long_places start contents) (places start contents) contents.cells head (start + 1) long_head
 
--- what is wrong first
+-- the first fault
 module _ (start : ℕ) (kind : RoutineKind) (contents : Contents) (limits : Limits) (refs : Fixups) where
   pub fault_missing : (label : Label) → missing (long_places start contents) contents.cells ≡ Some label →
       fault_of start kind contents limits refs ≡ Some (close_fault.LabelMissing label)
@@ -109,7 +109,7 @@ module _ (start : ℕ) (kind : RoutineKind) (contents : Contents) (limits : Limi
       fault_of start kind contents limits refs ≡ body_fault (full_fault start kind contents limits refs) (body_bytes start contents)
   fault_body e f = fault_none e ∙ ap (twice_fault (body_fault (full_fault start kind contents limits refs) (body_bytes start contents))) f
 
--- none or some behind something that may be none
+-- a function of a value that may be none gives none only for none
 pub with_none : {A B : Type 0} (f : A → B) (o : Option A) → with_some f o ≡ None → o ≡ None
 with_none f None e = refl
 with_none f (Some x) e = cc

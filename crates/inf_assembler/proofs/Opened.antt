@@ -1,4 +1,4 @@
--- Open routines: their bytes and what they keep tell their cells.
+-- Open routines: their bytes and the entries that they keep determine their cells.
 use Rattle.std.proofs.Common.{◌≡◌, ℕ, ◌+◌, ◌-◌, ◌≤◌, Bool, List, [], ◌∷◌, ◌++◌, length, get_or, take, drop, refl, sym, ◌∙◌, ap, subst}
 use Rattle.std.proofs.Common.{arith, append-nil, append_assoc, length-append}
 use Rattle.std.proofs.lemmas.List.{map-append, drop_at, take_at, get_or_at, drop_all}
@@ -37,7 +37,7 @@ decoded ((Of what) ∷ cells) mid place =
     ∙ ap (λ k. plain mid ++ Of what ∷ cells_of next (kept_from k cells) (long_bytes cells)) (sym zeroth)
     ∙ ap (λ cs. plain mid ++ Of what ∷ cs) (decoded cells [] next)
 
--- what a routine has is what is told of it
+-- the items of a routine are those that its state and its bytes determine
 pub told_front : {state : State} {bytes front : List ℕ} {contents : Contents} → Stands state bytes front contents →
     take state.start bytes ≡ front
 told_front {state = state} {bytes = bytes} {front = front} {contents = contents} stands =
@@ -63,7 +63,7 @@ told {state = state} {bytes = bytes} {front = front} {contents = contents} stand
     ∙ ap (λ cs. make contents.locals cs state.is_final) cells
     ∙ ap (make contents.locals contents.cells) stands.is_final
 
--- a routine that stands holds its items
+-- a routine with items keeps them
 pub holds : (contents : Contents) (old new : State) (old_bytes new_bytes front : List ℕ) → Stands new new_bytes front contents →
     new.start ≡ old.start → take old.start old_bytes ≡ front → new.limits ≡ old.limits → Holds contents old old_bytes new new_bytes
 holds contents old new old_bytes new_bytes front stands start before limits =
@@ -78,7 +78,7 @@ holds contents old new old_bytes new_bytes front stands start before limits =
       limits = limits;
     }
 
--- more cells are written
+-- a routine where more cells are written
 pub stands_more : (old new : State) (bytes new_bytes front : List ℕ) (contents : Contents) (cells : List Cell) (is_final : Bool) →
     Stands old bytes front contents → Grew bytes old.kept cells new_bytes new.kept
     → new.start ≡ old.start → new.labels ≡ old.labels + label_count cells → new.fixups ≡ old.fixups + fixup_count cells → new.is_final ≡
@@ -101,7 +101,7 @@ stands_more old new bytes new_bytes front contents cells is_final stands grew st
       is_final = final;
     }
 
--- the number of things kept does not hang on the place
+-- the number of entries does not depend on the place
 pub kept_length : (p q : ℕ) (cells : List Cell) → length (kept_from p cells) ≡ length (kept_from q cells)
 kept_length p q [] = refl
 kept_length p q ((Plain byte) ∷ cells) = kept_length (p + 1) (q + 1) cells
@@ -122,7 +122,7 @@ back_within state bytes front now earlier at stands were =
       length-long earlier.cells were.added,
     )
 
--- the items of a moment stand where the rest is cut
+-- the items of a moment are kept where the rest is cut off
 pub back_stands : (state new : State) (bytes new_bytes front : List ℕ) (now earlier : Contents) (at : Moment) (place end : ℕ) →
     Stands state bytes front now → Were earlier at now
     → place ≡ state.start + at.len → end ≡ length bytes → new_bytes ≡ take place bytes ++ drop (place + (end - place)) bytes → new.kept ≡

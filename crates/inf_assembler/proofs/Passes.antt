@@ -1,4 +1,4 @@
--- What is kept, one thing after the other.
+-- The kept entries, one after the other.
 use Rattle.std.proofs.Common.{◌≡◌, ℕ, ◌+◌, ◌-◌, ◌<◌, ◌≤◌, Bool, true, false, cond, List, [], ◌∷◌, ◌++◌, length, get_or, take, drop, Option}
 use Rattle.std.proofs.Common.{Some, None, is_some, refl, sym, ◌∙◌, ap, subst, arith}
 use Rattle.std.proofs.lemmas.List.{drop_more, take_more}
@@ -15,7 +15,7 @@ use Rattle.inf_assembler.specs.Places.{marks, fixup_at}
 use Rattle.inf_assembler.specs.Closing.{AreInOrder, nowhere, special_saving, kept_place, kept_again, kept_twice, placed_bytes, with_bytes}
 use Rattle.inf_assembler.specs.Closing.{squeezed, saving, kept_fixups}
 
--- what stands first, and what is behind it
+-- the first entry, and those behind it
 pub order_step : (from i end : ℕ) (kept : List Kept) (d : Kept) → i < length kept → AreInOrder from (drop i kept) end
     → (from ≤ (get_or kept i d).place) × AreInOrder ((get_or kept i d).place + special_size (get_or kept i d).what) (drop (i + 1) kept) end
 order_step from i end kept d within order =
@@ -25,7 +25,7 @@ pub order_end : (from end : ℕ) (kept : List Kept) → AreInOrder from kept end
 order_end from end [] order = order
 order_end from end (entry ∷ others) order = omega (arith, order.0, order_end (entry.place + special_size entry.what) end others order.1)
 
--- what is some was made of some
+-- a function of a value that may be none gives a value only for a value
 pub some_of : {A B : Type 0} (f : A → B) (x : Option A) (y : B) → with_some f x ≡ Some y → (a : A) × (f a ≡ y)
 some_of f None y e = cc
 some_of f (Some x) y e = (x, cc)
@@ -34,7 +34,7 @@ length-branch : (short sense : Bool) (offset : ℕ) → length (branch_bytes sho
 length-branch true sense offset = refl
 length-branch false sense offset = refl
 
--- the bytes are as many as the size says
+-- a special cell has as many bytes as its size
 pub closed_size : (long places : Places) (old new : ℕ) (what : Special) (bytes : List ℕ) →
     closed_special long places old new what ≡ Some bytes → length bytes ≡ size_at long old what
 closed_size long places old new (Marks label) bytes e = let same : bytes ≡ [] = cc in ap length same
@@ -56,7 +56,7 @@ size_le long old (Branches branch) = cond_le (is_short_to long old branch.target
 size_le long old (Jumps label) = omega arith
 size_le long old (Refers target) = omega arith
 
--- one more thing is written
+-- the bytes once one more entry is written
 pub squeezed_step : (long places : Places) (from to i : ℕ) (kept : List Kept) (d : Kept) (xs added : List ℕ) → i < length kept
     → closed_special long places (get_or kept i d).place (to + ((get_or kept i d).place - from)) (get_or kept i d).what ≡ Some added
     → squeezed long places from to (drop i kept) xs
@@ -70,7 +70,7 @@ squeezed_step long places from to i kept d xs added within is =
     (placed_bytes to from (entry.place - from) bytes xs) in
     ap (λ ks. squeezed long places from to ks xs) (drop_more kept i d within) ∙ ap (with_bytes next) is
 
--- what is kept behind other things
+-- no branch is short where no long place is known, and no entry saves bytes there
 near_nowhere : (place : ℕ) (target : Destination) → is_short_to nowhere place target ≡ false
 near_nowhere place (To label) = refl
 near_nowhere place ReturnFalse = refl
@@ -98,7 +98,7 @@ kept_place-push saved (first ∷ before) entry n =
     (kept_place nowhere (saved + special_saving nowhere first.place first.what) before n)
     (cond (marks n entry.what) (Some (entry.place - saved)) None)
 
--- a label that is marked for the first time, and what marks none
+-- a label that is marked for the first time is not marked twice, and no other entry marks one
 pub again_new : (before : List Kept) (label : Label) → is_some (kept_place nowhere 0 before label.number) ≡ false →
     kept_again before (Marks label) ≡ None
 again_new before label new = ap (λ b. cond b (Some label) None) new
@@ -126,7 +126,7 @@ pub first_of-none : {A : Type 0} (o : Option A) → first_of o None ≡ o
 first_of-none None = refl
 first_of-none (Some x) = refl
 
--- the fixups from one thing on
+-- the fixups from one entry on
 pub fixups_step : (long : Places) (saved i : ℕ) (kept : List Kept) (d : Kept) → i < length kept
     → kept_fixups long saved (drop i kept) ≡ fixup_at ((get_or kept i d).place - saved) (get_or kept i d).what ++ kept_fixups long
     (saved + saving long (get_or kept i d)) (drop (i + 1) kept)

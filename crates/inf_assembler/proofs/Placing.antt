@@ -49,7 +49,7 @@ placed_is to from n added xs before within =
     ap (λ zs. zs ++ added ++ drop (to + n + length added) (moved to from n xs)) (take_at front (drop (to + n) xs) (to + n) long)
     ∙ ap (λ zs. front ++ added ++ zs) behind
 
--- the parts of what is placed
+-- the parts of bytes that were moved
 module _ (to from n : ℕ) (added xs : List ℕ) (before : to ≤ from) (within : from + n ≤ length xs) (room : to + n + length added ≤ length xs)
   where
     length-placed_front : length (take to xs ++ take n (drop from xs) ++ added) ≡ to + n + length added
@@ -60,7 +60,7 @@ module _ (to from n : ℕ) (added xs : List ℕ) (before : to ≤ from) (within 
         length-append (take to xs ++ take n (drop from xs) ++ added) (drop (to + n + length added) xs)
         ∙ omega (arith, length-placed_front, length-drop (to + n + length added) xs)
 
-    -- what stands before stays
+    -- the bytes before the place stay
     pub take-placed : (start : ℕ) → start ≤ to → take start (placed_bytes to from n added xs) ≡ take start xs
     take-placed start behind =
         let rest = drop (to + n + length added) xs in
@@ -70,12 +70,12 @@ module _ (to from n : ℕ) (added xs : List ℕ) (before : to ≤ from) (within 
         ∙ take-append-le start (take to xs) (take n (drop from xs) ++ (added ++ rest)) (omega (arith, long))
         ∙ take-take start to xs behind
 
-    -- the front of it
+    -- the front of the bytes that were moved
     pub take-placed_all : take (to + n + length added) (placed_bytes to from n added xs) ≡ take to xs ++ take n (drop from xs) ++ added
     take-placed_all =
         take_at (take to xs ++ take n (drop from xs) ++ added) (drop (to + n + length added) xs) (to + n + length added) length-placed_front
 
-    -- what stands behind stays
+    -- the bytes behind the place stay
     pub drop-placed : (place : ℕ) → to + n + length added ≤ place → drop place (placed_bytes to from n added xs) ≡ drop place xs
     drop-placed place behind =
         let here = to + n + length added in
@@ -86,7 +86,7 @@ module _ (to from n : ℕ) (added xs : List ℕ) (before : to ≤ from) (within 
         ∙ ap (drop more) (drop_at (take to xs ++ take n (drop from xs) ++ added) (drop here xs) here length-placed_front)
         ∙ drop-drop more here xs ∙ ap (λ k. drop k xs) sum
 
--- the rest is moved, and the end is cut
+-- the rest is moved, and the end is cut off
 pub cut_rest : (to from n gap : ℕ) (xs : List ℕ) → to ≤ from → from + n ≡ length xs → to + gap ≡ from →
     take (to + n) (placed_bytes to from n [] xs) ++ drop (to + n + gap) (placed_bytes to from n [] xs) ≡ take to xs ++ drop from xs
 cut_rest to from n gap xs before whole is =

@@ -1,4 +1,4 @@
--- What is computed from what a routine keeps, one thing kept after the other.
+-- The computations from the entries that a routine keeps, one after the other.
 use Rattle.std.specs.Prelude.{ℕ, ◌+◌, ◌-◌, ◌≤◌, ◌==◌, List, [], ◌∷◌, ◌++◌, length, take, drop, slice_get, Option, Some, None, is_some}
 use Rattle.std.specs.Prelude.{if◌then◌else◌}
 use Rattle.inf_area.specs.declared.fixups.Fixup.{Fixup}
@@ -17,11 +17,11 @@ entry_of (Some place) = place
 abbrev pub found : List (Option ℕ) → Places
 found places number = entry_of (slice_get places number)
 
--- one label's place
+-- the place of one label alone
 abbrev pub only : ℕ → ℕ → Places
 only label place number = if label == number then Some place else None
 
--- how many bytes shorter than its long size something is
+-- the number of bytes that a special cell saves against its long size
 abbrev pub special_saving : Places → ℕ → Special → ℕ
 special_saving long place (Marks label) = 0
 special_saving long place (Branches branch) = if is_short_to long place branch.target then 1 else 0
@@ -31,7 +31,7 @@ special_saving long place (Refers target) = 0
 abbrev pub saving : Places → Kept → ℕ
 saving long entry = special_saving long entry.place entry.what
 
--- the place of a label, where so many bytes were saved before
+-- the place of a label, where `saved` bytes were saved before the entries
 abbrev pub kept_place : Places → ℕ → List Kept → Places
 kept_place long saved [] number = None
 kept_place long saved (entry ∷ others) number =
@@ -46,7 +46,7 @@ abbrev pub kept_missing : Places → List Kept → Option Label
 kept_missing places [] = None
 kept_missing places (entry ∷ others) = first_of (unplaced places (used_by entry.what)) (kept_missing places others)
 
--- the first label by its second mark, behind what was kept before
+-- the first label that is marked twice, by its second mark, behind the entries before
 abbrev pub kept_again : List Kept → Special → Option Label
 kept_again before (Marks label) = if is_some (kept_place nowhere 0 before label.number) then Some label else None
 kept_again before (Branches branch) = None
@@ -57,16 +57,17 @@ abbrev pub kept_twice : List Kept → List Kept → Option Label
 kept_twice before [] = None
 kept_twice before (entry ∷ others) = first_of (kept_again before entry.what) (kept_twice (before ++ entry ∷ []) others)
 
--- the references, where so many bytes were saved before
+-- the references, where `saved` bytes were saved before the entries
 abbrev pub kept_fixups : Places → ℕ → List Kept → List Fixup
 kept_fixups long saved [] = []
 kept_fixups long saved (entry ∷ others) = fixup_at (entry.place - saved) entry.what ++ kept_fixups long (saved + saving long entry) others
 
--- n bytes from one place on are written from another on, which lies before, and other bytes behind them
+-- Bytes where `n` of them from the place `from` on are written to the place `to`, which lies before, and `added` behind
+-- them.
 abbrev pub placed_bytes : ℕ → ℕ → ℕ → List ℕ → List ℕ → List ℕ
 placed_bytes to from n added bytes = take to bytes ++ take n (drop from bytes) ++ added ++ drop (to + n + length added) bytes
 
--- the bytes of an area whose bytes from one place on are moved to another, with what is kept of them written short
+-- the bytes of an area whose bytes from one place on are moved to another, with the kept entries among them written short
 abbrev pub with_bytes : (List ℕ → Option (List ℕ)) → Option (List ℕ) → Option (List ℕ)
 with_bytes next None = None
 with_bytes next (Some bytes) = next bytes
@@ -79,7 +80,7 @@ squeezed long places from to (entry ∷ others) bytes =
     (placed_bytes to from (entry.place - from) added bytes))
     (closed_special long places entry.place (to + (entry.place - from)) entry.what)
 
--- that what is kept stands in order from a place on, up to an end
+-- Tells whether entries are in order from a place on, up to an end.
 abbrev pub AreInOrder : ℕ → List Kept → ℕ → Type 0
 AreInOrder from [] end = from ≤ end
 AreInOrder from (entry ∷ others) end = (from ≤ entry.place) × AreInOrder (entry.place + special_size entry.what) others end

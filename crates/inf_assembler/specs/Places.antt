@@ -1,4 +1,4 @@
--- Where the cells of a closed routine stand: short branches, places, offsets and bytes.
+-- The places of cells in a closed routine: short branches, offsets and bytes.
 use Rattle.std.specs.Prelude.{ℕ, ◌+◌, ◌-◌, ◌*◌, ◌/◌, ◌%◌, Bool, true, false, nat_lt, nat_le, ◌==◌, ◌&&◌, List, [], ◌∷◌, ◌++◌, Option, Some}
 use Rattle.std.specs.Prelude.{None, is_some, if◌then◌else◌}
 use Rattle.inf_area.specs.declared.targets.AreaName.TheVariants.{Code}
@@ -11,25 +11,26 @@ use Rattle.inf_opcode.specs.declared.cells.Special.{Special}
 use Rattle.inf_opcode.specs.declared.cells.Special.TheVariants.{Marks, Branches, Jumps, Refers}
 use Rattle.inf_opcode.specs.Cells.{Cell, Plain, Of, special_size, sense_bit}
 
--- whether something marks a label
+-- whether a special cell marks a label
 abbrev pub marks : ℕ → Special → Bool
 marks number (Marks label) = label.number == number
 marks number (Branches branch) = false
 marks number (Jumps label) = false
 marks number (Refers target) = false
 
--- where labels are
+-- the places of labels, by their numbers
 abbrev pub Places : Type 0
 Places = ℕ → Option ℕ
 
--- The long place of a label, in cells that stand from a place on: the sum of the long sizes before its first mark.
+-- The long place of a label, in cells from a place on: the sum of the long sizes before its first mark.
 abbrev pub long_place : ℕ → List Cell → Places
 long_place place [] number = None
 long_place place ((Plain byte) ∷ cells) number = long_place (place + 1) cells number
 long_place place ((Of what) ∷ cells) number =
     if marks number what then Some place else long_place (place + special_size what) cells number
 
--- A branch is short where its offset is 2 to 63 with every branch long (section 4.7.3): its label stands so far behind its first byte.
+-- A branch is short where its offset is 2 to 63 with every branch long (section 4.7.3): the distance from its first byte to
+-- its label.
 abbrev pub is_near : ℕ → Option ℕ → Bool
 is_near place None = false
 is_near place (Some target) = nat_le (place + 2) target && nat_le target (place + 63)
@@ -39,15 +40,15 @@ is_short_to long place (To label) = is_near place (long label.number)
 is_short_to long place ReturnFalse = false
 is_short_to long place ReturnTrue = false
 
--- the size in bytes of what stands at a long place
+-- the size in bytes of a special cell at a long place
 abbrev pub size_at : Places → ℕ → Special → ℕ
 size_at long place (Marks label) = 0
 size_at long place (Branches branch) = if is_short_to long place branch.target then 1 else 2
 size_at long place (Jumps label) = 2
 size_at long place (Refers target) = 2
 
--- The place of a label, in cells that stand from a place on and with all branches long from another: the sum of the sizes before its first
--- mark.
+-- The place of a label, in cells from the place `new` on, which is `old` with all branches long: the sum of the sizes
+-- before its first mark.
 abbrev pub place_from : Places → ℕ → ℕ → List Cell → Places
 place_from long old new [] number = None
 place_from long old new ((Plain byte) ∷ cells) number = place_from long (old + 1) (new + 1) cells number
@@ -55,32 +56,31 @@ place_from long old new ((Of what) ∷ cells) number =
     if marks number what then Some new
     else place_from long (old + special_size what) (new + size_at long old what) cells number
 
--- An offset to a place, from behind the branch or jump, as a number of so many values: 2 stands for the place itself (sections 4.7.2 and
--- 15, jump).
--- None where it does not fit.
+-- An offset to a place, from behind the branch or jump, as a number of twice `half` values: 2 leads to the byte at `end`
+-- (sections 4.7.2 and 15, jump). None where it does not fit.
 abbrev pub offset_to : ℕ → ℕ → Option ℕ → Option ℕ
 offset_to half end None = None
 offset_to half end (Some target) =
     if nat_le end (target + 2 + half) && nat_lt (target + 2) (end + half)
     then Some ((target + 2 + 2 * half - end) % (2 * half)) else None
 
--- the offset of a branch whose last byte is before a place; those of 0 and 1 return
+-- the offset of a branch whose last byte is before `end`; those of 0 and 1 return
 abbrev pub branch_offset : Places → ℕ → Destination → Option ℕ
 branch_offset places end (To label) = offset_to 8192 end (places label.number)
 branch_offset places end ReturnFalse = Some 0
 branch_offset places end ReturnTrue = Some 1
 
--- a branch in one byte, whose bit 6 says so, and in two (section 4.7)
+-- the bytes of a branch: one, whose bit 6 is set, or two (section 4.7)
 abbrev pub branch_bytes : Bool → Bool → ℕ → List ℕ
 branch_bytes true sense offset = (sense_bit sense + 64 + offset % 64) ∷ []
 branch_bytes false sense offset = (sense_bit sense + offset / 256) ∷ (offset % 256) ∷ []
 
--- a value behind something that may be none
+-- a function of a value that may be none
 abbrev pub with_some : {A B : Type 0} → (A → B) → Option A → Option B
 with_some f None = None
 with_some f (Some x) = Some (f x)
 
--- the bytes of what stands at a place, by its long place; none where an offset does not fit
+-- the bytes of a special cell at a place, by its long place; none where an offset does not fit
 abbrev pub closed_special : Places → Places → ℕ → ℕ → Special → Option (List ℕ)
 closed_special long places old new (Marks label) = Some []
 closed_special long places old new (Branches branch) =
@@ -89,12 +89,12 @@ closed_special long places old new (Branches branch) =
 closed_special long places old new (Jumps label) = with_some word (offset_to 32768 (new + 2) (places label.number))
 closed_special long places old new (Refers target) = Some (0 ∷ 0 ∷ [])
 
--- bytes behind bytes that may be none
+-- bytes followed by bytes, each of which may be none
 abbrev pub joined : Option (List ℕ) → Option (List ℕ) → Option (List ℕ)
 joined None others = None
 joined (Some bytes) others = with_some (λ rest. bytes ++ rest) others
 
--- the bytes of a whole routine's cells
+-- the bytes of the cells of a whole routine
 abbrev pub closed_bytes : Places → Places → ℕ → ℕ → List Cell → Option (List ℕ)
 closed_bytes long places old new [] = Some []
 closed_bytes long places old new ((Plain byte) ∷ cells) =
@@ -103,7 +103,7 @@ closed_bytes long places old new ((Of what) ∷ cells) =
     joined (closed_special long places old new what)
     (closed_bytes long places (old + special_size what) (new + size_at long old what) cells)
 
--- its references with their places
+-- the reference of a special cell, with its place
 abbrev pub fixup_at : ℕ → Special → List Fixup
 fixup_at place (Marks label) = []
 fixup_at place (Branches branch) = []
@@ -116,7 +116,7 @@ closed_fixups long old new ((Plain byte) ∷ cells) = closed_fixups long (old + 
 closed_fixups long old new ((Of what) ∷ cells) =
     fixup_at new what ++ closed_fixups long (old + special_size what) (new + size_at long old what) cells
 
--- the label that something goes to
+-- the label that a branch goes to
 abbrev pub label_of : Destination → Option Label
 label_of (To label) = Some label
 label_of ReturnFalse = None
@@ -133,7 +133,7 @@ abbrev pub first_of : {A : Type 0} → Option A → Option A → Option A
 first_of (Some x) other = Some x
 first_of None other = other
 
--- a label that has no place
+-- a label, where it has no place
 abbrev pub unplaced : Places → Option Label → Option Label
 unplaced places None = None
 unplaced places (Some label) = if is_some (places label.number) then None else Some label
@@ -144,14 +144,14 @@ missing places [] = None
 missing places ((Plain byte) ∷ cells) = missing places cells
 missing places ((Of what) ∷ cells) = first_of (unplaced places (used_by what)) (missing places cells)
 
--- a label that something marks, where cells before it mark it too
+-- a label that a special cell marks, where cells before it mark it too
 abbrev pub marked_again : List Cell → Special → Option Label
 marked_again before (Marks label) = if is_some (long_place 0 before label.number) then Some label else None
 marked_again before (Branches branch) = None
 marked_again before (Jumps label) = None
 marked_again before (Refers target) = None
 
--- the first label by its second mark, behind the cells before
+-- the first label that is marked twice, by its second mark, behind the cells before
 abbrev pub twice_behind : List Cell → List Cell → Option Label
 twice_behind before [] = None
 twice_behind before ((Plain byte) ∷ cells) = twice_behind before cells

@@ -1,4 +1,4 @@
--- Open routines, and what becomes of them (Z-Machine Standard 1.1, section 5).
+-- Open routines, and the effect of each call on them (Z-Machine Standard 1.1, section 5).
 use Rattle.std.specs.Prelude.{◌≡◌, ℕ, ◌+◌, Bool, true, false, nat_lt, List, [], ◌∷◌, ◌++◌, length, take, drop, slice_index, Option, Some}
 use Rattle.std.specs.Prelude.{None, if◌then◌else◌}
 use Rattle.inf_area.specs.declared.fixups.Fixup.{Fixup}
@@ -18,9 +18,8 @@ use Rattle.inf_assembler.specs.declared.routines.Limit.TheVariants.{Labels, Code
 use Rattle.inf_opcode.specs.Cells.{Cell, long_bytes, label_count, fixup_count, kept_from, cells_of}
 use Rattle.inf_assembler.specs.Places.{Places, long_place, place_from, closed_bytes, closed_fixups, missing, twice_behind}
 
--- what an open routine keeps: where it starts, what stands in its bytes, how many labels, branches and jumps and how many references these
--- are,
--- whether control never runs past its last item, and the limits
+-- The state of an open routine: its start, the entries that it keeps of its bytes, its number of labels, branches and
+-- jumps, that of references, whether control never runs past its last item, and the limits.
 pub record State : Type 0 where
   pub start : ℕ
   pub kept : List Kept
@@ -35,7 +34,7 @@ pub record Contents : Type 0 where
   pub cells : List Cell
   pub is_final : Bool
 
--- those that an open routine and the bytes of its area tell
+-- the items of an open routine, by its state and the bytes of its area
 abbrev pub contents_of : State → List ℕ → Contents
 contents_of state bytes =
     record {
@@ -44,7 +43,7 @@ contents_of state bytes =
       is_final = state.is_final;
     }
 
--- that an open routine has these items, and stands behind these bytes
+-- Tells whether an open routine has items `contents`, and its bytes follow `front`.
 pub record Stands (state : State) (area front : List ℕ) (contents : Contents) : Type 0 where
   pub start : state.start ≡ length front
   pub bytes : area ≡ front ++ contents.locals ∷ long_bytes contents.cells
@@ -53,12 +52,12 @@ pub record Stands (state : State) (area front : List ℕ) (contents : Contents) 
   pub fixups : state.fixups ≡ fixup_count contents.cells
   pub is_final : state.is_final ≡ contents.is_final
 
--- That the bytes of the area end with those of the routine, every branch long and what is known later zero, and that it keeps what stands
--- in them.
+-- Tells whether the bytes of the area end with those of the routine, every branch long and numbers that are known later
+-- zero, and the routine keeps the entries of these bytes.
 abbrev pub IsOpen : State → List ℕ → Type 0
 IsOpen state bytes = Stands state bytes (take state.start bytes) (contents_of state bytes)
 
--- that an open routine has these items after a call, and what stands before it and its limits are as they were
+-- Tells whether an open routine has items `contents` after a call, with unchanged limits and bytes before it.
 pub record Holds (contents : Contents) (old : State) (old_bytes : List ℕ) (new : State) (new_bytes : List ℕ) : Type 0 where
   pub is : contents_of new new_bytes ≡ contents
   pub open_still : IsOpen new new_bytes
@@ -70,27 +69,28 @@ pub record Holds (contents : Contents) (old : State) (old_bytes : List ℕ) (new
 abbrev pub fresh : ℕ → Contents
 fresh locals = record { locals = locals; cells = []; is_final = false }
 
--- items behind others
+-- a routine with more items
 abbrev pub with_cells : List Cell → Bool → Contents → Contents
 with_cells cells is_final contents = record contents { cells = contents.cells ++ cells; is_final = is_final }
 
--- the first setting that so many more labels, bytes and references would pass
+-- the first limit that more labels, bytes and references would pass
 abbrev pub full_by : ℕ → ℕ → ℕ → State → ℕ → Fixups → Option Limit
 full_by labels bytes fixups state len refs =
     if nat_lt state.limits.labels (state.labels + labels) then Some Labels else
     if nat_lt state.limits.code (len + bytes) then Some Code else
     if nat_lt refs.limit (length refs.list + state.fixups + fixups) then Some Refs else None
 
--- the first setting that more cells would pass
+-- the first limit that more cells would pass
 abbrev pub full_with : List Cell → State → List ℕ → Fixups → Option Limit
 full_with cells state bytes refs = full_by (label_count cells) (length (long_bytes cells)) (fixup_count cells) state (length bytes) refs
 
--- why they are not taken: the setting, or else want of memory
+-- the fault where they are refused: a limit, or want of memory
 abbrev pub refusal : Option Limit → GrowFault
 refusal None = grow_fault.Memory
 refusal (Some setting) = grow_fault.Full setting
 
--- a moment of an open routine: how many bytes, things kept, and so on there are
+-- a moment of an open routine: its numbers of bytes, entries, labels and references, and whether control never ran past its
+-- last item
 pub record Moment : Type 0 where
   pub len : ℕ
   pub kept : ℕ
@@ -108,21 +108,21 @@ moment_of contents =
       is_final = contents.is_final;
     }
 
--- that the first of a routine's items were all at a moment
+-- Tells whether the first items of a routine were all items at a moment.
 pub record Were (earlier : Contents) (at : Moment) (now : Contents) : Type 0 where
   pub added : List Cell
   pub locals : now.locals ≡ earlier.locals
   pub cells : now.cells ≡ earlier.cells ++ added
   pub moment : at ≡ moment_of earlier
 
--- the long places and the places of the labels of a routine that stands at a place
+-- the long places and the places of the labels of a routine, by its place
 abbrev pub long_places : ℕ → Contents → Places
 long_places start contents = long_place (start + 1) contents.cells
 
 abbrev pub places : ℕ → Contents → Places
 places start contents = place_from (long_places start contents) (start + 1) (start + 1) contents.cells
 
--- what returns where control runs past the last item
+-- the instruction that returns where control runs past the last item
 abbrev pub closing_byte : RoutineKind → ℕ
 closing_byte Own = 176
 closing_byte Embedded = 177
@@ -134,15 +134,15 @@ closing_bytes kind false = closing_byte kind ∷ []
 abbrev pub closing : RoutineKind → Contents → List ℕ
 closing kind contents = closing_bytes kind contents.is_final
 
--- the bytes of a closed routine without what returns at its end; none where an offset does not fit
+-- the bytes of a closed routine without the return at its end; none where an offset does not fit
 abbrev pub body_bytes : ℕ → Contents → Option (List ℕ)
 body_bytes start contents = closed_bytes (long_places start contents) (places start contents) (start + 1) (start + 1) contents.cells
 
--- its references
+-- the references of a routine
 abbrev pub routine_fixups : ℕ → Contents → List Fixup
 routine_fixups start contents = closed_fixups (long_places start contents) (start + 1) (start + 1) contents.cells
 
--- what is wrong with a routine that stands behind so many bytes: first its labels, then its offsets, then what it takes
+-- the fault of a routine that begins at `start`: first that of its labels, then of its offsets, then of limits
 abbrev pub is_full : Bool → ℕ → ℕ → Bool
 is_full true limit len = false
 is_full false limit len = nat_lt limit (len + 1)
@@ -174,7 +174,7 @@ fault_of start kind contents limits refs =
     (twice_fault (body_fault (full_fault start kind contents limits refs) (body_bytes start contents)) (twice_behind [] contents.cells))
     (missing (long_places start contents) contents.cells)
 
--- what is written of a routine that is closed
+-- the area and the references once a routine is closed
 pub record Finished (kind : RoutineKind) (place : ℕ) (contents : Contents) (old_bytes : List ℕ) (old_refs : Fixups) (new_bytes : List ℕ)
     (new_refs : Fixups) : Type 0 where
   pub body : List ℕ
@@ -182,7 +182,7 @@ pub record Finished (kind : RoutineKind) (place : ℕ) (contents : Contents) (ol
   pub bytes : new_bytes ≡ take place old_bytes ++ contents.locals ∷ body ++ closing kind contents
   pub fixups : new_refs ≡ with_fixups (old_refs.list ++ routine_fixups place contents) old_refs
 
--- what a routine has become
+-- the result of closing a routine
 pub record Closes (kind : RoutineKind) (place : ℕ) (contents : Contents) (old_bytes : List ℕ) (old_refs : Fixups) (closed : Closed)
     (new_bytes : List ℕ) (new_refs : Fixups) : Type 0 where
   pub body : List ℕ

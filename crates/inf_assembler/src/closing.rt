@@ -14,7 +14,7 @@ use inf_area::{AddFault, Area, AreaName, Fixup, Refs, word_bytes};
 use inf_opcode::{Destination, Kept, Label, Special, sense_bit};
 use std::alloc::{AllocError, Global};
 
-// The place of a label in a table, which is none where the table ends before it.
+// Returns the place of a label in a table; `None` where the table has none, or ends before it.
 fn place_of(places: &[Option<usize>], label: Label) -> Option<usize>
     ensures { result ≡ found places.now label.number }
 {
@@ -24,7 +24,7 @@ fn place_of(places: &[Option<usize>], label: Label) -> Option<usize>
     }
 }
 
-// Whether a branch at a place is short, by a table of the long places.
+// Returns whether a branch at `place` is short, by a table of the long places.
 fn is_short(long: &[Option<usize>], place: usize, target: Destination) -> bool
     ensures { result ≡ is_short_to (found long.now) place target }
 {
@@ -40,7 +40,7 @@ fn is_short(long: &[Option<usize>], place: usize, target: Destination) -> bool
     }
 }
 
-// How many bytes shorter than its long size something is.
+// Returns the number of bytes that an entry saves against its long size.
 fn saving(long: &[Option<usize>], entry: Kept) -> usize
     ensures value { result ≡ saving (found long.now) entry }
     ensures small { result ≤ 1 }
@@ -51,7 +51,7 @@ fn saving(long: &[Option<usize>], entry: Kept) -> usize
     }
 }
 
-// Notes the place of a label, unless there is one.
+// Notes the place of a label, unless one is noted.
 fn note(places: &mut Vec<Option<usize>>, label: Label, place: usize) -> Result<(), AllocError>
     ensures { OnOk result ((n : ℕ) → found places.new.items n ≡ first_of (found places.old.items n) (only label.number place n)) }
 {
@@ -65,8 +65,8 @@ fn note(places: &mut Vec<Option<usize>>, label: Label, place: usize) -> Result<(
     Ok(())
 }
 
-// The places of the labels, where the branches are short that a table of the long places says.
-// With an empty table every branch is long, so these are the long places.
+// Returns the places of the labels, where those branches are short that are short by `long`, a table of the long places.
+// With an empty table every branch is long, and these are the long places.
 pub(crate) fn label_places(
     alloc: Global,
     kept: &[Kept],
@@ -85,7 +85,7 @@ pub(crate) fn label_places(
     Ok(places)
 }
 
-// The label that something goes to.
+// Returns the label that a branch or jump goes to, if any.
 fn used_by(what: Special) -> Option<Label>
     ensures { result ≡ used_by what }
 {
@@ -99,7 +99,7 @@ fn used_by(what: Special) -> Option<Label>
     }
 }
 
-// The first label by use that no place is marked with.
+// Returns the first label by use that no place is marked with.
 pub(crate) fn first_missing(kept: &[Kept], places: &[Option<usize>]) -> Option<Label>
     ensures { result ≡ kept_missing (found places.now) kept.now }
 {
@@ -113,7 +113,7 @@ pub(crate) fn first_missing(kept: &[Kept], places: &[Option<usize>]) -> Option<L
     None
 }
 
-// The first label by its second mark.
+// Returns the first label that is marked twice, by its second mark.
 pub(crate) fn first_twice(alloc: Global, kept: &[Kept]) -> Result<Option<Label>, AllocError>
     ensures { IfOk result (λ label. label ≡ kept_twice [] kept.now) }
 {
@@ -129,7 +129,7 @@ pub(crate) fn first_twice(alloc: Global, kept: &[Kept]) -> Result<Option<Label>,
     Ok(None)
 }
 
-// An offset to a place from an end, as a number of twice `half` values.
+// Returns an offset from `end` to a place, as a number of twice `half` values; `None` where it does not fit.
 fn offset_to(half: usize, end: usize, target: Option<usize>) -> Option<usize>
     requires large { 2 < half }
     requires small { half ≤ 32768 }
@@ -150,7 +150,7 @@ fn offset_to(half: usize, end: usize, target: Option<usize>) -> Option<usize>
     None
 }
 
-// The offset of a branch that ends at a place.
+// Returns the offset of a branch that ends at `end`; `None` where it does not fit.
 fn branch_offset(places: &[Option<usize>], end: usize, target: Destination) -> Option<usize>
     ensures { result ≡ branch_offset (found places.now) end target }
 {
@@ -161,7 +161,7 @@ fn branch_offset(places: &[Option<usize>], end: usize, target: Destination) -> O
     }
 }
 
-// The bytes of a branch, with its offset as a number of 14 bits.
+// Returns the bytes of a branch, with its offset as a number of 14 bits.
 fn branch_bytes(short: bool, sense: bool, offset: usize) -> ArrayVec<u8, 2>
     requires { offset < 16384 }
     ensures { result.items ≡ branch_bytes short sense offset }
@@ -177,8 +177,8 @@ fn branch_bytes(short: bool, sense: bool, offset: usize) -> ArrayVec<u8, 2>
     bytes
 }
 
-// The bytes of what stands at a place, by its place with all branches long; none where an offset
-// does not fit.
+// Returns the bytes of a special cell in a closed routine, by its place with all branches long; `None` where an offset does
+// not fit.
 fn closed_special(
     long: &[Option<usize>],
     places: &[Option<usize>],
@@ -211,7 +211,7 @@ fn closed_special(
     }
 }
 
-// The long size of something in bytes.
+// Returns the long size of a special cell in bytes.
 fn special_size(what: Special) -> usize
     ensures { result ≡ special_size what }
 {
@@ -221,7 +221,7 @@ fn special_size(what: Special) -> usize
     }
 }
 
-// Moves the bytes from `from` up to `end` to the place `to`, and writes others behind them.
+// Moves the bytes from `from` up to `end` to the place `to`, and writes `added` behind them.
 fn place_bytes<A: Area>(area: &mut A, to: usize, from: usize, end: usize, added: &[u8])
     requires before { to ≤ from }
     requires ordered { from ≤ end }
@@ -238,8 +238,8 @@ fn place_bytes<A: Area>(area: &mut A, to: usize, from: usize, end: usize, added:
     }
 }
 
-// Moves the bytes of a routine together that stand from a place on, and writes its offsets. None
-// where an offset does not fit.
+// Moves the bytes of a routine together, from a place on, and writes its offsets. Returns `None` where an offset does not
+// fit.
 pub(crate) fn squeeze<A: Area>(
     area: &mut A,
     kept: &[Kept],
@@ -269,8 +269,8 @@ pub(crate) fn squeeze<A: Area>(
     Some(())
 }
 
-// Lists the references, with the places that they have where the branches are short that a table of
-// the long places says.
+// Lists the references, with the places that they have where those branches are short that are short by a table of the long
+// places.
 pub(crate) fn list_fixups(
     refs: &mut Refs,
     kept: &[Kept],

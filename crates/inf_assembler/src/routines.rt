@@ -16,27 +16,27 @@ use inf_opcode::{
 use std::alloc::{AllocError, AllocFailed, Global};
 use std::marker::Model;
 
-/// What a routine returns where control runs past its last item.
+/// The value that a routine returns where control runs past its last item.
 #[derive(Clone, Copy, Debug, PartialEq, Eq)]
 pub enum RoutineKind {
-    /// A routine of its own, which returns true.
+    /// A routine that stands alone, which returns true.
     Plain,
     /// A routine that is embedded in an object, which returns false.
     Embedded,
 }
 
-/// Where a closed routine stands.
+/// The place and size of a closed routine.
 #[derive(Clone, Copy, Debug, PartialEq, Eq)]
 pub struct Closed {
-    /// Its place in the area.
+    /// The place of the routine in the area.
     pub start: usize,
-    /// Its length in bytes, without padding.
+    /// Length of the routine in bytes, without padding.
     pub len: usize,
-    /// The number of its fixups, which are the last of the list.
+    /// Number of the routine's fixups, which are the last of the list.
     pub refs: usize,
 }
 
-/// What a routine may hold.
+/// Limits of a routine.
 #[derive(Clone, Copy, Debug, PartialEq, Eq)]
 pub struct Limits {
     /// The most labels, branches and jumps of the routine.
@@ -48,18 +48,18 @@ pub struct Limits {
 /// A limit that an addition would pass.
 #[derive(Clone, Copy, Debug, PartialEq, Eq)]
 pub enum Limit {
-    /// That of the labels, branches and jumps of a routine.
+    /// The limit of the labels, branches and jumps of a routine.
     Labels,
-    /// That of the bytes of the area.
+    /// The limit of the bytes of the area.
     Code,
-    /// That of the references of the story.
+    /// The limit of the references of the story.
     Refs,
 }
 
 /// Why a routine was not opened or did not grow.
 #[derive(Clone, Copy, Debug, PartialEq, Eq)]
 pub enum GrowFault {
-    /// It would pass a limit.
+    /// The routine would pass a limit.
     Full(Limit),
     /// No memory was left.
     Memory,
@@ -90,9 +90,9 @@ impl<T: Drop> From<AllocFailed<T>> for GrowFault {
 /// Why a routine was not closed.
 #[derive(Clone, Copy, Debug, PartialEq, Eq)]
 pub enum CloseFault {
-    /// No place is marked with a label that a branch or jump goes to, the first by use.
+    /// A label that a branch or jump goes to, and that no place is marked with, the first by use.
     LabelMissing(Label),
-    /// Two places are marked with a label, the first by its second mark.
+    /// A label that two places are marked with, the first by its second mark.
     LabelTwice(Label),
     /// The offset of a branch or jump does not fit.
     TooFar,
@@ -147,15 +147,15 @@ impl Model for Mark {
     } };
 }
 
-/// An open routine. Its bytes stand at the end of the area, with every branch in two bytes, and zeros
-/// in place of offsets and of numbers that are known later.
+/// An open routine. Its bytes are at the end of the area, with every branch in two bytes, and zeros in place of offsets and
+/// of numbers that are known later.
 ///
 /// Each of its calls is given the area that `open` was given, which nothing else changes in between.
 #[derive(Debug, Drop)]
 pub struct Routine {
     alloc: Global,
     start: usize,
-    // What stands in the bytes, in order.
+    // The labels, branches, jumps and references in the bytes, in order.
     kept: Vec<Kept>,
     labels: usize,
     fixups: usize,
@@ -181,7 +181,7 @@ impl Model for Routine {
     ghost invariant = { λ routine. routine.start + 1 < 2 ^ 64 };
 }
 
-// Whether so much more passes a limit.
+// Returns whether `more` beside `held` passes `limit`.
 fn exceeds(limit: usize, held: usize, more: usize) -> bool
     ensures { result ≡ nat_lt limit (held + more) }
 {
@@ -199,10 +199,11 @@ impl Routine {
     ghost use Rattle.inf_assembler.specs.Routines.{full_with, full_by, refusal, moment_of, fault_of, Closes, Finished, closing_bytes};
     ghost use Rattle.inf_assembler.specs.Routines.{is_full, end_fault, fresh};
 
-    /// Opens a routine of `locals` local variables, at most 15, at the end of the area
-    /// (Z-Machine Standard 1.1, section 5.2): writes their number.
+    /// Opens a routine of `locals` local variables, at most 15, at the end of the area, and writes their number (Z-Machine
+    /// Standard 1.1, section 5.2).
     ///
-    /// Refuses where the area would have more bytes than the limit, then where memory runs out. The area then stays as it was.
+    /// The call is refused first where the area would have more bytes than the limit, then for want of memory; the area
+    /// then stays unchanged.
     pub fn open<A: Area>(
         alloc: Global,
         area: &mut A,
@@ -237,8 +238,8 @@ impl Routine {
     /// Writes an instruction, whose operands, store variable, branch and text are those that the instruction
     /// set gives its opcode (Z-Machine Standard 1.1, section 14).
     ///
-    /// Refuses where a limit would be passed, of several the first of labels, bytes and references; then where
-    /// memory runs out. The routine and the area then stay as they were.
+    /// The call is refused first where a limit would be passed, of labels first, then of bytes, then of references; then
+    /// for want of memory. The routine and the area then stay unchanged.
     pub fn emit<A: Area>(
         &mut self,
         area: &mut A,
@@ -268,8 +269,8 @@ impl Routine {
 
     /// Marks the present place with a label.
     ///
-    /// Refuses where there would be too many labels, branches and jumps, then where memory runs out.
-    /// The routine then stays as it was.
+    /// The call is refused first where there would be too many labels, branches and jumps, then for want of memory; the
+    /// routine then stays unchanged.
     pub fn label<A: Area>(&mut self, area: &A, label: Label) -> Result<(), GrowFault>
         requires { IsOpen self.old (A.bytes area.now) }
         ensures ok { let items = with_cells (Of (Marks label) ∷ []) false (contents_of self.old (A.bytes area.now)) in
@@ -291,7 +292,7 @@ impl Routine {
         Ok(())
     }
 
-    // The first limit that so much more would pass, where the area has so many bytes.
+    // Returns the first limit that `more`, with `text` more bytes, would pass, where the area has `len` bytes.
     fn full(&self, len: usize, refs: &Refs, more: Counts, text: usize) -> Option<Limit>
         ensures value { result ≡ full_by more.labels (more.bytes + text) more.fixups self.now len refs.now }
         ensures labels { MatchOption result (self.now.labels + more.labels < 2 ^ 64) (λ _. Unit {0}) }
@@ -311,21 +312,21 @@ impl Routine {
         None
     }
 
-    /// How many labels, branches and jumps it has.
+    /// Returns the number of labels, branches and jumps of the routine.
     pub fn labels(&self) -> usize
         ensures { result ≡ self.now.labels }
     {
         self.labels
     }
 
-    /// How many references it has whose numbers are known later.
+    /// Returns the number of references of the routine, whose numbers are known later.
     pub fn references(&self) -> usize
         ensures { result ≡ self.now.fixups }
     {
         self.fixups
     }
 
-    /// The present moment, for `back`.
+    /// Returns the present moment, to which `back` can lead.
     pub fn mark<A: Area>(&self, area: &A) -> Mark
         requires { IsOpen self.now (A.bytes area.now) }
         ensures { result ≡ moment_of (contents_of self.now (A.bytes area.now)) }
@@ -339,7 +340,7 @@ impl Routine {
         }
     }
 
-    /// Leaves the items that stood when `mark` was taken, all of which still stand.
+    /// Keeps the items that the routine had when `mark` was taken, which are its first ones, and cuts off the others.
     pub fn back<A: Area>(&mut self, area: &mut A, mark: Mark)
         requires open_still { IsOpen self.old (A.bytes area.old) }
         requires were { (earlier : Contents) × Were earlier mark (contents_of self.old (A.bytes area.old)) }
@@ -358,9 +359,9 @@ impl Routine {
     /// Closes the routine: makes each branch short that fits, writes the offsets, and adds the fixups to the
     /// list, each with its place.
     ///
-    /// Where control can run past the last item, `rtrue` stands behind it, or `rfalse` in an embedded routine.
-    /// Answers where the routine stands. Refuses, in this order, a label that is missing, one that is given twice,
-    /// an offset that does not fit, a limit that would be passed, and want of memory; the area and the list of fixups are then as they
+    /// Where control can run past the last item, `rtrue` follows it, or `rfalse` in an embedded routine. Returns the place
+    /// and size of the routine. Refuses, in this order, a label that is missing, one that is marked twice, an offset that
+    /// does not fit, a limit that would be passed, and want of memory; the area and the list of fixups are then as they
     /// were before `open`, and the routine is given up.
     pub fn close<A: Area>(
         self,
@@ -390,7 +391,7 @@ impl Routine {
         })
     }
 
-    // Moves the bytes together, writes the offsets and what returns at the end, and lists the fixups.
+    // Moves the bytes together, writes the offsets and the return at the end, and lists the fixups.
     fn finish<A: Area>(
         &self,
         area: &mut A,
@@ -428,7 +429,7 @@ impl Routine {
         }
     }
 
-    // Writes what returns at the end, and lists the fixups.
+    // Writes the return at the end, and lists the fixups.
     fn finish_end<A: Area>(
         &self,
         area: &mut A,
@@ -454,7 +455,7 @@ impl Routine {
         }
     }
 
-    // Writes what returns where control can run past the last item.
+    // Writes the return where control can run past the last item.
     fn write_closing<A: Area>(&self, area: &mut A, kind: RoutineKind) -> Result<(), CloseFault>
         ensures ok { OnOk result (A.bytes area.new ≡ A.bytes area.old ++ closing_bytes kind self.now.is_final) }
         ensures err { OnErr result (A.bytes area.new ≡ A.bytes area.old) }
@@ -476,7 +477,7 @@ impl Routine {
 impl RoutineKind {
     ghost use Rattle.inf_assembler.specs.Routines.{closing_byte};
 
-    // The instruction behind the last item where control runs past it: `rtrue` or `rfalse`.
+    // Returns the instruction behind the last item where control runs past it: `rtrue` or `rfalse`.
     fn closing_byte(self) -> u8
         ensures { result ≡ closing_byte self }
     {

@@ -1,4 +1,4 @@
--- Instructions and routines are read as what they were made of.
+-- Instructions and routines are read as the parts of which they were made.
 use Rattle.std.proofs.Common.{◌≡◌, ℕ, suc, ◌+◌, ◌<◌, ◌≤◌, Bool, true, false, cond, List, [], ◌∷◌, ◌++◌, length, map, Option, Some, None}
 use Rattle.std.proofs.Common.{is_some, ◌⊎◌, inl, inr, refl, sym, ◌∙◌, ap, subst, arith, append_assoc, length-append}
 use Rattle.std.specs.List.{flat_map}
@@ -32,7 +32,7 @@ use Rattle.inf_assembler_laws.proofs.Placed.{cells_size, long_size, long_size-ap
 use Rattle.inf_assembler_laws.proofs.Reading.{both_parts, text_at-bytes}
 use Rattle.inf_assembler_laws.proofs.Rows.{opcode_at-row, row_fits}
 
--- what stands before an instruction's branch
+-- the cells before an instruction's branch
 abbrev pub before_branch : Parts → List Cell
 before_branch parts =
     plain (heading (row_of parts.opcode) parts.operands) ++ flat_map operand_cells parts.operands ++ store_cells parts.store
@@ -171,7 +171,7 @@ unmarked-before parts =
     unmarked-append (plain head ++ cells) (store_cells parts.store)
     (unmarked-append (plain head) cells (unmarked-plain head) (unmarked-operands parts.operands)) (unmarked-store parts.store)
 
--- it has a byte before its branch
+-- An instruction has a byte before its branch.
 size-plain : (long : Places) (old : ℕ) (bytes : List ℕ) → cells_size long old (plain bytes) ≡ length bytes
 size-plain long old [] = refl
 size-plain long old (byte ∷ bytes) = omega (arith, size-plain long (old + 1) bytes)
@@ -201,7 +201,7 @@ before_some long old parts =
       heading_some row.count row.number (types_bytes row.most parts.operands) parts.operands,
     )
 
--- the branches of a routine whose cells all stand from a place on
+-- the branches of a routine whose cells begin at a place
 module _ (all : List Cell) (start : ℕ) where
   abbrev long : Places
   long = long_place start all
@@ -339,7 +339,7 @@ routine_read place items bytes rest proper e =
     (ap (λ n. closed_bytes long table n (start + 0) cells) none ∙ ap (λ n. closed_bytes long table start n cells) none ∙ e)
     (omega arith)
 
--- what returns at the end
+-- The return at the end is read as `rtrue` or `rfalse`.
 pub returns_read : (kind : RoutineKind) (total : ℕ) (rest : List ℕ) →
     instruction_at total (closing_byte kind ∷ rest) ≡ Some (seen (λ _. None) (bare (returning kind)), rest)
 unfolding opcode_at opcodes

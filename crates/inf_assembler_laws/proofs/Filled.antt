@@ -59,14 +59,14 @@ place_known number_of long old new ((Of (Refers target)) ∷ cells) label =
     ∙ ap (λ n. place_from long (old + 2) n (known_cells number_of cells) label) new_two
     ∙ place_known number_of long (old + 2) (new + 2) cells label
 
--- what the bytes of cells become
+-- The bytes of cells become those of the cells with numbers where their fixups are filled.
 pub record Numbered (number_of : Target → ℕ) (long places : Places) (old new : ℕ) (cells : List Cell) (front bytes rest : List ℕ) : Type 0
   where
     pub numbered : List ℕ
     pub is : closed_bytes long places old new (known_cells number_of cells) ≡ Some numbered
     pub fills : filled number_of (closed_fixups long old new cells) (front ++ (bytes ++ rest)) ≡ front ++ (numbered ++ rest)
 
--- one byte or more before what the bytes become
+-- one byte or more before cells whose fixups are filled
 module _ (number_of : Target → ℕ) (long places : Places) where
   kept_before : (old new : ℕ) (what : Special) (cells : List Cell) (front here back bytes rest : List ℕ) →
       known_special number_of what ≡ Of what ∷ [] → fixup_at new what ≡ []

@@ -1,4 +1,4 @@
--- Offsets of branches and jumps: what they are read as, and that they fit.
+-- Offsets of branches and jumps: they fit, and are read as the places that they were made of.
 use Rattle.std.proofs.Common.{◌≡◌, ℕ, ◌+◌, ◌-◌, ◌*◌, ◌%◌, ◌<◌, ◌≤◌, Bool, true, false, ltb, leb, eqb, ◌&&◌, cond, Some, None, ◌⊎◌, inl, inr}
 use Rattle.std.proofs.Common.{refl, ◌∙◌, ap, arith}
 use Rattle.std.proofs.lemmas.Bool.Decides.{nat_tests}
@@ -82,7 +82,7 @@ short_forward : (branch end place long offset : ℕ) → Near 8192 end place off
     long ≤ branch + 63 → offset < 64
 short_forward branch end place long offset near ahead shrunk close = omega (arith, near.is, near.high)
 
--- The offset of a short branch is below 64. The branch stands at a long place, and its label before it or behind its end.
+-- The offset of a short branch is below 64. The branch is at a long place, and its label before it or behind its end.
 pub short_clear : (long_before before branch end place long offset : ℕ) → Near 8192 end place offset → long_before ≤ branch →
     (branch + 2 ≤ long) × (long ≤ branch + 63)
     → ((place ≤ before) × (long ≤ long_before)) ⊎ ((end ≤ place) × (branch + 2 ≤ long) × (place + (branch + 2) ≤ long + end)) → offset < 64
@@ -90,7 +90,7 @@ short_clear long_before before branch end place long offset near from ahead (inl
 short_clear long_before before branch end place long offset near from ahead (inr sides) =
     short_forward branch end place long offset near sides.0 sides.2 ahead.1
 
--- The offset of a branch is no 0 or 1, which return, where a byte or more stands between its label and itself.
+-- The offset of a branch is no 0 or 1, which return, where a byte or more is between its label and the branch.
 pub offset_clear : (short : Bool) (long_before before branch end place long offset : ℕ) → Near 8192 end place offset →
     long_before ≤ branch → (short ≡ false → before + 2 < end)
     → (short ≡ true → (branch + 2 ≤ long) × (long ≤ branch + 63))

@@ -238,7 +238,7 @@ branch_bytes_read false false offset end total rest small fits e =
     let whole : 256 * (first % 64) + offset % 256 ≡ offset = omega arith in
     rw (two, sense, whole, e)
 
--- what the offset of a branch to a label is: none of those that return, and one of 6 bits where it is short
+-- The offset of a branch to a label is none of those that return, and has 6 bits where the branch is short.
 pub record IsClear (long places : Places) (old new : ℕ) (target : Destination) (offset : ℕ) : Type 0 where
   pub large : 2 ≤ offset
   pub small : is_short_to long old target ≡ true → offset < 64

@@ -1,4 +1,4 @@
--- Where labels stand in cells, part by part.
+-- The places of labels in cells, part by part.
 use Rattle.std.proofs.Common.{◌≡◌, ℕ, ◌+◌, ◌≤◌, Bool, true, false, cond, List, [], ◌∷◌, ◌++◌, length, Option, Some, None, ◌⊎◌, inl, inr}
 use Rattle.std.proofs.Common.{refl, sym, ◌∙◌, ap, arith, length-append}
 use Rattle.inf_opcode.specs.declared.cells.Special.{Special}
@@ -9,7 +9,7 @@ use Rattle.inf_assembler.specs.Places.{Places, marks, size_at, long_place, place
 use Rattle.inf_assembler.proofs.Passes.{size_le}
 use Rattle.inf_assembler_laws.specs.Laws.{NoLater}
 
--- the size in bytes of cells that stand from a long place on
+-- the size in bytes of cells that begin at a long place
 abbrev pub cells_size : Places → ℕ → List Cell → ℕ
 cells_size long old [] = 0
 cells_size long old ((Plain byte) ∷ cells) = 1 + cells_size long (old + 1) cells
@@ -193,7 +193,7 @@ long_unmarked old ((Of (Branches branch)) ∷ xs) label plain = long_unmarked (o
 long_unmarked old ((Of (Jumps other)) ∷ xs) label plain = long_unmarked (old + 2) xs label plain
 long_unmarked old ((Of (Refers target)) ∷ xs) label plain = long_unmarked (old + 2) xs label plain
 
--- A label stands before two places, or behind them, where no label is marked between the two.
+-- A label is before two places, or behind them, where no label is marked between the two.
 pub record Beside (long_one : Option ℕ) (long_before before long_behind behind place : ℕ) : Type 0 where
   pub long : ℕ
   pub is : long_one ≡ Some long

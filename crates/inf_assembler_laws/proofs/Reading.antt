@@ -1,4 +1,4 @@
--- What the bytes of an instruction are read as.
+-- The bytes of an instruction are read back part by part.
 use Rattle.std.proofs.Common.{◌≡◌, ◌≢◌, ℕ, zero, suc, ◌+◌, ◌*◌, ◌/◌, ◌%◌, ◌<◌, ◌≤◌, Bool, true, false, ltb, leb, ◌&&◌, cond, List, [], ◌∷◌}
 use Rattle.std.proofs.Common.{◌++◌, length, map, Option, Some, None, refl, ◌∙◌, ap, arith}
 use Rattle.std.specs.Prelude.{slice_get}
@@ -12,7 +12,7 @@ use Rattle.inf_opcode.specs.Instructions.{type_code, type_slot, types_byte, type
 use Rattle.inf_assembler_laws.specs.Decoding.{◌>>=◌, long, short_one, short_zero, variable_two, variable_several, form_of, types_in}
 use Rattle.inf_assembler_laws.specs.Decoding.{given_types, types_at, Opening, untyped, words_at, text_at}
 
--- The form is told by the first byte.
+-- The first byte decides the form.
 pub form_of-long : (first : ℕ) → first < 128 → form_of first ≡ long
 form_of-long first small = grind (arith, nat_tests)
 

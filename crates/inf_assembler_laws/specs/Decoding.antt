@@ -21,7 +21,7 @@ abbrev pub ◌>>=◌ : {A B : Type 0} → Option A → (A → Option B) → Opti
 None >>= next = None
 (Some x) >>= next = next x
 
--- the counts, told apart by a number
+-- the number of a count, by which counts are compared
 abbrev pub rank : OperandCount → ℕ
 rank Zero = 0
 rank One = 1
@@ -100,20 +100,20 @@ abbrev pub opening_at : List ℕ → Option Opening
 opening_at [] = None
 opening_at (first ∷ rest) = opening_by (form_of first) first rest
 
--- what an operand says: a constant of two bytes or of one, a variable, or the place that a jump goes to
+-- An operand as it is read: a constant of two bytes or of one, a variable, or the place that a jump goes to
 pub data Given : Type 0 where
   Word : (number : ℕ) → Given
   Byte : (number : ℕ) → Given
   OfVariable : (number : ℕ) → Given
   Place : (place : ℕ) → Given
 
--- where a branch goes: it returns false or true, or goes to a place
+-- The aim of a branch: it returns false or true, or goes to a place
 pub data Aim : Type 0 where
   Returns : (value : Bool) → Aim
   GoesTo : (place : ℕ) → Aim
 
--- The place that an offset says from an end, as a number of twice half values: from half on it is negative, and 2 stands for the end
--- itself (sections 4.7.2 and 15, jump).
+-- The place that an offset says from an end, as a number of twice half values: from half on it is negative, and 2 is the end itself
+-- (sections 4.7.2 and 15, jump).
 abbrev pub place_by : ℕ → ℕ → ℕ → ℕ
 place_by half end offset = if nat_lt offset half then end + offset - 2 else end + offset - (2 * half + 2)
 
@@ -125,7 +125,8 @@ abbrev pub word_given : Bool → ℕ → ℕ → Given
 word_given true end number = Place (place_by 32768 end number)
 word_given false end number = Word number
 
--- An operand by its type (section 4.2): a word, a byte, or the number of a variable. So many places are taken up to the end of the bytes.
+-- An operand by its type (section 4.2): a word, a byte, or the number of a variable. `total` is the number of places up to the end of the
+-- bytes.
 abbrev pub operand_at : ℕ → Bool → ℕ → List ℕ → Option (Given × List ℕ)
 operand_at total jumps zero (high ∷ low ∷ rest) = Some (word_given jumps (total - length rest) (256 * high + low), rest)
 operand_at total jumps zero (high ∷ []) = None
@@ -191,7 +192,7 @@ instruction_at total bytes =
     >>= λ branch. text_at (row_of opening.opcode).has_text branch.1
     >>= λ text. Some (record { opcode = opening.opcode; operands = operands.0; store = store.0; branch = branch.0; text = text.0 }, text.1)
 
--- so many instructions one behind the other, and the bytes behind them
+-- the number of instructions that is given, one behind the other, and the bytes behind them
 abbrev pub instructions_at : ℕ → ℕ → List ℕ → Option (List Seen × List ℕ)
 instructions_at total zero bytes = Some ([], bytes)
 instructions_at total (suc more) bytes =

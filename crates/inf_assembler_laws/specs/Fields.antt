@@ -6,7 +6,7 @@ use Rattle.inf_opcode.specs.Cells.{Cell, Plain, Of, special_size}
 use Rattle.inf_assembler.specs.Places.{Places, is_short_to, size_at, offset_to, branch_offset}
 use Rattle.inf_assembler.specs.Routines.{Contents, long_places, places}
 
--- a field of so many values, and the offset that it takes, or none where that does not fit
+-- a field that can hold `values` values, and the offset that it takes, or none where that does not fit
 pub record Field : Type 0 where
   pub values : ℕ
   pub offset : Option ℕ
@@ -19,7 +19,7 @@ field_at long places old new (Branches branch) =
 field_at long places old new (Jumps label) = record { values = 65536; offset = offset_to 32768 (new + 2) (places label.number) } ∷ []
 field_at long places old new (Refers target) = []
 
--- those of cells, which stand from a place on and with all branches long from another
+-- the fields of cells that begin at the place `new`, and with all branches long at `old`
 abbrev pub fields : Places → Places → ℕ → ℕ → List Cell → List Field
 fields long places old new [] = []
 fields long places old new ((Plain byte) ∷ cells) = fields long places (old + 1) (new + 1) cells
@@ -29,7 +29,7 @@ fields long places old new ((Of what) ∷ cells) =
 abbrev pub routine_fields : ℕ → Contents → List Field
 routine_fields place contents = fields (long_places place contents) (places place contents) (place + 1) (place + 1) contents.cells
 
--- that an offset is there, and is one of so many values
+-- the offset is there, and is one of `values` values
 abbrev pub IsBelow : ℕ → Option ℕ → Type 0
 IsBelow values None = ⊥
 IsBelow values (Some offset) = offset < values

@@ -23,7 +23,7 @@ items_cells items = flat_map item_cells items
 abbrev pub routine_of : ℕ → List Item → Bool → Contents
 routine_of locals items is_final = record { locals = locals; cells = items_cells items; is_final = is_final }
 
--- that each instruction is as the instruction set says
+-- each instruction is as the instruction set says
 abbrev pub AreProper : List Item → Type 0
 AreProper [] = Unit {0}
 AreProper ((Marked label) ∷ items) = AreProper items

@@ -17,9 +17,8 @@ use Rattle.inf_assembler_laws.specs.Filling.{known_cells, filled}
 abbrev pub NamesAreFound : Type 0
 NamesAreFound = (opcode : Opcode) → opcode_named (name_of opcode) ≡ Some opcode
 
--- The bytes of a routine, which stands at a place, are read as its instructions: each branch and jump goes to the place of its label, and
--- references
--- are zero. The bytes behind them are left.
+-- The bytes of a routine at a place are read as its instructions: each branch and jump goes to the place of its label, and references are
+-- zero. The bytes behind them are left.
 abbrev pub RoutinesAreReadBack : Type 0
 RoutinesAreReadBack =
     (place locals : ℕ) (items : List Item) (is_final : Bool) (body rest : List ℕ) → AreProper items
@@ -27,7 +26,7 @@ RoutinesAreReadBack =
     → instructions_at (place + 1 + length body + length rest) (length (instructions items)) (body ++ rest)
     ≡ Some (map (seen (places place (routine_of locals items is_final))) (instructions items), rest)
 
--- What returns at the end of a routine is read as rtrue or rfalse.
+-- The return at the end of a routine is read as rtrue or rfalse.
 abbrev pub returning : RoutineKind → Opcode
 returning Own = Rtrue
 returning Embedded = Rfalse
@@ -52,8 +51,8 @@ abbrev pub OffsetsFit : Type 0
 OffsetsFit =
     (place : ℕ) (contents : Contents) (body : List ℕ) → body_bytes place contents ≡ Some body → AreWithin (routine_fields place contents)
 
--- A routine whose fixups are filled has the bytes of the routine with these numbers in place of its references, and what stands before it
--- stays.
+-- A routine whose fixups are filled has the bytes of the routine with these numbers in place of its references, and the bytes before it
+-- stay.
 abbrev pub with_numbers : (Target → ℕ) → Contents → Contents
 with_numbers number_of contents = record contents { cells = known_cells number_of contents.cells }
 

@@ -1,4 +1,4 @@
--- Items that stand behind others.
+-- Items behind others.
 use Rattle.std.proofs.Common.{◌++◌, [], refl, sym, ◌∙◌, ap, append-nil, append_assoc}
 use Rattle.inf_assembler.specs.Routines.{Contents, Moment, Were, moment_of}
 

@@ -1,9 +1,9 @@
-//! What is done to areas.
+//! The steps of a line about areas.
 use crate::words::{bytes_of, number_or, word};
 use inf_area::{Area, FlatArea, PagedArea};
 use std::alloc::{AllocError, Global};
 
-/// Does one thing to an area: nothing where it does not lie within.
+/// Takes one step on an area: nothing happens where its places are not within.
 fn act<A: Area>(area: &mut A, step: &str) -> Result<(), AllocError> {
     let len = area.len();
     let (first, second, third) = (
@@ -32,7 +32,7 @@ fn act<A: Area>(area: &mut A, step: &str) -> Result<(), AllocError> {
     Ok(())
 }
 
-/// What is in an area behind each of the things that are done to it.
+/// Returns the bytes of an area, and its length and bytes behind each step of a line.
 fn told_of<A: Area>(alloc: Global, area: &mut A, line: &str) -> Result<String, AllocError> {
     let mut told = bytes_of(alloc, area)?;
     for step in line.split(" | ").skip(1) {
@@ -42,7 +42,7 @@ fn told_of<A: Area>(alloc: Global, area: &mut A, line: &str) -> Result<String, A
     Ok(told)
 }
 
-/// One answer, or two where they are not the same.
+/// Returns one answer, or both where they are not the same.
 pub(crate) fn both(alloc: Global, flat: String, paged: String) -> Result<String, AllocError> {
     if flat.as_str() == paged.as_str() {
         Ok(flat)
@@ -51,7 +51,7 @@ pub(crate) fn both(alloc: Global, flat: String, paged: String) -> Result<String,
     }
 }
 
-/// What comes of a line of things that are done to both areas.
+/// Returns the answer to a line of steps, which both areas take.
 pub(crate) fn answer(alloc: Global, line: &str) -> Result<String, AllocError> {
     let flat = told_of(alloc, &mut FlatArea::new(alloc), line)?;
     let paged = told_of(alloc, &mut PagedArea::new(alloc), line)?;

@@ -2,12 +2,12 @@
 use inf_area::{Area, FlatArea};
 use std::alloc::AllocError;
 
-/// An area that takes so many bytes, then refuses one, and takes all others.
+/// An area that takes `room` bytes, then refuses one, and takes all others.
 #[derive(Drop)]
 pub(crate) struct Failing {
-    /// What it has taken.
+    /// The bytes that it has taken.
     pub(crate) inner: FlatArea,
-    /// How many bytes it takes before it refuses one.
+    /// The number of bytes that it takes before it refuses one.
     pub(crate) room: Option<usize>,
 }
 

@@ -3,12 +3,12 @@ use crate::words::{number_or, word};
 use inf_area::{AreaName, Fixup, Refs, Target};
 use std::alloc::{AllocError, Global};
 
-/// What the name of a number stands for.
+/// Returns the target that is the name of a number.
 pub(crate) fn called(number: usize) -> Target {
     Target::Name(number)
 }
 
-/// The fixup of routine 7 at a place.
+/// Returns the fixup of routine 7 at a place.
 pub(crate) fn fixup(place: usize) -> Fixup {
     Fixup {
         area: AreaName::Code,
@@ -17,7 +17,7 @@ pub(crate) fn fixup(place: usize) -> Fixup {
     }
 }
 
-/// The fixups of a list, or the first five and the last, with their count.
+/// Returns the fixups of a list in words, or the first five and the last, with their count.
 pub(crate) fn fixups_of(alloc: Global, refs: &Refs) -> Result<String, AllocError> {
     let mut told = format!(in alloc; "fixups {}", refs.len())?;
     for (number, fixup) in refs.as_slice().iter().enumerate() {
@@ -33,7 +33,7 @@ pub(crate) fn fixups_of(alloc: Global, refs: &Refs) -> Result<String, AllocError
     Ok(told)
 }
 
-/// What comes of a line of things that are done to a list of fixups.
+/// Returns the answer to a line of steps on a list of fixups.
 pub(crate) fn answer(alloc: Global, line: &str) -> Result<String, AllocError> {
     let mut refs = Refs::new(alloc, number_or(line, 1, 0));
     let mut told = fixups_of(alloc, &refs)?;

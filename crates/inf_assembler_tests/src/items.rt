@@ -8,7 +8,7 @@ use inf_area::{Area, Refs};
 use inf_assembler::{GrowFault, Routine};
 use inf_opcode::{Branch, Instruction, Label, Opcode, Operand};
 
-/// What a routine is made of.
+/// An item of a routine.
 #[derive(Drop)]
 pub(crate) enum Item {
     /// The mark of a label.
@@ -19,7 +19,7 @@ pub(crate) enum Item {
     Text,
     /// Another instruction.
     Other(Parsed),
-    /// No item of a routine: the bytes of the area are told.
+    /// No item of a routine, but the question for the bytes of the area.
     Bytes,
 }
 

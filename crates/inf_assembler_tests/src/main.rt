@@ -1,23 +1,21 @@
 //! The assembler over a script. Each line of `stdin` is answered by a line; one that begins with `! ` is a title.
 //!
-//! A routine is a line of its kind (`plain` or `embedded`), its locals, the most labels, bytes and references, how many bytes 255 stand
-//! before it, each with a fixup, and how many bytes an area takes before it once lacks memory; `-` stands for what does not
-//! matter. Its items follow, with ` | ` before each, and a number before one that is repeated:
+//! A routine is a line of its kind (`plain` or `embedded`), its locals, the most labels, bytes and references, the number of bytes 255
+//! before it, each with a fixup, and the number of bytes that an area takes before it once lacks memory; `-` is for a number that does
+//! not matter. Its items follow, with ` | ` before each, and a number before one that is repeated:
 //!
 //! - `label 0`, and an instruction by its name with its operands: `5` and `#1234` of one and two bytes, `v1` a variable, `r7` a
 //!   routine that is known later; `>2` is the variable of its result, `?0`, `?~0`, `?rtrue` and `?rfalse` its branch. A `+`
 //!   in place of a number is the turn of a repetition. `jump` takes a label; `print_ret` has a text of its own;
 //! - `mark`, and `back` to it;
-//! - `bytes` tells the bytes of the area.
+//! - `bytes` asks for the bytes of the area.
 //!
-//! The answer tells each refusal, how the routine was closed, all bytes, and the fixups, or the first five and the last. Both areas
-//! answer the same.
+//! The answer has each refusal, the way in which the routine was closed, all bytes, and the fixups, or the first five and the last. Both
+//! areas give the same answer.
 //!
-//! Other lines are `opcode "NAME"`, which tells its row; `area` with what is done to an area; and `refs LIMIT` with what is done to a list
-//! of
-//! fixups.
+//! Other lines are `opcode "NAME"`, which asks for its row; `area` with steps on an area; and `refs LIMIT` with steps on a list of fixups.
 //!
-//! `stdout` has what the Z-Machine Standard 1.1 says of each.
+//! `stdout` has the answers by the Z-Machine Standard 1.1.
 #![tactic(auto)]
 
 mod areas;
@@ -34,7 +32,7 @@ use inf_opcode::Opcode;
 use std::alloc::{AllocError, Global};
 use std::io::{self, BufRead, BufReader};
 
-/// The name and the row of an opcode that is named between quotes.
+/// Returns the name and the row of an opcode that is named between quotes.
 fn row_of(alloc: Global, quoted: &str) -> Result<String, AllocError> {
     match Opcode::by_name(quoted.trim_matches('"')) {
         Some(opcode) => format!(in alloc; "{} {:?}", opcode.name(), opcode.row()),
@@ -42,7 +40,7 @@ fn row_of(alloc: Global, quoted: &str) -> Result<String, AllocError> {
     }
 }
 
-/// What comes of a line.
+/// Returns the answer to a line.
 fn answer(alloc: Global, line: &str) -> Result<String, AllocError> {
     match word(line, 0) {
         "!" => String::from_str(alloc, line),

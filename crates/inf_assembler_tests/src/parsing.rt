@@ -5,17 +5,17 @@ use crate::words::word;
 use inf_opcode::{Branch, Destination, Label, Opcode, Operand};
 use std::alloc::{AllocError, Global};
 
-/// A number, or the turn where it is spelled `+`.
+/// Returns a number, or the turn where it is spelled `+`.
 fn number(spelled: &str, turn: usize) -> usize {
     spelled.parse().unwrap_or(turn)
 }
 
-/// The label of a number, or of the turn.
+/// Returns the label of a number, or of the turn.
 fn label(spelled: &str, turn: u32) -> u32 {
     spelled.parse().unwrap_or(turn)
 }
 
-/// An operand.
+/// Returns an operand.
 fn operand(spelled: &str, turn: usize) -> Operand {
     if let Some(number) = spelled.strip_prefix('v') {
         return Operand::Variable(number.parse().unwrap_or(0));
@@ -29,7 +29,7 @@ fn operand(spelled: &str, turn: usize) -> Operand {
     }
 }
 
-/// A branch, behind its mark.
+/// Returns a branch, behind its mark.
 fn branch(spelled: &str) -> Branch {
     let (sense, to) = match spelled.strip_prefix('~') {
         Some(to) => (false, to),
@@ -45,7 +45,7 @@ fn branch(spelled: &str) -> Branch {
     Branch { sense, target }
 }
 
-/// An instruction with neither label nor text.
+/// Returns an instruction with neither label nor text.
 fn parsed(alloc: Global, opcode: Opcode, item: &str, turn: usize) -> Result<Parsed, AllocError> {
     let mut parsed = Parsed {
         opcode,
@@ -65,7 +65,7 @@ fn parsed(alloc: Global, opcode: Opcode, item: &str, turn: usize) -> Result<Pars
     Ok(parsed)
 }
 
-/// An item in a turn of its repetition: none where there is no such one.
+/// Returns an item in a turn of its repetition: none where its name is unknown.
 fn item(alloc: Global, spelled: &str, turn: usize) -> Result<Option<Item>, AllocError> {
     let number = label(word(spelled, 1), 0);
     Ok(match word(spelled, 0) {

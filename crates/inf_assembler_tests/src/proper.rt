@@ -5,7 +5,7 @@ ghost use Rattle.inf_opcode.specs.PartsOf.{parts_of};
 
 use inf_opcode::{Instruction, Operand};
 
-/// Whether no operand is an offset.
+/// Returns whether no operand is an offset.
 fn has_no_offset(operands: &[Operand]) -> bool
     ensures { result ≡ has_no_offset operands.now }
 {
@@ -17,7 +17,7 @@ fn has_no_offset(operands: &[Operand]) -> bool
     true
 }
 
-/// Whether the first operand is a small constant, where it names a variable.
+/// Returns whether the first operand is a small constant, where it names a variable.
 fn fits_variable(names_variable: bool, operands: &[Operand]) -> bool
     ensures { result ≡ fits_variable names_variable operands.now }
 {
@@ -28,7 +28,7 @@ fn fits_variable(names_variable: bool, operands: &[Operand]) -> bool
     }
 }
 
-/// Whether the instruction set has an instruction, which neither jumps nor has a text.
+/// Returns whether the instruction set has an instruction, which neither jumps nor has a text.
 pub(crate) fn is_proper(instruction: &Instruction<'_>) -> bool
     ensures { result ≡ true → IsProper (parts_of instruction.now) }
 {

@@ -11,7 +11,7 @@ use inf_area::{Area, FlatArea, PagedArea, Refs};
 use inf_assembler::{Limits, Routine, RoutineKind};
 use std::alloc::{AllocError, Global};
 
-/// A routine as a line has it.
+/// A routine, as a line describes it.
 #[derive(Drop)]
 struct Plan {
     kind: RoutineKind,
@@ -25,7 +25,7 @@ struct Plan {
     rest: Vec<Item>,
 }
 
-/// The routine of a line.
+/// Returns the routine that a line describes.
 fn plan_of(alloc: Global, line: &str) -> Result<Plan, AllocError> {
     let (head, _) = line.split_once(" | ").unwrap_or((line, ""));
     let mut plan = Plan {
@@ -103,7 +103,7 @@ fn write_all<A: Area>(
     Ok(())
 }
 
-/// Writes and closes a routine, and tells what was refused and how it was closed.
+/// Writes and closes a routine, and returns the refusals and the way in which it was closed.
 fn told_of<A: Area>(
     alloc: Global,
     area: &mut A,
@@ -126,7 +126,8 @@ fn told_of<A: Area>(
     }
 }
 
-/// What comes of a routine in an area behind what stands before it.
+/// Writes a routine in an area, behind the bytes before it, and returns the refusals, the bytes and
+/// the fixups.
 fn in_area<A: Area>(alloc: Global, area: &mut A, plan: &Plan) -> Result<String, AllocError> {
     let mut refs = Refs::new(alloc, plan.refs);
     for place in 0..plan.before {
@@ -138,7 +139,7 @@ fn in_area<A: Area>(alloc: Global, area: &mut A, plan: &Plan) -> Result<String, 
     format!(in alloc; "{told}; {bytes}; {}", fixups_of(alloc, &refs)?)
 }
 
-/// What comes of the routine of a line.
+/// Returns the answer to the line of a routine.
 pub(crate) fn answer(alloc: Global, line: &str) -> Result<String, AllocError> {
     let plan = plan_of(alloc, line)?;
     if plan.room.is_some() {

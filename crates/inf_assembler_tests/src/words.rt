@@ -1,18 +1,18 @@
-//! The words of a line, and bytes as they are told.
+//! The words of a line, and bytes in words.
 use inf_area::Area;
 use std::alloc::{AllocError, Global};
 
-/// The word at a place, or an empty one.
+/// Returns the word at a place, or an empty one.
 pub(crate) fn word(text: &str, place: usize) -> &str {
     text.split(' ').nth(place).unwrap_or("")
 }
 
-/// The number at a place, or another one.
+/// Returns the number at a place, or another one.
 pub(crate) fn number_or(text: &str, place: usize, other: usize) -> usize {
     word(text, place).parse().unwrap_or(other)
 }
 
-/// Adds what tells of a byte that stands so many times.
+/// Appends a byte in hexadecimal digits, and how often it comes if that is more than once.
 fn add_run(alloc: Global, told: &mut String, byte: u8, count: usize) -> Result<(), AllocError> {
     let run = if count == 1 {
         format!(in alloc; " {byte:02X}")?
@@ -22,7 +22,7 @@ fn add_run(alloc: Global, told: &mut String, byte: u8, count: usize) -> Result<(
     told.push_str(run.as_str())
 }
 
-/// The bytes of an area, where `BB*3` is three times the same.
+/// Returns the bytes of an area, where `BB*3` is three times the same.
 pub(crate) fn bytes_of<A: Area>(alloc: Global, area: &A) -> Result<String, AllocError> {
     let mut told = String::from_str(alloc, "bytes")?;
     let mut count: usize = 0;

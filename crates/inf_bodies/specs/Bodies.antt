@@ -1,4 +1,4 @@
--- What stands in the bodies of objects and classes, unit by unit: classes, attributes and properties. Designer's Manual, fourth edition,
+-- The entries in the bodies of objects and classes, unit by unit: classes, attributes and properties. Designer's Manual, fourth edition,
 -- sections 3.1 to 3.8.
 use Rattle.std.specs.Prelude.{ℕ, ◌+◌, ◌-◌, ◌%◌, ◌==◌, List, length, Bool, true, false, not, Option, Some, None}
 use Rattle.inf_settings.specs.Bounds.{Limits}
@@ -17,9 +17,9 @@ use Rattle.inf_names.specs.Spellings.{Name}
 use Rattle.inf_compilation.specs.Context.{Context}
 use Rattle.inf_unit.specs.Tokens.{SourceToken, is_mark}
 use Rattle.inf_unit.specs.Units.{first_place, kind_at, name_at, order}
-use Rattle.inf_world.specs.declared.faults.AddFault.{AddFault}
-use Rattle.inf_world.specs.World.{further_value_fault, given_property_fault, individual_fault, set_attribute_fault, with_further_value}
-use Rattle.inf_world.specs.World.{with_given_property, with_individual, with_lost_property, with_set_attribute}
+use Rattle.inf_tables.specs.declared.faults.WorldFault.{WorldFault}
+use Rattle.inf_tables.specs.World.{further_value_fault, given_property_fault, individual_fault, set_attribute_fault, with_further_value}
+use Rattle.inf_tables.specs.World.{with_given_property, with_individual, with_lost_property, with_set_attribute}
 use Rattle.inf_compilation.specs.Actions.{Compilation}
 use Rattle.inf_declarations.specs.Declarations.{with_world}
 use Rattle.inf_bodies.specs.Objects.{class_of, entry_told, found_at, joined_fault, joined_some, noted, refused_finding}
@@ -30,7 +30,7 @@ last_at tokens = length tokens - 1
 
 -- Classes
 
-abbrev pub class_finding : Option ℕ → Option AddFault → ℕ → Option Finding
+abbrev pub class_finding : Option ℕ → Option WorldFault → ℕ → Option Finding
 class_finding None fault at = Some (wrong_kind (order at))
 class_finding (Some number) fault at = refused_finding fault (order at)
 
@@ -63,7 +63,7 @@ is_given_by (Some k) = not (is_mark mark.BitNot k)
 abbrev pub is_given : List SourceToken → ℕ → Bool
 is_given tokens at = is_given_by (kind_at tokens (at - 1))
 
-abbrev pub attribute_set_by : Option AddFault → ℕ → Bool → Code
+abbrev pub attribute_set_by : Option WorldFault → ℕ → Bool → Code
 attribute_set_by None number is_given o = with_world (with_set_attribute number is_given o.tables.world) o
 attribute_set_by (Some f) number is_given o = o
 
@@ -117,7 +117,7 @@ with_property_lost o = with_world (with_lost_property o.tables.world) o
 abbrev pub property_lost : Limits → Option Name → Code
 property_lost limits name o = with_property_lost (individual_declared limits name 0 o)
 
-abbrev pub property_given_by : Limits → Option AddFault → ℕ → Option Value → Code
+abbrev pub property_given_by : Limits → Option WorldFault → ℕ → Option Value → Code
 property_given_by limits None number v o = with_world (with_given_property number v o.tables.world) o
 property_given_by limits (Some f) number v o = noted limits f o
 
@@ -127,7 +127,7 @@ property_given limits number v o = property_given_by limits (given_property_faul
 abbrev pub individual_named : Limits → Option Name → ℕ → Option Value → Code
 individual_named limits name number v o = property_given limits number v (individual_declared limits name number o)
 
-abbrev pub individual_given_by : Limits → Option AddFault → Option Name → Option Value → Code
+abbrev pub individual_given_by : Limits → Option WorldFault → Option Name → Option Value → Code
 individual_given_by limits None name v o =
     individual_named limits name (64 + o.tables.world.individuals) v (with_world (with_individual o.tables.world) o)
 individual_given_by limits (Some f) name v o = o
@@ -135,14 +135,15 @@ individual_given_by limits (Some f) name v o = o
 abbrev pub individual_given : Limits → Option Name → Option Value → Code
 individual_given limits name v o = individual_given_by limits (individual_fault o.tables.world) name v o
 
-abbrev pub further_added_by : Limits → Option AddFault → Value → Code
+abbrev pub further_added_by : Limits → Option WorldFault → Value → Code
 further_added_by limits None v o = with_world (with_further_value v o.tables.world) o
 further_added_by limits (Some f) v o = noted limits f o
 
 abbrev pub further_added : Limits → Value → Code
 further_added limits v o = further_added_by limits (further_value_fault limits v o.tables.world) v o
 
--- What is wrong with a property, whose name stands at a place, and with its first value. A name that is not declared is that of a new one.
+-- The finding about a property, whose name is at the place `at`, and about its first value. A name that is not declared is that of a new
+-- one.
 abbrev pub number_finding : Limits → Option ℕ → Option Value → ℕ → Compilation → Option Finding
 number_finding limits None v at w = Some (wrong_kind (order at))
 number_finding limits (Some number) v at w = refused_finding (given_property_fault limits number v w.output.tables.world) (order at)
@@ -159,7 +160,7 @@ property_finding limits at v w = property_finding_by limits (found_at at w) at v
 abbrev pub further_finding : Limits → Value → Compilation → Option Finding
 further_finding limits v w = refused_finding (further_value_fault limits v w.output.tables.world) 0
 
--- A value goes to the property whose name stands before it, or to the one that was given last.
+-- the finding about the property to which a value goes: the one whose name comes before it, or the one that was given last
 abbrev pub place_finding : Limits → Option ℕ → Value → Compilation → Option Finding
 place_finding limits None v w = further_finding limits v w
 place_finding limits (Some at) v w = property_finding limits at (Some v) w
@@ -175,7 +176,7 @@ abbrev pub given_with : Limits → Option Finding → ℕ → Option Value → C
 given_with limits None at v w = property_gives limits at v w
 given_with limits (Some f) at v w = record w { output = property_lost limits (name_at w.unit.tokens at) w.output }
 
--- with what was found of the value before
+-- the finding about a property, with that about its value
 abbrev pub given_finding : Limits → ℕ → Option Value → Option Finding → Compilation → Option Finding
 given_finding limits at v of_value w = least_of_both (property_finding limits at v w) of_value
 

@@ -23,16 +23,16 @@ use Rattle.inf_unit.specs.Messages.{Diagnostic}
 use Rattle.inf_compilation.specs.Context.{Context}
 use Rattle.inf_unit.specs.Tokens.{SourceToken}
 use Rattle.inf_unit.specs.Units.{bytes_at, name_at, name_order, next_place, order}
-use Rattle.inf_world.specs.declared.faults.AddFault.{AddFault}
-use Rattle.inf_world.specs.declared.faults.AddFault.TheVariants as fault
-use Rattle.inf_world.specs.declared.faults.Misfit.{Misfit}
-use Rattle.inf_world.specs.declared.faults.Setting.{Setting as WorldSetting}
-use Rattle.inf_world.specs.declared.faults.Setting.TheVariants as world_setting
-use Rattle.inf_world.specs.declared.kinds.Parent.{Parent}
-use Rattle.inf_world.specs.declared.kinds.Parent.TheVariants as parent
-use Rattle.inf_world.specs.Objects.{class_count, parent_of}
-use Rattle.inf_world.specs.World.{class_header_fault, class_of_fault, lost_header_fault, object_header_fault, with_class_header}
-use Rattle.inf_world.specs.World.{with_class_of, with_lost_header, with_object_header}
+use Rattle.inf_tables.specs.declared.faults.WorldFault.{WorldFault}
+use Rattle.inf_tables.specs.declared.faults.WorldFault.TheVariants as fault
+use Rattle.inf_tables.specs.declared.faults.Misfit.{Misfit}
+use Rattle.inf_tables.specs.declared.faults.WorldSetting.{WorldSetting}
+use Rattle.inf_tables.specs.declared.faults.WorldSetting.TheVariants as world_setting
+use Rattle.inf_tables.specs.declared.kinds.Parent.{Parent}
+use Rattle.inf_tables.specs.declared.kinds.Parent.TheVariants as parent
+use Rattle.inf_tables.specs.Objects.{class_count, parent_of}
+use Rattle.inf_tables.specs.World.{class_header_fault, class_of_fault, lost_header_fault, object_header_fault, with_class_header}
+use Rattle.inf_tables.specs.World.{with_class_of, with_lost_header, with_object_header}
 use Rattle.inf_compilation.specs.Actions.{Compilation, unit_ended}
 use Rattle.inf_declarations.specs.Declarations.{declared_ended, plainly_known, with_world}
 use Rattle.inf_compilation.specs.Findings.{found_alone, many_finding}
@@ -40,7 +40,7 @@ use Rattle.inf_declarations.specs.declared.declarations.Declared.{Declared}
 use Rattle.inf_bodies.specs.declared.headers.Header.{Header}
 use Rattle.inf_bodies.specs.ShortNames.{bracketed, name_packed, packed_name, short_text}
 
--- What the world refuses
+-- Refusals of the world
 
 -- the setting that bounds a count
 abbrev pub setting_of : WorldSetting → Setting
@@ -48,25 +48,27 @@ setting_of world_setting.Objects = setting.Objects
 setting_of world_setting.PropertyTables = setting.PropertyTables
 
 -- A refused entry does nothing; where it would pass a setting, that is passed.
-abbrev pub noted : Limits → AddFault → Code
+abbrev pub noted : Limits → WorldFault → Code
 noted limits (fault.Limit l) o = o
 noted limits (fault.Misfit m) o = o
 noted limits (fault.Full s) o = passed_table limits (setting_of s) o
 noted limits fault.Memory o = o
 
--- What is wrong with a refused entry, whose name has an order. That a setting would be passed is no error of the unit.
-abbrev pub refused_finding : Option AddFault → ℕ → Option Finding
+-- The finding about an entry that the world refuses, at `name`, the order of its name. It is no error of the unit that a
+-- setting would be passed.
+abbrev pub refused_finding : Option WorldFault → ℕ → Option Finding
 refused_finding None name = None
 refused_finding (Some (fault.Limit l)) name = Some (record { order = 0; number = 19 })
 refused_finding (Some (fault.Misfit m)) name = Some (wrong_kind name)
 refused_finding (Some (fault.Full s)) name = None
 refused_finding (Some fault.Memory) name = None
 
--- Units, which begin at a place: what was found is told, that there are too many values at the first token.
+-- The end of a unit of an object or a class, which begins at `first`: the finding about it is shown, and at its first token
+-- that there are too many values.
 abbrev pub entry_told : Limits → Context → Place → Option Finding → Compilation → Compilation
 entry_told limits context first f w = unit_ended limits context first false (found_alone f) w
 
--- What names stand for
+-- Meanings of names
 
 abbrev pub found_at : ℕ → Compilation → Found Place
 found_at at w = found_in (bytes_at w.unit.tokens at) w.output.names
@@ -122,10 +124,10 @@ abbrev pub header_from : ℕ → ℕ → List SourceToken → Header → Header
 header_from word at [] h = h
 header_from word at (t ∷ tokens) h = header_from word (at + 1) tokens (header_step word at (Some t.kind) h)
 
-abbrev pub header_of : ℕ → List SourceToken → Header
-header_of word tokens = header_from word 0 tokens no_header
+abbrev pub object_header_of : ℕ → List SourceToken → Header
+object_header_of word tokens = header_from word 0 tokens no_header
 
--- the place of the word, before which a `#` may stand
+-- the place of the directive's word, before which a `#` may come
 abbrev pub word_place : List SourceToken → ℕ
 word_place tokens = name_order tokens - 1
 
@@ -139,30 +141,31 @@ below word h = record h { arrow = Some word; arrows = 1 }
 abbrev pub header_in : List SourceToken → Header
 header_in tokens =
     let word = word_place tokens in
-    if is_nearby (bytes_at tokens word) then below word (header_of word tokens) else header_of word tokens
+    if is_nearby (bytes_at tokens word) then below word (object_header_of word tokens) else object_header_of word tokens
 
 -- Classes
 
 -- a body is open that belongs to nothing, since something is wrong with its header
-abbrev pub lost_begun_by : Option AddFault → Code
+abbrev pub lost_begun_by : Option WorldFault → Code
 lost_begun_by None o = with_world (with_lost_header o.tables.world) o
 lost_begun_by (Some f) o = o
 
 abbrev pub lost_begun : Code
 lost_begun o = lost_begun_by (lost_header_fault o.tables.world) o
 
--- its name is declared; where there is no such class it stands for none
+-- the name of a class is declared; where there is no such class, as that of none
 abbrev pub class_declared : Limits → Name → ℕ → Code
 class_declared limits name number o = declared limits name.bytes name.place (meaning.Class (number % 65536)) o
 
 abbrev pub class_lost : Limits → Name → Code
 class_lost limits name o = class_declared limits name 0 (lost_begun o)
 
--- One that the world refuses, since it would pass a setting, has a name all the same: that may pass a setting before that one.
-abbrev pub class_refused : Limits → AddFault → Name → Code
+-- A class that the world refuses, since it would pass a setting, has a name all the same: that may pass a setting before that
+-- one.
+abbrev pub class_refused : Limits → WorldFault → Name → Code
 class_refused limits f name o = class_declared limits name 0 (noted limits f o)
 
-abbrev pub class_begun_by : Limits → Option AddFault → List ℕ → Name → Code
+abbrev pub class_begun_by : Limits → Option WorldFault → List ℕ → Name → Code
 class_begun_by limits None short name o =
     class_declared limits name (5 + length o.tables.world.objects) (with_world (with_class_header short o.tables.world) o)
 class_begun_by limits (Some f) short name o = class_refused limits f name o
@@ -185,7 +188,7 @@ class_header limits context first name w = class_with limits context first name 
 
 -- Objects
 
--- what is wrong with arrows, the first of which stands at a place: no object stands above them
+-- the finding about arrows, the first of which is at a place: no object is above them
 abbrev pub hung_finding : Result ℕ Misfit → ℕ → Option Finding
 hung_finding (Ok number) at = None
 hung_finding (Err m) at = Some (wrong_kind (order at))
@@ -194,7 +197,7 @@ abbrev pub above_finding : Option ℕ → ℕ → Compilation → Option Finding
 above_finding None arrows w = None
 above_finding (Some at) arrows w = hung_finding (parent_of (parent.Arrows arrows) w.output.tables.world.objects) at
 
--- what is wrong with the name of a parent: it is that of no object, or arrows are there, too
+-- the finding about the name of a parent: it is that of no object, or arrows are there, too
 abbrev pub parent_fit : Option ℕ → Option ℕ → ℕ → Option Finding
 parent_fit (Some number) None at = None
 parent_fit (Some number) (Some arrow) at = Some (wrong_kind (order at))
@@ -224,11 +227,11 @@ abbrev pub has_most_classes : Option ℕ → Out → Bool
 has_most_classes None o = false
 has_most_classes (Some number) o = nat_le 32 (class_count number o.tables.world.objects)
 
--- what is wrong with the class that heads an object, and with where the object is to stand
+-- the findings about the class that heads an object, and about the place of the object in the tree
 abbrev pub headed_finding : Header → Compilation → Option Finding
 headed_finding h w = least_of_both (many_finding (has_most_classes (class_of_word w) w.output)) (parent_finding h w)
 
-abbrev pub joined_by : Limits → Option AddFault → ℕ → Code
+abbrev pub joined_by : Limits → Option WorldFault → ℕ → Code
 joined_by limits None number o = with_world (with_class_of number o.tables.world) o
 joined_by limits (Some f) number o = noted limits f o
 
@@ -239,7 +242,7 @@ abbrev pub joined_some : Limits → Option ℕ → Code
 joined_some limits None o = o
 joined_some limits (Some number) o = joined limits number o
 
-abbrev pub joined_fault : Limits → Option ℕ → Out → Option AddFault
+abbrev pub joined_fault : Limits → Option ℕ → Out → Option WorldFault
 joined_fault limits None o = None
 joined_fault limits (Some number) o = class_of_fault limits number o.tables.world
 
@@ -253,11 +256,11 @@ object_named limits class name number o = object_declared limits name number (jo
 abbrev pub object_lost : Limits → Option Name → Code
 object_lost limits name o = object_declared limits name 0 (lost_begun o)
 
--- one that the world refuses has a name all the same
-abbrev pub object_refused : Limits → AddFault → Option Name → Code
+-- an object that the world refuses has a name all the same
+abbrev pub object_refused : Limits → WorldFault → Option Name → Code
 object_refused limits f name o = object_declared limits name 0 (noted limits f o)
 
-abbrev pub object_begun_by : Limits → Option AddFault → Parent → List ℕ → Option ℕ → Option Name → Code
+abbrev pub object_begun_by : Limits → Option WorldFault → Parent → List ℕ → Option ℕ → Option Name → Code
 object_begun_by limits None p short class name o =
     object_named limits class name (5 + length o.tables.world.objects) (with_world (with_object_header p short o.tables.world) o)
 object_begun_by limits (Some f) p short class name o = object_refused limits f name o
@@ -276,7 +279,7 @@ abbrev pub object_opened : Limits → Context → Option Finding → Header → 
 object_opened limits context None h name w = object_new limits context h name w
 object_opened limits context (Some f) h name w = record w { output = object_lost limits name w.output }
 
--- what is known of it: what is wrong with its name, with its class, and with where it is to stand
+-- the declaration of an object, as far as it is known: the findings about its name, its class, and its place in the tree
 abbrev pub named_known : Context → Header → ℕ → Name → Compilation → Declared
 named_known context h at name w =
     let d = plainly_known name (order at) w in

@@ -20,7 +20,7 @@ abbrev pub packed_name : Option (List TextItem) → Packing → List ℕ
 packed_name None texts = []
 packed_name (Some items) texts = packed items (used_in texts)
 
--- what is laid behind it: a text was packed
+-- the output after a short name was made: where it has characters, a text was packed
 abbrev pub name_packed : Option (List TextItem) → Code
 name_packed None o = o
 name_packed (Some items) o = text_packed o
@@ -29,11 +29,11 @@ name_packed (Some items) o = text_packed o
 abbrev pub in_brackets : List ℕ → List ℕ
 in_brackets name = 40 ∷ (name ++ 41 ∷ [])
 
--- the characters of the short name of what has no text for it
+-- the characters of the short name of an object or a class without a text for it
 abbrev pub bracketed : CharSet → List ℕ → Option (List TextItem)
 bracketed set name = fit_characters (text_of set mode.Text (in_brackets name))
 
--- what has no name, either, is shown as a question mark
+-- the name of an object, or a question mark where it has none
 abbrev pub shown_name : Option Name → List ℕ
 shown_name None = codes "?"
 shown_name (Some n) = n.bytes
@@ -43,7 +43,7 @@ abbrev pub header_text : Context → Option ℕ → Compilation → Option (List
 header_text context None w = None
 header_text context (Some at) w = text_at context.set w.unit.tokens at
 
--- those of the short name of an object: its text, or its name in round brackets
+-- the characters of the short name of an object: its text, or its name in round brackets
 abbrev pub short_by : CharSet → Option (List TextItem) → Option Name → Option (List TextItem)
 short_by set None name = bracketed set (shown_name name)
 short_by set (Some items) name = Some items

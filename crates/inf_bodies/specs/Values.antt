@@ -31,13 +31,13 @@ use Rattle.inf_unit.specs.Texts.{fit_characters}
 use Rattle.inf_unit.specs.Tokens.{SourceToken, is_mark}
 use Rattle.inf_unit.specs.Units.{first_place, order}
 use Rattle.inf_compilation.specs.Actions.{Compilation, finding_at, opened_with, settled_of}
-use Rattle.inf_listings.specs.Arrays.{looked_value, variables_from}
+use Rattle.inf_declarations.specs.Arrays.{looked_value, variables_from}
 use Rattle.inf_bodies.specs.Bodies.{is_words, last_at, place_finding, placed, placed_finding, property_of}
 use Rattle.inf_declarations.specs.Declarations.{value_of}
 use Rattle.inf_compilation.specs.Findings.{Findings, header_findings}
 use Rattle.inf_bodies.specs.Objects.{entry_told, found_at}
 
--- the place of the name of a property, which stands before its first value
+-- the place of the name of a property, which comes before its first value
 abbrev pub place_before : ℕ → Option ℕ
 place_before at = if at == 0 then None else Some (at - 1)
 
@@ -103,7 +103,7 @@ text_finding limits name items w = text_finding_by limits (variables_from items 
 abbrev pub text_placed : Limits → Option ℕ → List TextItem → Compilation → Compilation
 text_placed limits name items w = text_placed_by limits (variables_from items false) name items w
 
--- Expressions: what is wrong with one is found before its names are used
+-- Expressions: the finding about one comes before its names are used
 
 abbrev pub settled_work : Limits → Context → Compilation → Compilation
 settled_work limits context w = record w { output = (settled_of limits context w).out }
@@ -174,14 +174,14 @@ bracket_in tokens = bracket_from 0 tokens 0
 abbrev pub next_routine : Compilation → Value
 next_routine w = value.Later (target.Place area.Code (place_behind w.output.code.finished))
 
--- What is wrong with where it goes, if anything is, or with its locals. Where there are too many of both, these are told.
+-- The limit that a routine as a value passes: where there are too many locals it is that of locals, else that of values.
 abbrev pub many_by : Bool → FixedLimit
 many_by are_locals = if are_locals then countable.Locals else countable.Values
 
 abbrev pub embedded_findings : Option Finding → Bool → Findings → Findings
 embedded_findings own are_locals header = record header { least = least_of_both own header.least; many = many_by are_locals }
 
--- its locals stand behind the tokens of its unit
+-- the findings about a routine that is a value: its locals come behind the tokens of its unit
 abbrev pub found_embedded : Limits → Option ℕ → Headed → Compilation → Findings
 found_embedded limits name h w =
     embedded_findings (place_finding limits name (next_routine w) w) h.are_too_many (header_findings (order (length w.unit.tokens)) None h)

@@ -11,9 +11,8 @@ ghost use Rattle.inf_bodies.specs.Bodies.{property_of, property_read};
 ghost use Rattle.inf_compilation.specs.Actions.{body_ended, world_ended};
 ghost use Rattle.inf_compilation.specs.Works.{work};
 
-use crate::objects::{
-    class_of, found_at, join_some, name_at, refused_finding, setting_of, tell_entry,
-};
+use crate::effects::{join_some, setting_of};
+use crate::objects::{class_of, found_at, name_at, refused_finding, tell_entry};
 use inf_area::Value;
 use inf_compilation::compilation::Compilation;
 use inf_compilation::context::Context;
@@ -34,14 +33,14 @@ use std::alloc::AllocError;
 /// The number of the property `name`, whose values are words of the dictionary.
 const NAME: usize = 1;
 
-/// The place of the last token.
+/// Returns the place of the last token.
 pub(crate) fn last_at(tokens: &UnitTokens) -> usize
     ensures { result ≡ last_at tokens.now }
 {
     tokens.len().saturating_sub(1)
 }
 
-/// The number of the property that a name stands for.
+/// Returns the number of the property that a name with `meaning` stands for, or `None`.
 fn property_in(meaning: Meaning) -> Option<usize>
     ensures { result ≡ property_in meaning }
 {
@@ -52,7 +51,7 @@ fn property_in(meaning: Meaning) -> Option<usize>
     }
 }
 
-/// Returns the number of the property that a name stands for, by `found`, what looking for the name found.
+/// Returns the number of the property that a name stands for, by `found`, the answer of its look-up, or `None`.
 pub(crate) fn property_of(found: Found<Place>) -> Option<usize>
     ensures { result ≡ property_of found }
 {
@@ -74,8 +73,8 @@ pub(crate) fn is_words(number: Option<usize>) -> bool
 
 // Classes and attributes
 
-/// Returns the finding about the name of `class`, which stands at `at`: that the world refused the class by `fault`, or that there is no
-/// such class.
+/// Returns the finding about the name of `class` at `at`: that the world refused the class by `fault`, or that there is
+/// no such class.
 fn class_finding(class: Option<usize>, fault: Option<WorldFault>, at: usize) -> Option<Finding>
     ensures { result ≡ class_finding class fault at }
 {
@@ -85,7 +84,7 @@ fn class_finding(class: Option<usize>, fault: Option<WorldFault>, at: usize) -> 
     }
 }
 
-/// The number of the attribute that a name stands for, by what looking for it found.
+/// Returns the number of the attribute that a name stands for, by the answer of its look-up, or `None`.
 fn attribute_of(found: Found<Place>) -> Option<usize>
     ensures { result ≡ attribute_of found }
 {
@@ -95,7 +94,7 @@ fn attribute_of(found: Found<Place>) -> Option<usize>
     }
 }
 
-/// Returns whether the attribute whose name stands at a place is given, and not taken away by `~`.
+/// Returns whether the attribute whose name is at a place is given, and not taken away by `~`.
 fn is_given(tokens: &UnitTokens, at: usize) -> bool
     ensures { result ≡ is_given tokens.now at }
 {
@@ -105,7 +104,7 @@ fn is_given(tokens: &UnitTokens, at: usize) -> bool
     }
 }
 
-/// The open body gives an attribute, or takes it away.
+/// Gives the open body attribute `number`, or takes it away unless `is_given`.
 fn set_attribute<B: Bounds>(
     number: usize,
     is_given: bool,
@@ -119,7 +118,8 @@ fn set_attribute<B: Bounds>(
     }
 }
 
-/// Has the open body give attribute `number`, or take it away unless `is_given`. Nothing happens where there is no such attribute.
+/// Gives the open body attribute `number`, or takes it away unless `is_given`. Nothing happens where there is no such
+/// attribute.
 fn set_some<B: Bounds>(
     number: Option<usize>,
     is_given: bool,
@@ -133,7 +133,7 @@ fn set_some<B: Bounds>(
     }
 }
 
-/// Returns the finding about the name at `at` that it is that of no attribute, which has a `number`.
+/// Returns the finding that the name at `at` is no attribute's, unless it has a `number`.
 fn attribute_finding(number: Option<usize>, at: usize) -> Option<Finding>
     ensures { result ≡ attribute_finding number at }
 {
@@ -145,7 +145,7 @@ fn attribute_finding(number: Option<usize>, at: usize) -> Option<Finding>
 
 // Properties
 
-/// A name is declared as that of an individual property, where it is new.
+/// Declares the name of individual property `number`, if there is a name.
 fn declare_individual<B: Bounds>(
     name: &Option<Name>,
     number: usize,
@@ -163,7 +163,7 @@ fn declare_individual<B: Bounds>(
     }
 }
 
-/// A property with something wrong: further values give nothing.
+/// Drops a property with something wrong: its name is declared, if it has one, and its further values give nothing.
 fn lose_property<B: Bounds>(name: &Option<Name>, out: &mut Output<B>) -> Result<(), AllocError>
     ensures { OnOk result (out.new ≡ property_lost B.most (option_map as_name name.now) out.old) }
 {
@@ -172,7 +172,8 @@ fn lose_property<B: Bounds>(name: &Option<Name>, out: &mut Output<B>) -> Result<
     Ok(())
 }
 
-/// The open body gives a property, with its first value if it has one.
+/// Gives the open body property `number`, with its first value if it has one. Where that would pass a setting, it is
+/// passed.
 fn give_property<B: Bounds>(
     number: usize,
     value: Option<Value>,
@@ -191,7 +192,7 @@ fn give_property<B: Bounds>(
     }
 }
 
-/// An individual property with its name, which the open body gives.
+/// Declares the name of individual property `number`, and gives the property to the open body.
 fn give_named<B: Bounds>(
     name: &Option<Name>,
     number: usize,
@@ -204,7 +205,7 @@ fn give_named<B: Bounds>(
     give_property(number, value, out)
 }
 
-/// A new individual property, which the open body gives.
+/// Makes a new individual property, and gives it to the open body.
 fn give_individual<B: Bounds>(
     name: &Option<Name>,
     value: Option<Value>,
@@ -219,7 +220,7 @@ fn give_individual<B: Bounds>(
     }
 }
 
-/// A further value of the property that was given last.
+/// Adds a further value to the property that was given last. Where that would pass a setting, it is passed.
 fn add_further<B: Bounds>(value: Value, out: &mut Output<B>) -> Result<(), AllocError>
     ensures { OnOk result (out.new ≡ further_added B.most value out.old) }
 {
@@ -234,7 +235,7 @@ fn add_further<B: Bounds>(value: Value, out: &mut Output<B>) -> Result<(), Alloc
     }
 }
 
-/// The open body of the world ends, if one is open.
+/// Ends the open body of the world, if one is open.
 fn end_world<B: Bounds>(out: &mut Output<B>) -> Result<(), AllocError>
     ensures { OnOk result (out.new ≡ world_ended out.old) }
 {
@@ -266,7 +267,7 @@ pub fn class_of_body<B: Bounds>(
     tell_entry(compilation, context, first, class_finding(class, fault, at))
 }
 
-/// Gives the open body the attribute that the last token names, or takes it away if `~` stands before it.
+/// Gives the open body the attribute that the last token names, or takes it away if `~` comes before it.
 pub fn attribute_of_body<B: Bounds>(
     compilation: &mut Compilation<B>,
     context: &Context<'_>,
@@ -285,7 +286,7 @@ pub fn attribute_of_body<B: Bounds>(
     tell_entry(compilation, context, first, attribute_finding(number, at))
 }
 
-// Where values go
+// The properties to which values go
 
 /// Returns the finding about property `number`, if its name at `at` has one, with the first value `value`.
 fn number_finding<B: Bounds>(
@@ -305,8 +306,8 @@ fn number_finding<B: Bounds>(
     }
 }
 
-/// Returns the finding about a property whose name stands at `at`, with the first value `value`. A name that is not declared is that of a
-/// new property.
+/// Returns the finding about a property whose name is at `at`, with the first value `value`. A name that is not
+/// declared is that of a new property.
 fn property_finding<B: Bounds>(
     compilation: &Compilation<B>,
     at: usize,
@@ -329,7 +330,8 @@ fn further_finding<B: Bounds>(compilation: &Compilation<B>, value: Value) -> Opt
     refused_finding(compilation.output.tables.world.value_fault(value), 0)
 }
 
-/// Returns the finding about the property to which `value` goes: the one whose `name` stands before it, or the one that was given last.
+/// Returns the finding about the property to which `value` goes: the one whose `name` comes before it, or the one that
+/// was given last.
 pub(crate) fn place_finding<B: Bounds>(
     compilation: &Compilation<B>,
     name: Option<usize>,
@@ -343,7 +345,7 @@ pub(crate) fn place_finding<B: Bounds>(
     }
 }
 
-/// The property is given whose name stands at a place and with which nothing is wrong.
+/// Gives the open body the property whose name is at `at` and with which nothing is wrong.
 fn give<B: Bounds>(
     compilation: &mut Compilation<B>,
     at: usize,
@@ -360,7 +362,7 @@ fn give<B: Bounds>(
     }
 }
 
-/// The property whose name stands at a place, in which this was found.
+/// Gives the open body the property whose name is at `at`, or drops it where there is a finding about it.
 fn give_with<B: Bounds>(
     compilation: &mut Compilation<B>,
     found: Option<Finding>,
@@ -378,7 +380,8 @@ fn give_with<B: Bounds>(
     }
 }
 
-/// A property whose name stands at a place, with this first value, and what is found of that. Answers what is wrong.
+/// Gives the open body the property whose name is at `at`, with its first value, where `of_value` is the finding about
+/// that. Returns the finding about both; where there is one, the property is dropped.
 fn given<B: Bounds>(
     compilation: &mut Compilation<B>,
     at: usize,
@@ -394,7 +397,7 @@ fn given<B: Bounds>(
     Ok(found)
 }
 
-/// A further value, where this is wrong with it.
+/// Adds a further value, unless there is a finding about it.
 fn further_with<B: Bounds>(
     compilation: &mut Compilation<B>,
     found: Option<Finding>,
@@ -408,7 +411,7 @@ fn further_with<B: Bounds>(
     }
 }
 
-/// A further value, with what was found of it before. Answers what is wrong.
+/// Adds a further value, where `of_value` is the finding about the value alone, and returns the finding about it.
 fn further<B: Bounds>(
     compilation: &mut Compilation<B>,
     value: Value,
@@ -422,7 +425,8 @@ fn further<B: Bounds>(
     Ok(found)
 }
 
-/// A value goes where it is to go. Answers what is wrong, with what was found of it before.
+/// Puts a value into the property at `name`, or into the one that was given last, where `of_value` is the finding about
+/// the value alone. Returns the finding about it.
 pub(crate) fn placed<B: Bounds>(
     compilation: &mut Compilation<B>,
     name: Option<usize>,

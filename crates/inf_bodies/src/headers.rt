@@ -1,6 +1,6 @@
 //! The header of an object: its name, its arrows, its text and its parent.
 ghost use Rattle.std.specs.Prelude.{◌≡◌};
-ghost use Rattle.inf_bodies.specs.Objects.{arrow_at, below, header_in, header_of, header_step, header_with, is_nearby, named_at};
+ghost use Rattle.inf_bodies.specs.Objects.{arrow_at, below, header_in, object_header_of, header_step, header_with, is_nearby, named_at};
 ghost use Rattle.inf_bodies.specs.Objects.{word_place};
 
 use inf_scanner::TokenKind;
@@ -19,7 +19,7 @@ pub struct Header {
     pub arrows: usize,
 }
 
-/// One arrow more.
+/// Returns the header with one arrow more, at `at`.
 fn arrow_at(header: Header, at: usize) -> Header
     ensures { result ≡ arrow_at at header }
 {
@@ -30,7 +30,8 @@ fn arrow_at(header: Header, at: usize) -> Header
     }
 }
 
-/// Adds the name at `at` to `header`: as the object's own, unless one stands there already, or a text does; else as that of its parent.
+/// Adds the name at `at` to `header`: as the object's own, unless it has one already, or a text; else as that of its
+/// parent.
 pub fn named_at(header: Header, at: usize) -> Header
     ensures { result ≡ named_at at header }
 {
@@ -46,7 +47,7 @@ pub fn named_at(header: Header, at: usize) -> Header
     }
 }
 
-/// Adds a token of `kind`, which stands at `at`, to `header`.
+/// Adds a token of `kind` at `at` to `header`.
 pub fn header_with(header: Header, at: usize, kind: TokenKind) -> Header
     ensures { result ≡ header_with at kind header }
 {
@@ -70,10 +71,10 @@ fn header_step(header: Header, word: usize, at: usize, kind: Option<TokenKind>) 
     }
 }
 
-/// Returns the header of an object that `tokens` are, whose word stands at `word` among them.
+/// Returns the header of an object that has these tokens, with its word at `word` among them.
 #[tactic(auto, using(crate::proofs::KindSteps::header_goes))]
-pub fn header_of(tokens: &UnitTokens, word: usize) -> Header
-    ensures { result ≡ header_of word tokens.now }
+pub fn object_header_of(tokens: &UnitTokens, word: usize) -> Header
+    ensures { result ≡ object_header_of word tokens.now }
 {
     let mut header = Header {
         own: None,
@@ -88,7 +89,7 @@ pub fn header_of(tokens: &UnitTokens, word: usize) -> Header
     header
 }
 
-/// The place of the word of a directive, before which a `#` may stand.
+/// Returns the place of the word of a directive, before which a `#` may come.
 pub(crate) fn word_place(tokens: &UnitTokens) -> usize
     ensures { result ≡ word_place tokens.now }
 {
@@ -102,7 +103,7 @@ fn is_nearby(word: &[u8]) -> bool
     word.eq_ignore_ascii_case(b"nearby")
 }
 
-/// The header of an object with one arrow, where its word stands at a place.
+/// Returns the header of an object with one arrow, its word `Nearby` at `word`.
 fn below(header: Header, word: usize) -> Header
     ensures { result ≡ below word header }
 {
@@ -113,12 +114,12 @@ fn below(header: Header, word: usize) -> Header
     }
 }
 
-/// The header of the object that has these tokens.
+/// Returns the header of the object that has these tokens.
 pub(crate) fn header_in(tokens: &UnitTokens) -> Header
     ensures { result ≡ header_in tokens.now }
 {
     let word = word_place(tokens);
-    let header = header_of(tokens, word);
+    let header = object_header_of(tokens, word);
     if is_nearby(tokens.bytes_at(word)) {
         below(header, word)
     } else {

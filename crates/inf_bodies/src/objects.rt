@@ -1,18 +1,16 @@
 //! The headers of classes and objects.
 ghost use Rattle.inf_compilation.specs.Context.{handed};
-ghost use Rattle.std.specs.Prelude.{IfOk, OnOk, option_map, ◌≡◌};
+ghost use Rattle.std.specs.Prelude.{OnOk, option_map, ◌≡◌};
 ghost use Rattle.inf_names.specs.Spellings.{as_name};
-ghost use Rattle.inf_bodies.specs.Objects.{above_finding, class_begun, class_declared, class_header, class_lost, class_of};
-ghost use Rattle.inf_bodies.specs.Objects.{class_of_word, class_opened, class_refused, class_with, entry_told, found_at};
-ghost use Rattle.inf_bodies.specs.Objects.{has_most_classes, headed_finding, header_in, hung_finding, joined};
-ghost use Rattle.inf_bodies.specs.Objects.{joined_fault, joined_some, lost_begun, named_known, named_parent_finding, noted, object_begun};
-ghost use Rattle.inf_bodies.specs.Objects.{object_declared, object_ended, object_header, object_in, object_known, object_lost};
-ghost use Rattle.inf_bodies.specs.Objects.{object_named, object_new, object_of, object_opened, object_refused, object_with, own_name};
-ghost use Rattle.inf_bodies.specs.Objects.{parent_finding, parent_fit, parent_in, refused_finding, setting_of, word_place};
-ghost use Rattle.inf_world.specs.World.{class_of_fault};
+ghost use Rattle.inf_bodies.specs.Objects.{above_finding, class_header, class_of, class_of_word, class_opened, class_with, entry_told};
+ghost use Rattle.inf_bodies.specs.Objects.{found_at, has_most_classes, headed_finding, header_in, hung_finding, named_known};
+ghost use Rattle.inf_bodies.specs.Objects.{named_parent_finding, object_ended, object_header, object_in, object_known, object_new};
+ghost use Rattle.inf_bodies.specs.Objects.{object_of, object_opened, object_with, own_name, parent_finding, parent_fit, parent_in};
+ghost use Rattle.inf_bodies.specs.Objects.{refused_finding, word_place};
 ghost use Rattle.inf_unit.specs.Units.{name_at};
 ghost use Rattle.inf_compilation.specs.Works.{work};
 
+use crate::effects::{begin_class, begin_object, lose_class, lose_object};
 use crate::headers::{Header, header_in, word_place};
 use crate::short_names::{bracketed, pack_name, short_text};
 use inf_compilation::compilation::Compilation;
@@ -27,17 +25,16 @@ use inf_names::symbols::Found;
 use inf_output::Output;
 use inf_report::messages::FixedLimit;
 use inf_settings::bounds::Bounds;
-use inf_settings::setting::Setting;
-use inf_tables::{Misfit, Parent, ShortName, WorldFault};
+use inf_tables::{Misfit, Parent, WorldFault};
 use inf_unit::unit::order;
-use inf_unit::unit_tokens::UnitTokens;
-use inf_world::Setting as WorldSetting;
 use std::alloc::AllocError;
 
-/// The most classes of an object: their list is a property like any other (Z-Machine Standard 1.1, section 12.4.2.1).
+/// The greatest number of an object's classes: their list is a property like any other (Z-Machine Standard 1.1, section
+/// 12.4.2.1).
 const MOST_CLASSES: usize = 32;
 
-/// Returns the finding about an entry of a body that the world refuses by `fault`. That a setting is passed is no error of the unit.
+/// Returns the finding about an entry of a body that the world refuses by `fault`; `name` is the order of its name. It
+/// is no error of the unit that a setting is passed.
 pub(crate) fn refused_finding(fault: Option<WorldFault>, name: u32) -> Option<Finding>
     ensures { result ≡ refused_finding fault name }
 {
@@ -51,17 +48,7 @@ pub(crate) fn refused_finding(fault: Option<WorldFault>, name: u32) -> Option<Fi
     }
 }
 
-/// The setting that bounds a count of the world.
-pub(crate) fn setting_of(setting: WorldSetting) -> Setting
-    ensures { result ≡ setting_of setting }
-{
-    match setting {
-        WorldSetting::Objects => Setting::Objects,
-        WorldSetting::PropertyTables => Setting::PropertyTables,
-    }
-}
-
-/// The number of the object that a name stands for.
+/// Returns the number of the object that a name with `meaning` stands for, or `None`.
 fn object_in(meaning: Meaning) -> Option<usize>
     ensures { result ≡ object_in meaning }
 {
@@ -71,7 +58,7 @@ fn object_in(meaning: Meaning) -> Option<usize>
     }
 }
 
-/// Returns the number of the object that a name stands for, by `found`, what looking for the name found.
+/// Returns the number of the object that a name stands for, by `found`, the answer of its look-up, or `None`.
 fn object_of(found: Found<Place>) -> Option<usize>
     ensures { result ≡ object_of found }
 {
@@ -81,7 +68,7 @@ fn object_of(found: Found<Place>) -> Option<usize>
     }
 }
 
-/// The number of the class of the source that a name stands for, by what looking for it found.
+/// Returns the number of the class of the source that a name stands for, by the answer of its look-up, or `None`.
 pub(crate) fn class_of(found: Found<Place>) -> Option<usize>
     ensures { result ≡ class_of found }
 {
@@ -93,7 +80,8 @@ pub(crate) fn class_of(found: Found<Place>) -> Option<usize>
 
 // The header of an object
 
-/// Returns the finding about a header's arrows, the first of which stands at `at`, by `hung`, what the world says of them.
+/// Returns the finding about a header's arrows, the first of which is at `at`, by `hung`, the object that the world has
+/// above them.
 fn hung_finding(hung: Result<usize, Misfit>, at: usize) -> Option<Finding>
     ensures { result ≡ hung_finding hung at }
 {
@@ -103,7 +91,8 @@ fn hung_finding(hung: Result<usize, Misfit>, at: usize) -> Option<Finding>
     }
 }
 
-/// Returns the finding about the name of a parent at `at`: it is that of no object, which has a `number`, or there is an `arrow`, too.
+/// Returns the finding about the name of a parent at `at`: unless it has a `number` it is no object's, and with an
+/// `arrow` there are arrows, too.
 fn parent_fit(number: Option<usize>, arrow: Option<usize>, at: usize) -> Option<Finding>
     ensures { result ≡ parent_fit number arrow at }
 {
@@ -113,197 +102,7 @@ fn parent_fit(number: Option<usize>, arrow: Option<usize>, at: usize) -> Option<
     }
 }
 
-// What headers do
-
-/// A body is open that belongs to nothing, since something is wrong with its header.
-fn begin_lost<B: Bounds>(out: &mut Output<B>) -> Result<(), AllocError>
-    ensures { OnOk result (out.new ≡ lost_begun out.old) }
-{
-    match out.tables.world.begin_lost() {
-        Ok(()) | Err(WorldFault::Limit(_) | WorldFault::Misfit(_) | WorldFault::Full(_)) => Ok(()),
-        Err(WorldFault::Memory) => Err(AllocError),
-    }
-}
-
-/// Passes the setting that `fault` would pass. Nothing else comes of what the world refuses.
-fn note<B: Bounds>(fault: WorldFault, out: &mut Output<B>) -> Result<(), AllocError>
-    ensures { OnOk result (out.new ≡ noted B.most fault out.old) }
-{
-    match fault {
-        WorldFault::Memory => Err(AllocError),
-        WorldFault::Full(setting) => {
-            out.pass_table(setting_of(setting));
-            Ok(())
-        }
-        WorldFault::Limit(_) | WorldFault::Misfit(_) => Ok(()),
-    }
-}
-
-/// The name of a class is declared.
-fn declare_class<B: Bounds>(
-    name: &Name,
-    number: usize,
-    out: &mut Output<B>,
-) -> Result<(), AllocError>
-    ensures { OnOk result (out.new ≡ class_declared B.most (as_name name.now) number out.old) }
-{
-    out.declare(
-        name.bytes(),
-        name.place,
-        Meaning::Class((number % 65536) as u16),
-    )?;
-    Ok(())
-}
-
-/// The name of a class that there is not: it stands for none.
-fn declare_no_class<B: Bounds>(name: &Name, out: &mut Output<B>) -> Result<(), AllocError>
-    ensures { OnOk result (out.new ≡ class_declared B.most (as_name name.now) 0 out.old) }
-{
-    declare_class(name, 0, out)
-}
-
-/// A class with something wrong in its header: its name stands for no class.
-fn lose_class<B: Bounds>(name: &Name, out: &mut Output<B>) -> Result<(), AllocError>
-    ensures { OnOk result (out.new ≡ class_lost B.most (as_name name.now) out.old) }
-{
-    begin_lost(out)?;
-    declare_no_class(name, out)
-}
-
-/// A class that the world refuses has a name all the same.
-fn refuse_class<B: Bounds>(
-    fault: WorldFault,
-    name: &Name,
-    out: &mut Output<B>,
-) -> Result<(), AllocError>
-    ensures { OnOk result (out.new ≡ class_refused B.most fault (as_name name.now) out.old) }
-{
-    note(fault, out)?;
-    declare_no_class(name, out)
-}
-
-/// A class with its name. Where it would pass a limit its name stands for none.
-fn begin_class<B: Bounds>(
-    name: &Name,
-    short: ShortName,
-    out: &mut Output<B>,
-) -> Result<(), AllocError>
-    ensures { OnOk result (out.new ≡ class_begun B.most short (as_name name.now) out.old) }
-{
-    match out.tables.world.begin_class(short) {
-        Ok(number) => declare_class(name, number, out),
-        Err(fault) => refuse_class(fault, name, out),
-    }
-}
-
-/// The name of an object is declared, if it has one.
-fn declare_object<B: Bounds>(
-    name: &Option<Name>,
-    number: usize,
-    out: &mut Output<B>,
-) -> Result<(), AllocError>
-    ensures { OnOk result (out.new ≡ object_declared B.most (option_map as_name name.now) number out.old) }
-{
-    match name {
-        Some(name) => {
-            out.declare(
-                name.bytes(),
-                name.place,
-                Meaning::Object((number % 65536) as u16),
-            )?;
-            Ok(())
-        }
-        None => Ok(()),
-    }
-}
-
-/// The name of an object that there is not, if it has one: it stands for none.
-fn declare_no_object<B: Bounds>(name: &Option<Name>, out: &mut Output<B>) -> Result<(), AllocError>
-    ensures { OnOk result (out.new ≡ object_declared B.most (option_map as_name name.now) 0 out.old) }
-{
-    declare_object(name, 0, out)
-}
-
-/// An object with something wrong in its header: its name stands for no object.
-fn lose_object<B: Bounds>(name: &Option<Name>, out: &mut Output<B>) -> Result<(), AllocError>
-    ensures { OnOk result (out.new ≡ object_lost B.most (option_map as_name name.now) out.old) }
-{
-    begin_lost(out)?;
-    declare_no_object(name, out)
-}
-
-/// The open body is of the class with a number, unless the world refuses it. Answers why it does.
-fn join<B: Bounds>(number: usize, out: &mut Output<B>) -> Result<Option<WorldFault>, AllocError>
-    ensures value { OnOk result (out.new ≡ joined B.most number out.old) }
-    ensures fault { IfOk result (λ fault. fault ≡ class_of_fault B.most number out.old.tables.world) }
-{
-    match out.tables.world.join_class(number) {
-        Ok(()) => Ok(None),
-        Err(WorldFault::Memory) => Err(AllocError),
-        Err(WorldFault::Full(setting)) => {
-            out.pass_table(setting_of(setting));
-            Ok(Some(WorldFault::Full(setting)))
-        }
-        Err(WorldFault::Limit(limit)) => Ok(Some(WorldFault::Limit(limit))),
-        Err(WorldFault::Misfit(misfit)) => Ok(Some(WorldFault::Misfit(misfit))),
-    }
-}
-
-/// Has the open body be of class number `class`, and returns the fault by which the world refuses that. Nothing happens where there is no
-/// such class.
-pub(crate) fn join_some<B: Bounds>(
-    class: Option<usize>,
-    out: &mut Output<B>,
-) -> Result<Option<WorldFault>, AllocError>
-    ensures value { OnOk result (out.new ≡ joined_some B.most class out.old) }
-    ensures fault { IfOk result (λ fault. fault ≡ joined_fault B.most class out.old) }
-{
-    match class {
-        Some(number) => join(number, out),
-        None => Ok(None),
-    }
-}
-
-/// Finishes the header of object `number`: the object is of `class`, which its word names, and its `name` is declared.
-fn name_object<B: Bounds>(
-    class: Option<usize>,
-    name: &Option<Name>,
-    number: usize,
-    out: &mut Output<B>,
-) -> Result<(), AllocError>
-    ensures { OnOk result (out.new ≡ object_named B.most class (option_map as_name name.now) number out.old) }
-{
-    join_some(class, out)?;
-    declare_object(name, number, out)
-}
-
-/// An object that the world refuses has a name all the same, if it has one.
-fn refuse_object<B: Bounds>(
-    fault: WorldFault,
-    name: &Option<Name>,
-    out: &mut Output<B>,
-) -> Result<(), AllocError>
-    ensures { OnOk result (out.new ≡ object_refused B.most fault (option_map as_name name.now) out.old) }
-{
-    note(fault, out)?;
-    declare_no_object(name, out)
-}
-
-/// An object with its name. Where it would pass a limit its name stands for none.
-fn begin_object<B: Bounds>(
-    parent: Parent,
-    short: ShortName,
-    class: Option<usize>,
-    name: &Option<Name>,
-    out: &mut Output<B>,
-) -> Result<(), AllocError>
-    ensures { OnOk result (out.new ≡ object_begun B.most parent short class (option_map as_name name.now) out.old) }
-{
-    match out.tables.world.begin_object(parent, short) {
-        Ok(number) => name_object(class, name, number, out),
-        Err(fault) => refuse_object(fault, name, out),
-    }
-}
+// Units of classes and objects
 
 /// Looks for the name at `at` of the unit.
 pub(crate) fn found_at<B: Bounds>(compilation: &Compilation<B>, at: usize) -> Found<Place>
@@ -315,7 +114,7 @@ pub(crate) fn found_at<B: Bounds>(compilation: &Compilation<B>, at: usize) -> Fo
         .look(compilation.unit.tokens.bytes_at(at))
 }
 
-/// The end of a unit of an object or a class that begins at a place, in which this was found.
+/// Ends a unit of an object or a class that begins at `first`, with the finding `found` about it.
 pub(crate) fn tell_entry<B: Bounds>(
     compilation: &mut Compilation<B>,
     context: &Context<'_>,
@@ -344,7 +143,8 @@ pub fn class_header<B: Bounds>(
     class_with(compilation, context, first, name, declared)
 }
 
-/// Ends the header of a class with `name`, which begins at `first`, where `declared` is known of the name.
+/// Ends the header of a class with `name`, which begins at `first`; `declared` is the declaration as far as it is
+/// known.
 fn class_with<B: Bounds>(
     compilation: &mut Compilation<B>,
     context: &Context<'_>,
@@ -367,7 +167,7 @@ fn class_with<B: Bounds>(
     )
 }
 
-/// A class of this name is open, or, where something is wrong with its header, a body that belongs to nothing.
+/// Opens a class of this name, or, where something is wrong with its header, a body that belongs to nothing.
 fn open_class<B: Bounds>(
     compilation: &mut Compilation<B>,
     context: &Context<'_>,
@@ -389,7 +189,7 @@ fn open_class<B: Bounds>(
 
 // Objects
 
-/// The class of the source that the word of a header names.
+/// Returns the number of the source's class that the word of a header names, if it names one.
 fn class_of_word<B: Bounds>(compilation: &Compilation<B>) -> Option<usize>
     ensures { result ≡ class_of_word (work compilation.now) }
 {
@@ -406,7 +206,7 @@ fn has_most_classes<B: Bounds>(class: Option<usize>, out: &Output<B>) -> bool
     }
 }
 
-/// Returns the finding about the arrows of `header` that no object stands above them.
+/// Returns the finding about the arrows of `header`, where no object is above them.
 fn above_finding<B: Bounds>(compilation: &Compilation<B>, header: Header) -> Option<Finding>
     ensures { result ≡ above_finding header.arrow header.arrows (work compilation.now) }
 {
@@ -448,7 +248,7 @@ fn headed_finding<B: Bounds>(compilation: &Compilation<B>, header: Header) -> Op
     )
 }
 
-/// The parent that a header gives.
+/// Returns the parent that a header gives.
 fn parent<B: Bounds>(compilation: &Compilation<B>, header: Header) -> Parent
     ensures { result ≡ parent_in header.parent header.arrows (work compilation.now) }
 {
@@ -458,7 +258,7 @@ fn parent<B: Bounds>(compilation: &Compilation<B>, header: Header) -> Parent
     }
 }
 
-/// The name at a place of the unit.
+/// Returns the name at a place of the unit.
 pub(crate) fn name_at<B: Bounds>(compilation: &Compilation<B>, at: usize) -> Option<Name>
     ensures { option_map as_name result ≡ name_at (work compilation.now).unit.tokens at }
 {
@@ -468,7 +268,7 @@ pub(crate) fn name_at<B: Bounds>(compilation: &Compilation<B>, at: usize) -> Opt
     }
 }
 
-/// The name that a header gives its object.
+/// Returns the name that a header gives its object.
 fn own_name<B: Bounds>(compilation: &Compilation<B>, header: Header) -> Option<Name>
     ensures { option_map as_name result ≡ own_name header.own (work compilation.now) }
 {
@@ -478,7 +278,7 @@ fn own_name<B: Bounds>(compilation: &Compilation<B>, header: Header) -> Option<N
     }
 }
 
-/// Looks for `name`, that of an object with `header`, which stands at `at`.
+/// Looks for `name` at `at`, that of an object with `header`, and returns the declaration as far as it is known.
 fn named_known<B: Bounds>(
     compilation: &Compilation<B>,
     context: &Context<'_>,
@@ -495,7 +295,8 @@ fn named_known<B: Bounds>(
     }
 }
 
-/// Looks for the name of an object with `header`, if it has a `name`.
+/// Looks for the name of an object with `header`, if it has a `name`, and returns the declaration as far as it is
+/// known.
 fn object_known<B: Bounds>(
     compilation: &Compilation<B>,
     context: &Context<'_>,
@@ -513,7 +314,7 @@ fn object_known<B: Bounds>(
     }
 }
 
-/// An object is open, or, where something is wrong with its header, a body that belongs to nothing.
+/// Opens an object, or, where something is wrong with its header, a body that belongs to nothing.
 fn open_object<B: Bounds>(
     compilation: &mut Compilation<B>,
     context: &Context<'_>,
@@ -530,7 +331,7 @@ fn open_object<B: Bounds>(
     }
 }
 
-/// An object with a header in which nothing is wrong.
+/// Opens an object with a header in which nothing is wrong.
 fn new_object<B: Bounds>(
     compilation: &mut Compilation<B>,
     context: &Context<'_>,
@@ -547,7 +348,7 @@ fn new_object<B: Bounds>(
     begin_object(parent, short, class, name, &mut compilation.output)
 }
 
-/// The end of a header that begins at a place: what is wrong with it is told.
+/// Ends the header of an object that begins at `first`, and shows the finding about it.
 fn end_object<B: Bounds>(
     compilation: &mut Compilation<B>,
     context: &Context<'_>,
@@ -574,7 +375,7 @@ fn end_object<B: Bounds>(
     }
 }
 
-/// The header of an object.
+/// Opens the object of `header`, and ends its header, which begins at `first`.
 fn object_with<B: Bounds>(
     compilation: &mut Compilation<B>,
     context: &Context<'_>,

@@ -10,7 +10,7 @@ ghost use Rattle.inf_compilation.specs.Works.{work};
 use crate::headers::Header;
 use inf_compilation::compilation::Compilation;
 use inf_compilation::context::Context;
-use inf_listings::arrays::text_at;
+use inf_declarations::arrays::text_at;
 use inf_names::spellings::Name;
 use inf_output::Output;
 use inf_settings::bounds::Bounds;
@@ -18,7 +18,7 @@ use inf_tables::ShortName;
 use inf_text::{CharSet, Mode, Text, TextFault, read_text};
 use std::alloc::{AllocError, Global};
 
-/// The characters of bytes in a character set, where they have no fault.
+/// Returns the characters of bytes in a character set, or `None` where they have a fault.
 pub(crate) fn text_in(
     alloc: Global,
     set: CharSet,
@@ -34,7 +34,8 @@ pub(crate) fn text_in(
     }
 }
 
-/// A short name of these characters, which is packed as the texts of the story are.
+/// Makes a short name of these characters, which is packed as the texts of the story are; an empty
+/// one where there are none.
 pub(crate) fn pack_name<B: Bounds>(
     alloc: Global,
     text: Option<Text>,
@@ -49,7 +50,7 @@ pub(crate) fn pack_name<B: Bounds>(
     }
 }
 
-/// A name in round brackets.
+/// Returns a name in round brackets.
 fn in_brackets(alloc: Global, name: &[u8]) -> Result<Vec<u8>, AllocError>
     ensures { IfOk result (λ bytes. bytes.items ≡ in_brackets name.now) }
 {
@@ -60,7 +61,8 @@ fn in_brackets(alloc: Global, name: &[u8]) -> Result<Vec<u8>, AllocError>
     Ok(bytes)
 }
 
-/// The characters of the short name of what has no text for it: its name, in round brackets.
+/// Returns the characters of the short name of an object or a class without a text for it: its name,
+/// in round brackets.
 pub(crate) fn bracketed(
     alloc: Global,
     set: CharSet,
@@ -82,7 +84,7 @@ fn shown_name(name: &Option<Name>) -> &[u8]
     }
 }
 
-/// The characters of the text of a header.
+/// Returns the characters of the text of a header.
 fn header_text<B: Bounds>(
     compilation: &Compilation<B>,
     context: &Context<'_>,
@@ -96,7 +98,7 @@ fn header_text<B: Bounds>(
     }
 }
 
-/// The characters of the short name of an object: its text, or its name in round brackets.
+/// Returns the characters of the short name of an object: its text, or its name in round brackets.
 pub(crate) fn short_text<B: Bounds>(
     compilation: &Compilation<B>,
     context: &Context<'_>,

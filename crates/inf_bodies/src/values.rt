@@ -18,11 +18,11 @@ use inf_area::{AreaName, Target, Value};
 use inf_compilation::compilation::Compilation;
 use inf_compilation::context::Context;
 use inf_compilation::findings::{Findings, header_findings};
+use inf_declarations::arrays::{has_variables, looked_value, text_at};
 use inf_declarations::declarations::value;
 use inf_expressions::{Finding, Wanted, least_of_both};
 use inf_gathering::gathering::Leaf;
 use inf_lexer::Place;
-use inf_listings::arrays::{has_variables, looked_value, text_at};
 use inf_names::locals::Headed;
 use inf_report::messages::FixedLimit;
 use inf_scanner::{Mark, TokenKind};
@@ -34,14 +34,14 @@ use inf_unit::unit::order;
 use inf_unit::unit_tokens::UnitTokens;
 use std::alloc::AllocError;
 
-/// The place before another one.
+/// Returns the place before another one, or `None` before the first.
 fn place_before(at: usize) -> Option<usize>
     ensures { result ≡ place_before at }
 {
     if at == 0 { None } else { Some(at - 1) }
 }
 
-/// The place of the name of a property, which stands before its first value, where that begins at a place.
+/// Returns the place of the name of a property, which comes before its first value, where that begins at a place.
 fn name_place(outer: Option<usize>) -> Option<usize>
     ensures { result ≡ name_place outer }
 {
@@ -51,7 +51,7 @@ fn name_place(outer: Option<usize>) -> Option<usize>
     }
 }
 
-/// Returns the finding that something is wrong with a value.
+/// Returns the finding that something is wrong with a value, where `is_wrong`.
 fn wrong_if(is_wrong: bool) -> Option<Finding>
     ensures { result ≡ wrong_if is_wrong }
 {
@@ -64,7 +64,7 @@ fn wrong_if(is_wrong: bool) -> Option<Finding>
 
 // Words of the dictionary
 
-/// The leaf that an expression with these leaves has alone.
+/// Returns the leaf of an expression that has no other, or `None`.
 fn only_leaf(leaves: &[Leaf]) -> Option<Leaf>
     ensures { result ≡ only_leaf leaves.now }
 {
@@ -74,7 +74,7 @@ fn only_leaf(leaves: &[Leaf]) -> Option<Leaf>
     }
 }
 
-/// The word of the dictionary with these characters as a value; 0, where a string variable is among them.
+/// Returns the word of the dictionary with these characters as a value; 0 where a string variable is among them.
 fn text_value(has_variables: bool, text: &Text) -> Value
     ensures { result ≡ text_value has_variables text.now }
 {
@@ -87,7 +87,7 @@ fn text_value(has_variables: bool, text: &Text) -> Value
 
 // Routines
 
-/// The place of the last bracket, with one token more.
+/// Returns the place of the last bracket: `at`, if that is one, or `bracket`.
 fn bracket_step(bracket: usize, at: usize, kind: Option<TokenKind>) -> usize
     ensures { result ≡ bracket_step at kind bracket }
 {
@@ -97,7 +97,7 @@ fn bracket_step(bracket: usize, at: usize, kind: Option<TokenKind>) -> usize
     }
 }
 
-/// The place of the bracket that opens a routine, which is the last one of its unit.
+/// Returns the place of the bracket that opens a routine, which is the last one of its unit.
 #[tactic(auto, using(crate::proofs::KindSteps::bracket_goes))]
 fn bracket_in(tokens: &UnitTokens) -> usize
     ensures { result ≡ bracket_in tokens.now }
@@ -109,7 +109,8 @@ fn bracket_in(tokens: &UnitTokens) -> usize
     bracket
 }
 
-/// Returns the limit that is passed, where one is: that of locals of a routine if `are_locals`, or else that of values of a property.
+/// Returns the limit that a routine as a value passes, where one is passed: that of locals if `are_locals`, or else
+/// that of values of a property.
 fn many_by(are_locals: bool) -> FixedLimit
     ensures { result ≡ many_by are_locals }
 {
@@ -134,8 +135,8 @@ fn embedded_findings(own: Option<Finding>, are_locals: bool, header: Findings) -
 
 // Words of the dictionary
 
-/// Returns whether a character or a text is a word of the dictionary, as a value of the property whose name stands at a place, or of the
-/// one that was given last.
+/// Returns whether a character or a text is a word of the dictionary, as a value of the property whose name is at a
+/// place, or of the one that was given last.
 fn takes_words<B: Bounds>(compilation: &Compilation<B>, name: Option<usize>) -> bool
     ensures { result ≡ takes_words name (work compilation.now) }
 {
@@ -145,7 +146,7 @@ fn takes_words<B: Bounds>(compilation: &Compilation<B>, name: Option<usize>) -> 
     }
 }
 
-/// The leaf that may be a word of the dictionary: that of an expression which has no more.
+/// Returns the leaf that may be a word of the dictionary: that of an expression which has no more.
 fn word_leaf<B: Bounds>(compilation: &Compilation<B>, takes_words: bool) -> Option<Leaf>
     ensures { result ≡ word_leaf takes_words (work compilation.now) }
 {
@@ -157,7 +158,7 @@ fn word_leaf<B: Bounds>(compilation: &Compilation<B>, takes_words: bool) -> Opti
     }
 }
 
-/// The character that the last token is, as a text.
+/// Returns the character of the last token, as a text.
 fn char_text<B: Bounds>(
     compilation: &Compilation<B>,
     context: &Context<'_>,
@@ -174,7 +175,7 @@ fn char_text<B: Bounds>(
     }
 }
 
-/// The characters of a leaf that is a character or a text.
+/// Returns the characters of a leaf that is a character or a text.
 fn leaf_text<B: Bounds>(
     compilation: &Compilation<B>,
     context: &Context<'_>,
@@ -189,7 +190,7 @@ fn leaf_text<B: Bounds>(
     }
 }
 
-/// The characters of the word of the dictionary that a value is.
+/// Returns the characters of the value, where it is a word of the dictionary.
 fn word_text<B: Bounds>(
     compilation: &Compilation<B>,
     context: &Context<'_>,
@@ -203,7 +204,7 @@ fn word_text<B: Bounds>(
     }
 }
 
-/// A word as a value is used, unless something is wrong with it.
+/// Uses a word as a value, unless there is a finding about it.
 fn use_word<B: Bounds>(
     compilation: &mut Compilation<B>,
     found: Option<Finding>,
@@ -219,7 +220,7 @@ fn use_word<B: Bounds>(
     }
 }
 
-/// A value that is a word with these characters.
+/// Puts the word with these characters into a property, as a value, and returns the finding about it.
 fn place_text<B: Bounds>(
     compilation: &mut Compilation<B>,
     name: Option<usize>,
@@ -237,7 +238,8 @@ fn place_text<B: Bounds>(
 
 // Expressions
 
-/// A value that is the unit's expression, with which nothing is wrong.
+/// Puts the value of the unit's expression, with which nothing is wrong, into a property, and returns the finding about
+/// it.
 fn place_settled<B: Bounds>(
     compilation: &mut Compilation<B>,
     context: &Context<'_>,
@@ -250,7 +252,8 @@ fn place_settled<B: Bounds>(
     placed(compilation, name, value, None)
 }
 
-/// A value that is the unit's expression, of which this was found, and this is its value where its names are only looked up.
+/// Puts the value of the unit's expression into a property, where `judged` is the finding about the expression, and
+/// `looked` the value where its names are only looked up. Returns the finding about it.
 fn place_with<B: Bounds>(
     compilation: &mut Compilation<B>,
     context: &Context<'_>,
@@ -267,7 +270,7 @@ fn place_with<B: Bounds>(
     }
 }
 
-/// A value that is the unit's expression.
+/// Puts the value of the unit's expression into a property, and returns the finding about it.
 fn place_expression<B: Bounds>(
     compilation: &mut Compilation<B>,
     context: &Context<'_>,
@@ -282,7 +285,8 @@ fn place_expression<B: Bounds>(
     place_with(compilation, context, name, judged, looked)
 }
 
-/// A value goes to the property whose name stands before it, or to the one that was given last. Answers what is wrong.
+/// Puts a value into the property whose name comes before it, or into the one that was given last, and returns the
+/// finding about it.
 fn place_value<B: Bounds>(
     compilation: &mut Compilation<B>,
     context: &Context<'_>,
@@ -313,14 +317,14 @@ pub fn value_of_body<B: Bounds>(
 
 // Routines
 
-/// The next routine, as a value.
+/// Returns the address of the next routine, as a value.
 fn next_routine<B: Bounds>(compilation: &Compilation<B>) -> Value
     ensures { result ≡ next_routine (work compilation.now) }
 {
     Value::Later(Target::Place(AreaName::Code, compilation.output.code.next_place()))
 }
 
-/// The next routine goes where it is to go, unless something is wrong with it.
+/// Puts the next routine into a property, as a value, unless something is wrong with it.
 fn place_routine<B: Bounds>(
     compilation: &mut Compilation<B>,
     name: Option<usize>,
@@ -349,7 +353,7 @@ fn open_embedded<B: Bounds>(
     compilation.open_code(context, first, headed, found)
 }
 
-/// A routine goes where it is to go as a value, unless something is wrong with it, and its code opens.
+/// Puts the next routine into a property, as a value, unless something is wrong with it, and opens its code.
 fn begin_embedded<B: Bounds>(
     compilation: &mut Compilation<B>,
     context: &Context<'_>,
@@ -365,7 +369,8 @@ fn begin_embedded<B: Bounds>(
     open_embedded(compilation, context, first, headed, found)
 }
 
-/// Returns the findings about a routine as a value of the property whose `name` stands before it, if one does, with the locals of `headed`.
+/// Returns the findings about a routine as a value of the property whose `name` comes before it, if one does, with the
+/// locals of `headed`.
 fn found_embedded<B: Bounds>(
     compilation: &Compilation<B>,
     name: Option<usize>,
@@ -379,7 +384,7 @@ fn found_embedded<B: Bounds>(
     embedded_findings(own, headed.are_too_many, header)
 }
 
-/// A routine that is a value, with these locals.
+/// Begins a routine that is a value, with these locals: it goes into a property, and its code opens.
 #[tactic(auto, unfolding(crate::specs::Values::embedded))]
 fn embed<B: Bounds>(
     compilation: &mut Compilation<B>,

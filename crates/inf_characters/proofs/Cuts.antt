@@ -62,7 +62,7 @@ prefix_len-cut p (x ∷ xs) ys le = go (prefix_len-cut p xs ys) (p x) le
     go more true le = ap (λ (n : ℕ). 1 + n) (more (omega arith))
     go more false le = refl
 
--- what a reading gives has so many bytes behind its first
+-- the piece of a reading, if it gives one, has `k` bytes behind its first
 Behind : Piece → ℕ → Result Piece TextFault → Type 0
 Behind p k r = r ≡ Ok p → p.behind ≡ k
 
@@ -115,7 +115,7 @@ accent_piece-behind p a (b ∷ bytes) = go (spelled a b)
     go None = behind_err p 2 _
     go (Some c) = behind_ok p _ 2 refl
 
--- what the first bytes give is what all gave
+-- the piece of the first bytes is the piece of all, where that is found within them
 Keeps : Piece → Result Piece TextFault → Result Piece TextFault → Type 0
 Keeps p all first = all ≡ Ok p → first ≡ Ok p
 
@@ -158,7 +158,7 @@ unfolding Keeps Behind
 accent_piece-cut p a [] ys le e = let behind : p.behind ≡ 2 = accent_piece-behind p a ys e in absurd (omega arith)
 accent_piece-cut p a (x ∷ xs) ys le e = e
 
--- what a byte that is no mark of a number begins
+-- the piece of an escape whose first byte is no mark of a number
 abbrev plain_escape : Mode → ℕ → List ℕ → Option ℕ → Result Piece TextFault
 plain_escape m b bytes None = accent_piece b bytes
 plain_escape m b bytes (Some tens) = variable_piece m tens bytes
@@ -202,7 +202,7 @@ escape_piece-cut p m (x ∷ xs) ys le e =
     (keeps_both p (eqb x 123) _ _ _ _ (unicode_piece-cut p xs ys (omega arith))
     (plain_escape-cut p m x xs ys (digit_of 10 x) (omega arith))) e
 
--- white space, that stands for some spaces
+-- white space that is read as some spaces
 white : ℕ → ℕ → Result Piece TextFault
 white count behind = Ok (record { item = Character 32; count = count; behind = behind; is_mark = false })
 

@@ -40,7 +40,7 @@ IsText-append_replicate [] zero item h is = tt
 IsText-append_replicate [] (suc n) item h is = (is, IsText-append_replicate [] n item h is)
 IsText-append_replicate (x ∷ items) n item h is = (h.0, IsText-append_replicate items n item h.1 is)
 
--- what was read and what is left give the whole text
+-- the items that were read, with the text of the bytes that are left, are the whole text
 pub record Continues (set : CharSet) (mode : Mode) (after_mark : Bool) (items : List TextItem) (rest bytes : List ℕ) : Type 0 where
   pub value : with_front items (text_from set mode after_mark 0 rest) ≡ text_of set mode bytes
   pub text : IsText items

@@ -24,7 +24,7 @@ digit_of base b =
     else if (base == 16) && nat_le 97 b && nat_le b 102 then Some (b - 87)
     else None
 
--- how many digits stand at the front of some bytes and the number that they write, behind those that were read already
+-- the number of digits at the front of some bytes and the number that they write, behind those that were read already
 abbrev pub number_from : ℕ → ℕ → ℕ → List ℕ → ℕ × ℕ
 number_from base count high [] = (count, high)
 number_from base count high (b ∷ bs) =
@@ -64,7 +64,7 @@ variable_piece mode.Text tens (b ∷ bs) =
       | Some units ↦ if nat_lt (10 * tens + units) 32 then Ok (one (Variable (10 * tens + units)) 2) else Err BadCode
     ]
 
--- what stands behind @ for each of ZSCII 155 to 223, in their order (Inform Designer's Manual, table 2)
+-- the two characters that spell each of ZSCII 155 to 223 behind @, in their order (Inform Designer's Manual, table 2)
 unfoldable pub spellings : List ℕ
 spellings =
     codes ":a:o:u:A:O:Uss>><<:e:i:y:E:I'a'e'i'o'u'y'A'E'I'O'U'Y`a`e`i`o`u`A`E`I`O`U^a^e^i^o^u^A^E^I^O^UoaoA\\o\\O~a~n~o~A~N~OaeAEcccCthetThEtLLoeOE!!??"
@@ -75,7 +75,7 @@ pair_from a b n [] = None
 pair_from a b n (x ∷ []) = None
 pair_from a b n (x ∷ y ∷ pairs) = if (x == a) && (y == b) then Some n else pair_from a b (n + 1) pairs
 
--- a slash stands for a backslash
+-- the mark that a byte is read as: a backslash for a slash
 abbrev pub stroke : ℕ → ℕ
 stroke b = if b == 47 then 92 else b
 
@@ -89,7 +89,7 @@ accent_piece a [] = Err UnknownEscape
 accent_piece a (b ∷ bs) =
     elim (spelled a b) [ None ↦ Err UnknownEscape | Some c ↦ Ok (one (Character c) 2) ]
 
--- what @ begins
+-- the piece that @ begins
 unfoldable pub escape_piece : Mode → List ℕ → Result Piece TextFault
 escape_piece mode [] = Err UnknownEscape
 escape_piece mode (b ∷ bs) =
@@ -97,7 +97,7 @@ escape_piece mode (b ∷ bs) =
     else if b == 123 then unicode_piece bs (number_from 16 0 0 bs)
     else elim (digit_of 10 b) [ None ↦ accent_piece b bs | Some tens ↦ variable_piece mode tens bs ]
 
--- what the typed marks mean: ^ a new line and ~ a quotation mark, but in a quoted word ^ an apostrophe
+-- the character that a typed one gives: ^ a new line and ~ a quotation mark, but in a quoted word ^ an apostrophe
 abbrev pub meaning : Mode → ℕ → ℕ
 meaning mode.Quote c = if c == 94 then 39 else c
 meaning mode.Text c = if c == 94 then 13 else if c == 126 then 34 else c
@@ -113,13 +113,13 @@ is_new_line_mark mode.Abbreviation b = b == 94
 abbrev pub white_len : CharSet → List ℕ → ℕ
 white_len set bytes = prefix_len (is_white set) bytes
 
--- How many spaces a run of white space is: with a line end in it one, or none right behind the mark of a new line; else as many as it has
--- bytes.
+-- the number of spaces that a run of white space is read as: with a line end in it one, or none right behind the mark of a new line; else
+-- as many as it has bytes
 abbrev pub spaces : Bool → List ℕ → ℕ
 spaces after_mark run =
     if not (list_any is_line_end run) then length run else if after_mark then 0 else 1
 
--- what stands at the front of a text
+-- the piece at the front of a text
 unfoldable pub piece_at : CharSet → Mode → Bool → ℕ → List ℕ → Result Piece TextFault
 piece_at set mode after_mark b bytes =
     if b == 64 then escape_piece mode bytes
@@ -141,12 +141,12 @@ abbrev pub with_front : List TextItem → Result (List TextItem) TextFault → R
 with_front front (Ok items) = Ok (front ++ items)
 with_front front (Err fault) = Err fault
 
--- a piece, and what comes behind it
+-- a piece, and the items that come behind it
 abbrev pub and_then : Result Piece TextFault → (Piece → Result (List TextItem) TextFault) → Result (List TextItem) TextFault
 and_then (Err fault) next = Err fault
 and_then (Ok found) next = with_front (replicate found.count found.item) (next found)
 
--- the text of some bytes, but for those at their front that are passed over; after_mark is whether the mark of a new line stands before
+-- the text of some bytes, but for those at their front that are passed over; `after_mark` is whether the mark of a new line comes before
 -- them
 abbrev pub text_from : CharSet → Mode → Bool → ℕ → List ℕ → Result (List TextItem) TextFault
 text_from set mode after_mark passed [] = Ok []
@@ -167,7 +167,7 @@ pub record HoldsItems (set : CharSet) (mode : Mode) (bytes : List ℕ) : Type 0 
   pub items : List TextItem
   pub reads : text_of set mode front ≡ Ok (item ∷ items)
 
--- A call gave what reading gives; or there was too little memory, which only a text that has items takes.
+-- A call answered as reading does; or there was too little memory, which only a text that has items takes.
 abbrev pub Reads : CharSet → Mode → List ℕ → Result (List TextItem) TextFault → Type 0
 Reads set mode bytes (Ok items) = text_of set mode bytes ≡ Ok items
 Reads set mode bytes (Err UnknownEscape) = text_of set mode bytes ≡ Err UnknownEscape

@@ -27,7 +27,7 @@ impl Model for Zscii {
 }
 
 impl Zscii {
-    /// The character of a number: none but for 13, 32 to 126 and 155 to 223.
+    /// Returns the character of `number`, which is 13, 32 to 126 or 155 to 223; `None` for each other number.
     pub fn new(number: u32) -> Option<Zscii>
         ensures { result ≡ (if is_code number then Some number else None) }
     {
@@ -37,7 +37,7 @@ impl Zscii {
         }
     }
 
-    /// The character of a code that a text may have.
+    /// Returns the character of `code`, which is one that a text may have.
     pub(crate) fn from_code(code: u8) -> Zscii
         requires { IsTrue (is_code code) }
         ensures { result ≡ code }
@@ -45,7 +45,7 @@ impl Zscii {
         Zscii { code }
     }
 
-    /// Its number.
+    /// Returns the number of the character: 13, 32 to 126 or 155 to 223.
     pub fn code(self) -> u8
         ensures value { result ≡ self }
         ensures is_code { IsTrue (is_code self) }
@@ -54,7 +54,7 @@ impl Zscii {
     }
 }
 
-/// How the bytes of a source stand for characters.
+/// The way in which the bytes of a source are read as characters.
 #[derive(Clone, Copy, Debug, PartialEq, Eq)]
 pub enum CharSet {
     /// ASCII: a byte of 128 or more is no character.
@@ -74,9 +74,9 @@ const ACCENTED: [char; 69] = [
     'Õ', 'æ', 'Æ', 'ç', 'Ç', 'þ', 'ð', 'Þ', 'Ð', '£', 'œ', 'Œ', '¡', '¿',
 ];
 
-/// The ZSCII code of a byte of a source. A white space byte (tab, line feed, form feed, carriage
-/// return and space; under `Latin1` also 160) is a space. None for a byte that is no character of
-/// the set, and for a character that has no code (Z-Machine Standard 1.1, section 3.8.5).
+/// Returns the ZSCII code of a byte of a source. A white space byte (tab, line feed, form feed, carriage
+/// return and space; under `Latin1` also 160) is a space. `None` for a byte that is no character of the set,
+/// and for a character that has no code (Z-Machine Standard 1.1, section 3.8.5).
 #[tactic(auto, unfolding(crate::specs::Characters::zscii_of))]
 pub fn source_char(byte: u8, set: CharSet) -> Option<Zscii>
     ensures { result ≡ zscii_of set byte }
@@ -90,7 +90,7 @@ pub fn source_char(byte: u8, set: CharSet) -> Option<Zscii>
     }
 }
 
-/// The ZSCII code of a Unicode character, if it has one.
+/// Returns the ZSCII code of a Unicode character, if it has one.
 #[tactic(auto, unfolding(crate::specs::Characters::zscii_of_unicode, crate::specs::Characters::accented))]
 pub(crate) fn unicode_char(character: u32) -> Option<Zscii>
     ensures { result ≡ zscii_of_unicode character }
@@ -104,7 +104,7 @@ pub(crate) fn unicode_char(character: u32) -> Option<Zscii>
     }
 }
 
-/// The place of a character in a table.
+/// Returns the place of `character` in `table`, or `None` where the table doesn't have it.
 fn accent_place(table: &[char], character: u32) -> Option<usize>
     ensures place { result ≡ position_from (λ x. x == character) 0 table.now }
     ensures within { IfSome result (λ place. place < length table.now) }
@@ -112,14 +112,14 @@ fn accent_place(table: &[char], character: u32) -> Option<usize>
     table.iter().position(|x| u32::from(*x) == character)
 }
 
-/// Whether a byte ends a line: line feed and carriage return.
+/// Returns whether a byte ends a line: line feed and carriage return.
 pub fn is_line_end(byte: u8) -> bool
     ensures { result ≡ is_line_end byte }
 {
     matches!(byte, b'\n' | b'\r')
 }
 
-/// Whether a byte is white space: tab, line feed, form feed, carriage return and space, under `Latin1`
+/// Returns whether a byte is white space: tab, line feed, form feed, carriage return and space, under `Latin1`
 /// also 160.
 pub fn is_white(set: CharSet, byte: u8) -> bool
     ensures { result ≡ is_white set byte }

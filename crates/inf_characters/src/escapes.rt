@@ -1,4 +1,4 @@
-//! What `@` begins in a text.
+//! The escapes of a text: the pieces that begin with `@`.
 ghost use Rattle.std.specs.Prelude.{◌≡◌, ◌<◌, ◌≤◌, ◌+◌, IfOk, IsTrue, length};
 ghost use Rattle.inf_characters.specs.Items.{IsItem};
 ghost use Rattle.inf_characters.specs.Numbers.{IsPieceOf};
@@ -10,7 +10,7 @@ use crate::numbers::{digit_of, number_at};
 use crate::reading::{Mode, Piece, TextFault};
 use crate::texts::TextItem;
 
-/// How many string variables there are.
+/// The number of string variables.
 const VARIABLES: u32 = 32;
 
 /// The braces round the number of a Unicode character.
@@ -18,12 +18,13 @@ const OPENING_BRACE: u8 = b'{';
 
 const CLOSING_BRACE: u8 = b'}';
 
-/// What stands behind `@` for each of the codes 155 to 223 (Designer's Manual, table 2).
+/// The two characters that spell each of the codes 155 to 223 behind `@` (Designer's Manual, table
+/// 2).
 const SPELLINGS: &[u8; 138] =
     b":a:o:u:A:O:Uss>><<:e:i:y:E:I'a'e'i'o'u'y'A'E'I'O'U'Y`a`e`i`o`u`A`E`I`O`U^a^e^i^o^u^A^E^I^O^U\
         oaoA\\o\\O~a~n~o~A~N~OaeAEcccCthetThEtLLoeOE!!??";
 
-/// The piece that `@` begins; the bytes stand behind it.
+/// Returns the piece that `@` begins, where `bytes` come behind it, or its fault.
 #[tactic(auto, unfolding(crate::specs::Reading::escape_piece))]
 pub(crate) fn escape_piece(mode: Mode, bytes: &[u8]) -> Result<Piece, TextFault>
     ensures value { result ≡ escape_piece mode bytes.now }
@@ -42,7 +43,7 @@ pub(crate) fn escape_piece(mode: Mode, bytes: &[u8]) -> Result<Piece, TextFault>
     }
 }
 
-/// A piece of one item.
+/// Returns the piece of one `item` that has `behind` bytes behind its first.
 fn one(item: TextItem, behind: usize) -> Piece
     ensures { result ≡ one item behind }
 {
@@ -54,7 +55,7 @@ fn one(item: TextItem, behind: usize) -> Piece
     }
 }
 
-/// `@@` and a decimal number: the character of that code.
+/// Returns the piece of `@@` and a decimal number: the character of that code.
 fn code_piece(bytes: &[u8]) -> Result<Piece, TextFault>
     ensures value { result ≡ code_piece (number_from 10 0 0 bytes.now) }
     ensures piece { IfOk result (λ p. (p.behind ≤ length bytes.now + 1) × IsItem p.item) }
@@ -69,7 +70,8 @@ fn code_piece(bytes: &[u8]) -> Result<Piece, TextFault>
     }
 }
 
-/// `@{`, a hexadecimal number and `}`: the character of that number in Unicode.
+/// Returns the piece of `@{`, a hexadecimal number and `}`: the character of that number in
+/// Unicode.
 #[tactic(auto, using(crate::proofs::Capped::zscii_of_capped))]
 fn unicode_piece(bytes: &[u8]) -> Result<Piece, TextFault>
     ensures value { result ≡ unicode_piece bytes.now (number_from 16 0 0 bytes.now) }
@@ -85,7 +87,7 @@ fn unicode_piece(bytes: &[u8]) -> Result<Piece, TextFault>
     }
 }
 
-/// Whether a closing brace comes first.
+/// Returns whether a closing brace is the first of `bytes`.
 fn closes(bytes: &[u8]) -> bool
     ensures value { result ≡ closes bytes.now }
     ensures room { IsTrue result → 0 < length bytes.now }
@@ -93,7 +95,8 @@ fn closes(bytes: &[u8]) -> bool
     matches!(bytes, [CLOSING_BRACE, ..])
 }
 
-/// `@` and two digits: a string variable, in the texts that are printed alone.
+/// Returns the piece of `@` and two digits: a string variable, which only the texts that are
+/// printed have.
 fn variable_piece(mode: Mode, tens: u32, bytes: &[u8]) -> Result<Piece, TextFault>
     requires { tens < 16 }
     ensures value { result ≡ variable_piece mode tens bytes.now }
@@ -116,7 +119,7 @@ fn variable_piece(mode: Mode, tens: u32, bytes: &[u8]) -> Result<Piece, TextFaul
     }
 }
 
-/// `@`, a mark and a letter: an accented letter.
+/// Returns the piece of `@`, a mark and a letter: an accented letter.
 fn accent_piece(first: u8, bytes: &[u8]) -> Result<Piece, TextFault>
     ensures value { result ≡ accent_piece first bytes.now }
     ensures piece { IfOk result (λ p. (p.behind ≤ length bytes.now + 1) × IsItem p.item) }
@@ -130,21 +133,22 @@ fn accent_piece(first: u8, bytes: &[u8]) -> Result<Piece, TextFault>
     }
 }
 
-/// The mark that a byte stands for: a slash for a backslash.
+/// Returns the mark that `byte` is read as: a backslash for a slash, and each other byte for
+/// itself.
 fn stroke(byte: u8) -> u8
     ensures { result ≡ stroke byte }
 {
     if byte == b'/' { b'\\' } else { byte }
 }
 
-/// The code of the letter that is spelled by a mark and a letter.
+/// Returns the code of the letter that is spelled by `mark` and `letter`.
 fn accent_code(mark: u8, letter: u8) -> Option<Zscii>
     ensures { result ≡ spelled mark letter }
 {
     pair_code(SPELLINGS, stroke(mark), letter)
 }
 
-/// The place of two bytes among pairs, counted from 155 on.
+/// Returns the place of the pair of `a` and `b` among the pairs of `table`, counted from 155 on.
 fn pair_code(table: &[u8], a: u8, b: u8) -> Option<Zscii>
     requires { length table.now ≤ 138 }
     ensures { result ≡ pair_from a b 155 table.now }

@@ -1,4 +1,4 @@
-//! The numbers of escapes.
+//! The numbers in escapes.
 ghost use Rattle.std.specs.Prelude.{◌≡◌, ◌<◌, ◌≤◌, IfSome, length};
 ghost use Rattle.inf_characters.specs.Numbers.{capped};
 ghost use Rattle.inf_characters.specs.Reading.{digit_of, number_from};
@@ -6,7 +6,7 @@ ghost use Rattle.inf_characters.specs.Reading.{digit_of, number_from};
 /// A number that no character and no code has. A greater one is read as this.
 const LIMIT: u32 = 65536;
 
-/// The value of a digit of the base.
+/// Returns the value of a digit of the base, or `None` where `byte` is none.
 pub(crate) fn digit_of(base: u32, byte: u8) -> Option<u32>
     ensures value { result ≡ digit_of base byte }
     ensures small { IfSome result (λ digit. digit < 16) }
@@ -19,7 +19,7 @@ pub(crate) fn digit_of(base: u32, byte: u8) -> Option<u32>
     }
 }
 
-/// How many digits of the base stand at the front of some bytes, and the number that they write, or
+/// Returns the number of digits of the base at the front of `bytes`, and the number that they write, or
 /// 65536 where that is less.
 pub(crate) fn number_at(base: u32, bytes: &[u8]) -> (usize, u32)
     requires { base ≤ 16 }

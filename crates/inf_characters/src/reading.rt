@@ -14,7 +14,7 @@ use crate::texts::{Text, TextItem};
 use std::alloc::{AllocError, AllocFailed, Global};
 use thiserror::Error;
 
-/// Where a text stands, which decides what its marks mean.
+/// The use of a text, which decides what its marks mean.
 #[derive(Clone, Copy, Debug, PartialEq, Eq)]
 pub enum Mode {
     /// A text that is printed: `~` is a quotation mark, `^` a new line, and `@nn` a string variable.
@@ -28,7 +28,7 @@ pub enum Mode {
 /// Why a text can't be read.
 #[derive(Clone, Copy, Debug, PartialEq, Eq, Drop, Error)]
 pub enum TextFault {
-    /// What stands behind `@` is no escape.
+    /// An `@` without an escape behind it.
     #[error("unknown escape")]
     UnknownEscape,
     /// A byte, or a character given by number, has no ZSCII code.
@@ -64,7 +64,7 @@ impl<T: Drop> From<AllocFailed<T>> for TextFault {
     }
 }
 
-/// What stands at the front of some bytes of a text: `count` times an item, and how many bytes it
+/// A piece at the front of some bytes of a text: `count` times an item, and the number of bytes that it
 /// has behind its first. `is_mark` says whether it is the mark of a new line.
 #[derive(Clone, Copy)]
 pub(crate) struct Piece {
@@ -74,23 +74,24 @@ pub(crate) struct Piece {
     pub(crate) is_mark: bool,
 }
 
-/// Reads the bytes of a text, without its quotation marks, or tells the fault of the first place that
+/// Reads the bytes of a text, without its quotation marks, or returns the fault of the first place that
 /// can't be read.
 ///
 /// In each mode `@` begins an escape (an accented letter; `@@` and a code; `@{` and a Unicode number
 /// and `}`), and `\` and the white space behind it give nothing. A run of white space with a line end
 /// in it is one space, or nothing right behind the mark `^` of a new line; each other white space byte
-/// is a space. A run that `\` breaks is two: the one before it is told by itself.
+/// is a space. A run that `\` breaks is two, and the one before it is judged by itself.
 ///
-/// The faults: `UnknownEscape` for what is no escape (a string variable in `Quote` and `Abbreviation`
-/// too), `NoZscii` for a byte or a Unicode number without ZSCII code, `BadCode` for a code other than
-/// 13, 32 to 126 and 155 to 223 and for a string variable over 31, and `Memory` where there is too
-/// little memory for the text of some front of the bytes, which is not empty then.
+/// The faults: `UnknownEscape` for an `@` without an escape (for a string variable in `Quote` and
+/// `Abbreviation` too), `NoZscii` for a byte or a Unicode number without ZSCII code, `BadCode` for a
+/// code other than 13, 32 to 126 and 155 to 223 and for a string variable over 31, and `Memory` where
+/// there is too little memory for the text of some front of the bytes, which is not empty then.
 pub fn read_text(alloc: Global, bytes: &[u8], set: CharSet, mode: Mode) -> Result<Text, TextFault>
     ensures { Reads set mode bytes.now result }
 {
     let mut items = Vec::new(alloc);
-    // Most bytes are a character each. Where there is no room for so many, there may be for the text.
+    // Most bytes are a character each. Where there is no room for as many items, there may be for the
+    // text.
     let _ = items.reserve(bytes.len());
     let mut rest = bytes;
     let mut after_mark = false;
@@ -103,8 +104,8 @@ pub fn read_text(alloc: Global, bytes: &[u8], set: CharSet, mode: Mode) -> Resul
     Ok(Text::from_items(items))
 }
 
-/// Whether all bytes of a text are ASCII from the space to `~` and none is `@`, as in most texts: they can be read as one then, in
-/// each mode and both character sets.
+/// Returns whether all bytes of a text are ASCII from the space to `~` and none is `@`, as in most
+/// texts: they can be read as one then, in each mode and both character sets.
 pub fn are_plain(bytes: &[u8]) -> bool
     ensures value { result ≡ list_all is_plain bytes.now }
     ensures reads { result ≡ true → (set : Set) (mode : TextMode) → is_ok (text_of set mode bytes.now) ≡ true }
@@ -112,21 +113,22 @@ pub fn are_plain(bytes: &[u8]) -> bool
     all_plain(bytes)
 }
 
-/// Whether all bytes are characters or white space by themselves.
+/// Returns whether all bytes are characters or white space by themselves.
 fn all_plain(bytes: &[u8]) -> bool
     ensures { result ≡ list_all is_plain bytes.now }
 {
     bytes.iter().all(|byte| is_plain(*byte))
 }
 
-/// Whether a byte of a text is a character or white space by itself.
+/// Returns whether a byte of a text is a character or white space by itself.
 fn is_plain(byte: u8) -> bool
     ensures { result ≡ is_plain byte }
 {
     matches!(byte, b' '..=b'~') && byte != b'@'
 }
 
-/// The piece that a byte begins; after_mark is whether the mark of a new line stands before it.
+/// Returns the piece that the byte `first` begins, where `bytes` come behind it; `after_mark` is
+/// whether the mark of a new line comes before it.
 #[tactic(auto, unfolding(crate::specs::Reading::piece_at))]
 fn piece_at(
     set: CharSet,
@@ -160,7 +162,7 @@ fn piece_at(
     }
 }
 
-/// So many spaces, for a byte and those behind it.
+/// Returns a piece of `count` spaces, which has `behind` bytes behind its first.
 fn spaces(count: usize, behind: usize) -> Piece
     ensures { result ≡ record { item = TextItem.Character 32; count = count; behind = behind; is_mark = false } }
 {
@@ -172,7 +174,8 @@ fn spaces(count: usize, behind: usize) -> Piece
     }
 }
 
-/// How many spaces a run of white space is.
+/// Returns the number of spaces that a run of white space, `first` and `bytes`, is read as;
+/// `after_mark` is whether the mark of a new line comes before it.
 fn run_spaces(after_mark: bool, first: u8, bytes: &[u8]) -> usize
     requires { length bytes.now < 2 ^ 63 }
     ensures { result ≡ spaces after_mark (first ∷ bytes.now) }
@@ -187,14 +190,14 @@ fn run_spaces(after_mark: bool, first: u8, bytes: &[u8]) -> usize
     }
 }
 
-/// Whether a byte ends a line.
+/// Returns whether one of `bytes` ends a line.
 fn has_line_end(bytes: &[u8]) -> bool
     ensures { result ≡ list_any is_line_end bytes.now }
 {
     bytes.iter().any(|byte| is_line_end(*byte))
 }
 
-/// The length of the white space at the front.
+/// Returns the number of white space bytes at the front of `bytes`.
 fn white_len(set: CharSet, bytes: &[u8]) -> usize
     ensures value { result ≡ white_len set bytes.now }
     ensures within { result ≤ length bytes.now }
@@ -207,7 +210,7 @@ fn white_len(set: CharSet, bytes: &[u8]) -> usize
     bytes.len()
 }
 
-/// What a typed character means.
+/// Returns the character that the typed character `code` gives in a text of this mode.
 fn meaning(mode: Mode, code: Zscii) -> Zscii
     ensures { result ≡ meaning mode code }
 {
@@ -219,14 +222,14 @@ fn meaning(mode: Mode, code: Zscii) -> Zscii
     }
 }
 
-/// Whether a byte is the mark of a new line.
+/// Returns whether a byte is the mark of a new line.
 fn is_new_line_mark(mode: Mode, byte: u8) -> bool
     ensures { result ≡ is_new_line_mark mode byte }
 {
     mode != Mode::Quote && byte == b'^'
 }
 
-/// Puts an item at the end of others, so many times.
+/// Appends `item` to `items`, `count` times.
 fn push_times(items: &mut Vec<TextItem>, item: &TextItem, count: usize) -> Result<(), TextFault>
     ensures ok { OnOk result (items.new.items ≡ items.old.items ++ replicate count item.now) }
     ensures err { IfErr result (λ fault. (fault ≡ TextFault.Memory) × (0 < count)) }

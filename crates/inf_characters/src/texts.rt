@@ -17,7 +17,7 @@ pub enum TextItem {
 impl TextItem {
     ghost use Rattle.inf_characters.specs.Items.{IsItem, lowered};
 
-    /// The item with its capital letter, one of `A` to `Z`, made small. Each other item is itself.
+    /// Returns the item with its capital letter, one of `A` to `Z`, made small. Each other item is itself.
     pub fn to_ascii_lowercase(self) -> TextItem
         requires { IsItem self }
         ensures value { result ≡ lowered self }
@@ -55,7 +55,7 @@ impl Model for Text {
 impl Text {
     ghost use Rattle.inf_characters.specs.Items.{IsText};
 
-    /// Its items, in order.
+    /// Returns the items of the text, in order.
     pub fn as_slice(&self) -> &[TextItem]
         ensures value { result.now ≡ self.now }
         ensures text { IsText self.now }
@@ -63,14 +63,14 @@ impl Text {
         self.items.as_slice()
     }
 
-    /// How many items it has.
+    /// Returns the number of items of the text.
     pub fn len(&self) -> usize
         ensures { result ≡ length self.now }
     {
         self.items.len()
     }
 
-    /// The text of some items.
+    /// Makes a text of `items`.
     pub(crate) fn from_items(items: Vec<TextItem>) -> Text
         requires { IsText items.items }
         ensures { result ≡ items.items }
@@ -78,7 +78,7 @@ impl Text {
         Text { items }
     }
 
-    /// The same text, in memory of its own. The only error is that there is too little memory for its
+    /// Copies the text into memory of its own. The only error is that there is too little memory for its
     /// items.
     pub fn copied(&self, alloc: Global) -> Result<Text, AllocError>
         ensures ok { IfOk result (λ text. text ≡ self.now) }
@@ -94,7 +94,7 @@ impl Text {
         Ok(Text { items: copy })
     }
 
-    /// Whether it has no items.
+    /// Returns whether it has no items.
     pub fn is_empty(&self) -> bool
         ensures { IsTrue result ↔ (self.now ≡ []) }
     {

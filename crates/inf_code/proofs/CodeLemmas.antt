@@ -6,11 +6,11 @@ use Rattle.std.proofs.Math.Seq.{take-append-add, drop-append-add}
 use Rattle.inf_area.specs.declared.fixups.Fixup.{Fixup}
 use Rattle.inf_area.specs.declared.targets.AreaName.TheVariants as name
 use Rattle.inf_area.specs.declared.targets.Target.{Target}
-use Rattle.inf_cells.specs.declared.cells.Cell.{Cell as CodeCell}
-use Rattle.inf_cells.specs.declared.cells.Cell.TheVariants as cell
-use Rattle.inf_cells.specs.declared.scale.Scale.{Scale}
-use Rattle.inf_cells.specs.Cells.{bytes_of, fixups_of, size_of}
-use Rattle.inf_cells.proofs.Joining.{bytes_of-append, bytes_of-known, fixups_of-append, fixups_of-known, length-bytes_of}
+use Rattle.inf_area.specs.declared.cells.Cell.{Cell as CodeCell}
+use Rattle.inf_area.specs.declared.cells.Cell.TheVariants as cell
+use Rattle.inf_area.specs.declared.scale.Scale.{Scale}
+use Rattle.inf_area.specs.Cells.{bytes_of, fixups_of, size_of}
+use Rattle.inf_area.proofs.Joining.{bytes_of-append, bytes_of-known, fixups_of-append, fixups_of-known, length-bytes_of}
 use Rattle.inf_opcode.specs.declared.cells.Special.{Special}
 use Rattle.inf_opcode.specs.declared.cells.Special.TheVariants.{Marks, Branches, Jumps, Refers}
 use Rattle.inf_opcode.specs.Cells.{Cell, Plain, Of, special_size}
@@ -37,7 +37,7 @@ in_order-append place middle end [] (fixup ∷ more) first second =
 in_order-append place middle end (fixup ∷ fixups) more first second =
     (first.0, in_order-append (fixup.place + 2) middle end fixups more first.1 second)
 
--- what stands behind other bytes
+-- the cells of bytes behind other bytes are those behind the cells of these
 cells_from-append : (place middle end : ℕ) (fixups more : List Fixup) (bytes new : List ℕ) → middle ≡ place + length bytes →
     AreInOrder place fixups middle → AreInOrder middle more end →
     cells_from place (fixups ++ more) (bytes ++ new) ≡ cells_from place fixups bytes ++ cells_from middle more new
@@ -110,7 +110,7 @@ stands_for-later place target =
       fixups_are = refl;
     }
 
--- the cells that bytes with fixups are stand for them as well
+-- cells that bytes with fixups stand for may be replaced by equal ones
 rebased : (place : ℕ) (fixups : List Fixup) (bytes : List ℕ) (cells others : List CodeCell) → StandsFor place fixups bytes cells →
     others ≡ cells_from place fixups bytes → StandsFor place fixups bytes others
 rebased place fixups bytes cells others stands same = subst (StandsFor place fixups bytes) (sym (same ∙ stands.are)) stands
@@ -216,7 +216,7 @@ stands_for-padded scale start kind contents body is =
     let same : length code ≡ size_of cells = sym (size-stands_for start fixups code cells routine) in
     subst (λ n. StandsFor start fixups (code ++ zeros) (cells ++ known (zeros_behind scale n))) same here
 
--- the same behind what was closed before, as it is written: what stands before it are bytes from some place on
+-- The cells of a routine and its zeros follow those that were closed before, where its bytes were written behind them.
 pub stands_for-closed : (scale : Scale) (kind : RoutineKind) (contents : Contents) (body : List ℕ) (from : ℕ) (fixups listed : List Fixup)
     (area written whole : List ℕ) (cells : List CodeCell) (start count : ℕ)
     → start ≡ from + length area → body_bytes start contents ≡ Some body → StandsFor from fixups area cells

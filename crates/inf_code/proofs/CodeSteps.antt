@@ -1,10 +1,10 @@
--- Code, step by step: its finished routines stay while one is open, and this one stands behind them when it is closed.
+-- Code, step by step: its finished routines stay while one is open, and this one follows them when it is closed.
 use Rattle.std.specs.Prelude.{Result, Ok, Err, OnOk, OnErr, ◌≤◌}
 use Rattle.std.proofs.Common.{◌≡◌, ℕ, ◌+◌, List, [], ◌∷◌, ◌++◌, length, take, drop, Option, Some, None, refl, sym, ◌∙◌, ap, subst, arith}
 use Rattle.std.proofs.Common.{append_assoc, length-append, length-take}
 use Rattle.std.proofs.lemmas.List.{take_at, take-take, take_all, length-take-le, length-drop, drop-append-le}
 use Rattle.inf_area.specs.Fixups.{Fixups}
-use Rattle.inf_cells.specs.declared.scale.Scale.{Scale}
+use Rattle.inf_area.specs.declared.scale.Scale.{Scale}
 use Rattle.inf_opcode.specs.Cells.{long_bytes}
 use Rattle.inf_assembler.specs.declared.routines.Closed.{Closed}
 use Rattle.inf_assembler.specs.declared.routines.RoutineKind.{RoutineKind}
@@ -209,7 +209,7 @@ module _ (scale : Scale) (kind : RoutineKind) (limits : CodeLimits) (finished : 
     length_finished limits finished refs bytes (Some routine) is,
   )
 
-  -- so many bytes it has then
+  -- the code has then as many bytes as the area
   size_after : whole ≡ written ++ zeros_behind scale closed.len → place_behind (source_cells (length whole) listed whole) ≡ length whole
   size_after filled =
       let eight : 8 ≤ length whole = omega (arith, long_enough, ap length filled, length-append written (zeros_behind scale closed.len)) in
@@ -235,7 +235,7 @@ closed_size scale kind limits finished refs listed bytes written routine closed 
     ∙ size_after scale kind limits finished refs listed bytes written whole routine closed is closes refl
     ∙ length-append written (zeros_behind scale closed.len)
 
--- what stands behind the finished routines is given up
+-- code is kept where the bytes behind the finished routines are given up
 pub code_lost : (limits : CodeLimits) (finished : ℕ) (refs : Fixups) (bytes new : List ℕ) (routine : State) →
     IsCode limits finished refs bytes (Some routine)
     → take routine.start new ≡ take routine.start bytes → routine.start ≤ length new → (IsCode limits finished refs new None) ×

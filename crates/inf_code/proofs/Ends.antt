@@ -1,8 +1,8 @@
--- What is wrong at the end of a routine, by the parts of the code.
+-- The fault at the end of a routine, by the parts of the code.
 use Rattle.std.specs.Prelude.{nat_lt, Result, Ok, Err, MatchResult}
 use Rattle.std.proofs.Common.{◌≡◌, ◌⊎◌, inl, inr, ℕ, Bool, false, true, cond, List, Option, Some, None, refl, sym, ◌∙◌, ap}
 use Rattle.inf_area.specs.Fixups.{Fixups}
-use Rattle.inf_cells.specs.declared.cells.Cell.{Cell as CodeCell}
+use Rattle.inf_area.specs.declared.cells.Cell.{Cell as CodeCell}
 use Rattle.inf_assembler.specs.declared.routines.CloseFault.{CloseFault}
 use Rattle.inf_assembler.specs.declared.routines.CloseFault.TheVariants as close_fault
 use Rattle.inf_assembler.specs.declared.routines.RoutineKind.{RoutineKind}
@@ -12,7 +12,7 @@ use Rattle.inf_code.specs.Code.{IsCode, IsSpare, fault_behind, first_fault, refe
 use Rattle.inf_code.specs.declared.code.CodeLimits.{CodeLimits}
 use Rattle.inf_code.proofs.Full.{end_is, lists, first_none, first_some, later_some}
 
--- what is wrong at the end of a routine that is lost or not, by the fields of the code
+-- the fault at the end of a routine that is lost or not, by the fields of the code
 module _ (limits : CodeLimits) (finished : ℕ) (refs spare : Fixups) (bytes : List ℕ) (is_lost : Bool) (routine : State) (kind : RoutineKind)
     (is : IsCode limits finished refs bytes (Some routine)) (empty : IsSpare spare) where
   abbrev before : List CodeCell
@@ -26,20 +26,20 @@ module _ (limits : CodeLimits) (finished : ℕ) (refs spare : Fixups) (bytes : L
   is_first listed same = end_is limits finished refs listed bytes is_lost routine is
       (lists is_lost finished refs spare bytes listed is.stands is.limit empty same) kind
 
--- the first fault is told, or want of memory
+-- the fault is the first one, or want of memory
 pub told_first : (first later : Option CloseFault) (fault : CloseFault) → (fault ≡ close_fault.Memory) ⊎ (first ≡ Some fault) →
     (fault ≡ close_fault.Memory) ⊎ (first_fault first later ≡ Some fault)
 told_first first later fault (inl memory) = inl memory
 told_first first later fault (inr e) = inr (first_some first later fault e)
 
--- of a lost routine nothing else is looked at
+-- a lost routine has no fault beside its labels and offsets
 pub told_lost : {T : Type 0} (r : Result T CloseFault) (wrong : Option CloseFault) →
     MatchResult r (λ _. wrong ≡ None) (λ fault. (fault ≡ close_fault.Memory) ⊎ (wrong ≡ Some fault))
     → MatchResult r (λ _. first_fault wrong None ≡ None) (λ fault. (fault ≡ close_fault.Memory) ⊎ (first_fault wrong None ≡ Some fault))
 told_lost (Ok x) wrong e = first_none wrong None e refl
 told_lost (Err fault) wrong e = told_first wrong None fault e
 
--- the zeros behind it are too many, or are not
+-- the fault of the zeros is theirs, whether they are too many or not
 pub zeros_told : (first : Option CloseFault) (limit len : ℕ) (fault : CloseFault) (full : Bool) → first ≡ None → nat_lt limit len ≡ full →
     (fault ≡ close_fault.Memory) ⊎ ((full ≡ true) × (fault ≡ close_fault.Full setting.Code))
     → (fault ≡ close_fault.Memory) ⊎ (first_fault first (zeros_fault false limit len) ≡ Some fault)

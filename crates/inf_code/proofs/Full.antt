@@ -1,13 +1,13 @@
--- Which limit is passed: the first that the assembler finds of its area is the first of the routines.
+-- The limit that is passed: the first that the assembler finds for its area is the first of the routines.
 use Rattle.std.specs.Prelude.{◌-◌, ◌<◌, ◌≤◌, nat_lt}
 use Rattle.std.proofs.Common.{◌≡◌, ℕ, ◌+◌, Bool, true, false, cond, List, [], ◌∷◌, length, take, Option, Some, None, refl, sym, ◌∙◌, ap}
 use Rattle.std.proofs.Common.{arith, length-append}
 use Rattle.std.proofs.lemmas.Bool.Decides.{nat_tests}
 use Rattle.inf_area.specs.declared.fixups.Fixup.{Fixup}
 use Rattle.inf_area.specs.declared.targets.AreaName.TheVariants as name
-use Rattle.inf_cells.specs.declared.cells.Cell.{Cell as CodeCell}
-use Rattle.inf_cells.specs.Cells.{later_count}
-use Rattle.inf_cells.proofs.Joining.{length-fixups_of}
+use Rattle.inf_area.specs.declared.cells.Cell.{Cell as CodeCell}
+use Rattle.inf_area.specs.Cells.{later_count}
+use Rattle.inf_area.proofs.Joining.{length-fixups_of}
 use Rattle.inf_area.specs.Fixups.{Fixups}
 use Rattle.inf_opcode.specs.Cells.{Cell, long_bytes, label_count, fixup_count}
 use Rattle.inf_assembler.specs.Places.{missing, twice_behind}
@@ -29,24 +29,25 @@ pub later_stands_for : (place : ℕ) (fixups : List Fixup) (bytes : List ℕ) (c
     later_count cells ≡ length fixups
 later_stands_for place fixups bytes cells stands = sym (length-fixups_of name.Code place cells) ∙ ap length stands.fixups_are
 
--- as many fixups as are left have no room with one more, and fewer have
+-- fixups that are as many as there is room for leave none for one more, and fewer leave it
 pub too_many : (limit len own count : ℕ) → len ≤ limit → limit - len ≤ own → count ≡ 1 + own → nat_lt limit (len + count) ≡ true
 too_many limit len own count within is same = grind (arith, nat_tests, within, is, same)
 
 pub not_too_many : (limit len own count : ℕ) → own < limit - len → count ≡ 1 + own → nat_lt limit (len + count) ≡ false
 not_too_many limit len own count is same = grind (arith, nat_tests, is, same)
 
--- where no limit would be passed, that of bytes is not
+-- where no limit is passed, the limit of bytes is not passed
 pub code_is_free : (full : Bool) (rest : Option Limit) → cond full (Some setting.Code) rest ≡ None →
     cond full (Some setting.Code) None ≡ None
 code_is_free true rest e = cc
 code_is_free false rest e = refl
 
--- the first of three limits, of which some are passed
+-- the first of three limits that is passed
 abbrev of_three : Bool → Bool → Bool → Option Limit
 of_three labels code refs = cond labels (Some setting.Labels) (cond code (Some setting.Code) (cond refs (Some setting.Refs) None))
 
--- where the references of a routine are listed that is lost or not: so many there are, and so many there may be
+-- The list for the references of an open routine: its limit is the most references, and it has as many as precede those of
+-- the routine.
 pub record Lists (is_lost : Bool) (finished : List CodeCell) (listed : Fixups) : Type 0 where
   pub limit : listed.limit ≡ most_references
   pub count : length listed.list ≡ references_before is_lost finished
@@ -64,7 +65,7 @@ lists false finished refs spare bytes listed stands limit empty is =
           ∙ sym (later_stands_for 8 refs.list (source_bytes finished bytes) (source_cells finished refs bytes) stands);
     }
 
--- so many bytes there are
+-- the bytes of the area are those of the finished routines and of the open one
 pub bytes_are : (limits : CodeLimits) (finished : ℕ) (refs : Fixups) (bytes : List ℕ) (routine : State) →
     IsCode limits finished refs bytes (Some routine)
     → length bytes ≡ bytes_with (source_cells finished refs bytes) (contents_of routine bytes)
@@ -80,7 +81,7 @@ bytes_are limits finished refs bytes routine is =
       size_finished limits finished refs bytes (Some routine) is,
     )
 
--- what is wrong with a routine, under any bounds
+-- the fault of a routine at its limits, under any bounds
 abbrev pub limit_by : Limits → ℕ → ℕ → Contents → ℕ → Option CloseFault
 limit_by limits most references contents len =
     cond (is_full contents.is_final limits.code len) (Some (close_fault.Full setting.Code))
@@ -137,7 +138,7 @@ module _ (limits : CodeLimits) (finished : ℕ) (refs listed : Fixups) (bytes : 
       ∙ ap (λ n. fault_behind n (length listed.list) contents) start_is
       ∙ ap (λ n. fault_behind (place_behind before) n contents) kept.count
 
--- the first of two, one of which is told
+-- the first of two faults is none where both are
 pub first_none : (first later : Option CloseFault) → first ≡ None → later ≡ None → first_fault first later ≡ None
 first_none None later e is = is
 first_none (Some fault) later e is = cc

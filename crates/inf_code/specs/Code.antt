@@ -1,4 +1,4 @@
--- The code of a story: finished routines, as bytes and the numbers that are known later, and the routine that is open.
+-- The code of a story: finished routines, as bytes and numbers that are known later, and the open routine.
 use Rattle.std.specs.Prelude.{◌≡◌, ℕ, ◌+◌, ◌-◌, ◌≤◌, ◌<◌, ◌^◌, Bool, true, false, not, ◌&&◌, nat_lt, if◌then◌else◌, List, [], ◌∷◌, ◌++◌}
 use Rattle.std.specs.Prelude.{length, map, take, drop, Option, Some, None}
 use Rattle.inf_area.specs.declared.fixups.AddFault.{AddFault}
@@ -7,11 +7,11 @@ use Rattle.inf_area.specs.declared.fixups.Fixup.{Fixup}
 use Rattle.inf_area.specs.declared.targets.AreaName.TheVariants as name
 use Rattle.inf_area.specs.declared.targets.Target.{Target}
 use Rattle.inf_area.specs.Fixups.{Fixups}
-use Rattle.inf_cells.specs.declared.cells.Cell.{Cell as CodeCell}
-use Rattle.inf_cells.specs.declared.cells.Cell.TheVariants as cell
-use Rattle.inf_cells.specs.declared.scale.Scale.{Scale}
-use Rattle.inf_cells.specs.Cells.{bytes_of, fixups_of, later_count, size_of}
-use Rattle.inf_cells.specs.Scales.{gap}
+use Rattle.inf_area.specs.declared.cells.Cell.{Cell as CodeCell}
+use Rattle.inf_area.specs.declared.cells.Cell.TheVariants as cell
+use Rattle.inf_area.specs.declared.scale.Scale.{Scale}
+use Rattle.inf_area.specs.Cells.{bytes_of, fixups_of, later_count, size_of}
+use Rattle.inf_area.specs.Scales.{gap}
 use Rattle.inf_opcode.specs.Cells.{Cell, Of, long_bytes, label_count, fixup_count}
 use Rattle.inf_opcode.specs.declared.cells.Special.TheVariants.{Marks}
 use Rattle.inf_opcode.specs.declared.instructions.Label.{Label}
@@ -34,52 +34,54 @@ use Rattle.inf_code.specs.declared.code.CodeLimits.{CodeLimits}
 abbrev pub known : List ℕ → List CodeCell
 known bytes = map cell.Byte bytes
 
--- the zeros behind so many bytes that fill them up to the next packed address (Z-Machine Standard 1.1, section 1.2.3)
+-- the zeros behind a routine of `size` bytes that fill it up to the next packed address (Z-Machine Standard 1.1, section
+-- 1.2.3)
 abbrev pub zeros_behind : Scale → ℕ → List ℕ
 zeros_behind scale size = take (gap scale size) (0 ∷ 0 ∷ 0 ∷ 0 ∷ 0 ∷ 0 ∷ 0 ∷ [])
 
 abbrev pub padding : Scale → ℕ → List CodeCell
 padding scale size = known (zeros_behind scale size)
 
--- cells with these zeros
+-- cells with the zeros that fill them up to a packed address
 abbrev pub padded : Scale → List CodeCell → List CodeCell
 padded scale cells = cells ++ padding scale (size_of cells)
 
--- The first routine, which has no locals: it calls a routine that waits in two zeros, with which nothing is done that it returns, and
--- quits; and zeros up to
--- a packed address of each version (sections 5.2, 14).
+-- The first routine, which has no locals: it calls a routine whose packed address is zero until it is known, drops the
+-- result, and quits; behind it come zeros up to a packed address of each version (sections 5.2, 14).
 abbrev pub first_routine : List ℕ
 first_routine = 0x00 ∷ 0x8F ∷ 0 ∷ 0 ∷ 0xBA ∷ 0 ∷ 0 ∷ 0 ∷ []
 
--- the same, when it is known what it calls
+-- the first routine as cells, where `called` is the routine that it calls
 abbrev pub first_cells : Target → List CodeCell
 first_cells called = cell.Byte 0x00 ∷ cell.Byte 0x8F ∷ cell.Later called ∷ cell.Byte 0xBA ∷ cell.Byte 0 ∷ cell.Byte 0 ∷ cell.Byte 0 ∷ []
 
--- where the routine behind finished ones begins, in bytes from the front of the code: behind the first routine and these
+-- the place where the routine behind finished ones begins, in bytes from the front of the code: behind the first routine
+-- and the finished ones
 abbrev pub place_behind : List CodeCell → ℕ
 place_behind finished = 8 + size_of finished
 
--- What bytes with fixups stand for, from a place on: the bytes before the first fixup, its reference, and what is behind it.
+-- The cells of bytes with fixups, from a place on: the bytes before the first fixup, its reference, and the cells of the
+-- rest.
 abbrev pub cells_from : ℕ → List Fixup → List ℕ → List CodeCell
 cells_from place [] bytes = known bytes
 cells_from place (fixup ∷ fixups) bytes =
     known (take (fixup.place - place) bytes)
     ++ cell.Later fixup.target ∷ cells_from (fixup.place + 2) fixups (drop (fixup.place + 2 - place) bytes)
 
--- that fixups stand one behind the other from a place on, each of two bytes, and end before an end
+-- Tells whether fixups follow one another from a place on, each of two bytes, and end before `end`.
 abbrev pub AreInOrder : ℕ → List Fixup → ℕ → Type 0
 AreInOrder place [] end = place ≤ end
 AreInOrder place (fixup ∷ fixups) end = (place ≤ fixup.place) × AreInOrder (fixup.place + 2) fixups end
 
--- that bytes with fixups, from a place on, stand for cells
+-- Tells whether bytes with fixups, from a place on, are the bytes of cells.
 pub record StandsFor (place : ℕ) (fixups : List Fixup) (bytes : List ℕ) (cells : List CodeCell) : Type 0 where
   pub in_order : AreInOrder place fixups (place + length bytes)
   pub are : cells_from place fixups bytes ≡ cells
   pub bytes_are : bytes_of cells ≡ bytes
   pub fixups_are : fixups_of name.Code place cells ≡ fixups
 
--- a routine that stands at a place, whose items have these bytes: its number of locals, these, and what returns where control
--- runs past the last (Z-Machine Standard 1.1, section 5)
+-- the bytes of a routine whose items are `body`: its number of locals, these, and the return where control runs past the
+-- last (Z-Machine Standard 1.1, section 5)
 abbrev pub whole_bytes : RoutineKind → Contents → List ℕ → List ℕ
 whole_bytes kind contents body = contents.locals ∷ body ++ closing kind contents
 
@@ -87,18 +89,19 @@ abbrev pub cells_with : ℕ → RoutineKind → Contents → Option (List ℕ) �
 cells_with place kind contents None = []
 cells_with place kind contents (Some body) = cells_from place (routine_fixups place contents) (whole_bytes kind contents body)
 
--- The routine, with the bytes and the references that it has when it is closed; nothing where an offset does not fit.
+-- The routine as cells, with the bytes and the references that it has when it is closed; none where an offset does not fit.
 abbrev pub routine_cells : ℕ → RoutineKind → Contents → List CodeCell
 routine_cells place kind contents = cells_with place kind contents (body_bytes place contents)
 
--- An open routine: what it has so far, and whether it is lost: then it gives no code, and only its labels and offsets are looked at.
+-- An open routine: its contents so far, and whether it is lost. A lost routine gives no code, and only its labels and
+-- offsets are checked.
 pub record Opened : Type 0 where
   pub contents : Contents
   pub is_lost : Bool
 
--- The routines of a story: what packed addresses are multiplied by, whether its code has begun, the finished routines of
--- its source, how many these are, and the one that is open, if any. Code begins with a first routine that the source does not have: it
--- calls the source's Main.
+-- The routines of a story: the scale of packed addresses, whether its code has begun, the finished routines of its source,
+-- their number, and the open routine, if any. Code begins with a first routine that the source does not have: it calls the
+-- source's Main.
 pub record Routines : Type 0 where
   pub scale : Scale
   pub has_begun : Bool
@@ -106,31 +109,31 @@ pub record Routines : Type 0 where
   pub routines : ℕ
   pub opened : Option Opened
 
--- whether a routine is open that is lost
+-- whether a routine is open and lost
 abbrev pub is_lost_in : Option Opened → Bool
 is_lost_in None = false
 is_lost_in (Some o) = o.is_lost
 
--- what code may hold
+-- the limits of code, from those of the settings
 abbrev pub code_limits : SettingLimits → CodeLimits
 code_limits limits = record { labels = limits bound.Labels; code = limits bound.Code; refs = limits bound.References }
 
 abbrev pub no_routines : Scale → Routines
 no_routines scale = record { scale = scale; has_begun = false; finished = []; routines = 0; opened = None }
 
--- The code with the first routine, which calls what is known then.
+-- The code with the first routine, which calls `called`.
 abbrev pub code_cells : Target → List CodeCell → List CodeCell
 code_cells called finished = first_cells called ++ finished
 
--- whether there would be more fixups than there may be with those of the code behind others, and why they are not listed: that, or else
--- there is no memory
+-- Tells whether there would be more fixups than there may be, with those of the code behind `refs`; and why they are not
+-- listed: there are too many, or there is no memory.
 abbrev pub are_too_many : Target → List CodeCell → Fixups → Bool
 are_too_many called finished refs = nat_lt refs.limit (length refs.list + later_count (code_cells called finished))
 
 abbrev pub unlisted : Bool → AddFault
 unlisted full = if full then add_fault.Full else add_fault.Memory
 
--- an instruction more in a routine, and in the one that is open
+-- a routine with an instruction more, and the open routine with one
 abbrev pub with_instruction : Parts → Contents → Contents
 with_instruction parts contents = with_cells (instruction_cells parts) (row_of parts.opcode).is_final contents
 
@@ -138,7 +141,7 @@ abbrev pub with_item : Parts → Option Opened → Option Opened
 with_item parts None = None
 with_item parts (Some o) = Some (record o { contents = with_instruction parts o.contents })
 
--- a label that is marked there
+-- a routine with a label marked at its end, and the open routine with one
 abbrev pub with_mark : Label → Contents → Contents
 with_mark label contents = with_cells (Of (Marks label) ∷ []) false contents
 
@@ -151,7 +154,7 @@ abbrev pub closed_cells : Scale → RoutineKind → ℕ → Option Opened → Li
 closed_cells scale kind place None = []
 closed_cells scale kind place (Some o) = if o.is_lost then [] else padded scale (routine_cells place kind o.contents)
 
--- how many routines that is: one, unless it is lost
+-- the number of routines that are finished by closing: one, unless the open one is lost
 abbrev pub closed_count : Option Opened → ℕ
 closed_count None = 0
 closed_count (Some o) = if o.is_lost then 0 else 1
@@ -178,18 +181,19 @@ open_in bytes is_lost (Some routine) = Some (record { contents = contents_of rou
 abbrev pub bytes_with : List CodeCell → Contents → ℕ
 bytes_with finished contents = place_behind finished + 1 + length (long_bytes contents.cells)
 
--- a lost routine's references are counted alone
+-- the references before those of the open routine: none where it is lost, since its references are counted alone
 abbrev pub references_before : Bool → List CodeCell → ℕ
 references_before is_lost finished = if is_lost then 0 else later_count finished
 
 abbrev pub references_with : Bool → List CodeCell → Contents → ℕ
 references_with is_lost finished contents = references_before is_lost finished + fixup_count contents.cells
 
--- An open routine is bounded by the numbers of the program alone: what a source may have is looked at where a unit is finished.
+-- The bound of an open routine, which is the numbers of the program alone: the limits of a source are checked where a unit
+-- is finished.
 abbrev pub unlimited : ℕ
 unlimited = 18446744073709551615
 
--- the first routine has a reference, and four more stand in tables
+-- the most references of the source's routines: the first routine has one, and tables have four
 abbrev pub most_references : ℕ
 most_references = 18446744073709551610
 
@@ -199,14 +203,14 @@ full_first limits =
     if nat_lt limits.code 8 then Some setting.Code else
     if nat_lt limits.refs 5 then Some setting.Refs else None
 
--- nothing, where it has begun
+-- the first limit that is passed where code begins; none where it has begun
 abbrev pub full_unless : Bool → CodeLimits → Option Limit
 full_unless has_begun limits = if has_begun then None else full_first limits
 
 abbrev pub full_begun : SettingLimits → Routines → Option Limit
 full_begun limits routines = full_unless routines.has_begun (code_limits limits)
 
--- code begins, unless that would pass a limit
+-- The routines once code has begun, unless that would pass a limit.
 abbrev pub begun_unless : Option Limit → Routines → Routines
 begun_unless None routines = record routines { has_begun = true }
 begun_unless (Some s) routines = routines
@@ -214,18 +218,19 @@ begun_unless (Some s) routines = routines
 abbrev pub begun : SettingLimits → Routines → Routines
 begun limits routines = begun_unless (full_begun limits routines) routines
 
--- the routines of a story so far, of which the first one counts where code has begun
+-- the number of routines of a story so far, the first one counted where code has begun
 abbrev pub routine_count : Routines → ℕ
 routine_count routines = (if routines.has_begun then 1 else 0) + routines.routines
 
--- the bytes of code and the references of a story so far
+-- the number of bytes of code, and of references, of a story so far
 abbrev pub code_count : Routines → ℕ
 code_count routines = (if routines.has_begun then 8 else 0) + size_of routines.finished
 
 abbrev pub reference_count : Routines → ℕ
 reference_count routines = (if routines.has_begun then 5 else 4) + later_count routines.finished
 
--- the first limit that code would pass that begins with another routine, which begins with the number of its locals, unless it is lost
+-- the first limit that code would pass which begins with another routine; unless this is lost, it has a byte for the number
+-- of its locals
 abbrev pub full_with_locals : Bool → CodeLimits → Option Limit
 full_with_locals is_lost limits = if not is_lost && nat_lt limits.code 9 then Some setting.Code else full_first limits
 
@@ -240,7 +245,7 @@ full_behind_bytes limits is_lost has_begun place =
 abbrev pub full_opened : SettingLimits → Bool → Routines → Option Limit
 full_opened limits is_lost routines = full_behind_bytes (code_limits limits) is_lost routines.has_begun (place_behind routines.finished)
 
--- another routine of so many locals is open, which is lost or not
+-- the routines where one with `locals` local variables is opened, which is lost or not
 abbrev pub with_opened : ℕ → Bool → Routines → Routines
 with_opened locals is_lost routines =
     record routines { has_begun = true; opened = Some (record { contents = fresh locals; is_lost = is_lost }) }
@@ -268,7 +273,7 @@ full_marked (Some o) = if nat_lt unlimited (label_count o.contents.cells + 1) th
 abbrev pub full_label : Routines → Option Limit
 full_label routines = full_marked routines.opened
 
--- How many labels, branches and jumps the open routine has.
+-- Number of labels, branches and jumps of the open routine.
 abbrev pub labels_of : Option Opened → ℕ
 labels_of None = 0
 labels_of (Some o) = label_count o.contents.cells
@@ -276,7 +281,7 @@ labels_of (Some o) = label_count o.contents.cells
 abbrev pub labels : Routines → ℕ
 labels routines = labels_of routines.opened
 
--- What is left of a limit of which so much is used, or nothing where that is too much.
+-- The room left of a limit, where `used` of it is used; none where that is more than the limit.
 abbrev pub rest : ℕ → ℕ → Option ℕ
 rest limit used = if nat_lt limit used then None else Some (limit - used)
 
@@ -287,7 +292,7 @@ rest_behind (Some left) used = rest left used
 abbrev pub labels_left : SettingLimits → Routines → Option ℕ
 labels_left limits routines = rest (limits bound.Labels) (labels routines)
 
--- The bytes of code so far, with those of the open routine, every branch long. One that is lost has none.
+-- The number of bytes of code so far, with those of the open routine, every branch long. A lost routine has none.
 abbrev pub code_with : ℕ → List CodeCell → Option Opened → ℕ
 code_with count finished None = count
 code_with count finished (Some o) = if o.is_lost then count else bytes_with finished o.contents
@@ -295,11 +300,11 @@ code_with count finished (Some o) = if o.is_lost then count else bytes_with fini
 abbrev pub bytes_of_code : Routines → ℕ
 bytes_of_code routines = code_with (code_count routines) routines.finished routines.opened
 
--- how many more there may be
+-- the number of bytes of code that there may still be
 abbrev pub code_left : SettingLimits → Routines → Option ℕ
 code_left limits routines = rest (limits bound.Code) (bytes_of_code routines)
 
--- The references of the open routine. One that is lost has none.
+-- The number of references of the open routine. A lost routine has none.
 abbrev pub references_open : Option Opened → ℕ
 references_open None = 0
 references_open (Some o) = if o.is_lost then 0 else fixup_count o.contents.cells
@@ -308,9 +313,9 @@ abbrev pub references_left : SettingLimits → Routines → Option ℕ
 references_left limits routines =
     rest_behind (rest (limits bound.References) (reference_count routines)) (references_open routines.opened)
 
--- What is wrong with a routine behind so many bytes and references: a label that is missing or stands twice, an offset that does not fit,
--- the
--- first bound that it would pass with what returns at its end, or that all references would.
+-- The fault of a routine behind `start` bytes and `references` references: a label that is missing or placed twice, an
+-- offset that does not fit, or the first bound that is passed, by its bytes with the return at its end or by all
+-- references.
 abbrev pub limit_fault : ℕ → Contents → ℕ → Option CloseFault
 limit_fault references contents len =
     if is_full contents.is_final unlimited len then Some (close_fault.Full setting.Code) else
@@ -323,7 +328,7 @@ fault_behind start references contents =
     (twice_behind [] contents.cells))
     (missing (long_places start contents) contents.cells)
 
--- or the routine with the zeros behind it would pass the limit of bytes
+-- the fault of a routine that passes the limit of bytes with the zeros behind it
 abbrev pub zeros_fault : Bool → ℕ → ℕ → Option CloseFault
 zeros_fault is_lost limit len = if is_lost then None else if nat_lt limit len then Some (close_fault.Full setting.Code) else None
 
@@ -344,7 +349,7 @@ fault_closed limits kind routines = fault_end (code_limits limits) routines.scal
 abbrev pub routine_bounds : Limits
 routine_bounds = record { labels = unlimited; code = unlimited }
 
--- that an open routine stands behind so many bytes, up to the end of the area
+-- Tells whether an open routine begins at `place` and goes up to the end of the area.
 pub record StandsBehind (place : ℕ) (bytes : List ℕ) (routine : State) : Type 0 where
   pub start : routine.start ≡ place
   pub open_still : IsOpen routine bytes
@@ -354,14 +359,14 @@ abbrev pub IsBehind : ℕ → List ℕ → Option State → Type 0
 IsBehind place bytes None = Unit {0}
 IsBehind place bytes (Some routine) = StandsBehind place bytes routine
 
--- the bytes of the finished routines of the source, by those up to the open one: the first routine stands before them
+-- the bytes of the finished routines of the source, without the first routine, where `finished` bytes precede the open one
 abbrev pub source_bytes : ℕ → List ℕ → List ℕ
 source_bytes finished bytes = drop 8 (take finished bytes)
 
 abbrev pub source_cells : ℕ → Fixups → List ℕ → List CodeCell
 source_cells finished refs bytes = cells_from 8 refs.list (source_bytes finished bytes)
 
--- what code is: finished routines of so many bytes, the first one with them, fixups in them, and an open routine
+-- The invariant of code: `finished` bytes of finished routines, with the first one, fixups in them, and an open routine.
 pub record IsCode (limits : CodeLimits) (finished : ℕ) (refs : Fixups) (bytes : List ℕ) (routine : Option State) : Type 0 where
   pub within : finished ≤ length bytes
   pub front : take 8 (take finished bytes) ≡ first_routine
@@ -370,10 +375,10 @@ pub record IsCode (limits : CodeLimits) (finished : ℕ) (refs : Fixups) (bytes 
   pub few : finished - 8 ≤ limits.code - 8
   pub behind : IsBehind finished bytes routine
 
--- no fixups, and any number of them may come
+-- Tells whether a list of fixups is empty, with room for the most references.
 abbrev pub IsSpare : Fixups → Type 0
 IsSpare refs = refs ≡ record { list = []; limit = most_references }
 
--- code that has begun has room for its beginning; limits are numbers of the program
+-- Tells whether code that has begun has room for its beginning; limits are numbers of the program.
 abbrev pub HasRoom : Bool → CodeLimits → Type 0
 HasRoom has_begun limits = (limits.code < 2 ^ 64) × (has_begun ≡ true → 8 ≤ limits.code)

@@ -1,45 +1,46 @@
-//! The code of a story: its finished routines, and the one that is open.
-ghost use Rattle.std.specs.Prelude.{◌≡◌, ◌≤◌, ◌⊎◌, ◌∷◌, ◌++◌, ◌+◌, [], None, Some, IfOk, MatchResult, OnOk, OnErr, false, if◌then◌else◌, length};
+//! The code of a story: its finished routines, and the open one.
+ghost use Rattle.std.specs.Prelude.{◌≡◌, ◌≤◌, ◌⊎◌, ◌∷◌, ◌++◌, ◌+◌, [], None, Some, IfOk, MatchResult, OnOk, OnErr, false, if◌then◌else◌};
+ghost use Rattle.std.specs.Prelude.{length};
 ghost use Rattle.std.specs.Prelude.{nat_lt, take, true};
 ghost use Rattle.inf_area.specs.Fixups.{with_fixups};
-ghost use Rattle.inf_cells.specs.Cells.{bytes_of, fixups_of};
+ghost use Rattle.inf_area.specs.Cells.{bytes_of, fixups_of};
 ghost use Rattle.inf_opcode.specs.Instructions.{IsProper};
 ghost use Rattle.inf_opcode.specs.PartsOf.{parts_of};
 ghost use Rattle.inf_assembler.specs.declared.routines.Limit.{Limit};
 ghost use Rattle.inf_assembler.specs.declared.routines.Limit.TheVariants as code_setting;
 ghost use Rattle.inf_assembler.specs.declared.routines.CloseFault.TheVariants as close_fault;
 ghost use Rattle.inf_assembler.specs.Routines.{IsOpen, contents_of, refusal};
-ghost use Rattle.inf_code.specs.Code.{IsSpare, are_too_many, begun, bytes_of_code, code_cells, code_count, code_left, code_limits, fault_behind};
+ghost use Rattle.inf_code.specs.Code.{IsSpare, are_too_many, begun, bytes_of_code, code_cells, code_count, code_left, code_limits};
+ghost use Rattle.inf_code.specs.Code.{fault_behind};
 ghost use Rattle.inf_code.specs.Code.{fault_closed, reference_count, references_left, references_open, full_begun, full_behind_bytes};
 ghost use Rattle.inf_code.specs.Code.{full_first, full_label, full_opened, full_with, is_lost_in, labels, labels_left, place_behind};
 ghost use Rattle.inf_code.specs.Code.{routine_bounds, routine_count, unlisted};
 ghost use Rattle.inf_code.specs.Code.{with_closed, with_item, with_label, with_none_open, with_opened, zeros_behind};
 ghost use Rattle.inf_settings.specs.declared.setting.Setting.TheVariants as setting;
 
-use inf_area::{AddFault, Area, AreaName, Fixup, PagedArea, Refs, Target};
+use inf_area::{AddFault, Area, AreaName, Fixup, PagedArea, Refs, Scale, Target};
 use inf_assembler::{CloseFault, GrowFault, Limit, Limits, Routine, RoutineKind};
-use inf_cells::Scale;
 use inf_opcode::{Instruction, Label};
 use inf_settings::bounds::Bounds;
 use std::alloc::{AllocError, Global};
 use std::marker::{Model, PhantomData};
 
-/// The bytes of the first routine of each story, with the zeros behind it: no locals, `call_1n` of what is known later, and `quit`
-/// (Z-Machine Standard 1.1, sections 5.2 and 14).
+/// The bytes of the first routine of each story, with the zeros behind it: no locals, `call_1n` of a routine that is known
+/// later, and `quit` (Z-Machine Standard 1.1, sections 5.2 and 14).
 const FIRST_ROUTINE: [u8; 8] = [0x00, 0x8F, 0, 0, 0xBA, 0, 0, 0];
 
 const FIRST_ROUTINE_BYTES: usize = 8;
 
-/// Where in it the number of what it calls stands.
+/// The place, within the first routine, of the packed address that it calls.
 const CALLED: usize = 2;
 
-/// The references of each story in tables: the addresses of the property tables of its first four objects.
+/// Number of references that each story has in tables: the addresses of the property tables of its first four objects.
 const TABLE_REFERENCES: usize = 4;
 
-/// These, and that of the first routine.
+/// Number of references in tables and in the first routine.
 const FIRST_REFERENCES: usize = TABLE_REFERENCES + 1;
 
-/// An open routine is bounded by the numbers of the program alone.
+/// Bounds of an open routine: the numbers of the program alone.
 const ROUTINE_BOUNDS: Limits = Limits {
     labels: usize::MAX,
     code: usize::MAX,
@@ -48,22 +49,22 @@ const ROUTINE_BOUNDS: Limits = Limits {
 /// The most references that the routines of the source may have.
 const MOST_REFERENCES: usize = usize::MAX - FIRST_REFERENCES;
 
-/// What code may hold.
+/// Limits of the code of a story.
 #[derive(Clone, Copy, Debug, PartialEq, Eq)]
 pub struct CodeLimits {
-    /// The most labels, branches and jumps of a routine. How many there are is looked at where a unit is finished.
+    /// The most labels, branches and jumps of a routine. Their number is checked where a unit is finished.
     pub labels: usize,
-    /// The most bytes of all routines: the first one, which has 8, the finished ones with the zeros behind them, and the open one with
-    /// every branch long. The finished ones never have more; how many there are with the open one is looked at where a unit is finished.
-    pub code: usize,
-    /// The most references whose numbers are known later: those of the routines, and four in tables. How many there are is looked at where
-    /// a
+    /// The most bytes of all routines: the first one, which has 8, the finished ones with the zeros behind them, and the
+    /// open one with every branch long. The finished ones never have more; the number with the open one is checked where a
     /// unit is finished.
+    pub code: usize,
+    /// The most references whose numbers are known later: those of the routines, and four in tables. Their number is
+    /// checked where a unit is finished.
     pub refs: usize,
 }
 
 impl CodeLimits {
-    /// The first limit that the beginning of code would pass.
+    /// Returns the first limit that the beginning of code would pass.
     fn full_first(self) -> Option<Limit>
         ensures { result ≡ full_first self }
     {
@@ -76,7 +77,8 @@ impl CodeLimits {
         }
     }
 
-    /// The first limit that another routine, which is lost or not, would pass at a place.
+    /// Returns the first limit that another routine would pass, which begins at `place` and is lost where `is_lost` says
+    /// it.
     fn full_opened(self, is_lost: bool, has_begun: bool, place: usize) -> Option<Limit>
         ensures { result ≡ full_behind_bytes self is_lost has_begun place }
     {
@@ -93,26 +95,27 @@ impl CodeLimits {
     }
 }
 
-/// The routines of a story: the bytes of the finished ones, with zeros in place of each number that is known later, and the fixups
-/// where these go; and behind them the routine that is open, if any.
+/// The routines of a story: the bytes of the finished ones, with zeros in place of each number that is known later, the
+/// fixups for these numbers, and behind them the open routine, if any.
 ///
-/// Before those of the source stands a first routine, which calls `Main`. A place in code counts from its front, and so is one in the area.
+/// A first routine, which calls `Main`, precedes those of the source. A place in code counts from the front of the area.
 #[derive(Drop)]
 pub struct Code<B: Bounds> {
     limits: CodeLimits,
     scale: Scale,
-    // Whether the first routine counts.
+    // Tells whether code has begun: the first routine is then counted.
     has_begun: bool,
     area: PagedArea,
-    // Those of the routines of the source: what the first one calls is known at the end.
+    // The references of the source's routines; the first routine's own reference is known at the end.
     refs: Refs,
-    // How many bytes the finished routines have, with the first one.
+    // Number of bytes of the finished routines, with the first one.
     finished: usize,
-    // How many routines these are, without the first one.
+    // Number of finished routines, without the first one.
     routines: usize,
-    // What stands behind these bytes where no routine is open is no longer used.
+    // The open routine, if any. Where none is open, the bytes behind the finished ones are no longer used.
     routine: Option<Routine>,
-    // Whether the open routine is lost. What it refers to goes to the spare list, which is empty between.
+    // Tells whether the open routine is lost. The references of a lost routine go to the spare list, which is empty
+    // otherwise.
     is_lost: bool,
     spare: Refs,
     of: PhantomData<B>,
@@ -141,7 +144,8 @@ impl<B: Bounds> Model for Code<B> {
 impl<B: Bounds> Code<B> {
     ghost use Rattle.inf_code.specs.Code.{Routines, no_routines};
 
-    /// No code, which may hold so much, in a story whose packed addresses are multiplied by this.
+    /// Creates code without routines, within `limits`, for a story whose packed addresses are multiplied by `scale`. It
+    /// fails for want of memory alone.
     pub fn new(alloc: Global, limits: CodeLimits, scale: Scale) -> Result<Code<B>, AllocError>
         requires { limits ≡ code_limits B.most }
         ensures { IfOk result (λ code. code ≡ no_routines scale) }
@@ -163,28 +167,29 @@ impl<B: Bounds> Code<B> {
         })
     }
 
-    /// What packed addresses are multiplied by.
+    /// Returns the scale: the number that packed addresses are multiplied by.
     pub fn scale(&self) -> Scale
         ensures { result ≡ self.now.scale }
     {
         self.scale
     }
 
-    /// From now on packed addresses are multiplied by `scale`: so the next routine that is closed is filled up.
+    /// Multiplies packed addresses by `scale` from now on: the next routine that is closed is filled up to a multiple of
+    /// it.
     pub fn set_scale(&mut self, scale: Scale)
         ensures { self.new ≡ record self.old { scale = scale } }
     {
         self.scale = scale;
     }
 
-    /// Where the next routine of the source begins, in bytes from the front of the code.
+    /// Returns the place where the next routine of the source begins, in bytes from the front of the code.
     pub fn next_place(&self) -> usize
         ensures { result ≡ place_behind self.now.finished }
     {
         self.finished
     }
 
-    /// The number of bytes of code so far: those of the first routine, once code has begun, and of the finished ones.
+    /// Returns the number of bytes of code so far: those of the first routine, once code has begun, and of the finished ones.
     pub fn count(&self) -> usize
         ensures value { result ≡ code_count self.now }
         ensures few { result ≤ B.most setting.Code }
@@ -196,7 +201,7 @@ impl<B: Bounds> Code<B> {
         }
     }
 
-    /// The number of routines so far: the first one, once code has begun, and the finished ones.
+    /// Returns the number of routines so far: the first one, once code has begun, and the finished ones.
     pub fn routines(&self) -> usize
         ensures { result ≡ routine_count self.now }
     {
@@ -207,8 +212,8 @@ impl<B: Bounds> Code<B> {
         }
     }
 
-    /// How many references the story has so far: four in tables, that of the first routine, once code has begun, and those of the
-    /// finished routines.
+    /// Returns the number of references of the story so far: four in tables, that of the first routine, once code has
+    /// begun, and those of the finished routines.
     pub fn references(&self) -> usize
         ensures { result ≡ reference_count self.now }
     {
@@ -219,7 +224,7 @@ impl<B: Bounds> Code<B> {
         }
     }
 
-    /// How many labels, branches and jumps the open routine has, if there is one.
+    /// Returns the number of labels, branches and jumps of the open routine, and 0 where none is open.
     pub fn labels(&self) -> usize
         ensures { result ≡ labels self.now }
     {
@@ -229,7 +234,7 @@ impl<B: Bounds> Code<B> {
         }
     }
 
-    /// Whether a routine is open that is lost.
+    /// Returns whether a routine is open and lost.
     pub fn is_lost(&self) -> bool
         ensures { result ≡ is_lost_in self.now.opened }
     {
@@ -239,30 +244,29 @@ impl<B: Bounds> Code<B> {
         }
     }
 
-    /// The most bytes of code that there may be.
+    /// Returns the most bytes of code that there may be.
     pub fn most_bytes(&self) -> usize
         ensures { result ≡ B.most setting.Code }
     {
         self.limits.code
     }
 
-    /// How many more labels, branches and jumps the open routine may have; nothing where it has too many.
+    /// Returns the number of labels, branches and jumps that the open routine may still have; `None` where it has too many.
     pub fn labels_left(&self) -> Option<usize>
         ensures { result ≡ labels_left B.most self.now }
     {
         self.limits.labels.checked_sub(self.labels())
     }
 
-    /// How many more bytes there may be, behind those of the finished routines and of the open one with every branch long; nothing where
-    /// there are
-    /// too many. A routine that is lost has none.
+    /// Returns the number of bytes that there may still be, behind those of the finished routines and of the open one with
+    /// every branch long; `None` where there are too many. A lost routine has no bytes.
     pub fn code_left(&self) -> Option<usize>
         ensures { result ≡ code_left B.most self.now }
     {
         self.limits.code.checked_sub(self.bytes())
     }
 
-    /// How many bytes of code there are so far, with those of the open routine, unless it is lost.
+    /// Returns the number of bytes of code so far, with those of the open routine, unless it is lost.
     fn bytes(&self) -> usize
         ensures { result ≡ bytes_of_code self.now }
     {
@@ -275,9 +279,8 @@ impl<B: Bounds> Code<B> {
         self.area.len()
     }
 
-    /// How many more references there may be, behind those of the finished routines and of the open one; nothing where there are too many.
-    /// A
-    /// routine that is lost has none.
+    /// Returns the number of references that there may still be, behind those of the finished routines and of the open one;
+    /// `None` where there are too many. A lost routine has no references.
     pub fn references_left(&self) -> Option<usize>
         ensures { result ≡ references_left B.most self.now }
     {
@@ -285,7 +288,7 @@ impl<B: Bounds> Code<B> {
         left.checked_sub(self.open_references())
     }
 
-    /// How many references the open routine has, if there is one that is not lost.
+    /// Returns the number of references of the open routine; 0 where none is open, or it is lost.
     fn open_references(&self) -> usize
         ensures { result ≡ references_open self.now.opened }
     {
@@ -295,8 +298,8 @@ impl<B: Bounds> Code<B> {
         }
     }
 
-    /// Begins code with its first routine, unless it has begun. Answers the limit that this would pass, of two that of bytes; then
-    /// it does not begin.
+    /// Begins code with its first routine, unless it has begun. Returns the limit that this would pass, that of bytes
+    /// before that of references; then code does not begin.
     pub fn begin(&mut self) -> Option<Limit>
         ensures full { result ≡ full_begun B.most self.old }
         ensures begun { self.new ≡ begun B.most self.old }
@@ -309,12 +312,12 @@ impl<B: Bounds> Code<B> {
         full
     }
 
-    /// Opens a routine of so many locals, at most 15. One that is open is given up. Code begins with it, unless it has begun. A routine
-    /// that is
-    /// lost gives no code: only its labels are counted, and what is wrong with them and with offsets is answered at its end.
+    /// Opens a routine of `locals` local variables, at most 15, and gives up one that is open. Code begins with it, unless
+    /// it has begun. A lost routine gives no code: only its labels are counted, and its faults of labels and offsets are
+    /// answered when it is closed.
     ///
-    /// Where it is refused, none is open. It is refused where the beginning of code would pass a limit, or the number of locals
-    /// the numbers of the program, and else only for want of memory.
+    /// A refused call leaves no routine open. It is refused where the beginning of code would pass a limit, or the byte for
+    /// the number of locals would pass the numbers of the program, and otherwise only for want of memory.
     pub fn open(&mut self, alloc: Global, locals: u8, is_lost: bool) -> Result<(), GrowFault>
         requires { locals ≤ 15 }
         ensures ok { OnOk result (self.new ≡ with_opened locals is_lost self.old) }
@@ -339,8 +342,8 @@ impl<B: Bounds> Code<B> {
 
     /// Adds an instruction to the open routine, if there is one.
     ///
-    /// Where it is refused the routine is as it was. It is refused where it would pass the numbers of the program, of several the
-    /// first of labels, bytes and references, and else only for want of memory.
+    /// A refused call leaves the routine unchanged. It is refused where the instruction would pass the numbers of the
+    /// program, of labels first, then of bytes, then of references, and otherwise only for want of memory.
     pub fn emit(&mut self, instruction: &Instruction<'_>) -> Result<(), GrowFault>
         requires { IsProper (parts_of instruction.now) }
         ensures ok { let opened = with_item (parts_of instruction.now) self.old.opened in
@@ -358,8 +361,8 @@ impl<B: Bounds> Code<B> {
 
     /// Marks the place of a label in the open routine, if there is one.
     ///
-    /// Where it is refused the routine is as it was. It is refused where it would pass the numbers of the program, and else only for want
-    /// of memory.
+    /// A refused call leaves the routine unchanged. It is refused where the label would pass the numbers of the program,
+    /// and otherwise only for want of memory.
     pub fn label(&mut self, label: Label) -> Result<(), GrowFault>
         ensures ok { OnOk result (self.new ≡ record self.old { opened = with_label label self.old.opened }) }
         ensures err { OnErr result (self.new ≡ self.old) }
@@ -372,13 +375,13 @@ impl<B: Bounds> Code<B> {
         routine.label(&self.area, label)
     }
 
-    /// Closes the open routine, if there is one: it is the last of the finished ones, filled up with
-    /// zeros to the next packed address; but one that is lost is given up.
+    /// Closes the open routine, if there is one: it becomes the last of the finished ones, filled up with zeros to the next
+    /// packed address. A lost routine is given up.
     ///
-    /// Where it is refused the finished routines are as they were, and the open one is given up. It is refused where a label is missing or
-    /// stands twice, where a branch or jump is too far, where what returns at its end or all references would pass the numbers of the
-    /// program, or
-    /// all of it with the zeros behind it the limit of bytes, in this order, and else only for want of memory.
+    /// A refused call leaves the finished routines unchanged, and gives the open one up. It is refused, in this order,
+    /// where a label is missing or placed twice, where a branch or jump is too far, where the return at its end or all
+    /// references would pass the numbers of the program, or where the code with the zeros behind it would pass the limit of
+    /// bytes; and otherwise only for want of memory.
     pub fn close(&mut self, kind: RoutineKind) -> Result<(), CloseFault>
         ensures ok { OnOk result (self.new ≡ with_closed kind self.old) }
         ensures err { OnErr result (self.new ≡ with_none_open self.old) }
@@ -412,9 +415,11 @@ impl<B: Bounds> Code<B> {
         self.routine = None;
     }
 
-    /// The area of the code, whose first routine calls what a target is, and behind other fixups those of it. An open routine is given up.
+    /// Returns the area of the code, whose first routine calls `called`, and appends its fixups to `refs`. An open routine
+    /// is given up.
     ///
-    /// Refuses first where there would be more fixups than there may be, then where no memory is left; the fixups then stay as they were.
+    /// The call is refused first where there would be more fixups than there may be, then for want of memory; `refs` then
+    /// stays unchanged.
     pub fn into_area(self, called: Target, refs: &mut Refs) -> Result<PagedArea, AddFault>
         ensures bytes { IfOk result (λ area. area ≡ bytes_of (code_cells called self.finished)) }
         ensures fixups { OnOk result (refs.new
@@ -438,7 +443,8 @@ impl<B: Bounds> Code<B> {
     }
 }
 
-/// Lists a fixup and others behind it, for all of which there is room. Refused, the list stays as it was.
+/// Lists `first` and `others` behind it, for all of which there is room. Refused for want of memory, the call leaves the
+/// list unchanged.
 fn list_all(refs: &mut Refs, first: Fixup, others: &[Fixup]) -> Result<(), AllocError>
     requires { length refs.old.list + (1 + length others.now) ≤ refs.old.limit }
     ensures ok { OnOk result (refs.new ≡ with_fixups (refs.old.list ++ first ∷ others.now) refs.old) }
@@ -455,14 +461,14 @@ fn list_all(refs: &mut Refs, first: Fixup, others: &[Fixup]) -> Result<(), Alloc
     Ok(())
 }
 
-/// Where the references of a routine are listed that is lost or not.
+/// Returns the list for the references of the open routine: `spare` where it is lost, otherwise `refs`.
 fn listed<'a>(is_lost: bool, spare: &'a Refs, refs: &'a Refs) -> &'a Refs
     ensures { result.now ≡ if is_lost then spare.now else refs.now }
 {
     if is_lost { spare } else { refs }
 }
 
-/// Closes a routine that is lost, at the end of an area, and gives it up. What was to be listed of it is not kept.
+/// Closes a lost routine, at the end of `area`, and gives it up. The fixups that were listed for it are removed.
 fn close_lost(
     area: &mut PagedArea,
     spare: &mut Refs,
@@ -483,9 +489,10 @@ fn close_lost(
     Ok(())
 }
 
-/// Appends the zeros behind a routine of this length that fill it up to a packed address.
+/// Appends the zeros behind a routine of `len` bytes that fill it up to a packed address.
 ///
-/// It is refused where the area would have more bytes than its limit, and else only for want of memory; the area then stays as it was.
+/// A refused call leaves the area unchanged. It is refused where the area would have more than `limit` bytes, and otherwise
+/// only for want of memory.
 fn fill_up(area: &mut PagedArea, len: usize, scale: Scale, limit: usize) -> Result<(), CloseFault>
     ensures ok { OnOk result (area.new ≡ area.old ++ zeros_behind scale len) }
     ensures room { OnOk result (length area.new ≤ limit) }
@@ -506,7 +513,7 @@ fn fill_up(area: &mut PagedArea, len: usize, scale: Scale, limit: usize) -> Resu
     Ok(())
 }
 
-/// Keeps the first bytes of an area, which has so many.
+/// Cuts an area to its first `len` bytes.
 #[tactic(auto, using(crate::proofs::CodeLemmas::cut_is))]
 fn cut_back(area: &mut PagedArea, len: usize)
     requires { len ≤ length area.old }

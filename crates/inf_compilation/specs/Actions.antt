@@ -1,4 +1,4 @@
--- What the actions of the grammar do. While a unit is read they gather what it has, and at its end it acts, as a whole.
+-- Work of the actions of the grammar. While a unit is read they gather its parts, and at its end it acts, as a whole.
 use Rattle.std.specs.Prelude.{ℕ, ◌+◌, ◌-◌, ◌==◌, max, List, [], ◌∷◌, length, map, nat_lt, Bool, true, false, ◌&&◌, if◌then◌else◌, Option}
 use Rattle.std.specs.Prelude.{Some, None, is_some, unwrap_or}
 use Rattle.inf_settings.specs.Bounds.{Limits}
@@ -26,7 +26,7 @@ use Rattle.inf_expressions.specs.Trees.{Tree, Leaf}
 use Rattle.inf_expressions.specs.Units.{judged, trees_of}
 use Rattle.inf_gathering.specs.declared.gathering.Leaf.{Leaf as UnitLeaf}
 use Rattle.inf_gathering.specs.declared.gathering.Leaf.TheVariants as leaf
-use Rattle.inf_cells.specs.declared.scale.Scale.TheVariants as scale
+use Rattle.inf_area.specs.declared.scale.Scale.TheVariants as scale
 use Rattle.inf_letters.specs.Letters.{abbreviates, debugs, none_spoken, scale_of, warns}
 use Rattle.inf_letters.specs.declared.letters.Letters.{Letters}
 use Rattle.inf_code.specs.Code.{fault_closed, labels as labels_of, no_routines, place_behind, with_none_open}
@@ -60,14 +60,14 @@ use Rattle.inf_compilation.specs.declared.compilation.Listing.{Listing}
 use Rattle.inf_compilation.specs.declared.compilation.Extending.{Extending}
 use Rattle.inf_compilation.specs.declared.compilation.Header.{Header}
 use Rattle.inf_compilation.specs.Words.{nowhere}
-use Rattle.inf_verbs.specs.declared.verbs.Place.TheVariants as line_place
+use Rattle.inf_verbs.specs.declared.verbs.LinePlace.TheVariants as line_place
 use Rattle.inf_constructs.specs.Constructs.{depth, ended}
 use Rattle.inf_constructs.specs.declared.constructs.Construct.{Construct}
 use Rattle.inf_constructs.specs.Labels.{NamedLabel, missing}
 use Rattle.inf_statements.specs.Operands.{Settled, all_looked, leaf_added, leaves_named, settled, stores_named}
 use Rattle.inf_constructs.specs.Roots.{tree_in}
-use Rattle.inf_world.specs.declared.faults.AddFault.{AddFault}
-use Rattle.inf_world.specs.World.{WorldOf, no_body_fault, with_end}
+use Rattle.inf_tables.specs.declared.faults.WorldFault.{WorldFault}
+use Rattle.inf_tables.specs.World.{WorldOf, no_body_fault, with_end}
 
 abbrev pub no_output : Out
 no_output = record {
@@ -83,15 +83,14 @@ no_output = record {
   kept = None;
 }
 
--- What was compiled so far: how many tokens an expression had, and how many labels a routine, where units were finished; the unit at hand;
--- the statements that are open, the innermost first, and how many that are over were closed ahead of
--- a conditional;
--- where the last token is, if it is the word of a compound statement where a case may stand, too; the labels with names and the locals of
--- the open routine; the code and the names of the source; the messages; what a directive asks of the reading; the names of
--- routines that are to be replaced, and whether those of the file at hand may be; whether the
--- routine at hand is passed over for that; the array whose entries are read, and where they go if its header had an error; whether the
--- values that are read are those of the property `name`, and whether the open routine is a value of a property; the verb whose lines are
--- read; what letters said so far; and what directives tell of the header of the story.
+-- All that was compiled so far: the most tokens that an expression had, and the most labels that a routine had, where units were
+-- finished; the unit at hand; the statements that are open, the innermost first, and the number of those that are over and were
+-- closed ahead of a conditional; the place of the last token, if it is the word of a compound statement where a case may stand,
+-- too; the labels with names and the locals of the open routine; the code and the names of the source; the messages; the request of
+-- a directive to the reading; the names of routines that are to be replaced, and whether those of the file at hand may be; whether
+-- the routine at hand is passed over for that; the array whose entries are read, and where they go if its header had an error;
+-- whether the values that are read are those of the property `name`, and whether the open routine is a value of a property; the
+-- verb whose lines are read; all that letters said so far; and the entries of the header of the story that directives tell.
 pub record Compilation : Type 0 where
   pub most_tokens : ℕ
   pub most_labels : ℕ
@@ -115,7 +114,7 @@ pub record Compilation : Type 0 where
   pub letters : Letters
   pub told : Header
 
--- before the first unit of a source
+-- Compilation before the first unit of a source.
 abbrev pub no_work : Settings → Compilation
 no_work settings = record {
   most_tokens = 0;
@@ -162,11 +161,17 @@ letters_chosen letters w =
 abbrev pub piece_begun : Compilation → Compilation
 piece_begun w = record w { unit = no_unit; constructs = []; closed = 0; opening = None; locals = [] }
 
--- the labels, branches and jumps of the open routine are counted
+-- The labels, branches and jumps of the open routine are counted.
 abbrev pub labels_counted : Compilation → Compilation
 labels_counted w = record w { most_labels = max w.most_labels (labels_of w.output.code) }
 
--- The end of a unit, which begins at a place: the least of what is wrong with it is told, and then the first limit that was passed.
+-- The least finding about a unit, which begins at a place, is told.
+abbrev pub finding_told : Context → Place → Findings → Compilation → Compilation
+finding_told context first found w = record w {
+  report = with_fault context.names first (told_as context.names w.unit.tokens first found) w.report;
+}
+
+-- End of a unit, which begins at a place: the least finding about it is told, and then the first limit that was passed.
 abbrev pub unit_ended : Limits → Context → Place → Bool → Findings → Compilation → Compilation
 unit_ended limits context first has_last found w = record w {
   unit = over has_last w.unit;
@@ -193,7 +198,7 @@ begun_at limits files first w =
           (full limits o) w.report;
     }
 
--- a message at a place ends the compilation, if there is a place; and else the tokens of the expression are counted
+-- A message at a place ends the compilation, if there is a place; and else the tokens of the expression are counted.
 abbrev pub stopped : Context → Option Place → Compilation → Compilation
 stopped context None w = record w { most_tokens = max w.most_tokens (outer_tokens w.unit) }
 stopped context (Some place) w = record w { report = with_fatal (location context.names place) (Exceeded setting.ExpressionNodes) w.report }
@@ -202,7 +207,7 @@ stopped context (Some place) w = record w { report = with_fatal (location contex
 abbrev pub sized : Context → Compilation → Compilation
 sized context w = stopped context (long_at (longest context) w.unit) w
 
--- Brackets, braces and compound statements that stand in one another are at most so many.
+-- Number of brackets, braces and compound statements that may stand in one another.
 abbrev pub most_nested : ℕ
 most_nested = 64
 
@@ -217,7 +222,7 @@ opens (kind.Mark mark.OpenParenthesis) = true
 opens (kind.Mark mark.OpenBrace) = true
 opens _ = false
 
--- a token is taken
+-- A token is taken.
 abbrev pub token_checked : Context → SourceToken → Compilation → Compilation
 token_checked context t w = nested context t.place (opens t.kind && is_deep w 0) w
 
@@ -225,7 +230,7 @@ abbrev pub took : Context → SourceToken → Compilation → Compilation
 took context t w = token_checked context t (sized context (record w { unit = unit_taken t w.unit }))
 
 -- The body of an object or a class ends, if one is open.
-abbrev pub world_ended_by : Option AddFault → WorldOf → WorldOf
+abbrev pub world_ended_by : Option WorldFault → WorldOf → WorldOf
 world_ended_by None world = with_end world
 world_ended_by (Some f) world = world
 
@@ -235,7 +240,7 @@ world_ended o = record o { tables = record o.tables { world = world_ended_by (no
 abbrev pub body_ended : Compilation → Compilation
 body_ended w = record w { output = world_ended w.output }
 
--- the routine that is open is given up
+-- The routine that is open is given up.
 abbrev pub given_up : Compilation → Compilation
 given_up w = record w { output = record w.output { code = with_none_open w.output.code } }
 
@@ -247,11 +252,11 @@ opening_checked_at (Some place) context w = nested context place (is_deep w 1) w
 abbrev pub opening_checked : Context → Compilation → Compilation
 opening_checked context w = opening_checked_at w.opening context w
 
--- a bad token cuts the unit at hand, which surely was an expression, and the body and the routine in which it stands
+-- A bad token cuts the unit at hand, which surely was an expression, and the body and the routine in which it stands.
 abbrev pub cut : Context → Compilation → Compilation
 cut context w = opening_checked context (sized context (given_up (body_ended (record w { unit = record w.unit { is_sure = true } }))))
 
--- whether a token with these bytes is the name of a class
+-- Tells whether a token with these bytes is the name of a class.
 abbrev pub names_class_of : Meaning → Bool
 names_class_of (meaning.Class number) = true
 names_class_of _ = false
@@ -271,15 +276,15 @@ is_class _ bytes w = false
 abbrev pub operands_of : Compilation → List Operand
 operands_of w = all_looked w.locals w.output w.unit.tokens w.unit.gathering.leaves
 
--- the least of what is wrong with them, in a unit whose first token has an order
+-- Least finding about the expressions of a unit whose first token has an order.
 abbrev pub finding_at : ℕ → Wanted → Compilation → Option Finding
 finding_at first wanted w = judged wanted first (operands_of w) w.unit.gathering.symbols
 
--- They, and where it stores, name its locals.
+-- The expressions of the unit, and the variables in which it stores, name its locals.
 abbrev pub named : Compilation → Compilation
 named w = record w { locals = stores_named w.unit.tokens w.unit.items (leaves_named w.unit.tokens w.unit.gathering.leaves w.locals) }
 
--- their trees, when their names were used
+-- Trees of the expressions of the unit, when their names were used.
 abbrev pub settled_of : Limits → Context → Compilation → Settled
 settled_of limits context w =
     settled limits context.set w.locals w.unit.tokens w.unit.gathering.leaves (record { out = w.output; operands = [] })
@@ -287,7 +292,7 @@ settled_of limits context w =
 abbrev pub trees_at : ℕ → Wanted → List Operand → Compilation → List Rooted
 trees_at first wanted operands w = trees_of wanted first operands w.unit.gathering.symbols
 
--- in a routine that is passed over nothing has an effect
+-- In a routine that is passed over nothing has an effect.
 abbrev pub passed : Bool → Compilation → Compilation
 passed has_last w = record w { unit = over has_last w.unit }
 
@@ -308,17 +313,17 @@ abbrev pub routine_declared : Limits → Name → Compilation → Compilation
 routine_declared limits name w =
     record w { output = declared limits name.bytes name.place (meaning.Routine (place_behind w.output.code.finished)) w.output }
 
--- its name stands behind its bracket
+-- The name of a routine stands behind the bracket of its header.
 abbrev pub header_with : Limits → Context → Place → Name → Headed → Compilation → Compilation
 header_with limits context first name h w =
     opened_with limits context first h (header_findings 1 (again_by name (declare_fault limits name.bytes w.output.names)) h)
     (routine_declared limits name w)
 
--- In a file that is marked a routine gives nothing which is to be replaced: it is passed over.
+-- Tells whether the routine of a name is to be replaced, as it is in a file that is marked: then it is passed over.
 abbrev pub is_to_be_replaced : Name → Compilation → Bool
 is_to_be_replaced n w = w.is_system && is_among n.bytes w.replaced
 
--- behind its bracket a header has the name of its routine; its locals are kept apart
+-- Behind its bracket a header has the name of its routine; its locals are kept apart.
 abbrev pub header_named : Limits → Context → Place → Name → Compilation → Compilation
 header_named limits context first name w =
     if is_to_be_replaced name w then passed true (record w { is_replaced = true; is_embedded = false; constructs = [] })
@@ -331,7 +336,7 @@ header_of limits context first (name ∷ names) w = header_named limits context 
 abbrev pub header_end : Limits → Context → Place → Compilation → Compilation
 header_end limits context place w = header_of limits context (first_place w.unit.tokens place) (names_in w.unit.tokens) w
 
--- a warning, at a place, for each local that no statement named
+-- A warning, at a place, for each local that no statement named.
 abbrev pub with_unused : Context → Place → Local → Reported → Reported
 with_unused context place l r = if l.is_named then r else with_warning (location context.names place) (UnusedLocal l.name) r
 
@@ -339,9 +344,8 @@ abbrev pub with_all_unused : Context → Place → List Local → Reported → R
 with_all_unused context place [] r = r
 with_all_unused context place (l ∷ locals) r = with_all_unused context place locals (with_unused context place l r)
 
--- What is wrong with the labels or offsets of a routine: a label that is used and not given, or a branch that goes too far. A label without
--- a name is missing
--- only where a limit was passed before its place was laid, which is told by itself.
+-- Error of the labels or offsets of a routine: a label that is used and not given, or a branch that goes too far. A label without a
+-- name is missing only where a limit was passed before its place was laid, which is told by itself.
 abbrev pub with_branch_fault : Context → Place → Option CloseFault → Reported → Reported
 with_branch_fault context place (Some (close_fault.LabelTwice label)) r =
     with_error (location context.names place) (location context.names place) BranchTooFar r
@@ -361,7 +365,7 @@ with_routine_fault context place labels fault r = with_fault_or (missing labels)
 abbrev pub kind_ended : Bool → RoutineKind
 kind_ended is_embedded = if is_embedded then routine_kind.Embedded else routine_kind.Plain
 
--- The end of a routine of a kind, at a place: what is wrong with it is told, and its unused locals, which are not known behind it.
+-- End of a routine of a kind, at a place: its error is told, and its unused locals, which are not known behind it.
 abbrev pub close_as : Limits → RoutineKind → Context → Place → Compilation → Compilation
 close_as limits how context place w =
     let fault = fault_closed limits how w.output.code in
@@ -376,7 +380,7 @@ close_as limits how context place w =
 abbrev pub code_closed : Limits → Context → Place → Compilation → Compilation
 code_closed limits context place w = close_as limits (kind_ended w.is_embedded) context place w
 
--- Before that its own cases end, if it has such. Of one that is passed over nothing ends.
+-- Before a routine ends, its own cases end, if it has such. Nothing ends in a routine that is passed over.
 abbrev pub cases_ended : Limits → Compilation → Compilation
 cases_ended limits w = let laid = ended limits w.constructs w.output in record w { constructs = laid.0; output = laid.1 }
 
@@ -388,12 +392,12 @@ close limits context place w = if w.is_replaced then passed true w else close_op
 
 -- Directives, which begin at a place
 
--- the text of the unit, in the character set of the sources
+-- Text of the unit, in the character set of the sources.
 abbrev pub words_of : CharSet → Unit → Words
 words_of set u = record { bytes = quoted_in u.tokens; set = set }
 
--- What a constant stands for, by its expression: a known number, or what a name stands for that was declared before.
--- a constant that is a routine is none itself
+-- Meaning of a constant, by its expression: a known number, or the meaning of a name that was declared before. A constant that is a
+-- routine has the packed address of the routine.
 abbrev pub as_constant : Meaning → Meaning
 as_constant (meaning.Routine place) = meaning.PackedAddress place
 as_constant m = m
@@ -408,7 +412,7 @@ abbrev pub named_leaf : List SourceToken → List UnitLeaf → List ℕ
 named_leaf tokens ((leaf.Name at) ∷ leaves) = bytes_at tokens at
 named_leaf tokens _ = []
 
--- a text is the next string, and a word of the dictionary stands for itself
+-- A text is the next string, and a word of the dictionary stands for itself.
 abbrev pub leaf_meaning : List UnitLeaf → Compilation → Option Meaning
 leaf_meaning ((leaf.Text at) ∷ leaves) w = Some (meaning.Text (length w.output.strings.bytes))
 leaf_meaning ((leaf.Word word) ∷ leaves) w = Some (meaning.Word word.text)
@@ -420,7 +424,7 @@ constant_of ((Leaf (operand.Known number)) ∷ trees) w = Some (meaning.Number n
 constant_of ((Leaf (operand.Later target)) ∷ trees) w = leaf_meaning w.unit.gathering.leaves w
 constant_of (_ ∷ trees) w = None
 
--- what is wrong with its expression, and what it stands for
+-- Finding about the expression of a constant, and the meaning of the constant.
 abbrev pub constant_finding : Option Meaning → Option Finding → Option Finding
 constant_finding None None = Some (no_constant 0)
 constant_finding _ found = found
@@ -429,16 +433,16 @@ abbrev pub constant_meaning : Option Meaning → Option Finding → Meaning
 constant_meaning (Some m) None = m
 constant_meaning _ found = meaning.Number 0
 
--- what is wrong with its name, which stands at an order, or its expression
+-- Findings about the name of a constant, which stands at an order, and about its expression.
 abbrev pub constant_findings : ℕ → Option Again → Option Finding → Findings
 constant_findings order again finding = record (found_alone (least_of_both (again_finding order again) finding)) { again = again }
 
--- Without an error its text or word is added.
+-- Without an error the text or word of a constant is added.
 abbrev pub constant_added : Limits → Context → Option Finding → Compilation → Compilation
 constant_added limits context None w = record w { output = leaf_added limits context.set w.unit.tokens w.unit.gathering.leaves w.output }
 constant_added limits context (Some f) w = w
 
--- the end of its directive, where the name was refused or not
+-- End of the directive of a constant, whose name was refused or not.
 abbrev pub constant_ended : Limits → Context → Place → Name → Option (DeclareFault Place) → Option Finding → Compilation → Compilation
 constant_ended limits context first name refused finding w =
     let found = constant_findings (name_order w.unit.tokens) (again_by name refused) finding in
@@ -465,7 +469,7 @@ replace limits context first (name ∷ names) w =
     unit_ended limits context first true nothing_found
     (record w { output = referred limits name.bytes name.place w.output; replaced = with_name name.bytes w.replaced })
 
--- A stub is a routine of so many locals, four at most, that returns 0. It is one where the name is not declared.
+-- A stub is a routine with a number of locals, four at most, that returns 0. It is one where the name is not declared.
 abbrev pub stub_locals_by : Option TokenKind → ℕ
 stub_locals_by None = 0
 stub_locals_by (Some k) = unwrap_or (number_of k) 0
@@ -482,14 +486,14 @@ stubbed limits context first w =
     if nat_lt 4 locals then unit_ended limits context first true (found_alone (Some (out_of_range 0))) w
     else unit_ended limits context first true nothing_found (record w { output = stub_code limits locals w.output })
 
--- whether a name is declared, by what looking for it found
+-- Tells whether a name is declared, by the outcome of its look-up.
 abbrev pub is_declared : Found Place → Bool
 is_declared (found.System m) = true
 is_declared (found.Declared m place) = true
 is_declared found.Used = false
 is_declared found.Unknown = false
 
--- whether the first of some names is declared
+-- Tells whether the first of some names is declared.
 abbrev pub is_first_declared : List Name → Table Place → Bool
 is_first_declared [] names = false
 is_first_declared (name ∷ others) names = is_declared (found_in name.bytes names)

@@ -1,4 +1,4 @@
--- What is told of what is wrong with a unit.
+-- Findings about a unit, and the messages by which they are told.
 use Rattle.std.specs.Prelude.{ℕ, ◌==◌, List, [], slice_get, Bool, if◌then◌else◌, Option, Some, None, option_map}
 use Rattle.inf_scanner.specs.declared.tokens.Place.{Place}
 use Rattle.inf_expressions.specs.declared.findings.Finding.{Finding}
@@ -18,7 +18,7 @@ use Rattle.inf_compilation.specs.Words.{nowhere}
 
 -- Expressions
 
--- the message of a finding at a token with these bytes, by its number in the table of errors
+-- Message of a finding at a token with these bytes, by its number in the table of errors.
 abbrev pub message_of : ℕ → Told → List ℕ → Message
 message_of number t bytes =
     if number == 4 then NumberOutOfRange else
@@ -43,13 +43,13 @@ blame_at number (Some t) = record { place = t.place; message = message_of number
 abbrev pub blame_of : List SourceToken → Finding → Diagnostic
 blame_of tokens f = blame_at f.number (slice_get tokens f.order)
 
--- A name that stands already, with the place of its first declaration, which one that the language has does not have.
+-- A name that is declared already, with the place of its first declaration, which a name of the language does not have.
 pub record Again : Type 0 where
   pub name : Name
   pub first : Option Place
 
--- What is wrong with a unit. Of all that was found the least is told: of too many with what these are, and of a name that stands already
--- with its first declaration.
+-- Findings about a unit. Of all that was found the least is told: of too many with the limit that is passed, and of a name that is
+-- declared already with its first declaration.
 pub record Findings : Type 0 where
   pub least : Option Finding
   pub many : FixedLimit
@@ -57,13 +57,13 @@ pub record Findings : Type 0 where
 
 -- Names
 
--- By what the names refuse: what the language has, and the first declaration, stay as they are. That there are too many names is no error
--- of the unit.
+-- A name that is declared already, if the names refuse it: names of the language, and first declarations, stay as they are. That
+-- there are too many names is no error of the unit.
 abbrev pub again_by : Name → Option (DeclareFault Place) → Option Again
 again_by n (Some (declaring.Present first)) = Some (record { name = n; first = first })
 again_by n _ = None
 
--- at the order of the name
+-- Finding at the order of a name that is declared already.
 abbrev pub again_finding : ℕ → Option Again → Option Finding
 again_finding order None = None
 again_finding order (Some a) = Some (record { order = order; number = 8 })
@@ -77,18 +77,18 @@ again_told files a = record { place = a.name.place; message = again_message file
 
 -- Units
 
--- one more than there may be, which is told of the first token
+-- Finding that there is one more than there may be, which is told of the first token.
 abbrev pub many_finding : Bool → Option Finding
 many_finding are_many = if are_many then Some (record { order = 0; number = 19 }) else None
 
--- where nothing else may be wrong
+-- Findings about a unit in which nothing else may be wrong.
 abbrev pub found_alone : Option Finding → Findings
 found_alone f = record { least = f; many = countable.Values; again = None }
 
 abbrev pub nothing_found : Findings
 nothing_found = found_alone None
 
--- of a unit that begins at a place and has these tokens
+-- Message of a finding about a unit that begins at a place and has these tokens.
 abbrev pub told_by : FileNames → List SourceToken → Place → Finding → Findings → Option Diagnostic
 told_by files tokens first f all =
     if f.number == 8 then option_map (again_told files) all.again else
@@ -103,7 +103,7 @@ told_as files tokens first all = told_of files tokens first all.least all
 
 -- Headers
 
--- a local that is named again
+-- A local that is named again.
 abbrev pub again_local : Option Repeated → Option Again
 again_local None = None
 again_local (Some r) = Some (record { name = r.name; first = Some r.first })
@@ -112,8 +112,8 @@ abbrev pub first_again : Option Again → Option Again → Option Again
 first_again (Some a) later = Some a
 first_again None later = later
 
--- What is wrong with the header of a routine: that there are too many locals, which is told of its first token, its name, which stands at
--- an order, or a local that is named again, behind it.
+-- Findings about the header of a routine: that there are too many locals, which is told of its first token; that its name, which
+-- stands at an order, is declared already; or that a local is named again, behind it.
 abbrev pub header_findings : ℕ → Option Again → Headed → Findings
 header_findings order of_name h =
     let again = first_again of_name (again_local h.repeated) in

@@ -1,4 +1,4 @@
--- What the code's findings stand for.
+-- Meaning of findings of the code.
 use Rattle.std.specs.Prelude.{option_map}
 use Rattle.inf_names.specs.Spellings.{as_name}
 use Rattle.inf_compilation.specs.Findings.{Again, Findings}

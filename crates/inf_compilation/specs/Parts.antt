@@ -29,19 +29,20 @@ use Rattle.inf_compilation.specs.Findings.{found_alone, nothing_found}
 use Rattle.inf_compilation.specs.declared.parts.Part.{Part}
 use Rattle.inf_compilation.specs.declared.parts.Part.TheVariants as part
 
--- whether its last token is still to come when it ends
+-- Tells whether the last token of a unit is still to come when it ends.
 abbrev pub has_last : Part → Bool
 has_last (part.Statement s) = true
 has_last _ = false
 
--- what it wants of its expressions
+-- Use that a unit makes of its expressions.
 abbrev pub wanted_of : Part → Wanted
 wanted_of (part.Statement s) = wanted_by s
 wanted_of part.Loop = wanted.Loop
 wanted_of part.Case = wanted.Case
 wanted_of _ = wanted.Value
 
--- Where it begins: a case with the first token behind the unit before, and every other one with its own.
+-- Order of the first token of a unit, and its place: a case begins with the first token behind the unit before, and every other
+-- unit with its own first token.
 abbrev pub order_of : Part → Compilation → ℕ
 order_of part.Case w = 0
 order_of _ w = order w.unit.begun
@@ -50,7 +51,7 @@ abbrev pub place_of : Part → Place → Compilation → Place
 place_of part.Case place w = first_place w.unit.tokens place
 place_of _ place w = own_place w.unit place
 
--- what a statement goes by beside its trees, and what it is
+-- Site of the statement at hand, beside its trees, and the statement itself.
 abbrev pub site_of : Context → Compilation → Site
 site_of context w =
     record {
@@ -66,7 +67,7 @@ site_of context w =
 abbrev pub statement_at : Compilation → Statement
 statement_at w = statement_in w.unit.tokens w.unit.begun w.unit.items
 
--- What is wrong with it: the least of what is found of its expressions and beside them.
+-- Finding about a unit: the least of those about its expressions and beside them.
 abbrev pub line_finding_of : Limits → Context → Compilation → Option Finding
 line_finding_of limits context w =
     least_of_both w.unit.passed
@@ -86,7 +87,7 @@ found_in limits context p w = least_of_both (finding_at (order_of p w) (wanted_o
 abbrev pub constructs_laid : Laying (List Construct) → Compilation → Compilation
 constructs_laid laying w = let laid = laying w.output in record w { constructs = laid.0; output = laid.1 }
 
--- A case begins, also one with an error: what stands before it goes to the end of its `switch`.
+-- A case begins, also one with an error: the code before it goes to the end of its `switch`.
 abbrev pub is_default : List Item → Bool
 is_default (item.Default ∷ items) = true
 is_default _ = false
@@ -95,7 +96,7 @@ abbrev pub part_begun : Limits → Part → Compilation → Compilation
 part_begun limits part.Case w = constructs_laid (changed (entered limits (is_default w.unit.items)) w.constructs) w
 part_begun limits _ w = w
 
--- What it does, with its trees
+-- Effect of a unit, with its trees.
 abbrev pub statement_laid_in : Limits → Context → Statement → List Rooted → Compilation → Compilation
 statement_laid_in limits context s trees w =
     let laid =
@@ -111,7 +112,7 @@ part_effect limits context part.Loop trees w = constructs_laid (looped_over limi
 part_effect limits context part.Switched trees w = record w { output = switched limits (map tree_in trees) w.output }
 part_effect limits context part.Case trees w = record w { output = case_code limits (next_case w.constructs) (map tree_in trees) w.output }
 
--- It ends, which begins at a place. With an error it has no effect but that its locals are named, and that a case begins.
+-- End of a unit, which begins at a place. With an error it has no effect but that its locals are named, and that a case begins.
 abbrev pub part_carried : Limits → Context → Place → Part → Option Finding → Compilation → Compilation
 part_carried limits context first p (Some f) w = unit_ended limits context first (has_last p) (found_alone (Some f)) w
 part_carried limits context first p None w =
@@ -126,7 +127,7 @@ part_finished limits context first p w = part_carried limits context first p (fo
 abbrev pub part_prepared : Compilation → Compilation
 part_prepared w = record w { unit = unit_prepared w.unit }
 
--- Before a case: one outside of any statement is one of the routine's own, whose values are actions.
+-- Preparation of a case: one outside of any statement is one of the own cases of the routine, whose values are actions.
 abbrev pub actions_named : Bool → Compilation → Compilation
 actions_named true w = record w { unit = record w.unit { gathering = with_actions w.unit.gathering } }
 actions_named false w = w
@@ -139,13 +140,14 @@ abbrev pub case_prepared : Limits → Part → Compilation → Compilation
 case_prepared limits part.Case w = own_case_prepared limits w
 case_prepared limits _ w = w
 
--- before a token at a place; in a routine that is passed over nothing has an effect
+-- End of a unit before a token at a place; in a routine that is passed over nothing has an effect.
 abbrev pub part_ended : Limits → Context → Place → Part → Compilation → Compilation
 part_ended limits context place p w =
     if w.is_replaced then passed (has_last p) w
     else let ready = case_prepared limits p (part_prepared w) in part_finished limits context (place_of p place ready) p ready
 
--- Statements that hold others: where the word was read that is told where it stands too deep, between their parts, and where they end.
+-- Statements that hold others: their beginning, which is told at the place of their word where they stand too deep, the change
+-- between their parts, and their end.
 abbrev pub construct_opened : Limits → Context → Place → Kind → Compilation → Compilation
 construct_opened limits context place kind w =
     let told = nested context (last_place w.unit.tokens place) (is_deep w 1) w in constructs_laid (begun limits kind told.constructs) told
@@ -156,10 +158,10 @@ construct_joined limits w = constructs_laid (changed (between limits) w.construc
 abbrev pub construct_ended : Limits → Compilation → Compilation
 construct_ended limits w = constructs_laid (ended limits w.constructs) w
 
--- The innermost is over. It may have been closed ahead of a conditional.
+-- The innermost statement is over. It may have been closed ahead of a conditional.
 abbrev pub construct_closed : Limits → Compilation → Compilation
 construct_closed limits w = if nat_lt 0 w.closed then record w { closed = w.closed - 1 } else construct_ended limits w
 
--- Where a conditional stands next, so many of the innermost are closed that the next token ends, whatever it is.
+-- The `count` innermost statements are closed, which the next token ends, whatever it is, since a conditional stands next.
 abbrev pub closed_ahead : Limits → ℕ → Compilation → Compilation
 closed_ahead limits count w = record (constructs_laid (all_ended limits (count - w.closed) w.constructs) w) { closed = max w.closed count }

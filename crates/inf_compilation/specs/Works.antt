@@ -1,4 +1,4 @@
--- What the code's work stands for.
+-- Meaning of a compilation of the code.
 use Rattle.inf_names.specs.LocalList.{listed}
 use Rattle.inf_unit.specs.AtHand.{unit}
 use Rattle.inf_unit.specs.Directives.{asked}

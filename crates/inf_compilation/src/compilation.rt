@@ -1,6 +1,6 @@
-//! What the actions of the grammar do: they gather what a unit has, which acts at its end.
+//! Work of the actions of the grammar: they gather the parts of a unit, which acts at its end.
 ghost use Rattle.inf_compilation.specs.Context.{handed, longest};
-ghost use Rattle.std.specs.Prelude.{IfOk, None, OnOk, false, true, ◌<◌, ◌≡◌, ◌≤◌};
+ghost use Rattle.std.specs.Prelude.{IfOk, None, OnOk, Some, false, true, ◌<◌, ◌≡◌, ◌≤◌};
 ghost use Rattle.inf_settings.specs.Bounds.{AreSet};
 ghost use Rattle.inf_unit.specs.Atoms.{is_short};
 ghost use Rattle.inf_unit.specs.Messages.{location};
@@ -9,7 +9,7 @@ ghost use Rattle.inf_compilation.specs.Actions.{names_class, no_output};
 
 use crate::context::Context;
 use crate::findings::{Findings, NOWHERE};
-use inf_cells::Scale;
+use inf_area::Scale;
 use inf_code::code::{Code, CodeLimits};
 use inf_constructs::constructs::Constructs;
 use inf_constructs::labels::Labels;
@@ -33,11 +33,11 @@ use inf_unit::messages::{Diagnostics, location};
 use inf_unit::names::no_symbols;
 use inf_unit::tokens::SourceToken;
 use inf_unit::unit::Unit;
-use inf_verbs::Place as LinePlace;
+use inf_verbs::LinePlace;
 use std::alloc::{AllocError, Global};
 use std::mem;
 
-/// The most brackets, braces and compound statements that may stand in one another.
+/// Most brackets, braces and compound statements that may stand in one another.
 const MOST_NESTED: usize = 64;
 
 /// All that was compiled so far.
@@ -50,13 +50,13 @@ pub struct Compilation<B: Bounds> {
     pub unit: Unit,
     /// The statements that are open.
     pub constructs: Constructs,
-    /// How many that the next token ends, whatever it is, were closed before it, since a conditional stands before it.
+    /// The number of statements that were closed ahead, since a conditional stood before the next token, which ends them whatever it is.
     closed: usize,
     /// The place of the last token, if it is the word of a compound statement where a case may stand, too.
     pub opening: Option<Place>,
     /// The labels with names of the routine that was opened last.
     pub(crate) labels: Labels,
-    /// Its locals.
+    /// The locals of the open routine.
     pub locals: Locals,
     pub output: Output<B>,
     /// The rest of a tree that is still to be laid: nothing, between the calls that lay.
@@ -66,16 +66,16 @@ pub struct Compilation<B: Bounds> {
     pub asked: Request,
     /// The names of routines that are to be replaced.
     pub replaced: NameSet,
-    /// Whether routines of the file at hand may be replaced.
+    /// Tells whether routines of the file at hand may be replaced.
     pub is_system: bool,
-    /// Whether the routine at hand is passed over, since it is to be replaced.
+    /// Tells whether the routine at hand is passed over, since it is to be replaced.
     pub is_replaced: bool,
     /// The array whose entries are read, and where they go if its header had an error.
     pub listing: Listing,
     pub lost: Arrays<Unbounded>,
-    /// Whether the values that are read are those of the property `name`.
+    /// Tells whether the values that are read are those of the property `name`.
     pub is_name: bool,
-    /// Whether the open routine is a value of a property.
+    /// Tells whether the open routine is a value of a property.
     pub is_embedded: bool,
     /// The verb whose lines are read.
     pub extending: Extending,
@@ -85,14 +85,14 @@ pub struct Compilation<B: Bounds> {
     pub told: Header,
 }
 
-/// One call at each exit of a function that owns one, in place of a call for each part of each part.
+/// One call at each exit of a function that owns a compilation, in place of a call for each part of each part.
 impl<B: Bounds> Drop for Compilation<B> {
     fn drop(self) {
         let _parts = self.into_parts();
     }
 }
 
-/// No code and no names, of which there may be as many as the settings say.
+/// Returns an output without code and names, of which there may be as many as `settings` say.
 fn no_output<B: Bounds>(
     alloc: Global,
     settings: &Settings,
@@ -131,7 +131,7 @@ fn longest(context: &Context<'_>) -> usize
     context.settings.of(Setting::ExpressionNodes) as usize
 }
 
-/// Whether a name stands for a class, by what looking for it found.
+/// Returns whether a name stands for a class, where its look-up found `found`.
 fn names_class(found: Found<Place>) -> bool
     ensures { result ≡ names_class found }
 {
@@ -141,7 +141,7 @@ fn names_class(found: Found<Place>) -> bool
 /// The verb whose lines are read.
 #[derive(Clone, Copy)]
 pub struct Extending {
-    /// Its number; nothing, where its header had an error.
+    /// The number of the verb; none, where its header had an error.
     pub verb: Option<u8>,
     pub place: LinePlace,
 }
@@ -150,28 +150,30 @@ pub struct Extending {
 #[derive(Clone, Copy, Debug, PartialEq, Eq)]
 pub struct Header {
     pub release: u16,
-    /// The digits of its serial number; nothing, where that is the date.
+    /// The digits of the serial number; none, where that is the date.
     pub serial: Option<[u8; 6]>,
 }
 
 /// The array whose entries are read.
 #[derive(Clone, Copy)]
 pub struct Listing {
-    /// Whether its header had an error: then it is no array of the story.
+    /// Tells whether the header of the array had an error: then it is no array of the story.
     pub is_lost: bool,
-    /// Whether it had an entry, with an error or without.
+    /// Tells whether the array had an entry, with an error or without.
     pub has_entries: bool,
 }
 
 impl<B: Bounds> Compilation<B> {
     ghost use Rattle.inf_unit.specs.Directives.{Nothing, asked, asks};
     ghost use Rattle.inf_compilation.specs.Actions.{begun_at, is_class, is_deep, labels_counted, letters_chosen, nested, no_work};
-    ghost use Rattle.inf_compilation.specs.Actions.{opening_checked, passed, piece_begun, sized, token_checked, took, unit_ended};
+    ghost use Rattle.inf_compilation.specs.Actions.{opening_checked, passed, piece_begun, sized, stopped, token_checked, took};
+    ghost use Rattle.inf_compilation.specs.Actions.{finding_told, unit_ended};
+    ghost use Rattle.inf_compilation.specs.Findings.{nothing_found};
     ghost use Rattle.inf_compilation.specs.Meant.{found_as};
     ghost use Rattle.inf_compilation.specs.Parts.{closed_ahead, construct_closed};
     ghost use Rattle.inf_compilation.specs.Works.{work};
 
-    /// Returns what was laid and the messages.
+    /// Returns the output and the messages.
     pub fn into_parts(self) -> (Output<B>, Diagnostics)
         ensures output { result.0 ≡ self.output }
         ensures report { result.1 ≡ self.report }
@@ -249,9 +251,9 @@ impl<B: Bounds> Compilation<B> {
         })
     }
 
-    /// Has `letters` hold from now on, which are all that were said so far: warnings are told or not, the next routine and the next string
-    /// are filled up as the version wants it, texts are packed with abbreviations or without them, and the language has the name `DEBUG` or
-    /// has it not.
+    /// Has `letters` hold from now on, which are all that were said so far: warnings are told or not, the next routine and the next
+    /// string are filled up as the version wants it, texts are packed with abbreviations or without them, and the language has the
+    /// name `DEBUG` or has it not.
     pub fn choose(&mut self, letters: Letters)
         ensures { work self.new ≡ letters_chosen letters (work self.old) }
     {
@@ -262,7 +264,7 @@ impl<B: Bounds> Compilation<B> {
         self.report.set_warnings(letters.warns());
     }
 
-    /// Tells whether a token of `kind` with `bytes` is the name of a class. A name has at most 32 bytes.
+    /// Returns whether a token of `kind` with `bytes` is the name of a class. A name has at most 32 bytes.
     pub fn is_class(&self, kind: TokenKind, bytes: &[u8]) -> bool
         requires { is_short kind bytes.now ≡ true }
         ensures { result ≡ is_class kind bytes.now (work self.now) }
@@ -273,14 +275,14 @@ impl<B: Bounds> Compilation<B> {
         }
     }
 
-    /// Tells whether a directive asks something of the reading.
+    /// Returns whether a directive has a request to the reading.
     pub fn asks(&self) -> bool
         ensures { result ≡ asks (work self.now).asked }
     {
         !matches!(self.asked, Request::Nothing)
     }
 
-    /// Takes away what a directive asks of the reading, which is then nothing.
+    /// Takes away the request of a directive to the reading; there is none then.
     pub fn take_asked(&mut self) -> Request
         ensures asked { asked result ≡ (work self.old).asked }
         ensures nothing { work self.new ≡ record (work self.old) { asked = Nothing } }
@@ -309,7 +311,7 @@ impl<B: Bounds> Compilation<B> {
         self.report.full(files, first, self.output.full())
     }
 
-    /// The labels, branches and jumps of the open routine are counted.
+    /// Counts the labels, branches and jumps of the open routine.
     pub(crate) fn count_labels(&mut self)
         ensures { work self.new ≡ labels_counted (work self.old) }
     {
@@ -358,20 +360,18 @@ impl<B: Bounds> Compilation<B> {
     }
 
     /// Ends the compilation where an expression has more tokens than it may have, at the first token too many.
+    #[inline(always)]
     pub fn size(&mut self, context: &Context<'_>) -> Result<(), AllocError>
         ensures { OnOk result (work self.new ≡ sized (handed context.now) (work self.old)) }
     {
         if let Some(place) = self.unit.long_at(longest(context)) {
-            return self.report.fatal(
-                location(context.files, place),
-                &Message::Exceeded(Setting::ExpressionNodes),
-            );
+            return self.tell_long(context, place);
         }
         self.most_tokens = self.most_tokens.max(self.unit.outer_tokens());
         Ok(())
     }
 
-    /// Tells whether brackets, braces and compound statements stand too deep in one another, with `more` more of these.
+    /// Returns whether brackets, braces and compound statements stand too deep in one another, with `more` more of these.
     pub fn is_deep(&self, more: usize) -> bool
         requires { more ≤ 1 }
         ensures { result ≡ is_deep (work self.now) more }
@@ -393,11 +393,32 @@ impl<B: Bounds> Compilation<B> {
         if !is_deep {
             return Ok(());
         }
+        self.tell_deep(context, place)
+    }
+
+    /// Ends the compilation by a fatal error at `place`, where an expression has more tokens than it may have.
+    #[cold]
+    #[inline(never)]
+    fn tell_long(&mut self, context: &Context<'_>, place: Place) -> Result<(), AllocError>
+        ensures { OnOk result (work self.new ≡ stopped (handed context.now) (Some place) (work self.old)) }
+    {
+        self.report.fatal(
+            location(context.files, place),
+            &Message::Exceeded(Setting::ExpressionNodes),
+        )
+    }
+
+    /// Ends the compilation by a fatal error at `place`, where brackets, braces and compound statements stand too deep in one another.
+    #[cold]
+    #[inline(never)]
+    fn tell_deep(&mut self, context: &Context<'_>, place: Place) -> Result<(), AllocError>
+        ensures { OnOk result (work self.new ≡ nested (handed context.now) place true (work self.old)) }
+    {
         self.report
             .fatal(location(context.files, place), &Message::DeepNesting)
     }
 
-    /// A bracket or brace that was taken may stand too deep.
+    /// Ends the compilation at `token` if it is a bracket or brace that stands too deep.
     fn check_token(
         &mut self,
         context: &Context<'_>,
@@ -424,11 +445,43 @@ impl<B: Bounds> Compilation<B> {
     ) -> Result<(), AllocError>
         ensures { OnOk result (work self.new ≡ unit_ended B.most (handed context.now) first has_last (found_as found.now) (work self.old)) }
     {
+        if found.least.is_some() {
+            self.tell_found(context, first, found)?;
+        }
+        self.end_clean(context, first, has_last)
+    }
+
+    /// Tells the least of `found`, in a unit that begins at `first`.
+    #[cold]
+    #[inline(never)]
+    fn tell_found(
+        &mut self,
+        context: &Context<'_>,
+        first: Place,
+        found: &Findings,
+    ) -> Result<(), AllocError>
+        ensures { OnOk result (work self.new ≡ finding_told (handed context.now) first (found_as found.now) (work self.old)) }
+    {
         let blame = found.told(context.files, &self.unit.tokens, first);
-        self.report.fault(context.files, first, blame)?;
+        self.report.fault(context.files, first, blame)
+    }
+
+    /// Ends a unit in which nothing is wrong, that begins at `first` and whose last token is still to come if `has_last`: the first
+    /// limit that was passed is told.
+    pub(crate) fn end_clean(
+        &mut self,
+        context: &Context<'_>,
+        first: Place,
+        has_last: bool,
+    ) -> Result<(), AllocError>
+        ensures { OnOk result (work self.new ≡ unit_ended B.most (handed context.now) first has_last nothing_found (work self.old)) }
+    {
         self.unit.end(has_last);
         self.count_labels();
-        self.report.full(context.files, first, self.output.full())
+        match self.output.full() {
+            None => Ok(()),
+            full => self.report.full(context.files, first, full),
+        }
     }
 
     /// Ends a unit of which nothing comes, whose last token is still to come if `has_last`.

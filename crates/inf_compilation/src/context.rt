@@ -7,7 +7,7 @@ use inf_text::CharSet;
 /// The context that is handed down to all that is compiled.
 #[derive(Clone, Copy)]
 pub struct Context<'a> {
-    /// The files that were opened, by which places are told.
+    /// The files that were opened, which give places their names.
     pub files: &'a Stack,
     /// The character set of the sources.
     pub set: CharSet,

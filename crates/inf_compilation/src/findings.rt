@@ -18,7 +18,7 @@ use inf_statements::effects::{GIVEN_TWICE, MISPLACED_DEFAULT, NOTHING_TO_LEAVE, 
 use inf_unit::messages::{Diagnostic, location};
 use inf_unit::unit_tokens::UnitTokens;
 
-/// The numbers of the messages about the characters of a text: a code out of its range, an unknown escape, and a character that a story
+/// Numbers of the messages about the characters of a text: a code out of its range, an unknown escape, and a character that a story
 /// cannot print.
 pub const NUMBER_OUT_OF_RANGE: u8 = 4;
 
@@ -26,27 +26,27 @@ pub const UNKNOWN_ESCAPE: u8 = 5;
 
 pub const NO_ZSCII: u8 = 7;
 
-/// The number of the message that a name was declared before, and of the one that it is used before its declaration.
+/// Number of the message that a name was declared before, and of the one that it is used before its declaration.
 pub const DECLARED: u8 = 8;
 
 pub const USED_BEFORE: u8 = 11;
 
-/// The number of the message that there are too many of something.
+/// Number of the message that there are too many of something.
 pub const TOO_MANY: u8 = 19;
 
-/// The number of the message that `Switches` comes too late, or has letters that are unknown.
+/// Number of the message that `Switches` comes too late, or has letters that are unknown.
 pub const MISPLACED_SWITCHES: u8 = 20;
 
-/// The number of the message that an abbreviation comes too late, is declared already or is too short.
+/// Number of the message that an abbreviation comes too late, is declared already or is too short.
 pub const WRONG_ABBREVIATION: u8 = 21;
 
-/// The number of the message that a word is, or is not, one of a verb.
+/// Number of the message that a word is, or is not, one of a verb.
 pub const WRONG_VERB: u8 = 22;
 
-/// Before the first unit nothing was laid.
+/// Place before the first unit, where nothing was laid.
 pub(crate) const NOWHERE: Place = Place { file: 0, line: 0 };
 
-/// The message of a finding at a token with these bytes, by its number in the table of errors.
+/// Returns the message of a finding at `token` with `bytes`, by its `number` in the table of errors.
 fn message_of<'t>(number: u8, token: Told<'t>, bytes: &'t [u8]) -> Message<'t>
     ensures { meant result ≡ message_of number (named token.entry) bytes.now }
 {
@@ -85,11 +85,11 @@ pub fn blame_of<'t>(tokens: &'t UnitTokens, finding: Finding) -> Diagnostic<'t>
     }
 }
 
-/// A name that stands already.
+/// A name that is declared already.
 #[derive(Debug, Drop)]
 pub struct Again {
     pub name: Name,
-    /// The place of its first declaration, which one that the language has does not have.
+    /// The place of its first declaration, which a name of the language does not have.
     pub first: Option<Place>,
 }
 
@@ -97,13 +97,13 @@ pub struct Again {
 #[derive(Debug, Drop)]
 pub struct Findings {
     pub least: Option<Finding>,
-    /// The limit that is passed, where that is the least.
+    /// The limit that is passed, where the least finding is that there are too many.
     pub many: FixedLimit,
-    /// The name that stands already, where that is the least.
+    /// The name that is declared already, where the least finding is about it.
     pub again: Option<Again>,
 }
 
-/// Returns `name` as one that stands already, if `refused` says so. That there are too many names is no error of the unit.
+/// Returns `name` as one that is declared already, if `refused` says so. That there are too many names is no error of the unit.
 pub fn again_by(name: &Name, refused: Option<DeclareFault<Place>>) -> Option<Again>
     ensures { option_map again_as result ≡ again_by (as_name name.now) refused }
 {
@@ -116,7 +116,7 @@ pub fn again_by(name: &Name, refused: Option<DeclareFault<Place>>) -> Option<Aga
     }
 }
 
-/// Returns the finding that `again` stands already, at `order`, which is that of the name.
+/// Returns the finding that `again` is declared already, if there is such a name, at its order `order`.
 pub fn again_finding(order: u32, again: &Option<Again>) -> Option<Finding>
     ensures { result ≡ again_finding order (option_map again_as again.now) }
 {
@@ -143,7 +143,7 @@ pub fn many_finding(are_many: bool) -> Option<Finding>
     }
 }
 
-/// A local that is named again.
+/// Returns the name of a local that is named again, if `repeated` is one.
 fn again_local(repeated: &Option<Repeated>) -> Option<Again>
     ensures { option_map again_as result ≡ again_local (option_map repeated_of repeated.now) }
 {
@@ -156,8 +156,8 @@ fn again_local(repeated: &Option<Repeated>) -> Option<Again>
     }
 }
 
-/// Returns the findings about the header of a routine: that `headed` has too many locals, that its name stands already by `of_name`, at
-/// `order`, or that a local of `headed` is named again.
+/// Returns the findings about the header of a routine: that `headed` has too many locals, that its name, at `order`, is declared
+/// already by `of_name`, or that a local of `headed` is named again.
 pub fn header_findings(order: u32, of_name: Option<Again>, headed: &Headed) -> Findings
     ensures { found_as result ≡ header_findings order (option_map again_as of_name) (as_headed headed.now) }
 {
@@ -194,7 +194,7 @@ impl Findings {
         Findings::alone(None)
     }
 
-    /// The message of the least, in a unit that begins at a place and has these tokens.
+    /// Returns the message of the least finding, about a unit that begins at `first` and has `tokens`, if there is a finding.
     pub(crate) fn told<'t>(
         &'t self,
         files: &'t Stack,
@@ -215,7 +215,7 @@ impl Findings {
     }
 }
 
-/// The message about a name that stands already.
+/// Returns the message about `again`, a name that is declared already, if there is such a name.
 fn again_told<'a>(files: &'a Stack, again: &'a Option<Again>) -> Option<Diagnostic<'a>>
     ensures { option_map blamed result ≡ option_map (again_told files.now.names) (option_map again_as again.now) }
 {
@@ -228,7 +228,7 @@ fn again_told<'a>(files: &'a Stack, again: &'a Option<Again>) -> Option<Diagnost
     }
 }
 
-/// The message about a name that stands already, with the place of its first declaration or without.
+/// Returns the message about `name`, which is declared already: at `first`, or by the language.
 fn again_message<'a>(files: &'a Stack, name: &'a [u8], first: Option<Place>) -> Message<'a>
     ensures { meant result ≡ again_message files.now.names name.now first }
 {

@@ -1,4 +1,4 @@
-//! All that was compiled so far, and what routines and their statements add to it.
+//! All that was compiled so far, and the routines and statements that are added to it.
 #![tactic(auto)]
 
 pub mod compilation;

@@ -39,14 +39,14 @@ pub enum Part {
 }
 
 impl Part {
-    /// Whether its last token is still to come when it ends.
+    /// Returns whether the last token of the unit is still to come when it ends.
     fn has_last(self) -> bool
         ensures { result ≡ has_last self }
     {
         matches!(self, Part::Statement(_))
     }
 
-    /// Returns what this unit takes as its expressions.
+    /// Returns the use that the unit makes of its expressions.
     fn wanted(self) -> Wanted
         ensures { result ≡ wanted_of self }
     {
@@ -59,7 +59,7 @@ impl Part {
     }
 }
 
-/// Whether a case is the default.
+/// Returns whether the case with `items` is the default.
 fn is_default(items: &[Item]) -> bool
     ensures { result ≡ is_default items.now }
 {
@@ -107,7 +107,7 @@ impl<B: Bounds> Compilation<B> {
         )
     }
 
-    /// The unit's expressions, and where it stores, name its locals.
+    /// Marks the locals as named that the expressions of the unit, and the variables in which it stores, name.
     fn name(&mut self)
         ensures { work self.new ≡ named (work self.old) }
     {
@@ -116,7 +116,7 @@ impl<B: Bounds> Compilation<B> {
         name_stores(&mut self.locals, tokens, self.unit.items.as_slice());
     }
 
-    /// The names of the unit's expressions are used. Answers their trees.
+    /// Uses the names of the expressions of the unit, which begins at `first`, and returns their trees.
     fn settle(
         &mut self,
         context: &Context<'_>,
@@ -161,7 +161,7 @@ impl<B: Bounds> Compilation<B> {
         }
     }
 
-    /// The order of the first token of the unit: of a case, of the one behind the unit before.
+    /// Returns the order of the first token of the unit: of a case, that of the first token behind the unit before.
     fn order(&self, part: Part) -> u32
         ensures { result ≡ order_of part (work self.now) }
     {
@@ -224,7 +224,7 @@ impl<B: Bounds> Compilation<B> {
         }
     }
 
-    /// The least of what is wrong with the unit.
+    /// Returns the least finding about the unit, which is `part`, if there is one.
     fn found_in(&self, context: &Context<'_>, part: Part) -> Result<Option<Finding>, AllocError>
         ensures { IfOk result (λ finding. finding ≡ found_in B.most (handed context.now) part (work self.now)) }
     {
@@ -234,7 +234,7 @@ impl<B: Bounds> Compilation<B> {
         Ok(least_of_both(finding, own))
     }
 
-    /// A case begins, also one with an error.
+    /// Begins a case, also one with an error, if the unit, which is `part`, is one.
     fn begin_part(&mut self, part: Part) -> Result<(), AllocError>
         ensures { OnOk result (work self.new ≡ part_begun B.most part (work self.old)) }
     {
@@ -301,7 +301,7 @@ impl<B: Bounds> Compilation<B> {
         }
     }
 
-    /// A unit ends, which begins at a place, with the least of what is wrong with it: with an error it has no effect.
+    /// Ends the unit, which is `part` and begins at `first`, with `finding`, the least about it, if there is one: then it has no effect.
     fn carry_out_part(
         &mut self,
         context: &Context<'_>,
@@ -314,11 +314,12 @@ impl<B: Bounds> Compilation<B> {
         if finding.is_none() {
             let forest = self.settle(context, first, part)?;
             self.take_effect(context, part, &forest)?;
+            return self.end_clean(context, first, part.has_last());
         }
         self.end_unit(context, first, part.has_last(), &Findings::alone(finding))
     }
 
-    /// The names of the unit's expressions are those of actions, where its case is one of the routine's own.
+    /// Makes the names of the expressions of the unit those of actions, where its case is one of the own cases of the routine.
     fn name_actions(&mut self)
         ensures { let before = work self.old in work self.new ≡ actions_named (are_own before.constructs) before }
     {
@@ -327,7 +328,7 @@ impl<B: Bounds> Compilation<B> {
         }
     }
 
-    /// Before a case: one outside of any statement is one of the routine's own.
+    /// Prepares a case: one outside of any statement is one of the own cases of the routine.
     fn begin_cases(&mut self) -> Result<(), AllocError>
         ensures { OnOk result (work self.new ≡ own_case_prepared B.most (work self.old)) }
     {
@@ -336,7 +337,7 @@ impl<B: Bounds> Compilation<B> {
         Ok(())
     }
 
-    /// Before a unit that may be a case.
+    /// Prepares the unit, which is `part`, if it is a case.
     fn prepare_case(&mut self, part: Part) -> Result<(), AllocError>
         ensures { OnOk result (work self.new ≡ case_prepared B.most part (work self.old)) }
     {

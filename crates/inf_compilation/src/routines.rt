@@ -24,7 +24,7 @@ use inf_unit::messages::{Diagnostics, location};
 use std::alloc::AllocError;
 use std::mem;
 
-/// The kind of a routine, which is a value of a property or not.
+/// Returns the kind of a routine, which is a value of a property if `is_embedded`.
 fn kind_ended(is_embedded: bool) -> RoutineKind
     ensures { result ≡ kind_ended is_embedded }
 {
@@ -35,9 +35,8 @@ fn kind_ended(is_embedded: bool) -> RoutineKind
     }
 }
 
-/// Tells, at a place, what is wrong with the labels or offsets of a routine, if anything is. A label without a name is missing only where a
-/// limit
-/// was passed before its place was laid.
+/// Tells, at `place`, the error of the labels or offsets of a routine, if there is one. A label without a name is missing only
+/// where a limit was passed before its place was laid.
 fn tell_fault(
     fault: Option<CloseFault>,
     labels: &Labels,
@@ -61,7 +60,7 @@ fn tell_fault(
     }
 }
 
-/// Warns, at a place, of each local that no statement named.
+/// Warns, at `place`, of each of `locals` that no statement named.
 fn tell_unused(
     locals: &Locals,
     context: &Context<'_>,
@@ -99,7 +98,7 @@ impl<B: Bounds> Compilation<B> {
         self.begin_routine(context, first, name)
     }
 
-    /// The routine of a header that begins at a place: one that is to be replaced is passed over.
+    /// Begins the routine `name` of a header that begins at `first`: one that is to be replaced is passed over.
     fn begin_routine(
         &mut self,
         context: &Context<'_>,
@@ -128,15 +127,15 @@ impl<B: Bounds> Compilation<B> {
         mem::replace(&mut self.unit.headed, Headed::new())
     }
 
-    /// Whether the routine of a name is to be replaced, which it may be in a file that is marked.
+    /// Returns whether the routine `name` is to be replaced, as it may be in a file that is marked.
     fn is_to_be_replaced(&self, name: &Name) -> bool
         ensures { result ≡ is_to_be_replaced (as_name name.now) (work self.now) }
     {
         self.is_system && self.replaced.has(name.bytes())
     }
 
-    /// Opens the routine of a header that begins at a place. Its code begins with the number of its
-    /// locals (Z-Machine Standard 1.1, section 5.2).
+    /// Opens the routine `name` of a header that begins at `first` and names the locals `headed`. Its code begins with the number
+    /// of its locals (Z-Machine Standard 1.1, section 5.2).
     fn open(
         &mut self,
         context: &Context<'_>,
@@ -152,7 +151,7 @@ impl<B: Bounds> Compilation<B> {
         self.open_code(context, first, headed, &found)
     }
 
-    /// Declares `name` as a routine that begins behind those that are finished. Returns the fault of the name, if it has one.
+    /// Declares `name` as a routine that begins behind those that are finished. Returns the refusal of the name, if there is one.
     pub fn declare_routine(
         &mut self,
         name: &Name,
@@ -164,7 +163,8 @@ impl<B: Bounds> Compilation<B> {
         self.output.declare(name.bytes(), name.place, routine)
     }
 
-    /// Opens the code of a routine with the locals of a header that begins at a place, and with which this is wrong.
+    /// Opens the code of a routine with the locals `headed` of a header that begins at `first`, and about which there are the
+    /// findings `found`.
     pub fn open_code(
         &mut self,
         context: &Context<'_>,
@@ -183,7 +183,7 @@ impl<B: Bounds> Compilation<B> {
         self.end_unit(context, first, true, found)
     }
 
-    /// Ends the open routine at a place: tells its unused locals, and finishes its code.
+    /// Ends the open routine at `place`: tells its unused locals, and finishes its code.
     pub fn close(&mut self, context: &Context<'_>, place: Place) -> Result<(), AllocError>
         ensures { OnOk result (work self.new ≡ close B.most (handed context.now) place (work self.old)) }
     {
@@ -195,7 +195,7 @@ impl<B: Bounds> Compilation<B> {
         self.close_code(context, place)
     }
 
-    /// The code of the open routine ends, at a place.
+    /// Ends the code of the open routine, at `place`.
     fn close_code(&mut self, context: &Context<'_>, place: Place) -> Result<(), AllocError>
         ensures { OnOk result (work self.new ≡ code_closed B.most (handed context.now) place (work self.old)) }
     {

@@ -1,16 +1,16 @@
--- What a story's sink takes of what was compiled.
+-- The bytes that a story's sink takes of a compiled story.
 use Rattle.std.specs.Prelude.{Result, Ok, Err, IfOk, IfErr, MatchResult, option_map}
 use Rattle.std.proofs.Common.{◌≡◌, ◌==◌, inl, inr, ℕ, Bool, true, false, cond, List, [], ◌∷◌, codes, length, Option, Some, None, refl, ap}
 use Rattle.std.proofs.Common.{subst, sym, ◌∙◌}
 use Rattle.std.proofs.Math.Dec.{eqb-suc-zero}
-use Rattle.inf_files.specs.Files.{Openings, Sources}
+use Rattle.inf_devices.specs.Files.{Openings, Sources}
 use Rattle.inf_session.specs.Choices.{Choices}
-use Rattle.inf_outcome.specs.Comes.{Begins, Comes, OpenedBy, OpenedPart}
+use Rattle.inf_compile.specs.Comes.{Begins, Comes, OpenedBy, OpenedPart}
 use Rattle.inf_session.specs.Leading.{IsFront}
 use Rattle.inf_session.specs.Ending.{Outcome, missing}
 use Rattle.inf_session.specs.Session.{State}
 use Rattle.inf_session.proofs.Leadings.{front_same}
-use Rattle.inf_outcome.proofs.OutcomeLaws.{outcomes_are_unique}
+use Rattle.inf_compile.proofs.OutcomeLaws.{outcomes_are_unique}
 use Rattle.inf_session.specs.declared.compiled.Compiled.{Compiled}
 use Rattle.inf_session.specs.declared.compiled.Status.{Status}
 use Rattle.inf_session.specs.declared.compiled.Status.TheVariants as status
@@ -19,10 +19,10 @@ use Rattle.inf_session.specs.declared.faults.Fault.TheVariants as fault
 use Rattle.inf_session.specs.Delivered.{EndsClean, TakesFront}
 use Rattle.inf_session.specs.Faults.{Caused, IfRead, IfStory, UnlessStory}
 use Rattle.inf_compile.specs.Compiling.{Compiles, DeliversPart, HasCause, OnlyStory, TakesPart, TakesStory, named_by, no_sources, story_in}
-use Rattle.inf_sinks.specs.Sinks.{Takes}
-use Rattle.inf_words.specs.FileNames.{source_name}
+use Rattle.inf_devices.specs.Sinks.{Takes}
+use Rattle.inf_command.specs.FileNames.{source_name}
 
--- what was compiled was delivered
+-- A compilation whose story was taken whole has compiled.
 pub compiles : (s : Sources) (o : Choices) (serial name : List ℕ) (old new : Openings) (before after story_old story_new : Option (List ℕ))
     (c : Compiled) (status : Status)
     → Comes s o serial name old new before after c → status ≡ c.status → TakesStory (story_in c) story_old story_new
@@ -35,7 +35,7 @@ compiles s o serial name old new before after story_old story_new c status k is 
   story = subst (λ (x : Option (List ℕ)). TakesStory x story_old story_new) k.delivers.story taken;
 }
 
--- a part of its story was
+-- A compilation of whose story a part was taken has delivered that part.
 pub delivers_part : (s : Sources) (o : Choices) (serial name : List ℕ) (old new : Openings)
     (before after story_old story_new : Option (List ℕ)) (c : Compiled) (n : ℕ)
     → Comes s o serial name old new before after c → TakesPart (story_in c) n story_old story_new → DeliversPart s o serial name n before
@@ -147,7 +147,7 @@ refused_begins [] date s o before after e t =
     }
 refused_begins (b ∷ word) date s o before after e t = absurd (no_bytes b word e)
 
--- nothing is opened
+-- For an empty word nothing is opened.
 pub refused_opens : (word : List ℕ) (s : Sources) (o : Choices) (old : Openings) → (length word == 0) ≡ true
     → OpenedBy (named_by word s (source_name word)) (named_by word s) o (source_name word) old old
 refused_opens [] s o old e = refl
@@ -182,7 +182,7 @@ untouched_always (fault.Story n) story = tt
 no_success : (r : Status) (P : Type 0) → r ≡ status.Errors → r ≡ status.Success → P
 no_success r P is success = let never : status.Errors ≡ status.Success = sym is ∙ success in cc
 
--- it is no success
+-- An empty word ends in no success.
 pub none_clean : (r : Result Status Fault) (writing A : Type 0) → IfOk r (λ s. s ≡ status.Errors) →
     IfErr r (λ fault. HasCause fault (λ name. ⊥) writing (λ n. ⊥))
     → MatchResult r (λ s. s ≡ status.Success → A) (λ fault. IfStory fault (λ n. A))

@@ -1,20 +1,20 @@
--- What a compilation leaves in its devices.
+-- The bytes that a compilation leaves in its devices.
 use Rattle.std.specs.Prelude.{◌≡◌, ℕ, ◌<◌, ◌==◌, List, length, take, if◌then◌else◌, Option, Some, None, option_map, string_bytes}
-use Rattle.inf_files.specs.Files.{Sources}
-use Rattle.inf_sinks.specs.Sinks.{Takes}
-use Rattle.inf_words.specs.FileNames.{source_name}
-use Rattle.inf_words.specs.Words.{Choice}
+use Rattle.inf_devices.specs.Files.{Sources}
+use Rattle.inf_devices.specs.Sinks.{Takes}
+use Rattle.inf_command.specs.FileNames.{source_name}
+use Rattle.inf_command.specs.Words.{Choice}
 use Rattle.inf_session.specs.Choices.{Choices}
 use Rattle.inf_session.specs.Ending.{Outcome}
-use Rattle.inf_outcome.specs.Chosen.{chosen_for}
-use Rattle.inf_outcome.specs.Outcome.{IsOutcome}
+use Rattle.inf_compile.specs.Chosen.{chosen_for}
+use Rattle.inf_compile.specs.Outcome.{IsOutcome}
 use Rattle.inf_session.specs.declared.faults.Fault.{Fault}
 use Rattle.inf_session.specs.declared.faults.Fault.TheVariants as fault
 use Rattle.inf_session.specs.declared.compiled.Compiled.{Compiled}
 use Rattle.inf_session.specs.declared.compiled.Status.{Status}
 
--- what the words of a command choose of the reading: with them the head of the source that they name, among these sources, has the say
--- on each matter of which they say nothing
+-- the choices of a reading, by the words of a command: with them the head of the source that they name, among these sources, decides
+-- each matter that they leave open
 abbrev pub chosen_by : Sources → Choice → Choices
 chosen_by sources c = chosen_for sources (source_name c.source) c
 

@@ -1,22 +1,22 @@
 ghost use Rattle.std.specs.Prelude.{◌≡◌, codes, IsTrue, IfOk, IfErr, MatchResult, Ok, OnOk, OnErr};
-ghost use Rattle.inf_sinks.specs.Sinks.{Takes};
-ghost use Rattle.inf_files.specs.Files.{Rose};
-ghost use Rattle.inf_words.specs.FileNames.{source_name};
-ghost use Rattle.inf_outcome.specs.Comes.{Begins, Heard, IsUnread, OpenedBy, OpenedPart};
+ghost use Rattle.inf_devices.specs.Sinks.{Takes};
+ghost use Rattle.inf_devices.specs.Files.{Rose};
+ghost use Rattle.inf_command.specs.FileNames.{source_name};
+ghost use Rattle.inf_compile.specs.Comes.{Begins, Heard, IsUnread, OpenedBy, OpenedPart};
 ghost use Rattle.inf_session.specs.Delivered.{EndsClean, TakesFront};
 ghost use Rattle.inf_session.specs.Ending.{missing};
 ghost use Rattle.inf_session.specs.Faults.{IfRead, IfStory, UnlessStory};
 ghost use Rattle.inf_compile.specs.Compiling.{Compiles, DeliversPart, HasCause, OnlyStory, TakesPart, TakesStory, chosen_by, named_by};
 ghost use Rattle.inf_compile.specs.Compiling.{story_in};
 
-use inf_files::files::Files;
+use crate::translation::translate;
+use inf_command::command_line::{Options, source_name};
+use inf_devices::files::Files;
+use inf_devices::sinks::{Sink, write_whole};
 use inf_names::hashing::NameHashing;
-use inf_outcome::translation::translate;
 use inf_session::compiled::{Compiled, Status, written};
 use inf_session::ending::no_file;
 use inf_session::faults::Fault;
-use inf_sinks::sinks::{Sink, write_whole};
-use inf_words::command_line::{Options, source_name};
 use std::alloc::Global;
 
 /// Writes a story, where there is one.
@@ -98,23 +98,24 @@ fn refuse<M: Sink>(alloc: Global, messages: &mut M) -> Result<Status, Fault>
     Ok(compiled.status)
 }
 
-/// Compiles the source that the options name, with the files that it includes: writes each message as soon as it is found, and
-/// the story where no error was found.
+/// Compiles the source that the options name, with the files that it includes: writes each message as soon as it is
+/// found, and the story where no error was found.
 ///
-/// What the words of the command say holds; on each matter of which they say nothing, the head of the source has the say: its lines, from
-/// the first byte on, that begin with `!%`. Their words are read as those of the command, and one is passed over that the command would
-/// refuse, that begins with none of `-`, `$` and `+`, or that has more than 255 bytes or one that is not of ASCII. An included file has no
-/// head.
+/// The words of the command decide; each matter that they leave open is decided by the head of the source: its lines,
+/// from the first byte on, that begin with `!%`. Their words are read as those of the command, and one is passed over
+/// that the command would refuse, that begins with none of `-`, `$` and `+`, or that has more than 255 bytes or one
+/// that is not of ASCII. An included file has no head.
 ///
-/// `date` is the story's serial number, six ASCII digits. `hashing` changes nothing but how long a source takes whose names were made to
-/// fall together. The source's name is the word for it, with `.inf` where its last part has no extension; a name that is not there is a
-/// fatal message, and so is an empty word, for which nothing is opened. Included files are looked for in the directories of the options.
-/// `Status` tells whether an error is among the messages.
+/// `date` is the story's serial number, six ASCII digits. `hashing` changes nothing but how long a source takes whose
+/// names were made to fall together. The source's name is the word for it, with `.inf` where its last part has no
+/// extension; a name that is not there is a fatal message, and so is an empty word, for which nothing is opened.
+/// Included files are looked for in the directories of the options. `Status` tells whether an error is among the
+/// messages.
 ///
-/// Of the faults, `Memory` comes where a growth was refused; `Read` where a file could not be opened or read, is longer than
-/// 16,777,216 bytes, or is one of more than 65,535 names, and names it: as it was opened, or where it was not, as the
-/// inclusion has it; `Messages` and `Story` where a write of that sink failed or took nothing, `Story` with the number
-/// of the story's bytes that were written. Only then has the story's sink taken anything beside a whole story.
+/// Of the faults, `Memory` comes where a growth was refused; `Read` where a file could not be opened or read, is longer
+/// than 16,777,216 bytes, or is one of more than 65,535 names, and names it: as it was opened, or where it was not, as
+/// the inclusion has it; `Messages` and `Story` where a write of that sink failed or took nothing, `Story` with the
+/// number of the story's bytes that were written. Only then has the story's sink taken anything beside a whole story.
 pub fn compile<F: Files, M: Sink, S: Sink>(
     alloc: Global,
     options: &Options<'_>,
@@ -135,12 +136,12 @@ pub fn compile<F: Files, M: Sink, S: Sink>(
         (OpenedBy (named_by options.now.source (F.sources files.old) name) (named_by options.now.source (F.sources files.old))
         (chosen_by (F.sources files.old) options.now) name (F.openings files.old) (F.openings files.new)) }
 
-    // Where a fault is answered they are those of the reading up to some turn.
+    // Where a fault is returned, the openings are those of the reading up to some turn.
     ensures opened { IsTrue (F.is_honest files.old) → OnErr result
         (OpenedPart (named_by options.now.source (F.sources files.old)) (chosen_by (F.sources files.old) options.now)
         (source_name options.now.source) (F.openings files.old) (F.openings files.new)) }
 
-    // Where a fault is answered, a front of the outcome's messages was written.
+    // Where a fault is returned, a front of the outcome's messages was written.
     ensures begins { IsTrue (F.is_honest files.old) → OnErr result
         (Begins (named_by options.now.source (F.sources files.old)) (chosen_by (F.sources files.old) options.now) date
         (source_name options.now.source) (M.taken messages.old) (M.taken messages.new)) }
@@ -164,7 +165,8 @@ pub fn compile<F: Files, M: Sink, S: Sink>(
     ensures fault { IfErr result (λ fault. HasCause fault (λ name. IsUnread F.Files files.old files.new)
         (Rose (M.failures messages.old) (M.failures messages.new)) (λ n. Rose (S.failures story.old) (S.failures story.new))) }
 
-    // What the sinks took before a fault of the story's, and that its sink took nothing before another.
+    // Before a fault of the story's sink, the messages of the outcome were written, and a front of its story; before
+    // another fault that sink took nothing.
     ensures part { IsTrue (F.is_honest files.old) → IfErr result (λ fault. IfStory fault (λ n.
         DeliversPart (named_by options.now.source (F.sources files.old)) (chosen_by (F.sources files.old) options.now) date
         (source_name options.now.source) n (M.taken messages.old) (M.taken messages.new) (S.taken story.old) (S.taken story.new))) }

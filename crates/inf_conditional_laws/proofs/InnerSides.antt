@@ -129,9 +129,9 @@ semicolons_end_them site out t place others c all_kept no_sign is_read no_hash l
     ∙ ap (λ ps. offered_to ps front site out t c) is_read
     ∙ ap (λ b. cond b (effected effect.Nothing quiet (ending place) read) (unfit read)) last
 
--- Which side it is
+-- The side that is left out
 
--- with nothing left out, and perhaps behind a `#`
+-- conditionals with nothing left out, perhaps behind a `#`
 abbrev at_sign : Option Place → Conditions → Conditions
 at_sign sign c = record c { left_out = None; sign = sign }
 

@@ -86,7 +86,7 @@ opened_sides is_kept false p c e none =
     ∙ ap (λ inner. second_sides (inner ++ new ∷ c.among)) (none refl)
     ∙ ap (λ inner. false ∷ second_sides (inner ++ c.among)) (sym (none refl))
 
--- with all that are opened inside a directive
+-- Changes whose openings are all inside a directive change the sides as they say.
 changed_inner : (changes : List Change) (c : Conditions) → StandInside true changes →
     sides (all_changed changes c) ≡ all_sides_behind changes (sides c)
 changed_inner [] c inside = refl
@@ -96,7 +96,7 @@ changed_inner (Opens is_kept p ∷ changes) c inside =
 changed_inner (Turns ∷ changes) c inside = changed_inner changes (turned c) inside ∙ ap (all_sides_behind changes) (turned_sides c)
 changed_inner (Closes ∷ changes) c inside = changed_inner changes (closed c) inside ∙ ap (all_sides_behind changes) (closed_sides c)
 
--- or all between directives
+-- Changes whose openings are all between directives do the same.
 changed_among : (changes : List Change) (c : Conditions) → c.inner ≡ [] → StandInside false changes →
     sides (all_changed changes c) ≡ all_sides_behind changes (sides c)
 changed_among [] c none inside = refl
@@ -160,7 +160,7 @@ sides_follow = record {
 
 -- A lone directive
 
--- whose effect is so
+-- A lone directive changes nothing, and no token of it is handed on.
 lone_effected : (w : ConditionalWord) (site : Site) (out : Out) (t : SourceToken) (p : Pending) (c : Conditions) (at : IsEndOf w p t c) →
     is_lone w (sides c) ≡ true → site.is_quiet ≡ false
     → judged site out t c ≡ lone_behind at.others p.place c

@@ -23,7 +23,7 @@ abbrev less : ℕ → ℕ
 less zero = zero
 less (suc n) = n
 
--- how many of those before are taken away
+-- the number of conditionals open before that are taken away
 abbrev taken : List Change → ℕ
 taken [] = 0
 taken (Opens is_kept p ∷ changes) = less (taken changes)

@@ -40,7 +40,7 @@ pub ends_as : (w : ConditionalWord) (level : ℕ) (second b : Bool) → ends_sid
     ((level == 0) && ends_at w second) ≡ b
 ends_as w level second b e = ap (λ (last : Bool). (level == 0) && last) (last_is w second) ∙ e
 
--- levels are counted so
+-- The program counts the levels behind a word as the laws do.
 level_is : (w : ConditionalWord) (level : ℕ) → level + 1 ≤ most_levels → levels_behind w level ≡ level_behind (Some w) level
 level_is word.Endif level few = refl
 level_is word.Ifnot level few = refl
@@ -60,7 +60,7 @@ one_more (Some word.Iffalse) level = omega arith
 
 -- A side that is cut
 
--- in a side that is left out, at a level, perhaps behind a `#`, where so many names are declared
+-- conditionals in a side that is left out, at `level`, perhaps behind a `#`, where `declared` names are declared
 abbrev pub inside : Conditions → LeftOut → ℕ → Option Place → ℕ → Conditions
 inside c side level sign declared = record c { left_out = Some (record side { levels = level }); sign = sign; declared = declared }
 
@@ -171,9 +171,9 @@ sides_end site out t c side left_out going e =
       kept_on = ap (λ (b : Behind). b.now.left_out) is ∙ ending (word_of (keyword t)) t c side e;
     }
 
--- Which side it is
+-- The side that is left out
 
--- with nothing left out, held back or pending
+-- conditionals with nothing left out, held back or pending
 abbrev clear : Conditions → Conditions
 clear c = record c { left_out = None; sign = None; pending = [] }
 
@@ -189,7 +189,7 @@ word_step flag site out w o c between is_name is awaits =
     ∙ ap (λ (x : Option ConditionalWord). at_front x w here) is
     ∙ ap (λ (a : Awaits). begun_by a w false here) awaits
 
--- its semicolon
+-- the semicolon of a directive with a name
 end_step : (k : Bool) (site : Site) (out : Out) (t : SourceToken) (p : Pending) (c : Conditions) → is_mark mark.Hash t.kind ≡ false →
     is_mark mark.Semicolon t.kind ≡ true
     → judged site out t (record (clear c) { pending = record p { awaits = awaits.End (effect.Opens k) } ∷ [] })

@@ -1,5 +1,4 @@
--- Which side of a conditional is left out that stands inside a directive, where a word of a conditional has a `#` before it, and how far
--- the side goes.
+-- The side that is left out of a conditional inside a directive, where a word of a conditional has a `#` before it, and its end.
 use Rattle.std.specs.Prelude.{◌≡◌, ◌≤◌, ◌+◌, ◌&&◌, ℕ, List, [], ◌∷◌, length, Bool, true, false, not, if◌then◌else◌, Some, None, unwrap_or}
 use Rattle.inf_names.specs.Symbols.{declared_before}
 use Rattle.inf_output.specs.Output.{Out}
@@ -30,8 +29,7 @@ NoneEnds (Token site out t ∷ events) = NoneEnds events
 NoneEnds (Piece declared ∷ events) = ⊥
 
 -- A side that is left out inside a directive is cut up to the token that ends it: no token is kept, whatever it is, nor is a `#` before a
--- word of
--- a conditional. No file has as many levels as are counted at most.
+-- word of a conditional. No file has as many levels as are counted at most.
 abbrev pub InnerSidesAreCut : Type 0
 InnerSidesAreCut = (events : List Event) (c : Conditions) (side : LeftOut) → c.left_out ≡ Some side → NoneEnds events
     → side.levels + length events ≤ most_levels → StayIn (is_second (latest c)) side.levels events
@@ -41,7 +39,7 @@ InnerSidesAreCut = (events : List Event) (c : Conditions) (side : LeftOut) → c
 abbrev pub ending : Place → Pending
 ending place = record { place = place; is_inner = false; awaits = awaits.End effect.Nothing }
 
--- The token that ends it is cut, and so is a `#` before it. Behind it nothing is left out, and nothing is held back.
+-- The token that ends the side is cut, and so is a `#` before it. Behind it nothing is left out, and nothing is held back.
 pub record EndsSideBy (w : ConditionalWord) (t : SourceToken) (c now : Conditions) (j : Filtered) : Type 0 where
   pub is_cut : j ≡ none_handed
   pub kept_on : now.left_out ≡ None
@@ -54,7 +52,7 @@ WordsEndSides = (site : Site) (out : Out) (t : SourceToken) (w : ConditionalWord
     → is_end t.kind ≡ false → word_of (keyword t) ≡ Some w
     → ends_side (is_second (latest c)) side.levels (Some w) ≡ true → EndsSideBy w t c (judged site out t c).now (judged site out t c).judged
 
--- Its semicolon is not handed on either, and behind it all is read as before the side.
+-- The semicolon of the directive that ends the side is not handed on either, and behind it all is read as before the side.
 abbrev pub semicolon_behind : Bool → Place → List Pending → Conditions → Behind
 semicolon_behind is_quiet place others c =
     record { now = record c { pending = others }; judged = record none_handed { ended = if is_quiet then None else Some place } }
@@ -92,8 +90,7 @@ pub record OpenedInside (place : Place) (is_kept : Bool) (c now : Conditions) : 
   pub left_out : now.left_out ≡ (if is_kept then None else Some (record { is_inner = true; levels = 0 }))
 
 -- The first side of `#Ifdef` is kept where a directive before the one around it declared the name, and that of `#Ifndef` where none did. No
--- token of
--- the directive is handed on.
+-- token of the directive is handed on.
 abbrev pub InnerFirstSides : ConditionalWord → (Bool → Bool) → Type 0
 InnerFirstSides directive_word is_kept =
     (zeroth first second third : Site) (out : Out) (hash w end : SourceToken) (name : List ℕ) (place : Place) (is_class : Bool)
@@ -105,8 +102,7 @@ InnerFirstSides directive_word is_kept =
     (behind_all (signed zeroth first second third out hash w name place is_class end) c)
 
 -- Where an `Ifnot` is not lone, and the first side of the latest conditional was kept, its second side is left out, inside the directive
--- where the
--- conditional was opened inside it.
+-- where the conditional was opened inside it.
 pub record TurnsTo (site : Site) (p : Pending) (c : Conditions) (b : Behind) : Type 0 where
   pub is_cut : b.judged ≡ record none_handed { ended = if site.is_quiet then None else Some p.place }
   pub left_out : b.now.left_out ≡ Some (record { is_inner = not (is_none_open c.inner); levels = 0 })

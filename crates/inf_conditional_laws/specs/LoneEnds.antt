@@ -1,4 +1,4 @@
--- An `Ifnot` or `Endif` that has no conditional to turn or to end: which one it is, and what is told of it.
+-- An `Ifnot` or `Endif` that has no conditional to turn or to end: the ones that are lone, and the message about each.
 use Rattle.std.specs.Prelude.{◌≡◌, List, [], ◌∷◌, ◌++◌, map, drop, Bool, true, false, Some, None}
 use Rattle.inf_settings.specs.Bounds.{Limits}
 use Rattle.inf_output.specs.Output.{Out}
@@ -22,9 +22,8 @@ use Rattle.inf_conditional_laws.specs.MissingEnds.{Change, Closes, Opens, StandI
 
 -- Sides
 
--- of the conditionals that are open, the latest first, whether each is in its second side: first those that were opened inside the
--- directive at
--- hand, and then those between directives
+-- whether each of the open conditionals is in its second side, the latest first: first those that were opened inside the directive
+-- at hand, and then those between directives
 abbrev pub second_sides : List Conditional → List Bool
 second_sides cs = map (λ (x : Conditional). x.is_second) cs
 
@@ -62,7 +61,7 @@ abbrev pub Acts : ConditionalWord → Type 0
 Acts w = (site : Site) (out : Out) (t : SourceToken) (p : Pending) (c : Conditions) → IsEndOf w p t c → sides (judged site out t c).now ≡
     sides_behind w (sides c)
 
--- what changes do, one after the other
+-- the sides of the open conditionals behind changes, one after the other
 abbrev pub all_sides_behind : List Change → List Bool → List Bool
 all_sides_behind [] sides = sides
 all_sides_behind (Opens is_kept p ∷ changes) sides = all_sides_behind changes (false ∷ sides)
@@ -88,7 +87,7 @@ pub record IsLone (site : Site) (t : SourceToken) (c : Conditions) (place : Plac
   pub is_told : site.is_quiet ≡ false
   pub begins : directive.place ≡ place
 
--- It changes nothing, and no token of it is handed on.
+-- A lone directive changes nothing, and no token of it is handed on.
 abbrev pub lone_behind : List Pending → Place → Conditions → Behind
 lone_behind others place c =
     record { now = record c { pending = others }; judged = record none_handed { unmatched = Some place; ended = Some place } }
@@ -97,12 +96,12 @@ abbrev pub LonesAreJudged : Type 0
 LonesAreJudged = (site : Site) (out : Out) (t : SourceToken) (c : Conditions) (place : Place) (unmatched : IsLone site t c place) → judged
     site out t c ≡ lone_behind unmatched.ends.others place c
 
--- No other token tells of one.
+-- No other token tells of a lone directive.
 abbrev pub OnlyLonesAre : Type 0
 OnlyLonesAre = (site : Site) (out : Out) (t : SourceToken) (c : Conditions) (place : Place) → (judged site out t c).judged.unmatched ≡ Some
     place → IsLone site t c place
 
--- It is told where it begins, and it is a unit that has ended, as any other conditional directive is.
+-- A lone directive is told where it begins, and it is a unit that has ended, as any other conditional directive is.
 abbrev pub lone_message : FileNames → Place → ReaderState → ReaderState
 lone_message files place s =
     record s { work = record s.work { report = with_error (location files place) (location files place) LoneConditional s.work.report } }

@@ -1,4 +1,4 @@
--- Which side of a conditional is left out, and how far it goes.
+-- The side of a conditional that is left out, and its end.
 use Rattle.std.specs.Prelude.{◌≡◌, ◌≤◌, ◌+◌, ◌-◌, ◌==◌, ◌&&◌, ℕ, List, [], ◌∷◌, length, Bool, true, false, not, if◌then◌else◌, Option, Some}
 use Rattle.std.specs.Prelude.{None}
 use Rattle.inf_names.specs.Symbols.{declared_before}
@@ -22,14 +22,13 @@ use Rattle.inf_conditionals.specs.Judging.{judged, none_handed}
 use Rattle.inf_conditionals.specs.Open.{Conditions, is_second, latest, most_levels}
 use Rattle.inf_conditionals.specs.Words.{word_of}
 
--- What comes to the conditionals of a file: a token at a site, where names are known; and the end of a directive, behind which so many
--- names
+-- The events of a file's conditionals: a token at a site, where names are known; and the end of a directive, behind which `declared` names
 -- are declared.
 pub data Event : Type 0 where
   Token : (site : Site) (out : Out) (token : SourceToken) → Event
   Piece : (declared : ℕ) → Event
 
--- the conditionals behind it, and what becomes of it
+-- the conditionals behind an event, and the answer to it
 abbrev pub behind : Event → Conditions → Conditions
 behind (Token site out t) c = (judged site out t c).now
 behind (Piece declared) c = piece_ended declared c
@@ -63,7 +62,7 @@ abbrev pub ends_side : Bool → ℕ → Option ConditionalWord → Bool
 ends_side second level None = false
 ends_side second level (Some w) = (level == 0) && is_last second w
 
--- none of these ends a side that so many levels are open in, nor the file
+-- none of these events ends the file, or a side in which `level` levels are open
 abbrev pub StayIn : Bool → ℕ → List Event → Type 0
 StayIn second level [] = Unit {0}
 StayIn second level (Token site out t ∷ events) =
@@ -76,12 +75,12 @@ level_after [] level = level
 level_after (Token site out t ∷ events) level = level_after events (level_behind (word_of (keyword t)) level)
 level_after (Piece declared ∷ events) level = level_after events level
 
--- all of them are cut out
+-- all tokens of the events are cut out
 abbrev pub AllCut : List Event → Conditions → Type 0
 AllCut [] c = Unit {0}
 AllCut (e ∷ events) c = (became e c ≡ none_handed) × AllCut events (behind e c)
 
--- What is open stays open, and the side is left out still.
+-- Each open conditional stays open, and the side is left out still.
 pub record StaysLeftOut (c now : Conditions) (side : LeftOut) (level : ℕ) : Type 0 where
   pub still : now.left_out ≡ Some (record side { levels = level })
   pub among : now.among ≡ c.among
@@ -89,8 +88,7 @@ pub record StaysLeftOut (c now : Conditions) (side : LeftOut) (level : ℕ) : Ty
   pub pending : now.pending ≡ c.pending
 
 -- A side that is left out between directives is cut up to the token that ends it: no token is kept, whatever it is, and wherever among them
--- a
--- directive is taken to end. No file has as many levels as are counted at most.
+-- a directive is taken to end. No file has as many levels as are counted at most.
 abbrev pub SidesAreCut : Type 0
 SidesAreCut = (events : List Event) (c : Conditions) (side : LeftOut) → c.left_out ≡ Some side → (side.is_inner ≡ false) × (c.inner ≡ [])
     → side.levels + length events ≤ most_levels → StayIn (is_second (latest c)) side.levels events
@@ -106,7 +104,7 @@ SidesEnd = (site : Site) (out : Out) (t : SourceToken) (c : Conditions) (side : 
     → ends_side (is_second (latest c)) side.levels (word_of (keyword t)) ≡ true
     → EndsSide c (judged site out t c).now (judged site out t c).judged
 
--- Which side is left out
+-- The side that is left out
 
 -- between directives, where nothing is left out
 pub record IsBetween (site : Site) (c : Conditions) : Type 0 where
@@ -160,8 +158,7 @@ abbrev pub is_wanted : Bool → Bool → Bool
 is_wanted wanted is_true = if wanted then is_true else not is_true
 
 -- The first side of `Iftrue` is kept where its condition is true, and that of `Iffalse` where it is not, by the names that were declared by
--- the directives
--- before.
+-- the directives before.
 abbrev pub ValuesDecide : Type 0
 ValuesDecide =
     (site : Site) (out : Out) (t : SourceToken) (wanted : Bool) (p : Pending) (k : Condition) (c : Conditions) → IsLastOf t wanted p k c

@@ -1,4 +1,4 @@
--- Conditionals and sides where all sides stay, and what a whole directive does to both.
+-- Conditionals and sides where all sides stay, and the effects of a whole directive on both.
 use Rattle.std.proofs.Common.{◌≡◌, List, [], ◌∷◌, ◌++◌, map, Bool, true, false, not, Some, None, refl, ap}
 use Rattle.std.specs.Prelude.{if◌then◌else◌}
 use Rattle.inf_scanner.specs.declared.tokens.Place.{Place}
@@ -38,7 +38,7 @@ pub agree : (c : Conditions) (inner among : List Conditional) (texts : List Text
     → Agree (reading c inner among texts) (staying inner among texts)
 agree c inner among texts fronts = record { pending = refl; conditions = refl; sign = refl; sides = refl; fronts = fronts }
 
--- What is heard of a token
+-- The things that are given of a token
 
 pub none_heard : (is_quiet : Bool) → [] ≡ heard is_quiet []
 none_heard true = refl
@@ -78,7 +78,7 @@ pub unfit_same : (is_quiet : Bool) (t : SourceToken) (c : Conditions) (inner amo
 unfit_same is_quiet t c inner among pending conditions texts =
     record { now = agree c inner among [] tt; given = unfit_heard is_quiet t }
 
--- What a whole directive does
+-- The effects of a whole directive
 
 inner_first : (place : Place) (is_second stays : Bool) (sides : List Side)
     → let x : Side = record { place = place; is_inner = true; is_second = is_second; stays = stays } in with_side x sides ≡ x ∷ sides
@@ -155,7 +155,7 @@ opened_same is_quiet t place a false false c (y ∷ inner) among texts fronts = 
   given = end_heard is_quiet t place;
 }
 
--- the latest conditional, if there is one, by where it begins and whether it is in its second side
+-- the latest conditional, by the place where it begins and whether it is in its second side
 abbrev pub conditional : Place → Bool → Conditional
 conditional place is_second = record { place = place; is_second = is_second }
 

@@ -1,4 +1,4 @@
--- Where all sides stay, a token comes to the same for conditionals and for sides.
+-- Where all sides stay, a token has the same result for conditionals and for sides.
 use Rattle.std.proofs.Common.{◌≡◌, ℕ, List, [], ◌∷◌, ◌++◌, Bool, true, false, not, ◌&&◌, Option, Some, None, refl, sym, ◌∙◌, ap, subst}
 use Rattle.std.specs.Prelude.{if◌then◌else◌, is_some}
 use Rattle.inf_scanner.specs.declared.tokens.Mark.TheVariants as mark
@@ -71,7 +71,7 @@ asked_agree place is_inner wanted first others k c inner among texts fronts is =
   fronts = (asking_front wanted first others (ap is_some is), fronts);
 }
 
--- a token with which it goes on, whether the grammar reads it or not
+-- a directive goes on with a token, whether the grammar reads it or not
 pub goes_past : (is : Bool) (t : SourceToken) (x : Text) (s : Sides)
     → goes_on (if is then Whole else Front) t x s ≡ giving (record s { texts = x ∷ s.texts }) []
 goes_past true t x s = refl
@@ -139,7 +139,7 @@ begun_same is_quiet word.Endif t place is_inner c inner among texts fronts = rec
 
 -- A token more of a directive
 
--- behind `Ifdef` and `Ifndef`: its name
+-- the name of an `Ifdef` or `Ifndef` has the same result
 named_same : (is_quiet : Bool) (o : Out) (k : TokenKind) (bytes : List ℕ) (at : Place) (is_class : Bool) (place : Place) (is_inner : Bool)
     (first : SourceToken) (c : Conditions) (inner among : List Conditional) (texts : List Text) → AreFronts texts
     → let t : SourceToken = record { kind = k; bytes = bytes; place = at; is_class = is_class } in
@@ -168,7 +168,7 @@ named_same is_quiet o k bytes at is_class place is_inner first c inner among tex
     let t : SourceToken = record { kind = k; bytes = bytes; place = at; is_class = is_class } in
     let both = unfit_same is_quiet t c inner among (pendings texts) (conditions_of texts) texts in (both, both)
 
--- Behind that, a semicolon. What was read is a name.
+-- A semicolon behind the name of an `Ifdef` or `Ifndef` has the same result.
 abbrev NamesEnd : Bool → Bool → Bool → Out → SourceToken → Place → Bool → SourceToken → List Asked → Conditions → List Conditional
     → List Conditional
     → List Text → Bool → ConditionalWord → Type 0
@@ -192,7 +192,7 @@ names_end is_quiet true false o t place is_inner first n others c inner among te
 names_end is_quiet false is_name o t place is_inner first n others c inner among texts fronts is =
     let both = unfit_same is_quiet t c inner among (pendings texts) (conditions_of texts) texts in (both, both)
 
--- behind `Ifnot` and `Endif`: a semicolon
+-- a semicolon behind `Ifnot` or `Endif` has the same result
 turn_ends : (is_quiet is_end : Bool) (o : Out) (t : SourceToken) (place : Place) (is_inner : Bool) (first : SourceToken)
     (others : List Asked)
     (c : Conditions) (inner among : List Conditional) (texts : List Text) → AreFronts texts
@@ -217,7 +217,7 @@ close_ends is_quiet true o t place is_inner first others c inner among texts fro
 close_ends is_quiet false o t place is_inner first others c inner among texts fronts =
     unfit_same is_quiet t c inner among (pendings texts) (conditions_of texts) texts
 
--- behind a word that acted already: a semicolon
+-- a semicolon behind a word that acted already has the same result
 ended_ends : (is_quiet is_end : Bool) (t : SourceToken) (place : Place) (c : Conditions) (inner among : List Conditional)
     (texts : List Text)
     → AreFronts texts
@@ -261,7 +261,7 @@ condition_more first others a k is =
     ap (λ tokens. condition_read (first ∷ tokens) condition_begun) (tokens-append others a)
     ∙ read_more (first ∷ tokens_in others) a.token condition_begun k is
 
--- The condition is whole with it, and opens a conditional.
+-- a condition that is whole opens a conditional, with the same result
 decided_same : (is_quiet wanted : Bool) (o : Out) (t : SourceToken) (place : Place) (is_inner : Bool) (first : SourceToken)
     (others : List Asked) (k : Condition) (c : Conditions) (inner among : List Conditional) (texts : List Text) → AreFronts texts
     → condition_of first others ≡ Some k
@@ -282,7 +282,7 @@ decided_same is_quiet false o t place is_inner first others k c inner among text
     (sym is)
     (opened_same is_quiet t place (awaits.Condition false) is_inner (not v.is_true) c inner among texts fronts)
 
--- It goes on, or is whole.
+-- a condition that goes on, or is whole, has the same result
 went_same : (is_whole_now wanted : Bool) (site : Site) (o : Out) (t : SourceToken) (place : Place) (is_inner : Bool) (first : SourceToken)
     (others : List Asked) (k : Condition) (c : Conditions) (inner among : List Conditional) (texts : List Text) → AreFronts texts
     → condition_of first others ≡ Some k
@@ -349,7 +349,7 @@ front_same is_quiet None t place c inner among texts fronts =
     record { now = agree c inner among texts fronts; given = both_heard is_quiet (hash place) t }
 front_same is_quiet (Some w) t place c inner among texts fronts = begun_same is_quiet w t place false c inner among texts fronts
 
--- no more than a name is a name that is not ended
+-- tokens behind an `Ifdef` are its front only where they are no more than a name
 too_many_names : (is_end is_name : Bool) → (if is_end && is_name then Whole else Misfit) ≡ Front → ⊥
 too_many_names true true same = cc
 too_many_names true false same = cc

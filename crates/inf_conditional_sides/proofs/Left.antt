@@ -1,4 +1,4 @@
--- Where a side is left out, a token comes to the same for conditionals and for sides; and so does the end of a piece.
+-- Where a side is left out, a token has the same result for conditionals and for sides; and so has the end of a piece.
 use Rattle.std.proofs.Common.{◌≡◌, ℕ, ◌+◌, ◌-◌, ◌<◌, List, [], ◌∷◌, ◌++◌, length, Bool, true, false, not, ◌&&◌, Option, Some, None, refl}
 use Rattle.std.proofs.Common.{◌∙◌, ap, arith, subst, sym}
 use Rattle.std.specs.Prelude.{◌==◌, if◌then◌else◌, min, unwrap_or}
@@ -37,7 +37,7 @@ pub one_left : (inside around : List Side) (is_inner : Bool) (x : Conditional)
 one_left [] around is_inner x = refl
 one_left (y ∷ inside) around is_inner x = ap (λ b. y.stays && b) (one_left inside around is_inner x) ∙ and_false y.stays
 
--- At the end of a file those inside of a side that was left out are no conditionals of the file.
+-- At the end of a file the sides inside of one that was left out belong to no conditionals of the file.
 pub left_at_end : (inside around : List Side) (is_inner : Bool) (x : Conditional) → all_stay around ≡ true
     → at_end (inside ++ side_of is_inner false x ∷ around) ≡ side_of is_inner true x ∷ around
 left_at_end [] around is_inner x stay =
@@ -103,7 +103,7 @@ sided sides texts sign = record { sides = sides; texts = texts; sign = sign }
 abbrev pub side_at : Bool → ℕ → LeftOut
 side_at is_inner levels = record { is_inner = is_inner; levels = levels }
 
--- A word comes to the same.
+-- A word has the same result.
 abbrev WordsAgree : ConditionalWord → Place → Conditions → List Conditional → List Conditional → List Text → Option Place → LeftOut
     → List Side
     → Type 0
@@ -112,7 +112,7 @@ WordsAgree w at c inner among texts sign side sides =
     Agree (word_judged w at side (leaving c inner among texts sign side))
     (word_passed (all_stay now) (unwrap_or sign at) now (sided sides texts sign))
 
--- inside of others that are open in the side
+-- a word inside of others that are open in the side has the same result
 goes_deeper : (w : ConditionalWord) (at : Place) (c : Conditions) (inner among : List Conditional) (texts : List Text) (sign : Option Place)
     (is_inner : Bool) (levels : ℕ) (x : Conditional) (around : List Side) (y : Side) (inside : List Side) → AreFronts texts
     → length (y ∷ inside) ≡ levels
@@ -135,7 +135,7 @@ goes_deeper w at c inner among texts sign is_inner levels x around y inside fron
     (sym (not_zero inside y levels count))
     (record { pending = refl; conditions = refl; sign = refl; sides = stand; fronts = fronts }))
 
--- at the level of the side itself, of a conditional that begins somewhere and is in its second side or not
+-- a conditional that begins at `place`, in its second side or not
 abbrev conditional : Place → Bool → Conditional
 conditional place is_second = record { place = place; is_second = is_second }
 
@@ -172,7 +172,7 @@ opens_in_inner place begins is_second c inner among texts fronts =
       fronts = fronts;
     }
 
--- where all stay behind the word, its directive is read to its end
+-- where all sides stay behind the word, its directive is read to its end
 all_kept : (c : Conditions) (inner among : List Conditional) (texts : List Text) (place : Place) (sides : List Side) (sign : Option Place)
     (now : List Side) → now ≡ open_sides inner among → AreFronts texts
     → Agree (reading c inner among (Ended place ∷ texts)) (word_passed (all_stay now) place now (sided sides texts sign))
@@ -235,7 +235,7 @@ word_inner word.Iftrue at begins is_second c inner among texts sign fronts =
 word_inner word.Iffalse at begins is_second c inner among texts sign fronts =
     opens_in_inner (unwrap_or sign at) begins is_second c inner among texts fronts
 
--- with so many open in it
+-- a word has the same result in a side between directives, with `levels` open in it
 pub outer_words : (inside : List Side) (w : ConditionalWord) (at : Place) (c : Conditions) (x : Conditional) (among : List Conditional)
     (texts : List Text) (sign : Option Place) (levels : ℕ) → AreFronts texts → AllAre false inside → length inside ≡ levels
     → levels < most_levels

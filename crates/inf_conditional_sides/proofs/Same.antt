@@ -1,4 +1,4 @@
--- Conditionals and sides come to the same by any token, and at the end of a piece.
+-- Conditionals and sides give the same result by any token, and at the end of a piece.
 use Rattle.std.proofs.Common.{◌≡◌, ℕ, ◌<◌, List, [], ◌∷◌, ◌++◌, length, map, Bool, true, false, Option, Some, None, refl, sym, ◌∙◌, ap}
 use Rattle.std.proofs.Common.{subst}
 use Rattle.std.specs.Prelude.{◌&&◌, if◌then◌else◌}
@@ -52,7 +52,7 @@ all_kept site o t c inner among texts sign sides fronts are =
 
 -- Where one is left out
 
--- A token that is no word leaves the sides as they are; a word does what it does.
+-- A token that is no word leaves the sides as they are; a word acts on both alike.
 abbrev PassesAgree : SourceToken → Conditions → List Conditional → List Conditional → List Text → Option Place → LeftOut → List Side
     → Option ConditionalWord → Type 0
 PassesAgree t c inner among texts sign side sides w =

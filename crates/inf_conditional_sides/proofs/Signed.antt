@@ -1,4 +1,4 @@
--- Where all sides stay and a `#` waited, the next token comes to the same for conditionals and for sides.
+-- Where all sides stay and a `#` waited, the next token has the same result for conditionals and for sides.
 use Rattle.std.proofs.Common.{◌≡◌, ℕ, List, [], ◌∷◌, ◌++◌, Bool, true, false, not, Option, Some, None, refl, sym, ◌∙◌, ap, subst}
 use Rattle.std.specs.Prelude.{if◌then◌else◌, is_some}
 use Rattle.inf_scanner.specs.declared.tokens.Mark.TheVariants as mark
@@ -33,7 +33,7 @@ use Rattle.inf_conditional_sides.specs.Judged.{given_of, heard, lone_given, pend
 use Rattle.inf_conditional_sides.proofs.Acts.{kept_heard, none_heard, reading, state, staying, unfit_heard}
 use Rattle.inf_conditional_sides.proofs.Kept.{asking, asking_pending, begun_same, condition_more, goes_past, offered_same}
 
--- What is heard of a `#` and then of a token
+-- The things that are given of a `#` and then of a token
 
 heard-append : (is_quiet : Bool) (xs ys : List Given) → heard is_quiet (xs ++ ys) ≡ heard is_quiet xs ++ heard is_quiet ys
 heard-append false xs ys = refl

@@ -1,5 +1,5 @@
--- Sides beside the conditionals that the contracts of the compiler speak of: what stands for what, and that each token does the same to
--- both.
+-- Sides beside the conditionals of the compiler's contracts: the sides that agree with conditionals, and the same results of each token
+-- for both.
 use Rattle.std.specs.Prelude.{◌≡◌, ℕ, ◌<◌, List, [], ◌∷◌, ◌++◌, length, map, Bool, true, false, not, Option, Some, None, is_some}
 use Rattle.inf_scanner.specs.declared.tokens.Place.{Place}
 use Rattle.inf_output.specs.Output.{Out}
@@ -26,7 +26,7 @@ use Rattle.inf_conditional_sides.specs.Sides.{condition_of, end_form, hash, name
 
 -- The directives that are being read
 
--- what a directive waits for, by its word and its tokens behind that
+-- the thing that a directive waits for, by its word and its tokens behind that
 abbrev pub awaits_behind : ConditionalWord → List Asked → Awaits
 awaits_behind word.Ifdef [] = awaits.Name true
 awaits_behind word.Ifdef (n ∷ others) = awaits.End (effect.Opens n.is_declared)
@@ -45,7 +45,7 @@ pending_of (Directive place is_inner w first others) = record { place = place; i
 abbrev pub pendings : List Text → List Pending
 pendings texts = map pending_of texts
 
--- the conditions of those that have one
+-- the conditions of the directives that have one
 abbrev pub with_condition : Option Condition → List Condition → List Condition
 with_condition None conditions = conditions
 with_condition (Some k) conditions = k ∷ conditions
@@ -61,7 +61,7 @@ conditions_of (Sign place ∷ texts) = conditions_of texts
 conditions_of (Ended place ∷ texts) = conditions_of texts
 conditions_of (Directive place is_inner w first others ∷ texts) = with_condition (condition_in w first others) (conditions_of texts)
 
--- The tokens of each begin such a directive. A condition is read as far as it goes.
+-- The tokens of each directive that is being read begin such a directive. A condition is read as far as it goes.
 abbrev pub IsFront : ConditionalWord → SourceToken → List Asked → Type 0
 IsFront word.Ifdef first others = name_form others ≡ Front
 IsFront word.Ifndef first others = name_form others ≡ Front
@@ -81,14 +81,14 @@ AreFronts (Directive place is_inner w first others ∷ texts) = IsFront w first 
 abbrev pub side_of : Bool → Bool → Conditional → Side
 side_of is_inner stays x = record { place = x.place; is_inner = is_inner; is_second = x.is_second; stays = stays }
 
--- where all stay: those of conditionals inside of the directive at hand, and behind them those of the others
+-- the sides where all stay: those of conditionals inside of the directive at hand, and behind them those of the others
 abbrev pub outer_sides : List Conditional → List Side
 outer_sides among = map (side_of false true) among
 
 abbrev pub open_sides : List Conditional → List Conditional → List Side
 open_sides inner among = map (side_of true true) inner ++ outer_sides among
 
--- Where the side of a conditional is left out: so many sides that were opened in it stand before it, and all behind it stay.
+-- Sides where one of a conditional is left out: before it are the `levels` sides that were opened in it, and all behind it stay.
 abbrev pub AllAre : Bool → List Side → Type 0
 AllAre is_inner [] = Unit {0}
 AllAre is_inner (x ∷ sides) = (x.is_inner ≡ is_inner) × AllAre is_inner sides
@@ -99,7 +99,7 @@ pub record IsLeftOut (is_inner : Bool) (levels : ℕ) (x : Conditional) (around 
   pub count : length inside ≡ levels
   pub all : sides ≡ inside ++ side_of is_inner false x ∷ around
 
--- A conditional between the directives may be opened by a directive inside of which others are open. Then its side is left out behind
+-- A conditional between the directives may be opened by a directive inside of which others are open. Its side is then left out behind
 -- theirs, until these end with the directive, which is at once.
 pub record IsLeftBehind (levels : ℕ) (inner among : List Conditional) (sides : List Side) : Type 0 where
   pub x : Conditional
@@ -118,7 +118,7 @@ StandFor (Some side) [] [] sides = ⊥
 StandFor (Some side) [] (x ∷ among) sides = (side.is_inner ≡ false) × IsLeftOut false side.levels x (outer_sides among) sides
 StandFor (Some side) (x ∷ inner) among sides = LeftInside side.is_inner side.levels x inner among sides
 
--- Sides stand for conditionals.
+-- Sides agree with conditionals.
 pub record Agree (c : Conditions) (s : Sides) : Type 0 where
   pub pending : c.pending ≡ pendings s.texts
   pub conditions : c.conditions ≡ conditions_of s.texts
@@ -126,7 +126,7 @@ pub record Agree (c : Conditions) (s : Sides) : Type 0 where
   pub sides : StandFor c.left_out c.inner c.among s.sides
   pub fronts : AreFronts s.texts
 
--- no side is left out behind others
+-- Tells whether no side is left out behind others.
 abbrev pub is_settled_by : Option LeftOut → List Conditional → Bool
 is_settled_by (Some side) (x ∷ inner) = side.is_inner
 is_settled_by left_out inner = true
@@ -134,12 +134,12 @@ is_settled_by left_out inner = true
 abbrev pub is_settled : Conditions → Bool
 is_settled c = is_settled_by c.left_out c.inner
 
--- fewer levels are open in a side that is left out than are counted at most
+-- Fewer levels are open in a side that is left out than are counted at most.
 abbrev pub FewIn : Option LeftOut → Type 0
 FewIn None = Unit {0}
 FewIn (Some side) = side.levels < most_levels
 
--- What is given of a token
+-- The things that are given of a token
 
 abbrev pub as_handed : Forwarded → SourceToken → List Given
 as_handed handed.Kept t = Kept t ∷ []
@@ -165,7 +165,7 @@ end_given (Some place) = Ends place ∷ []
 abbrev pub given_of : SourceToken → Filtered → List Given
 given_of t j = sign_given j.sign ++ (token_given j.token t ++ (lone_given j.unmatched ++ end_given j.ended))
 
--- among tokens that are passed over behind a bad one nothing is told of directives
+-- the things that are given; among tokens that are passed over behind a bad one those about directives are not
 abbrev pub heard : Bool → List Given → List Given
 heard false given = given
 heard true [] = []
@@ -174,12 +174,12 @@ heard true (Unfit t ∷ given) = Unfit t ∷ heard true given
 heard true (Lone place ∷ given) = heard true given
 heard true (Ends place ∷ given) = heard true given
 
--- A token comes to the same: what stands behind it agrees, and the same is given.
+-- A token has the same result: the sides behind it agree with the conditionals behind it, and the same things are given.
 pub record ComeToTheSame (is_quiet : Bool) (t : SourceToken) (b : Behind) (n : Step) : Type 0 where
   pub now : Agree b.now n.now
   pub given : given_of t b.judged ≡ heard is_quiet n.given
 
--- Where nothing is open sides stand for conditionals; and where they do, a token and the end of a piece come to the same for both.
+-- Where nothing is open, sides agree with conditionals; and where they do, a token and the end of a piece have the same result for both.
 pub record SidesAreJudged : Type 0 where
   pub start : Agree no_conditions no_sides
   pub tokens : (site : Site) (o : Out) (t : SourceToken) (c : Conditions) (s : Sides) → Agree c s → is_settled c ≡ true → FewIn c.left_out

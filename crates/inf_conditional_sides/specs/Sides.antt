@@ -1,6 +1,6 @@
--- Conditionals as sides. Each conditional that is open has a side at hand, which stays or is left out, and a token is kept where all sides
--- around it stay. Beside them stand the conditional directives that are being read, each with its tokens so far; whether these begin a
--- directive, or are one, is asked of the tokens themselves.
+-- Conditionals as sides. Each conditional that is open has a side at hand, which stays or is left out, and a token is kept where all
+-- sides around it stay. Beside them are the conditional directives that are being read, each with its tokens so far; whether these begin
+-- a directive, or are one, is asked of the tokens themselves.
 use Rattle.std.specs.Prelude.{ℕ, codes, ◌&&◌, List, [], ◌∷◌, ◌++◌, map, Bool, true, false, not, if◌then◌else◌, Option, Some, None}
 use Rattle.std.specs.Prelude.{unwrap_or}
 use Rattle.inf_scanner.specs.declared.tokens.Mark.TheVariants as mark
@@ -17,40 +17,40 @@ use Rattle.inf_conditionals.specs.Words.{word_of}
 use Rattle.inf_conditionals.specs.declared.words.ConditionalWord.{ConditionalWord}
 use Rattle.inf_conditionals.specs.declared.words.ConditionalWord.TheVariants as word
 
--- The side at hand of a conditional that is open: where the conditional begins, and whether inside another directive; whether it is the
--- second side; and whether it stays.
+-- The side at hand of a conditional that is open: the place where the conditional begins, and whether it is inside another directive;
+-- whether the side is the second; and whether it stays.
 pub record Side : Type 0 where
   pub place : Place
   pub is_inner : Bool
   pub is_second : Bool
   pub stays : Bool
 
--- a token of a conditional directive, and whether a directive before the one at hand declared the name that it spells
+-- A token of a conditional directive, and whether a directive before the one at hand declared the name that it spells.
 pub record Asked : Type 0 where
   pub token : SourceToken
   pub is_declared : Bool
 
--- What is being read of a conditional directive: a `#` at the front of a piece, behind which a word is to come; a directive whose word
--- ended a side that was left out, and that only has to end itself; or any other, with its word, the token of the word, and the tokens
--- behind that.
+-- The part of a conditional directive that was read: a `#` at the front of a piece, behind which a word is to come; a directive whose
+-- word ended a side that was left out, and that only has to end itself; or any other, with its word, the token of the word, and the
+-- tokens behind that.
 pub data Text : Type 0 where
   Sign : (place : Place) → Text
   Ended : (place : Place) → Text
   Directive : (place : Place) (is_inner : Bool) (word : ConditionalWord) (first : SourceToken) (others : List Asked) → Text
 
--- The sides that are open and the directives that are being read, each with the innermost first; and a `#` inside a directive, if the next
--- token has to tell whether it begins a conditional one.
+-- The sides that are open and the directives that are being read, each with the innermost first; and a `#` inside a directive, if the
+-- next token has to decide whether it begins a conditional one.
 pub record Sides : Type 0 where
   pub sides : List Side
   pub texts : List Text
   pub sign : Option Place
 
--- where nothing is open and nothing is being read
+-- the sides where nothing is open and nothing is being read
 abbrev pub no_sides : Sides
 no_sides = record { sides = []; texts = []; sign = None }
 
--- What comes of a token: a token is handed on as one that is kept, or as one that does not fit; a directive that ends or turns a
--- conditional has none; a conditional directive has ended, which begins at a place.
+-- The things that are given of a token: a token is handed on as one that is kept, or as one that does not fit; a directive that ends or
+-- turns a conditional has none; a conditional directive has ended, which begins at a place.
 pub data Given : Type 0 where
   Kept : (token : SourceToken) → Given
   Unfit : (token : SourceToken) → Given
@@ -64,13 +64,13 @@ pub record Step : Type 0 where
 abbrev pub giving : Sides → List Given → Step
 giving s given = record { now = s; given = given }
 
--- a `#` at a place
+-- a `#` at a place, as a token
 abbrev pub hash : Place → SourceToken
 hash place = record { kind = kind.Mark mark.Hash; bytes = codes "#"; place = place; is_class = false }
 
--- What tokens are of a conditional directive
+-- The forms that tokens have as a conditional directive
 
--- they begin none, they begin one, or they are one
+-- The form of tokens: they begin no directive, they begin one, or they are one.
 pub data Form : Type 0 where
   Misfit : Form
   Front : Form
@@ -80,20 +80,20 @@ abbrev pub is_name : TokenKind → Bool
 is_name kind.Name = true
 is_name _ = false
 
--- behind `Ifdef` and `Ifndef`: a name and a semicolon
+-- the form of the tokens behind `Ifdef` and `Ifndef`: a name and a semicolon
 abbrev pub name_form : List Asked → Form
 name_form [] = Front
 name_form (n ∷ []) = if is_name n.token.kind then Front else Misfit
 name_form (n ∷ t ∷ []) = if is_mark mark.Semicolon t.token.kind && is_name n.token.kind then Whole else Misfit
 name_form _ = Misfit
 
--- behind `Ifnot` and `Endif`: a semicolon
+-- the form of the tokens behind `Ifnot` and `Endif`: a semicolon
 abbrev pub end_form : List Asked → Form
 end_form [] = Front
 end_form (t ∷ []) = if is_mark mark.Semicolon t.token.kind then Whole else Misfit
 end_form _ = Misfit
 
--- What the grammar reads of tokens as a directive with a condition, if it reads them all
+-- the condition as the grammar reads some tokens of its directive, if it reads them all
 abbrev pub condition_read : List SourceToken → Condition → Option Condition
 condition_read [] k = Some k
 condition_read (t ∷ tokens) k = if fits grammar known (atom_of t) k.stack then condition_read tokens (condition_took t k) else None
@@ -116,10 +116,10 @@ form_of word.Iffalse first others = condition_form (condition_of first others)
 form_of word.Ifnot first others = end_form others
 form_of word.Endif first others = end_form others
 
--- What a whole directive does to the sides
+-- The effects of a whole directive on the sides
 
--- Whether the first side stays of the conditional that it opens: where its name was declared, or was not; where its condition is true, or
--- is not. So many names were declared by the directives before.
+-- Tells whether the first side stays of the conditional that a directive opens: where its name was declared, or was not; where its
+-- condition is true, or is not. As many names as `declared` says were declared by the directives before.
 abbrev pub name_declared : List Asked → Bool
 name_declared [] = false
 name_declared (n ∷ others) = n.is_declared
@@ -135,13 +135,13 @@ first_stays word.Iftrue declared o first others = condition_holds declared o (co
 first_stays word.Iffalse declared o first others = not (condition_holds declared o (condition_of first others))
 first_stays _ declared o first others = false
 
--- A new side stands before all that are open. One that is opened between the directives stands behind those inside of the directive at
--- hand, which end with that.
+-- the sides with a new one before all that are open; one that is opened between the directives comes behind those inside of the directive
+-- at hand, which end with that
 abbrev pub with_side : Side → List Side → List Side
 with_side x [] = x ∷ []
 with_side x (y ∷ sides) = if not x.is_inner && y.is_inner then y ∷ with_side x sides else x ∷ y ∷ sides
 
--- its first side ends, and the second one stays where the first was left out
+-- a side whose first one ends: the second one stays where the first was left out
 abbrev pub turned_over : Side → Side
 turned_over x = if x.is_second then x else record x { is_second = true; stays = not x.stays }
 
@@ -153,7 +153,7 @@ abbrev pub closed : List Side → List Side
 closed [] = []
 closed (x ∷ sides) = sides
 
--- whether there is a first side to turn, and whether there is any to close
+-- Tells whether there is a first side to turn, and below, whether there is any side to close.
 abbrev pub has_first : List Side → Bool
 has_first [] = false
 has_first (x ∷ sides) = not x.is_second
@@ -182,19 +182,19 @@ acts w declared o place is_inner first others s = opens place is_inner (first_st
 
 -- A token of a side that stays
 
--- One that does not fit gives up all directives that are being read.
+-- A token that does not fit gives up all directives that are being read.
 abbrev pub unfit : SourceToken → Sides → Step
 unfit t s = giving (record s { texts = [] }) (Unfit t ∷ [])
 
 abbrev pub asked : ℕ → Out → SourceToken → Asked
 asked declared o t = record { token = t; is_declared = declared_before t.bytes declared o.names }
 
--- by a token with which no directive can be whole
+-- the result of a token with which no directive can be whole
 abbrev pub goes_on : Form → SourceToken → Text → Sides → Step
 goes_on Misfit t x s = unfit t s
 goes_on _ t x s = giving (record s { texts = x ∷ s.texts }) []
 
--- a directive begins with a word, at the place of that or of the `#` before it
+-- the result of a word with which a directive begins, at the place of that or of the `#` before it
 abbrev pub begun : ConditionalWord → SourceToken → Place → Bool → Sides → Step
 begun w t place is_inner s =
     let first = record t { place = place } in goes_on (form_of w first []) t (Directive place is_inner w first []) s
@@ -205,19 +205,19 @@ read_as Front w declared o t place is_inner first others s =
     giving (record s { texts = Directive place is_inner w first others ∷ s.texts }) []
 read_as Whole w declared o t place is_inner first others s = acts w declared o place is_inner first others s
 
--- behind a `#` at the front of a piece: a token that is no word of a conditional is kept, with the `#`
+-- the result behind a `#` at the front of a piece: a token that is no word of a conditional is kept, with the `#`
 abbrev pub behind_front : Option ConditionalWord → SourceToken → Place → Sides → Step
 behind_front None t place s = giving s (Kept (hash place) ∷ Kept t ∷ [])
 behind_front (Some w) t place s = begun w t place false s
 
--- one token more of the innermost directive, which is apart from the others
+-- the result of one token more of the innermost directive, which is apart from the others
 abbrev pub offered_to : ℕ → Out → SourceToken → Text → Sides → Step
 offered_to declared o t (Sign place) s = behind_front (word_of (keyword t)) t place s
 offered_to declared o t (Ended place) s = if is_mark mark.Semicolon t.kind then giving s (Ends place ∷ []) else unfit t s
 offered_to declared o t (Directive place is_inner w first others) s =
     let more = others ++ asked declared o t ∷ [] in read_as (form_of w first more) w declared o t place is_inner first more s
 
--- at the front of a piece a conditional directive may begin
+-- the result of a token at the front of a piece, where a conditional directive may begin
 abbrev pub at_front : Option ConditionalWord → SourceToken → Sides → Step
 at_front None t s = giving s (Kept t ∷ [])
 at_front (Some w) t s = begun w t t.place false s
@@ -226,7 +226,7 @@ abbrev pub offered_in : List Text → Bool → ℕ → Out → SourceToken → S
 offered_in [] is_front declared o t s = if is_front then at_front (word_of (keyword t)) t s else giving s (Kept t ∷ [])
 offered_in (x ∷ texts) is_front declared o t s = offered_to declared o t x (record s { texts = texts })
 
--- a `#` waits for the next token
+-- the sides with a `#` that waits for the next token
 abbrev pub held : Bool → Place → Sides → Sides
 held true place s = record s { texts = Sign place ∷ s.texts }
 held false place s = record s { sign = Some place }
@@ -235,8 +235,8 @@ abbrev pub offered : Bool → ℕ → Out → SourceToken → Sides → Step
 offered is_front declared o t s =
     if is_mark mark.Hash t.kind then giving (held is_front t.place s) [] else offered_in s.texts is_front declared o t s
 
--- A `#` that waited, and begins no conditional directive, is kept where none is being read. It may be one of a condition, and fits nowhere
--- else in a directive.
+-- A `#` that waited, and begins no conditional directive, is kept where none is being read. It may be one of a condition, and fits
+-- nowhere else in a directive.
 abbrev pub sign_asked : ℕ → Out → Place → Text → Sides → Step
 sign_asked declared o place (Directive begins is_inner w first others) s =
     let more = others ++ asked declared o (hash place) ∷ [] in
@@ -262,8 +262,8 @@ abbrev pub kept_step : Option Place → Bool → ℕ → Out → SourceToken →
 kept_step (Some place) is_between declared o t s = behind_sign (word_of (keyword t)) place declared o t s
 kept_step None is_between declared o t s = offered (is_between && has_none s.texts) declared o t s
 
--- A token of a side that is left out: only words of conditionals are looked at, wherever they stand, and each acts at once. Where all sides
--- stay behind it, its directive is read to its end.
+-- A token of a side that is left out: only words of conditionals are looked at, wherever they come, and each acts at once. Where all
+-- sides stay behind it, its directive is read to its end.
 
 abbrev pub all_stay : List Side → Bool
 all_stay [] = true
@@ -287,7 +287,8 @@ passed_over None t s = record s { sign = if is_mark mark.Hash t.kind then Some t
 passed_over (Some w) t s =
     let place = unwrap_or s.sign t.place in let sides = sides_behind w place s.sides in word_passed (all_stay sides) place sides s
 
--- At the end of a file nothing is left out any more, and what is open inside of a side that was left out is no conditional of the file.
+-- At the end of a file nothing is left out any more, and a conditional that is open inside of a side that was left out is no conditional
+-- of the file.
 abbrev pub at_end : List Side → List Side
 at_end [] = []
 at_end (x ∷ sides) = if all_stay sides then record x { stays = true } ∷ sides else at_end sides
@@ -303,7 +304,7 @@ abbrev pub step : Bool → ℕ → Out → SourceToken → Sides → Step
 step is_between declared o t s =
     if all_stay s.sides then kept_step s.sign is_between declared o t s else left_step declared o t s
 
--- Behind a whole directive those are over that were opened inside of it.
+-- Behind a whole directive the sides are over that were opened inside of it.
 abbrev pub only_between : List Side → List Side
 only_between [] = []
 only_between (x ∷ sides) = if x.is_inner then only_between sides else x ∷ sides

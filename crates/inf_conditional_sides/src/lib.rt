@@ -1,5 +1,6 @@
-//! Conditionals as sides that stay or are left out, with no states in which a directive waits for something. A function carries as its clause
-//! that each token comes to the same as in the definitions that the contracts of the compiler cite, and does nothing.
+//! Conditionals as sides that stay or are left out, with no states in which a directive waits for something. A function
+//! carries as its clause that each token has the same result as in the definitions that the contracts of the compiler
+//! cite, and does nothing.
 #![tactic(auto)]
 
 mod laws;

@@ -21,13 +21,13 @@ use Rattle.inf_conditionals.proofs.Misfits.{end_fits_nothing}
 abbrev pub end_of : List ℕ → Place → Bool → SourceToken
 end_of bytes place named = record { kind = kind.End; bytes = bytes; place = place; is_class = named }
 
--- whether it is handed on so
+-- Tells whether a token that is handed on in this way reaches the grammar.
 abbrev pub is_on : Forwarded → Bool
 is_on handed.Kept = true
 is_on handed.Unfit = true
 is_on handed.Condition = false
 
--- a token is handed on, in some way
+-- A token is handed on to the grammar, in some way.
 pub record IsForwarded (j : Filtered) : Type 0 where
   pub handed : Forwarded
   pub is : j.token ≡ Some handed
@@ -39,7 +39,7 @@ as_kept j e = record { handed = handed.Kept; is = e; on = refl }
 as_unfit : (j : Filtered) → j.token ≡ Some handed.Unfit → IsForwarded j
 as_unfit j e = record { handed = handed.Unfit; is = e; on = refl }
 
--- it fits no condition
+-- the end of a file fits no condition
 to_offered_condition : (wanted : Bool) (q : Site) (out : Out) (bytes : List ℕ) (place : Place) (named : Bool) (k : Condition) (p : Pending)
     (c : Conditions)
     → IsForwarded (offered_condition wanted q out (end_of bytes place named) k p c).judged

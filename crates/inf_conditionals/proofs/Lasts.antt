@@ -3,7 +3,7 @@ use Rattle.std.proofs.Common.{◌≡◌, ℕ, ◌-◌, ◌<◌, List, [], ◌∷
 use Rattle.std.proofs.lemmas.List.{get_or-reverse, length-reverse, reverse-append, reverse-reverse, set-append_right}
 use Rattle.inf_sources.specs.declared.open_file.Conditional.{Conditional}
 
--- all behind the first
+-- all conditionals behind the first
 abbrev pub rest_of : List Conditional → List Conditional
 rest_of [] = []
 rest_of (x ∷ xs) = xs
@@ -37,14 +37,14 @@ turned_list ys y z =
     ∙ reverse-append (reverse ys) (z ∷ [])
     ∙ ap (λ xs. z ∷ xs) (reverse-reverse ys)
 
--- the last is another one
+-- setting the last of some conditionals sets the first of them backwards
 pub last_set : (xs : List Conditional) (x z : Conditional) → 0 < length xs → x ≡ get_or xs (length xs - 1) x →
     reverse (slice_set xs (length xs - 1) z) ≡ z ∷ rest_of (reverse xs)
 last_set xs x z some last =
     let back : xs ≡ reverse (x ∷ rest_of (reverse xs)) = sym (reverse-reverse xs) ∙ ap reverse (last_is xs x some last) in
     ap (λ (l : List Conditional). reverse (slice_set l (length l - 1) z)) back ∙ turned_list (rest_of (reverse xs)) x z
 
--- the same by another count of them
+-- the last of some conditionals is the first of them backwards, by another count of them
 pub last_is_at : (xs : List Conditional) (n : ℕ) (x : Conditional) → n ≡ length xs → 0 < length xs → x ≡ get_or xs (n - 1) x →
     reverse xs ≡ x ∷ rest_of (reverse xs)
 last_is_at xs n x e some last = last_is xs x some (last ∙ ap (λ k. get_or xs (k - 1) x) e)

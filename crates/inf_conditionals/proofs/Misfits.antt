@@ -47,7 +47,7 @@ rules_past : (rule : ℕ) → 251 ≤ rule → known.begins rule ≡ 0
 unfolding known
 rules_past rule l = get_or_past beginnings rule 0 (omega (arith, beginnings_length))
 
--- an atom of no class that begins no rule
+-- An atom is of no class and begins no rule.
 record IsOut (atom : ℕ) : Type 0 where
   classes : (class : ℕ) → has (grammar.atoms_of class) atom ≡ false
   rules : (rule : ℕ) → has (known.begins rule) atom ≡ false

@@ -20,12 +20,12 @@ use Rattle.inf_unit.specs.Units.{Unit, acted, no_unit, taken}
 use Rattle.inf_conditionals.specs.Operands.{operands_of}
 use Rattle.inf_conditionals.specs.declared.condition.Verdict.{Verdict}
 
--- what of its directive is still to be read, and what was read
+-- A condition: the rest of its directive that is still to be read, and the unit that was read.
 pub record Condition : Type 0 where
   pub stack : List (Symbol Action)
   pub unit : Unit
 
--- Its tokens
+-- The tokens of a condition
 
 -- the rule of the pieces
 abbrev pub piece_rule : ℕ
@@ -38,13 +38,13 @@ abbrev pub all_acted : List Action → Unit → Unit
 all_acted [] u = u
 all_acted (a ∷ actions) u = all_acted actions (acted a u)
 
--- a token that fits is taken: first the actions on the way to it gather
+-- a condition that takes a token which fits: first the actions on the way to it gather
 abbrev pub condition_took : SourceToken → Condition → Condition
 condition_took t k =
     let n = read grammar known (atom_of t) k.stack in
     record { stack = n.left; unit = taken t (all_acted n.actions k.unit) }
 
--- whether the directive is whole
+-- Tells whether the directive is whole.
 abbrev pub is_none_left : List (Symbol Action) → Bool
 is_none_left [] = true
 is_none_left (symbol ∷ symbols) = false
@@ -52,27 +52,27 @@ is_none_left (symbol ∷ symbols) = false
 abbrev pub is_whole : Condition → Bool
 is_whole k = is_none_left k.stack
 
--- Its value
+-- The value of a condition
 
 abbrev pub tree_in : Rooted → Tree
 tree_in r = r.tree
 
--- the known number that the first of its trees is, if it is one
+-- the known number that the first of some trees is, if it is one
 abbrev pub number_of : List Tree → Option ℕ
 number_of ((Leaf (Known number)) ∷ trees) = Some number
 number_of _ = None
 
--- What is wrong with it: also that it is no known number.
+-- the finding about a condition, which is also that its number is not known
 abbrev pub finding_by : Option ℕ → Option Finding → Option Finding
 finding_by None None = Some (no_constant 0)
 finding_by number found = found
 
--- with an error it is not true
+-- Tells whether a condition is true, which it is not with an error.
 abbrev pub is_true_by : Option ℕ → Option Finding → Bool
 is_true_by (Some number) None = not (number == 0)
 is_true_by number found = false
 
--- what it comes to, by what its leaves stand for
+-- the verdict on a condition, by its number and the finding about it
 abbrev pub verdict_by : Option ℕ → Option Finding → Verdict
 verdict_by number found = record { is_true = is_true_by number found; finding = finding_by number found }
 
@@ -81,6 +81,6 @@ verdict_with operands k =
     verdict_by (number_of (map tree_in (trees_of Constant 0 operands k.unit.gathering.symbols)))
     (judged Constant 0 operands k.unit.gathering.symbols)
 
--- where so many names were declared by the directives before
+-- the verdict on a condition, where `declared` names were declared by the directives before
 abbrev pub verdict_of : ℕ → Out → Condition → Verdict
 verdict_of declared o k = verdict_with (operands_of declared o k.unit.tokens k.unit.gathering.leaves) k

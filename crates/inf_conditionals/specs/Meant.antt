@@ -1,4 +1,4 @@
--- What the code's conditions, and what is told of them, stand for.
+-- The conditions of the code, and its messages about them.
 use Rattle.inf_unit.specs.AtHand.{unit}
 use Rattle.inf_conditionals.specs.Condition.{Condition}
 use Rattle.inf_conditionals.specs.Said.{Deep, Long, Said, right, wrong}

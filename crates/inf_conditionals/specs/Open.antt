@@ -9,10 +9,10 @@ use Rattle.inf_conditionals.specs.declared.pending.Pending.{Pending}
 use Rattle.inf_conditionals.specs.declared.words.ConditionalWord.{ConditionalWord}
 use Rattle.inf_conditionals.specs.declared.words.ConditionalWord.TheVariants as word
 
--- The conditionals of the file that is read that were opened between its directives, and those that were opened inside the directive
--- at hand, the latest first; the conditional directives that are being read,
--- the inner ones first, and the conditions of those that have one; the side that is left out, if one is; a `#` that is held back; how
--- many names were declared before the directive at hand; how many tokens a condition had so far; and what is to be told of one.
+-- The conditionals of the file that is read that were opened between its directives, and those that were opened inside the directive at
+-- hand, the latest first; the conditional directives that are being read, the inner ones first, and the conditions of those that have
+-- one; the side that is left out, if one is; a `#` that is held back; the number of names that were declared before the directive at
+-- hand; the most tokens that a condition had so far; and the message about a condition.
 pub record Conditions : Type 0 where
   pub among : List Conditional
   pub inner : List Conditional
@@ -37,7 +37,7 @@ no_conditions = record {
   said = None;
 }
 
--- what there was to tell is told
+-- the conditionals without a message about a condition
 abbrev pub silent : Conditions → Conditions
 silent c = record c { said = None }
 
@@ -45,7 +45,7 @@ abbrev pub is_none_open : List Conditional → Bool
 is_none_open [] = true
 is_none_open (c ∷ cs) = false
 
--- whether the first of these is in its second side, or there is none
+-- Tells whether the first of these is in its second side, or there is none.
 abbrev pub is_second : List Conditional → Bool
 is_second [] = true
 is_second (c ∷ cs) = c.is_second
@@ -58,12 +58,12 @@ latest_among (c ∷ inner) among = c ∷ inner
 abbrev pub latest : Conditions → List Conditional
 latest c = latest_among c.inner c.among
 
--- the first of these is in its second side
+-- these conditionals, with the first one in its second side
 abbrev pub turned_first : List Conditional → List Conditional
 turned_first [] = []
 turned_first (c ∷ cs) = record c { is_second = true } ∷ cs
 
--- the second side of the latest conditional begins
+-- the conditionals, with the latest one in its second side
 abbrev pub turned_by : List Conditional → Conditions → Conditions
 turned_by [] c = record c { among = turned_first c.among }
 turned_by (x ∷ inner) c = record c { inner = turned_first c.inner }
@@ -71,7 +71,7 @@ turned_by (x ∷ inner) c = record c { inner = turned_first c.inner }
 abbrev pub turned : Conditions → Conditions
 turned c = turned_by c.inner c
 
--- the latest conditional is closed
+-- the conditionals without the latest one
 abbrev pub closed_by : List Conditional → Conditions → Conditions
 closed_by [] c = record c { among = drop 1 c.among }
 closed_by (x ∷ inner) c = record c { inner = inner }
@@ -79,7 +79,7 @@ closed_by (x ∷ inner) c = record c { inner = inner }
 abbrev pub closed : Conditions → Conditions
 closed c = closed_by c.inner c
 
--- a conditional is opened by a directive, inside another or not; its first side is kept or left out
+-- the conditionals with one more that a directive opens, inside another or not; its first side is kept or left out
 abbrev pub opened : Bool → Pending → Conditions → Conditions
 opened is_kept p c =
     let new : Conditional = record { place = p.place; is_second = false } in
@@ -89,23 +89,23 @@ opened is_kept p c =
       left_out = if is_kept then None else Some (record { is_inner = p.is_inner; levels = 0 });
     }
 
--- where the count of levels stops: no file has so many
+-- the number at which the count of levels stops: no file has as many
 abbrev pub most_levels : ℕ
 most_levels = 4294967295
 
--- how many levels are open in a side that is left out, behind a word
+-- the number of levels that are open in a side that is left out, behind a word
 abbrev pub levels_behind : ConditionalWord → ℕ → ℕ
 levels_behind word.Endif n = n - 1
 levels_behind word.Ifnot n = n
 levels_behind _ n = min (n + 1) most_levels
 
--- whether a word ends a side that is left out, at its own level
+-- Tells whether a word ends a side that is left out, at its own level.
 abbrev pub ends_at : ConditionalWord → Bool → Bool
 ends_at word.Endif is_second = true
 ends_at word.Ifnot is_second = not is_second
 ends_at _ is_second = false
 
--- a word that ends a side acts at once
+-- the conditionals behind a word that ends a side, which acts at once
 abbrev pub ended_by : ConditionalWord → Conditions → Conditions
 ended_by word.Endif c = closed c
 ended_by _ c = turned c

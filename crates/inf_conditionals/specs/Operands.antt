@@ -1,8 +1,8 @@
--- What the names of a condition stand for: those that were declared by the directives before the one in which it stands.
+-- The operands of a condition's names: those names have values that were declared by the directives before its own.
 use Rattle.std.specs.Prelude.{ℕ, List, [], ◌∷◌, ◌++◌, false, if◌then◌else◌, Option, Some, None}
 use Rattle.inf_settings.specs.Bounds.{Limits}
 use Rattle.inf_area.specs.declared.targets.Target.TheVariants as target
-use Rattle.inf_cells.specs.declared.scale.Scale.{Scale}
+use Rattle.inf_area.specs.declared.scale.Scale.{Scale}
 use Rattle.inf_scanner.specs.declared.tokens.Place.{Place}
 use Rattle.inf_expressions.specs.declared.operators.Function.{Function}
 use Rattle.inf_expressions.specs.declared.operators.Function.TheVariants as function
@@ -24,7 +24,7 @@ use Rattle.inf_names.specs.Spellings.{Name}
 use Rattle.inf_unit.specs.Tokens.{SourceToken}
 use Rattle.inf_unit.specs.Units.{bytes_at, name_at}
 
--- Every other name is known later: no code asks for its number.
+-- the operand of every other name, which is known later: no code asks for its number
 abbrev pub later : Operand
 later = operand.Later (target.Name 0)
 
@@ -59,16 +59,16 @@ found_operand (found.Declared m place) = operand_of m
 found_operand found.Used = later
 found_operand found.Unknown = later
 
--- what a name stands for, where so many names were declared by the directives before
+-- the operand of a name, where `declared` names were declared by the directives before
 abbrev pub name_operand : ℕ → Table Place → List ℕ → Operand
 name_operand declared names bytes = if declared_before bytes declared names then found_operand (found_in bytes names) else later
 
--- the name at a place among the tokens of the condition
+-- the bytes of a name among the tokens of the condition, or none
 abbrev pub bytes_of : Option Name → List ℕ
 bytes_of None = []
 bytes_of (Some n) = n.bytes
 
--- in a story of a version
+-- the operand of a leaf that is no action, in a story of a version
 abbrev pub leaf_operand : ℕ → Table Place → Scale → List SourceToken → Leaf → Operand
 leaf_operand declared names scale tokens (leaf.Name at) = name_operand declared names (bytes_of (name_at tokens at))
 leaf_operand declared names scale tokens (leaf.Alone at) = name_operand declared names (bytes_of (name_at tokens at))
@@ -79,12 +79,12 @@ leaf_operand declared names scale tokens (leaf.Text at) = later
 leaf_operand declared names scale tokens (leaf.Action at) = operand.Unknown
 leaf_operand declared names scale tokens (leaf.System at) = system_operand (bytes_at tokens at) scale
 
--- an action has its number: one that did not appear is the next, behind new ones of its condition
+-- the operand of a leaf: an action has its number, and one that did not appear is the next, behind new ones of its condition
 abbrev pub operand_behind : ℕ → Out → List SourceToken → Leaf → Table Place → Table Place × Operand
 operand_behind declared o tokens (leaf.Action at) ahead = looked_action (name_at tokens at) o ahead
 operand_behind declared o tokens l ahead = (ahead, leaf_operand declared o.names o.code.scale tokens l)
 
--- behind others
+-- the operands of leaves, behind others
 abbrev pub operands_from : ℕ → Out → List SourceToken → List Leaf → Table Place → List Operand → List Operand
 operands_from declared o tokens [] ahead operands = operands
 operands_from declared o tokens (l ∷ leaves) ahead operands =
@@ -93,7 +93,7 @@ operands_from declared o tokens (l ∷ leaves) ahead operands =
 abbrev pub operands_of : ℕ → Out → List SourceToken → List Leaf → List Operand
 operands_of declared o tokens leaves = operands_from declared o tokens leaves (no_names false) []
 
--- Where nothing is wrong with a condition its actions appear.
+-- The actions of a condition without an error appear.
 abbrev pub appeared_by : Limits → Option Name → Code
 appeared_by limits None o = o
 appeared_by limits (Some n) o = (action_of limits n.bytes n.place o).0

@@ -1,4 +1,4 @@
--- What is told of a condition.
+-- The messages about a condition.
 use Rattle.std.specs.Prelude.{ℕ, ◌==◌, List, nat_lt, slice_get, ◌&&◌, if◌then◌else◌, Option, Some, None}
 use Rattle.inf_settings.specs.Bounds.{Limits}
 use Rattle.inf_gathering.specs.declared.gathering.Leaf.{Leaf}
@@ -15,9 +15,8 @@ use Rattle.inf_unit.specs.Units.{long_at}
 use Rattle.inf_conditionals.specs.Condition.{Condition}
 use Rattle.inf_conditionals.specs.Operands.{actions_added}
 
--- That nothing is wrong with it: then the actions of its leaves appear. An error, of a directive that begins at a place; the first token
--- that it has more
--- than it may have; and a bracket that stands too deep in others.
+-- The judgement of a condition: it is right, and the actions of its leaves appear; or it has an error, and its directive begins at a
+-- place; or it has too many tokens, of which the first is at a place; or a bracket is too deep in others.
 pub data Said : Type 0 where
   Right : (tokens : List SourceToken) (leaves : List Leaf) → Said
   Wrong : (directive : Place) (blame : Diagnostic) → Said
@@ -31,7 +30,7 @@ with_said files (Some (Wrong directive b)) r = with_error (location files b.plac
 with_said files (Some (Long place)) r = with_fatal (location files place) (Exceeded ExpressionNodes) r
 with_said files (Some (Deep place)) r = with_fatal (location files place) DeepNesting r
 
--- what it adds to a story
+-- the output with the actions of a condition that is right
 abbrev pub with_right : Limits → Option Said → Code
 with_right limits (Some (Right tokens leaves)) o = actions_added limits tokens leaves o
 with_right limits _ o = o
@@ -73,6 +72,6 @@ abbrev pub too_much_by : Option Place → SourceToken → ℕ → Option Said
 too_much_by (Some place) t depth = Some (Long place)
 too_much_by None t depth = too_deep t depth
 
--- behind a token, where a condition may have so many
+-- the message behind a token, where a condition may have `longest` tokens
 abbrev pub too_much : ℕ → SourceToken → Condition → Option Said
 too_much longest t k = too_much_by (long_at longest k.unit) t k.unit.depth

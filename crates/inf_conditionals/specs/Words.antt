@@ -18,7 +18,7 @@ word_of (Some keyword.Ifnot) = Some word.Ifnot
 word_of (Some keyword.Endif) = Some word.Endif
 word_of _ = None
 
--- what a directive with this word waits for next
+-- the thing for which a directive with this word waits next
 abbrev pub awaits_of : ConditionalWord → Awaits
 awaits_of word.Ifdef = awaits.Name true
 awaits_of word.Ifndef = awaits.Name false

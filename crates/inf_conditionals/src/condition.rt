@@ -24,7 +24,7 @@ use std::alloc::{AllocError, Global};
 #[derive(Drop)]
 pub struct Condition {
     alloc: Global,
-    /// The rest of it that is still to be read.
+    /// The rest of the directive that is still to be read.
     machine: Machine,
     pub(crate) unit: Unit,
     /// The actions on the way to the token at hand.
@@ -34,14 +34,14 @@ pub struct Condition {
 /// The result of a condition.
 #[derive(Clone, Copy, Debug, PartialEq, Eq)]
 pub struct Verdict {
-    /// With an error it is not.
+    /// Tells whether the condition is true, which it is not with an error.
     pub is_true: bool,
-    /// The least of what is wrong with it.
+    /// The first finding about the condition.
     pub finding: Option<Finding>,
 }
 
 impl Condition {
-    /// Makes a condition of which nothing was read. Memory is taken only when a condition begins.
+    /// Returns a condition of which nothing was read. Memory is taken only when a condition begins.
     pub(crate) fn new(alloc: Global) -> Condition {
         Condition {
             alloc,
@@ -51,7 +51,7 @@ impl Condition {
         }
     }
 
-    /// Before the word of a directive.
+    /// Begins the condition, before the word of its directive.
     pub(crate) fn begin(&mut self) -> Result<(), AllocError>
         ensures { OnOk result (condition self.new ≡ condition_begun) }
     {
@@ -60,7 +60,7 @@ impl Condition {
         self.machine.start(PIECE)
     }
 
-    /// Takes the next token of its directive, if it fits. Answers whether it does.
+    /// Takes the next token of the directive, if it fits, and returns whether it does.
     pub(crate) fn take(&mut self, token: &SourceToken<'_>) -> Result<bool, AllocError>
         ensures fits { IfOk result (λ is_taken. is_taken ≡ fits grammar known (atom_of (spelled token.now)) (condition self.old).stack) }
         ensures taken { IfOk result (λ is_taken. is_taken ≡ true → condition self.new ≡ condition_took (spelled token.now)
@@ -120,7 +120,7 @@ impl Condition {
     }
 }
 
-/// Some actions gather.
+/// Lets `actions` gather in `unit`.
 fn act_all(actions: &[Action], unit: &mut Unit) -> Result<(), AllocError>
     ensures { OnOk result (unit_of unit.new ≡ all_acted actions.now (unit_of unit.old)) }
 {
@@ -130,7 +130,7 @@ fn act_all(actions: &[Action], unit: &mut Unit) -> Result<(), AllocError>
     Ok(())
 }
 
-/// The known number that the first of some trees is, if it is one.
+/// Returns the known number that the first tree of `forest` is, if it is one.
 fn number_of(forest: &Forest) -> Option<u16>
     ensures { result ≡ number_of (map tree_in (trees_in forest.now)) }
 {
@@ -151,7 +151,7 @@ fn finding_of(number: Option<u16>, found: Option<Finding>) -> Option<Finding>
     }
 }
 
-/// Returns whether it is true, which it is not with an error.
+/// Returns whether the condition is true, which it is not with an error.
 fn is_true(number: Option<u16>, found: Option<Finding>) -> bool
     ensures { result ≡ is_true_by number found }
 {

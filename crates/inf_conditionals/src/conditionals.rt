@@ -1,19 +1,17 @@
 //! The conditionals of the file that is read.
-ghost use Rattle.std.specs.Prelude.{◌≡◌, ◌≤◌, [], length, IfOk, OnOk, IsSome, Some, false, is_none, not, option_map, reverse, true};
-ghost use Rattle.inf_conditionals.specs.Judging.{hash, sign_handed};
-ghost use Rattle.inf_conditionals.specs.Open.{turned_first};
+ghost use Rattle.std.specs.Prelude.{◌≡◌, ◌≤◌, [], length, IfOk, OnOk, IsSome, is_none, reverse, true};
+ghost use Rattle.inf_conditionals.specs.Judging.{sign_handed};
 ghost use Rattle.inf_conditionals.specs.Words.{word_of};
 ghost use Rattle.inf_unit.specs.Tokens.{keyword};
 ghost use Rattle.inf_unit.specs.Spelled.{spelled};
 
 use crate::condition::Condition;
 use crate::ends::tell_all;
-use crate::filtered::{Filtered, Forwarded, KEPT, NONE, Sign, Site, TAKEN};
+use crate::filtered::{Filtered, Forwarded, KEPT, NONE, Sign, Site};
 use crate::open::LeftOut;
 use crate::pending::{Awaits, Effect, Pending};
-use crate::said::{Said, too_much};
+use crate::said::Said;
 use crate::words::{ConditionalWord, ends_side, levels_behind, word_of};
-use inf_expressions::Finding;
 use inf_lexer::Stack;
 use inf_output::Output;
 use inf_scanner::{Mark, Place, TokenKind};
@@ -26,30 +24,30 @@ use std::alloc::{AllocError, Global};
 use std::marker::Model;
 use std::mem;
 
-/// The conditionals that are open, and what is known of the conditional directive at hand.
+/// The conditionals that are open, and the state of the conditional directive at hand.
 #[derive(Drop)]
 pub struct Conditionals {
-    alloc: Global,
-    /// Those of the innermost file that were opened between its directives, the latest last.
-    among: Vec<Conditional>,
-    /// Those that were opened inside the directive at hand, the latest last.
-    inner: Vec<Conditional>,
+    pub(crate) alloc: Global,
+    /// The conditionals of the innermost file that were opened between its directives, the latest last.
+    pub(crate) among: Vec<Conditional>,
+    /// The conditionals that were opened inside the directive at hand, the latest last.
+    pub(crate) inner: Vec<Conditional>,
     /// The conditional directives that are being read, the inner ones last.
     pending: Vec<Pending>,
-    /// The conditions of those that have one.
-    conditions: Vec<Condition>,
+    /// The conditions of the directives that have one.
+    pub(crate) conditions: Vec<Condition>,
     /// The side that is left out.
-    left_out: Option<LeftOut>,
+    pub(crate) left_out: Option<LeftOut>,
     /// A `#` that is held back until the token behind it is known.
     sign: Option<Place>,
     /// The number of names that were declared before the directive at hand.
-    declared: usize,
+    pub(crate) declared: usize,
     /// The most tokens that a condition had so far.
     pub most_tokens: usize,
-    /// All that is to be told of a condition.
-    said: Option<Said>,
-    /// One that was read, whose memory the next one has.
-    spare: Option<Condition>,
+    /// The message about a condition.
+    pub(crate) said: Option<Said>,
+    /// A condition that was read, whose memory the next one has.
+    pub(crate) spare: Option<Condition>,
 }
 
 impl Model for Conditionals {
@@ -72,13 +70,6 @@ impl Model for Conditionals {
     } };
 }
 
-/// A `#` at a place.
-fn hash(place: Place) -> SourceToken<'static>
-    ensures { spelled result ≡ hash place }
-{
-    SourceToken::new(TokenKind::Mark(Mark::Hash), b"#", place, false)
-}
-
 /// Returns the `#` at `place` as it is handed on, if it is by `handed`.
 fn sign_handed(place: Place, handed: Option<Forwarded>) -> Option<Sign>
     ensures { result ≡ sign_handed place handed }
@@ -91,17 +82,13 @@ fn sign_handed(place: Place, handed: Option<Forwarded>) -> Option<Sign>
 
 impl Conditionals {
     ghost use Rattle.inf_conditionals.specs.Ends.{file_ended, file_told, piece_ended, piece_told, with_among};
-    ghost use Rattle.inf_conditionals.specs.Judging.{asked, asked_first, asked_on, asking, awaited, awaiting, begun, behind_front};
-    ghost use Rattle.inf_conditionals.specs.Judging.{behind_sign, decided, effected, held, in_side, is_behind_side, is_none_pending};
-    ghost use Rattle.inf_conditionals.specs.Judging.{judged, kept, may_part, offered, saying, sign_asked, sign_offered, tokens_counted};
-    ghost use Rattle.inf_conditionals.specs.Judging.{unfit, word_passed};
+    ghost use Rattle.inf_conditionals.specs.Judging.{awaited, awaiting, begun, behind_front, behind_sign, held, in_side, is_behind_side};
+    ghost use Rattle.inf_conditionals.specs.Judging.{is_none_pending, judged, kept, may_part, offered, sign_offered, unfit, word_passed};
     ghost use Rattle.inf_output.specs.Output.{Out};
-    ghost use Rattle.inf_conditionals.specs.Condition.{verdict_of};
-    ghost use Rattle.inf_conditionals.specs.Meant.{condition as condition_of, said_of};
-    ghost use Rattle.inf_conditionals.specs.Open.{closed, is_none_open, is_second, latest, no_conditions, opened, silent, turned};
-    ghost use Rattle.inf_conditionals.specs.Said.{told_by, with_right, with_said};
+    ghost use Rattle.inf_conditionals.specs.Open.{no_conditions, silent};
+    ghost use Rattle.inf_conditionals.specs.Said.{with_right, with_said};
 
-    /// Makes the conditionals of a source of which none was read. Memory is taken only when one is read.
+    /// Returns the conditionals of a source of which none was read. Memory is taken only when one is read.
     pub fn new(alloc: Global) -> Conditionals
         ensures { result ≡ no_conditions }
     {
@@ -120,7 +107,7 @@ impl Conditionals {
         }
     }
 
-    /// Returns whether it is seen at once that a token is kept and nothing else comes of it, as of most tokens.
+    /// Returns whether a first look shows that `token` is kept without any further effect, as most tokens are.
     fn keeps(&self, site: Site, token: &SourceToken<'_>) -> bool
         ensures { (o : Out) → result ≡ true → judged site o (spelled token.now) self.now ≡ kept self.now }
     {
@@ -131,7 +118,7 @@ impl Conditionals {
             && !is_mark(token.kind, Mark::Hash)
     }
 
-    /// Takes the next token of the innermost file, and answers what becomes of it.
+    /// Takes the next token of the innermost file, and returns its result.
     pub fn take<B: Bounds>(
         &mut self,
         site: Site,
@@ -153,7 +140,7 @@ impl Conditionals {
         self.offer(is_front, site, out, token)
     }
 
-    /// Tells what there is to tell of a condition. The actions of one with which nothing is wrong appear.
+    /// Reports the message about a condition, if there is one. The actions of a condition without an error appear.
     pub fn tell<B: Bounds>(
         &mut self,
         files: &Stack,
@@ -172,7 +159,7 @@ impl Conditionals {
         Ok(())
     }
 
-    /// Forgets what was to be told of a condition, since it was told. The next condition has its memory.
+    /// Forgets the message about a condition, which was reported. The next condition has its memory.
     fn silence(&mut self)
         ensures { self.new ≡ silent self.old }
     {
@@ -181,15 +168,15 @@ impl Conditionals {
         }
     }
 
-    /// Tells whether no conditional directive is being read.
+    /// Returns whether no conditional directive is being read.
     pub fn is_resting(&self) -> bool
         ensures { result ≡ is_none_pending self.now.pending }
     {
         self.pending.is_empty()
     }
 
-    /// Tells whether a part of the reading may end here: behind a whole directive, and behind the side that it leaves out. The word that
-    /// ends this side is the first token of the next part.
+    /// Returns whether a part of the reading may end here: behind a whole directive, and behind the side that it leaves
+    /// out. The word that ends this side is the first token of the next part.
     pub fn may_part(&self) -> bool
         ensures { result ≡ may_part self.now }
     {
@@ -206,7 +193,7 @@ impl Conditionals {
         }
     }
 
-    /// Takes away those that were opened between the directives, the latest last.
+    /// Takes away the conditionals that were opened between the directives, and returns them, the latest last.
     pub fn take_among(&mut self) -> Vec<Conditional>
         ensures taken { reverse result.items ≡ self.old.among }
         ensures none { self.new ≡ with_among [] self.old }
@@ -214,14 +201,14 @@ impl Conditionals {
         mem::replace(&mut self.among, Vec::new(self.alloc))
     }
 
-    /// Gives back what was taken away.
+    /// Gives back `among`, the conditionals that were taken away.
     pub fn give_among(&mut self, among: Vec<Conditional>)
         ensures { self.new ≡ with_among (reverse among.items) self.old }
     {
         self.among = among;
     }
 
-    /// Ends the innermost file: tells the conditionals that are open in it, and forgets them.
+    /// Ends the innermost file: reports the conditionals that are open in it, and forgets them.
     pub fn end_file(&mut self, files: &Stack, report: &mut Diagnostics) -> Result<(), AllocError>
         ensures told { OnOk result (report.new ≡ file_told files.now.names self.old report.old) }
         ensures ended { OnOk result (self.new ≡ file_ended self.old) }
@@ -233,8 +220,8 @@ impl Conditionals {
         Ok(())
     }
 
-    /// Ends the directive at hand, behind which `declared` names are declared: tells the conditionals that are open in it, and forgets
-    /// them.
+    /// Ends the directive at hand, behind which `declared` names are declared: reports the conditionals that are open
+    /// in it, and forgets them.
     pub fn end_piece(
         &mut self,
         declared: usize,
@@ -253,7 +240,7 @@ impl Conditionals {
         Ok(())
     }
 
-    /// A token of a side that is left out.
+    /// Takes a token of a side that is left out.
     fn take_in_side<B: Bounds>(
         &mut self,
         side: LeftOut,
@@ -280,8 +267,8 @@ impl Conditionals {
         Ok(NONE)
     }
 
-    /// A word of a conditional in a side that is left out: one that ends the side acts at once, and begins a directive that
-    /// has no effect of its own any more.
+    /// Takes a word of a conditional in a side that is left out: one that ends the side acts at once, and begins a
+    /// directive that has no effect of its own any more.
     fn pass_word(
         &mut self,
         word: ConditionalWord,
@@ -306,7 +293,7 @@ impl Conditionals {
         self.wait(place, false, Awaits::End(Effect::Nothing))
     }
 
-    /// A token behind a `#` that was held back inside a directive.
+    /// Takes a token behind a `#` that was held back inside a directive.
     fn take_behind_sign<B: Bounds>(
         &mut self,
         place: Place,
@@ -329,7 +316,7 @@ impl Conditionals {
         })
     }
 
-    /// A `#` that was held back inside a directive, and stands before no word of a conditional: a condition may take it.
+    /// Offers a condition a `#` that was held back inside a directive, and has no word of a conditional behind it.
     fn offer_sign(&mut self, place: Place, site: Site) -> Result<Filtered, AllocError>
         ensures { IfOk result (λ j. record { now = self.new; judged = j } ≡ sign_offered self.old.pending place site self.old) }
     {
@@ -343,7 +330,7 @@ impl Conditionals {
         }
     }
 
-    /// A token where no side is left out and no `#` is held back, at the front of a piece or not.
+    /// Takes a token where no side is left out and no `#` is held back, at the front of a piece or not.
     fn offer<B: Bounds>(
         &mut self,
         is_front: bool,
@@ -379,7 +366,7 @@ impl Conditionals {
         Ok(())
     }
 
-    /// A token comes to the innermost conditional directive, which was taken off.
+    /// Takes a token for the innermost conditional directive, which was taken off.
     fn go_on<B: Bounds>(
         &mut self,
         pending: Pending,
@@ -406,7 +393,7 @@ impl Conditionals {
         }
     }
 
-    /// A token behind a `#` at the front of a piece.
+    /// Takes a token behind a `#` at the front of a piece.
     fn name_directive(
         &mut self,
         pending: Pending,
@@ -427,7 +414,7 @@ impl Conditionals {
         })
     }
 
-    /// A conditional directive begins with a word, at a place, inside another or not.
+    /// Begins a conditional directive with `word`, at `place`, inside another or not.
     fn begin(
         &mut self,
         word: ConditionalWord,
@@ -444,162 +431,8 @@ impl Conditionals {
         Ok(NONE)
     }
 
-    /// A conditional directive with a condition begins with its word.
-    fn begin_asking(
-        &mut self,
-        wanted: bool,
-        word: &SourceToken<'_>,
-        is_inner: bool,
-    ) -> Result<Filtered, AllocError>
-        ensures { IfOk result (λ j. record { now = self.new; judged = j } ≡ asked_first wanted (spelled word.now) is_inner self.old) }
-    {
-        let mut condition = match self.spare.take() {
-            Some(spare) => spare,
-            None => Condition::new(self.alloc),
-        };
-        condition.begin()?;
-        if !condition.take(word)? {
-            return Ok(self.give_up());
-        }
-        self.ask(word.place, is_inner, wanted, condition)?;
-        Ok(NONE)
-    }
-
-    /// A token comes to the condition of a conditional directive.
-    fn go_on_asking<B: Bounds>(
-        &mut self,
-        wanted: bool,
-        directive: Pending,
-        site: Site,
-        out: &Output<B>,
-        token: &SourceToken<'_>,
-    ) -> Result<Filtered, AllocError>
-        ensures { IfOk result (λ j. record { now = self.new; judged = j } ≡
-            asked self.old.conditions wanted site out.now (spelled token.now) directive self.old) }
-    {
-        let Some(mut condition) = self.conditions.pop() else {
-            return Ok(self.give_up());
-        };
-        if !condition.take(token)? {
-            return Ok(self.give_up());
-        }
-        if condition.is_whole() {
-            return self.decide(wanted, directive, site.is_quiet, out, condition);
-        }
-        self.ask_on(wanted, directive, site, token, condition)
-    }
-
-    /// A `#` at a place, which was held back, comes to the innermost condition. No directive ends with it.
-    fn ask_sign(
-        &mut self,
-        wanted: bool,
-        directive: Pending,
-        site: Site,
-        place: Place,
-    ) -> Result<Filtered, AllocError>
-        ensures { IfOk result (λ j. record { now = self.new; judged = j } ≡
-            sign_asked self.old.conditions wanted place site directive self.old) }
-    {
-        let Some(mut condition) = self.conditions.pop() else {
-            return Ok(self.give_up());
-        };
-        let sign = hash(place);
-        if !condition.take(&sign)? {
-            return Ok(self.give_up());
-        }
-        self.ask_on(wanted, directive, site, &sign, condition)
-    }
-
-    /// A conditional directive goes on behind a token that its condition took.
-    fn ask_on(
-        &mut self,
-        wanted: bool,
-        directive: Pending,
-        site: Site,
-        token: &SourceToken<'_>,
-        condition: Condition,
-    ) -> Result<Filtered, AllocError>
-        ensures { let k = condition_of condition in IfOk result (λ j. record { now = self.new; judged = j } ≡
-            asked_on wanted site (spelled token.now) k directive self.old) }
-    {
-        self.count_tokens(site.is_quiet, &condition);
-        self.say(too_much(site.is_quiet, site.longest, token, &condition));
-        self.ask(directive.place, directive.is_inner, wanted, condition)?;
-        Ok(TAKEN)
-    }
-
-    /// The tokens of a condition so far are counted, unless it is passed over.
-    fn count_tokens(&mut self, is_quiet: bool, condition: &Condition)
-        ensures { self.new ≡ tokens_counted is_quiet (condition_of condition.now) self.old }
-    {
-        if !is_quiet {
-            self.most_tokens = self.most_tokens.max(condition.unit.outer_tokens());
-        }
-    }
-
-    /// A conditional directive with a condition is whole.
-    fn decide<B: Bounds>(
-        &mut self,
-        wanted: bool,
-        directive: Pending,
-        is_quiet: bool,
-        out: &Output<B>,
-        condition: Condition,
-    ) -> Result<Filtered, AllocError>
-        ensures { let k = condition_of condition in IfOk result (λ j. record { now = self.new; judged = j } ≡
-            decided (verdict_of self.old.declared out.now k) wanted is_quiet k directive self.old) }
-    {
-        let verdict = condition.judge(self.declared, out)?;
-        self.found(is_quiet, directive.place, condition, verdict.finding);
-        let effect = Effect::Opens(verdict.is_true == wanted);
-        self.carry_out(effect, is_quiet, directive)
-    }
-
-    /// Notes that `finding` is to be told of `condition`, or that nothing is, unless the directive is passed over, as `is_quiet` says. It
-    /// begins at `directive`.
-    fn found(
-        &mut self,
-        is_quiet: bool,
-        directive: Place,
-        condition: Condition,
-        finding: Option<Finding>,
-    )
-        ensures { self.new ≡ saying is_quiet (told_by directive (condition_of condition) finding) self.old }
-    {
-        if is_quiet {
-            self.say(None);
-            self.spare = Some(condition);
-            return;
-        }
-        match finding {
-            Some(finding) => self.say(Some(Said::Wrong(directive, condition, finding))),
-            None => self.say(Some(Said::Right(condition))),
-        }
-    }
-
-    /// This is to be told of a condition, if anything.
-    fn say(&mut self, said: Option<Said>)
-        ensures { self.new ≡ record (self.old) { said = option_map said_of said } }
-    {
-        self.said = said;
-    }
-
-    /// A conditional directive with a condition is being read, inside the others.
-    fn ask(
-        &mut self,
-        place: Place,
-        is_inner: bool,
-        wanted: bool,
-        condition: Condition,
-    ) -> Result<(), AllocError>
-        ensures { OnOk result (self.new ≡ asking place is_inner wanted (condition_of condition) self.old) }
-    {
-        self.conditions.push(condition)?;
-        self.wait(place, is_inner, Awaits::Condition(wanted))
-    }
-
-    /// The conditional directives that are being read are given up for a token that does not fit.
-    fn give_up(&mut self) -> Filtered
+    /// Gives up the conditional directives that are being read, for a token that does not fit.
+    pub(crate) fn give_up(&mut self) -> Filtered
         ensures { record { now = self.new; judged = result } ≡ unfit self.old }
     {
         self.pending.clear();
@@ -610,8 +443,13 @@ impl Conditionals {
         }
     }
 
-    /// A conditional directive is being read, inside the others.
-    fn wait(&mut self, place: Place, is_inner: bool, awaits: Awaits) -> Result<(), AllocError>
+    /// Adds a conditional directive to those that are being read, inside the others.
+    pub(crate) fn wait(
+        &mut self,
+        place: Place,
+        is_inner: bool,
+        awaits: Awaits,
+    ) -> Result<(), AllocError>
         ensures { OnOk result (self.new ≡ awaiting place is_inner awaits self.old) }
     {
         self.pending.push(Pending {
@@ -620,132 +458,5 @@ impl Conditionals {
             awaits,
         })?;
         Ok(())
-    }
-
-    /// A conditional directive has ended.
-    fn carry_out(
-        &mut self,
-        effect: Effect,
-        is_quiet: bool,
-        directive: Pending,
-    ) -> Result<Filtered, AllocError>
-        ensures { IfOk result (λ j. record { now = self.new; judged = j } ≡ effected effect is_quiet directive self.old) }
-    {
-        let is_lone = match effect {
-            Effect::Opens(is_kept) => {
-                self.open(is_kept, directive)?;
-                false
-            }
-            Effect::Turns => self.leave_second_out(),
-            Effect::Closes => self.close_latest(),
-            Effect::Nothing => false,
-        };
-        let place = if is_quiet {
-            None
-        } else {
-            Some(directive.place)
-        };
-        Ok(Filtered {
-            unmatched: if is_lone { place } else { None },
-            ended: place,
-            ..NONE
-        })
-    }
-
-    /// A conditional is opened by a directive.
-    fn open(&mut self, is_kept: bool, directive: Pending) -> Result<(), AllocError>
-        ensures { OnOk result (self.new ≡ opened is_kept directive self.old) }
-    {
-        let new = Conditional {
-            place: directive.place,
-            is_second: false,
-        };
-        if directive.is_inner {
-            self.inner.push(new)?;
-        } else {
-            self.among.push(new)?;
-        }
-        self.left_out = if is_kept {
-            None
-        } else {
-            Some(LeftOut {
-                is_inner: directive.is_inner,
-                levels: 0,
-            })
-        };
-        Ok(())
-    }
-
-    /// Leaves the second side of the latest conditional out, whose first side was kept. Answers whether there is none such.
-    fn leave_second_out(&mut self) -> bool
-        ensures unmatched { result ≡ is_second (latest self.old) }
-        ensures same { result ≡ true → self.new ≡ self.old }
-        ensures turned { result ≡ false → self.new ≡
-            record (turned self.old) { left_out = Some (record { is_inner = not (is_none_open self.old.inner); levels = 0 }) } }
-    {
-        if self.is_second() {
-            return true;
-        }
-        self.turn();
-        self.left_out = Some(LeftOut {
-            is_inner: !self.inner.is_empty(),
-            levels: 0,
-        });
-        false
-    }
-
-    /// Closes the latest conditional. Answers whether there is none.
-    fn close_latest(&mut self) -> bool
-        ensures unmatched { result ≡ is_none_open (latest self.old) }
-        ensures same { result ≡ true → self.new ≡ self.old }
-        ensures closed { result ≡ false → self.new ≡ closed self.old }
-    {
-        if self.inner.is_empty() && self.among.is_empty() {
-            return true;
-        }
-        self.close();
-        false
-    }
-
-    /// Returns whether the latest conditional is in its second side, or there is none.
-    fn is_second(&self) -> bool
-        ensures { result ≡ is_second (latest self.now) }
-    {
-        if let Some(latest) = self.inner.last() {
-            return latest.is_second;
-        }
-        match self.among.last() {
-            Some(latest) => latest.is_second,
-            None => true,
-        }
-    }
-
-    /// The second side of the latest conditional begins.
-    fn turn(&mut self)
-        ensures { self.new ≡ turned self.old }
-    {
-        if self.inner.is_empty() {
-            turn_last(&mut self.among);
-        } else {
-            turn_last(&mut self.inner);
-        }
-    }
-
-    /// The latest conditional is closed.
-    fn close(&mut self)
-        ensures { self.new ≡ closed self.old }
-    {
-        if self.inner.pop().is_none() {
-            self.among.pop();
-        }
-    }
-}
-
-/// The second side of the last of these begins.
-fn turn_last(conditionals: &mut Vec<Conditional>)
-    ensures { reverse conditionals.new.items ≡ turned_first (reverse conditionals.old.items) }
-{
-    if let Some(last) = conditionals.last_mut() {
-        last.is_second = true;
     }
 }

@@ -9,7 +9,7 @@ use inf_sources::open_file::Conditional;
 use inf_unit::messages::{Diagnostics, location};
 use std::alloc::AllocError;
 
-/// Tells some conditionals that have no other end.
+/// Reports each of `unclosed`, the conditionals that have no other end.
 pub(crate) fn tell_all(
     unclosed: &[Conditional],
     files: &Stack,
@@ -23,7 +23,7 @@ pub(crate) fn tell_all(
     Ok(())
 }
 
-/// Tells a conditional directive without its other end, where it begins.
+/// Reports a conditional directive without its other end, where it begins.
 pub fn tell_lone(place: Place, files: &Stack, report: &mut Diagnostics) -> Result<(), AllocError>
     ensures { OnOk result (report.new ≡ with_lone files.now.names place report.old) }
 {

@@ -20,8 +20,9 @@ pub struct Sign {
     pub handed: Forwarded,
 }
 
-/// The result of a token: what is handed on, first the `#` before it and then the token itself; where a directive begins that ends or turns
-/// a conditional which is not there; and where a conditional directive begins that has ended.
+/// The result of a token: the ways in which the `#` before it and then the token itself are handed on; the place where
+/// a directive begins that ends or turns a conditional which is not there; and the place where a conditional directive
+/// begins that has ended.
 #[derive(Clone, Copy, Debug, PartialEq, Eq)]
 pub struct Filtered {
     pub sign: Option<Sign>,
@@ -30,7 +31,7 @@ pub struct Filtered {
     pub ended: Option<Place>,
 }
 
-/// The site at which a token comes to the reading.
+/// The place in the reading at which a token comes.
 #[derive(Clone, Copy, Debug, PartialEq, Eq)]
 pub struct Site {
     /// Between the pieces of a source.
@@ -41,7 +42,7 @@ pub struct Site {
     pub longest: usize,
 }
 
-/// Nothing is handed on.
+/// The result of a token of which nothing is handed on.
 pub(crate) const NONE: Filtered = Filtered {
     sign: None,
     token: None,
@@ -49,7 +50,7 @@ pub(crate) const NONE: Filtered = Filtered {
     ended: None,
 };
 
-/// The token is taken by a condition.
+/// The result of a token that a condition takes.
 pub(crate) const TAKEN: Filtered = Filtered {
     sign: None,
     token: Some(Forwarded::Condition),
@@ -57,7 +58,7 @@ pub(crate) const TAKEN: Filtered = Filtered {
     ended: None,
 };
 
-/// The token is kept.
+/// The result of a token that is kept.
 pub(crate) const KEPT: Filtered = Filtered {
     sign: None,
     token: Some(Forwarded::Kept),

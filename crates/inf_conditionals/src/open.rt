@@ -3,8 +3,8 @@
 /// A side that is left out.
 #[derive(Clone, Copy, Debug, PartialEq, Eq)]
 pub struct LeftOut {
-    /// Whether its conditional was opened inside the directive at hand.
+    /// Tells whether its conditional was opened inside the directive at hand.
     pub is_inner: bool,
-    /// The number of conditionals that are open in it.
+    /// The number of conditionals that are open in the side.
     pub levels: u32,
 }

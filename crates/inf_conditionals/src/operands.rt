@@ -1,11 +1,10 @@
-//! The operands that the names of a condition stand for.
+//! The operands of the names of a condition.
 ghost use Rattle.std.specs.Prelude.{◌≡◌, ◌≤◌, IfOk, IfSome, OnOk, length, option_map};
 ghost use Rattle.inf_unit.specs.NameTokens.{named};
 ghost use Rattle.inf_conditionals.specs.Operands.{action_added, actions_added, appeared_by, bytes_of, found_operand, function_of};
 ghost use Rattle.inf_conditionals.specs.Operands.{leaf_operand, name_operand, operand_behind, operand_of, operands_of};
 
-use inf_area::Target;
-use inf_cells::Scale;
+use inf_area::{Scale, Target};
 use inf_expressions::{Function, Operand};
 use inf_gathering::gathering::Leaf;
 use inf_names::meanings::{Function as NamedFunction, Meaning};
@@ -33,7 +32,7 @@ fn function_of(function: NamedFunction) -> Function
     }
 }
 
-/// Returns the operand in a condition of a name that stands for `meaning`.
+/// Returns the operand in a condition of a name of this `meaning`.
 fn operand_of(meaning: Meaning) -> Operand
     ensures { result ≡ operand_of meaning }
 {
@@ -78,7 +77,7 @@ fn name_operand<B: Bounds>(declared: usize, names: &Symbols<Place, B>, name: &[u
     }
 }
 
-/// The bytes of a name, if there is one.
+/// Returns the bytes of a name, if there is one.
 fn bytes_of<'t>(name: Option<NameToken<'t>>) -> &'t [u8]
     requires { IfSome name (λ n. length n.bytes.now ≤ 32) }
     ensures value { result.now ≡ bytes_of (option_map named name.entry) }
@@ -147,7 +146,7 @@ pub(crate) fn operands_of<B: Bounds>(
     Ok(operands)
 }
 
-/// An action appears, if there is one.
+/// Lets an action appear, if there is one.
 fn add_action<B: Bounds>(name: Option<NameToken<'_>>, out: &mut Output<B>) -> Result<(), AllocError>
     requires { IfSome name (λ n. length n.bytes.now ≤ 32) }
     ensures { OnOk result (out.new ≡ appeared_by B.most (option_map named name.entry) out.old) }
@@ -158,7 +157,7 @@ fn add_action<B: Bounds>(name: Option<NameToken<'_>>, out: &mut Output<B>) -> Re
     Ok(())
 }
 
-/// The action that a leaf is of a condition with these tokens appears.
+/// Lets the action appear that a leaf of a condition with `tokens` is, if it is one.
 fn add_leaf<B: Bounds>(
     tokens: &UnitTokens,
     leaf: Leaf,
@@ -172,7 +171,7 @@ fn add_leaf<B: Bounds>(
     }
 }
 
-/// The actions among the leaves of a condition with these tokens appear.
+/// Lets the actions among the leaves of a condition with `tokens` appear.
 pub(crate) fn add_actions<B: Bounds>(
     tokens: &UnitTokens,
     leaves: &[Leaf],

@@ -20,18 +20,18 @@ pub enum Effect {
 /// The next thing for which a directive that is being read waits.
 #[derive(Clone, Copy, Debug, PartialEq, Eq)]
 pub enum Awaits {
-    /// Its word, behind a `#` at the front of a piece.
+    /// The word of the directive, behind a `#` at the front of a piece.
     Word,
     /// A name; the first side is kept if it was declared or if not.
     Name(bool),
-    /// The rest of its condition and its semicolon; the first side is kept if it is true or if not.
+    /// The rest of the condition and the semicolon; the first side is kept if the condition is true or if not.
     Condition(bool),
-    /// Its semicolon.
+    /// The semicolon of the directive.
     End(Effect),
 }
 
 impl Awaits {
-    /// Tells whether the word of the directive has acted already.
+    /// Returns whether the word of the directive has acted already.
     pub fn has_acted(self) -> bool
         ensures { result ≡ has_acted self }
     {
@@ -43,7 +43,7 @@ impl Awaits {
 #[derive(Clone, Copy, Debug, PartialEq, Eq)]
 pub struct Pending {
     pub place: Place,
-    /// Whether it stands inside another directive.
+    /// Tells whether the directive is inside another one.
     pub is_inner: bool,
     pub awaits: Awaits,
 }

@@ -23,21 +23,21 @@ use std::alloc::AllocError;
 /// The most brackets that may stand in one another.
 const MOST_NESTED: u32 = 64;
 
-/// All that is to be told of a condition.
+/// The judgement of a condition, and its message.
 #[derive(Drop)]
 pub enum Said {
-    /// That nothing is wrong with it.
+    /// The condition is right.
     Right(Condition),
-    /// The finding about it. Its directive begins at the place.
+    /// The finding about the condition. Its directive begins at the place.
     Wrong(Place, Condition, Finding),
-    /// That it has too many tokens, of which the first stands here.
+    /// The condition has too many tokens, of which the first is at this place.
     Long(Place),
-    /// That a bracket stands here too deep in others.
+    /// A bracket at this place is too deep in others.
     Deep(Place),
 }
 
 impl Said {
-    /// Tells it.
+    /// Reports the message, if there is one.
     pub(crate) fn tell(&self, files: &Stack, report: &mut Diagnostics) -> Result<(), AllocError>
         ensures { OnOk result (report.new ≡ with_said files.now.names (Some (said_of self.now)) report.old) }
     {
@@ -55,7 +55,7 @@ impl Said {
         }
     }
 
-    /// Adds what one uses with which nothing is wrong: its actions appear.
+    /// Adds the actions of a condition that is right, which appear.
     pub(crate) fn add<B: Bounds>(&self, out: &mut Output<B>) -> Result<(), AllocError>
         ensures { OnOk result (out.new ≡ with_right B.most (Some (said_of self.now)) out.old) }
     {
@@ -68,7 +68,7 @@ impl Said {
         }
     }
 
-    /// The condition, whose memory another one may have.
+    /// Returns the condition, if there is one, whose memory another one may have.
     pub(crate) fn into_condition(self) -> Option<Condition> {
         match self {
             Said::Right(condition) | Said::Wrong(_, condition, _) => Some(condition),
@@ -77,8 +77,8 @@ impl Said {
     }
 }
 
-/// Returns what is to be told behind `token`, which `condition` took and which may be the last of `longest`. It is nothing where the
-/// condition is passed over, as `is_quiet` says.
+/// Returns the message behind `token`, which `condition` took and which may be the last of `longest`. There is none
+/// where the condition is passed over, as `is_quiet` says.
 pub(crate) fn too_much(
     is_quiet: bool,
     longest: usize,
@@ -99,7 +99,8 @@ pub(crate) fn too_much(
     None
 }
 
-/// Returns the message and the place by which `finding`, about `condition`, is told. Its directive begins at `directive`.
+/// Returns the message and the place by which `finding`, about `condition`, is reported. Its directive begins at
+/// `directive`.
 fn blame_of<'t>(directive: Place, condition: &'t Condition, finding: Finding) -> Diagnostic<'t>
     ensures { blamed result ≡ blame_of directive (condition_of condition.now) finding }
 {
@@ -115,7 +116,7 @@ fn blame_of<'t>(directive: Place, condition: &'t Condition, finding: Finding) ->
     }
 }
 
-/// The message of a finding at a token, by its number in the table of errors.
+/// Returns the message of a finding at a token, by its number in the table of errors.
 fn message_of<'t>(number: u8, token: Told<'t>) -> Message<'t>
     ensures { meant result ≡ message_of number (named token.entry) }
 {

@@ -1,4 +1,4 @@
--- What the code does with its map is what the definitions do with the list of labels.
+-- The map of the code has the labels of the definitions' list.
 use Rattle.std.proofs.Common.{◌≡◌, ◌<◌, ◌+◌, ℕ, suc, zero, Bool, true, false, cond, List, [], ◌∷◌, drop, length, map, Option, None, Some}
 use Rattle.std.proofs.Common.{refl, sym, ap, ◌∙◌, arith}
 use Rattle.std.specs.Prelude.{option_map, slice_get}
@@ -15,7 +15,7 @@ use Rattle.inf_constructs.specs.declared.labels.Entry.{Entry}
 abbrev pub Key : Type 0
 Key = ArrayVec ℕ 32 Unit
 
--- whether a stored name is this one
+-- whether a stored name is `name`
 abbrev pub has : List ℕ → Key → Bool
 has key k = bytes_eq key k.items
 
@@ -48,7 +48,7 @@ pub known-copied : (r : Option (Bor Entry)) → option_map (λ e. known e.now) r
 known-copied None = refl
 known-copied (Some e) = refl
 
--- A label is looked for from one place on, and from the next.
+-- the missing label from one place on: the one at that place, or the one behind it
 abbrev pub or_else : Option (List ℕ) → Option (List ℕ) → Option (List ℕ)
 or_else None others = others
 or_else (Some name) others = Some name

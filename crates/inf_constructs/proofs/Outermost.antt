@@ -1,4 +1,4 @@
--- The outermost of the statements that are open is the one that was opened first.
+-- The outermost open statement is the one that was opened first.
 use Rattle.std.proofs.Common.{◌≡◌, List, [], ◌∷◌, ◌++◌, Option, Some, None, refl, ap, sym, ◌∙◌}
 use Rattle.std.proofs.lemmas.List.{reverse-append}
 use Rattle.std.specs.Prelude.{reverse, slice_get}

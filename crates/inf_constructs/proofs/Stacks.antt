@@ -10,7 +10,7 @@ use Rattle.inf_constructs.specs.declared.constructs.Construct.{Construct}
 pub reversed : {A : Type 0} (items : List A) (last : A) → reverse (items ++ last ∷ []) ≡ last ∷ reverse items
 reversed items last = reverse-append items (last ∷ [])
 
--- of some that end the innermost is the next
+-- the first of the statements that end is the innermost
 pub next_ended : (limits : Limits) (n : ℕ) (constructs : List Construct) (o : Out) → 0 < n
     → all_ended limits n constructs o ≡ all_ended limits (n - 1) (ended limits constructs o).0 (ended limits constructs o).1
 next_ended limits zero constructs o more = absurd (omega arith)

@@ -11,20 +11,21 @@ use Rattle.inf_output.specs.Output.{Code, instruction, marked, nothing, to, with
 use Rattle.inf_templates.specs.Meaning.{meaning}
 use Rattle.inf_templates.specs.Parts.{operand_by}
 
--- the variable that holds what is switched on
+-- the variable that holds the value of a `switch`
 abbrev pub SWITCHED : ℕ
 SWITCHED = 251
 
--- the operand that a tree is
+-- the operand of a tree
 abbrev pub operand_in : Limits → Tree → Simple
 operand_in limits t = operand_by (meaning limits t).operand
 
--- a group of up to three values: the branch is taken where it has this truth
+-- a test of a group of up to three values, as a branch to `label` where its truth is `sense`
 unfoldable pub group_tested : Limits → List Simple → Bool → Label → Code
 group_tested limits [] sense label = nothing
 group_tested limits (a ∷ others) sense label = instruction limits opcode.Je (Variable SWITCHED ∷ a ∷ others) None (to sense label)
 
--- a range: the last goes on to the next case where the value is beside it, and another to what the case holds where it is within
+-- A range: the last value of a case branches to the next case where it fails, and another value to the body of the case
+-- where it holds.
 abbrev pub beside : Limits → Simple → Simple → Label → Code
 beside limits a b next =
     instruction limits opcode.Jl (Variable SWITCHED ∷ a ∷ []) None (to true next)
@@ -44,7 +45,7 @@ abbrev pub is_empty : List Tree → Bool
 is_empty [] = true
 is_empty (v ∷ values) = false
 
--- One value more behind a group that is open, with what comes behind it: what is open then, and what is laid.
+-- One value more behind an open group: the group that is open then, and the tests that are laid.
 abbrev pub is_open : List Simple → Bool
 is_open group = nat_lt (length group) 3
 
@@ -63,17 +64,17 @@ value_laid limits v is_last group here next = laid_before limits (range_of v) is
 unfoldable pub value_grouped : Limits → Tree → List Simple → List Simple
 value_grouped limits v group = group_behind (range_of v) (operand_in limits v) group
 
--- all values behind a group that is open: the last test goes to the next case where it fails
+-- the tests of all values behind an open group: the last one branches to the next case where it fails
 abbrev pub grouped : Limits → List Simple → List Tree → Label → Label → Code
 grouped limits group [] here next = group_tested limits group false next
 grouped limits group (v ∷ values) here next =
     value_laid limits v (is_empty values) group here next ▸ grouped limits (value_grouped limits v group) values here next
 
--- the tests of a case, behind which what it holds begins
+-- the tests of a case, behind which its body begins
 abbrev pub case_tested : Limits → List Tree → Label → Code
 case_tested limits values next = with_label (λ here. grouped limits [] values here next ▸ marked limits here)
 
--- a default has none
+-- the tests of a case, of which a default has none
 unfoldable pub case_code : Limits → Option Label → List Tree → Code
 case_code limits None values = nothing
 case_code limits (Some next) values = case_tested limits values next

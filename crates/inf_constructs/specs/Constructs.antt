@@ -1,6 +1,5 @@
--- The statements that hold others: what each lays where it begins, between its parts, and where it ends. Designer's Manual, fourth edition,
--- sections
--- 1.7 to 1.9.
+-- The statements that hold others: the code of each where it begins, between its parts, and where it ends. Designer's
+-- Manual, fourth edition, sections 1.7 to 1.9.
 use Rattle.std.specs.Prelude.{ℕ, zero, suc, ◌-◌, Bool, true, false, if◌then◌else◌, List, [], ◌∷◌, length, Option, Some, None, unwrap_or}
 use Rattle.inf_settings.specs.Bounds.{Limits}
 use Rattle.inf_opcode.specs.declared.instructions.Label.{Label}
@@ -24,14 +23,15 @@ use Rattle.inf_constructs.specs.declared.constructs.Kind.TheVariants as kind
 use Rattle.inf_constructs.specs.declared.constructs.Over.{Over}
 use Rattle.inf_constructs.specs.declared.constructs.Over.TheVariants as over
 
--- code that answers something
+-- code with a result
 abbrev pub Laying : Type 0 → Type 0
 Laying A = Out → A × Out
 
 abbrev pub giving : {A : Type 0} → A → Code → Laying A
 giving a code o = (a, code o)
 
--- Where its word was read: its labels are handed out, and some mark the first of their places.
+-- The beginning of a statement, where its word was read: its labels are handed out, and some mark the first of their
+-- places.
 abbrev pub with_labels : Kind → Laying Construct
 with_labels k o =
     let next = behind o.next in
@@ -48,13 +48,14 @@ front limits _ c = nothing
 unfoldable pub opened : Limits → Kind → Laying Construct
 opened limits k o = let c = with_labels k o in giving c.0 (front limits k c.0) c.1
 
--- where a branch goes where its condition is not true
+-- the label to which a branch goes where the condition is not true
 abbrev pub otherwise : Construct → Kind → Label
 otherwise c kind.If = c.next
 otherwise c kind.Do = c.top
 otherwise c _ = c.end
 
--- `else`, `until`, the first `:` of a `for`; and before what a loop over objects holds, where its unit had an error
+-- The joint of a statement: `else`, `until`, the first `:` of a `for`; and the beginning of a loop's body over objects,
+-- where its unit had an error.
 abbrev pub kind_behind : Kind → Kind
 kind_behind kind.If = kind.Else
 kind_behind k = k
@@ -69,7 +70,8 @@ joint limits c _ = nothing
 unfoldable pub between : Limits → Construct → Laying Construct
 between limits c o = giving (record c { kind = kind_behind c.kind }) (joint limits c c.kind) o
 
--- A loop over the children of an object, or over all objects but the first four, of which those that fail a test are passed over.
+-- A loop over the children of an object, or over all objects but the first four, where objects that fail a test are passed
+-- over.
 abbrev pub over_children : Limits → Tree → ℕ → Construct → Code
 over_children limits e v c = worked limits opcode.GetChild (part (meaning limits e) ∷ []) (Some v) (to false c.end) ▸ marked limits c.top
 
@@ -87,7 +89,7 @@ looped_by limits None e v c = giving (record c { kind = kind.Objects over.All v 
 unfoldable pub looped : Limits → Rooted → Construct → Laying Construct
 looped limits r c = looped_by limits (children_of r.tree) r.tree (unwrap_or r.origin.lead.variable 0) c
 
--- where it ends
+-- the end of a statement
 abbrev pub looped_on : Limits → Over → ℕ → Label → Code
 looped_on limits over.Nothing v top = nothing
 looped_on limits over.Children v top = instruction limits opcode.GetSibling (Variable v ∷ []) (Some v) (to true top)
@@ -112,7 +114,7 @@ ending limits c (kind.Cases old had_default) = case_closed limits old c.end ▸ 
 unfoldable pub closed : Limits → Construct → Code
 closed limits c = ending limits c c.kind
 
--- A case begins, of a `switch` or of a routine itself: what stands before it goes to the end of that.
+-- The beginning of a case, of a `switch` or of a routine itself: the case before it jumps to the end of the whole.
 abbrev pub with_case : Bool → Case → Bool → Kind
 with_case true open_case had_default = kind.Cases open_case had_default
 with_case false open_case had_default = kind.Switch open_case had_default
@@ -137,7 +139,7 @@ entered_by limits _ is_default c o = (c, o)
 unfoldable pub entered : Limits → Bool → Construct → Laying Construct
 entered limits is_default c o = entered_by limits c.kind is_default c o
 
--- Nothing comes behind a default.
+-- whether a case would follow a default, behind which no case may come
 abbrev pub is_late_in : Kind → Bool
 is_late_in (kind.Switch old had_default) = had_default
 is_late_in (kind.Cases old had_default) = had_default
@@ -157,7 +159,7 @@ abbrev pub next_case : List Construct → Option Label
 next_case [] = None
 next_case (c ∷ constructs) = next_case_in c.kind
 
--- where `break` and `continue` go
+-- the labels to which `break` and `continue` go
 abbrev pub break_of : Construct → Kind → Option Label
 break_of c kind.If = None
 break_of c kind.Else = None
@@ -178,12 +180,12 @@ abbrev pub found_or : Option Label → Option Label → Option Label
 found_or (Some label) others = Some label
 found_or None others = others
 
--- of the innermost that there is
+-- the label of the innermost statement that has one
 abbrev pub left_to : Bool → List Construct → Option Label
 left_to on [] = None
 left_to on (c ∷ constructs) = found_or (left_to_by on c) (left_to on constructs)
 
--- The statements that are open, the innermost first.
+-- The open statements, the innermost first.
 abbrev pub begun : Limits → Kind → List Construct → Laying (List Construct)
 begun limits k constructs o = let c = opened limits k o in (c.0 ∷ constructs, c.1)
 
@@ -204,7 +206,7 @@ abbrev pub are_own : List Construct → Bool
 are_own [] = false
 are_own (c ∷ constructs) = are_cases c.kind
 
--- How many statements are open: the cases of the routine itself, which hold all others, are none.
+-- The number of open statements: the cases of the routine itself, which hold all others, are none.
 abbrev pub outermost_from : List Construct → Option Kind → Option Kind
 outermost_from [] last = last
 outermost_from (c ∷ constructs) last = outermost_from constructs (Some c.kind)
@@ -219,7 +221,7 @@ depth_by (Some k) count = if are_cases k then count - 1 else count
 abbrev pub depth : List Construct → ℕ
 depth constructs = depth_by (outermost constructs) (length constructs)
 
--- The step of a `for` was laid apart, and is kept with the innermost.
+-- The step of a `for`, which was laid apart, and is kept with the innermost statement.
 abbrev pub with_step : Option (List Item) → List Construct → List Construct
 with_step step [] = []
 with_step step (c ∷ constructs) = record c { step = step } ∷ constructs
@@ -231,12 +233,12 @@ abbrev pub ended : Limits → List Construct → Laying (List Construct)
 ended limits [] o = ([], o)
 ended limits (c ∷ constructs) o = (constructs, closed limits c o)
 
--- so many of them, the innermost first
+-- the statements where the innermost `n` end, the innermost first
 abbrev pub all_ended : Limits → ℕ → List Construct → Laying (List Construct)
 all_ended limits zero constructs o = (constructs, o)
 all_ended limits (suc n) constructs o = let e = ended limits constructs o in all_ended limits n e.0 e.1
 
--- what a condition of the innermost is, and what a loop over objects goes over
+-- the label where the condition of the innermost statement is not true, and the beginning of a loop over objects
 abbrev pub condition_label : List Construct → Option Label
 condition_label [] = None
 condition_label (c ∷ constructs) = Some (otherwise c c.kind)

@@ -1,4 +1,4 @@
--- What the code's map of labels stands for.
+-- The labels with names, by the entries of the code's map.
 use Rattle.std.specs.Prelude.{ℕ}
 use Rattle.arrayvec.specs.declared.array_vec.ArrayVec.{ArrayVec}
 use Rattle.inf_constructs.specs.Labels.{Known, NamedLabel}

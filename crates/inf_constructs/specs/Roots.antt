@@ -5,7 +5,7 @@ use Rattle.inf_expressions.specs.Nodes.{rooted_at}
 use Rattle.inf_expressions.specs.Rooted.{Rooted}
 use Rattle.inf_expressions.specs.Trees.{Tree}
 
--- the trees of a unit, by where they stand among its nodes
+-- the trees of a unit, by their places among its nodes
 abbrev pub tree_in : Rooted → Tree
 tree_in r = r.tree
 

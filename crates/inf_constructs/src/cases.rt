@@ -15,13 +15,13 @@ use inf_settings::bounds::Bounds;
 use inf_templates::simple_of;
 use std::alloc::AllocError;
 
-/// The variable that holds what is switched on.
+/// The variable that holds the value of a `switch`.
 pub const SWITCHED: u8 = 251;
 
 /// The most values of a group.
 const MOST_VALUES: usize = 3;
 
-/// A branch to a label where a test has this truth.
+/// Returns a branch to `label` where the truth of a test is `sense`.
 fn to(sense: bool, label: Label) -> Option<Branch>
     ensures { result ≡ Some (record { sense = sense; target = Destination.To label }) }
 {
@@ -31,7 +31,7 @@ fn to(sense: bool, label: Label) -> Option<Branch>
     })
 }
 
-/// The operand that the tree at a place is.
+/// Returns the operand of the tree at `place`.
 fn operand_in<B: Bounds>(nodes: &Nodes, place: usize) -> Simple
     ensures { result ≡ operand_in B.most (tree_at nodes.now place) }
 {
@@ -41,7 +41,7 @@ fn operand_in<B: Bounds>(nodes: &Nodes, place: usize) -> Simple
     }
 }
 
-/// A group of up to three values, as a branch.
+/// Lays a test of a group of up to three values, as a branch to `label` where its truth is `sense`.
 #[tactic(auto, unfolding(crate::specs::Cases::group_tested))]
 fn lay_group<B: Bounds>(
     values: &[Simple],
@@ -90,7 +90,7 @@ fn lay_within<B: Bounds>(
     out.mark(beyond)
 }
 
-/// A range, which is the last value or not.
+/// Lays the test of a range, which is the last value or not.
 #[tactic(auto, unfolding(crate::specs::Cases::range_tested))]
 fn lay_range<B: Bounds>(
     is_last: bool,
@@ -109,7 +109,8 @@ fn lay_range<B: Bounds>(
     }
 }
 
-/// What is laid for the tree at a place behind a group that is open: the group, where it takes no more.
+/// Lays the tests that end at the tree at `place`, behind the open group `group`: this group, where it takes no more, and a
+/// range.
 #[tactic(auto, unfolding(crate::specs::Cases::value_laid))]
 fn lay_value_of<B: Bounds>(
     nodes: &Nodes,
@@ -137,7 +138,7 @@ fn lay_value_of<B: Bounds>(
     }
 }
 
-/// The group that is open behind the tree at a place.
+/// Returns the group that is open behind the tree at `place`.
 #[tactic(auto, unfolding(crate::specs::Cases::value_grouped))]
 fn grouped_behind<B: Bounds>(
     nodes: &Nodes,
@@ -158,7 +159,7 @@ fn grouped_behind<B: Bounds>(
     behind
 }
 
-/// Whether no values are left.
+/// Returns whether no values are left.
 fn are_none(roots: &[Root]) -> bool
     ensures { (nodes : List Tree) → result ≡ is_empty (trees_from nodes roots.now) }
 {
@@ -168,7 +169,7 @@ fn are_none(roots: &[Root]) -> bool
     }
 }
 
-/// The tests of some values: where one holds they go to a label, and where the last fails to another one.
+/// Lays the tests of some values: they branch to `here` where one holds, and to `next` where the last fails.
 fn lay_values<B: Bounds>(
     nodes: &Nodes,
     roots: &[Root],
@@ -189,7 +190,8 @@ fn lay_values<B: Bounds>(
     lay_group(&group, false, next, out)
 }
 
-/// The tests of a case with these trees as values, where it has any: the label of the next case is given.
+/// Lays the tests of a case whose values are the trees of `forest`, where `next` is the label of the next case; a default
+/// has no such label and no tests.
 #[tactic(auto, unfolding(crate::specs::Cases::case_code))]
 pub fn lay_case<B: Bounds>(
     next: Option<Label>,

@@ -1,33 +1,28 @@
 //! The statements that hold others.
 ghost use Rattle.std.specs.Prelude.{◌≡◌, ◌∷◌, [], IfOk, List, MatchOption, None, OnOk, Some};
 ghost use Rattle.inf_expressions.specs.Forests.{trees_in};
-ghost use Rattle.inf_expressions.specs.Nodes.{tree_at};
-ghost use Rattle.inf_expressions.specs.Questions.{children_of};
 ghost use Rattle.inf_output.specs.Output.{items_of};
-ghost use Rattle.inf_templates.specs.Tasks.{at};
-ghost use Rattle.inf_constructs.specs.Constructs.{all_ended, are_cases, are_own, begun, between, break_of, case_closed, case_entered};
-ghost use Rattle.inf_constructs.specs.Constructs.{cases_begun, changed, closed, condition_label, continue_of, default_entered, depth};
-ghost use Rattle.inf_constructs.specs.Constructs.{depth_by, ended, ending, entered, entered_by, front, is_late, is_late_in, joint};
-ghost use Rattle.inf_constructs.specs.Constructs.{kind_behind, left_to, left_to_by, looped, looped_by, looped_on, looped_over, next_case};
-ghost use Rattle.inf_constructs.specs.Constructs.{next_case_in, opened, otherwise, outermost, over_all, over_children, stepped};
-ghost use Rattle.inf_constructs.specs.Constructs.{tested_over, values_entered, with_case, with_labels};
+ghost use Rattle.inf_constructs.specs.Constructs.{all_ended, are_own, begun, between, case_closed, case_entered, cases_begun, changed};
+ghost use Rattle.inf_constructs.specs.Constructs.{closed, condition_label, default_entered, depth, ended, ending, entered, entered_by};
+ghost use Rattle.inf_constructs.specs.Constructs.{front, is_late, joint, left_to, looped, looped_over, next_case, opened, outermost};
+ghost use Rattle.inf_constructs.specs.Constructs.{stepped, values_entered, with_case, with_labels};
 
-use inf_area::{SystemConstant, Target};
-use inf_expressions::{Forest, Nodes, Root, children_of};
-use inf_opcode::{Branch, Destination, Label, Opcode};
-use inf_output::{Items, Output, Simple};
+use crate::loops::{lay_loop, lay_loop_end};
+use crate::questions::{
+    are_cases, depth_by, is_late_in, kind_behind, left_to, next_case_in, otherwise,
+};
+use inf_expressions::Forest;
+use inf_opcode::Label;
+use inf_output::{Items, Output};
 use inf_settings::bounds::Bounds;
-use inf_templates::{Argument, Tasks, lay_branch, lay_instruction, simple_of};
+use inf_templates::Tasks;
 use std::alloc::{AllocError, Global};
 use std::marker::Model;
 
-/// The number of the first object that a loop over all objects meets: behind those that stand for the classes of the language.
-const FIRST_OBJECT: u16 = 5;
-
-/// What a loop over objects goes over.
+/// The objects that a loop over objects goes over.
 #[derive(Clone, Copy, Debug, PartialEq, Eq)]
 pub enum Over {
-    /// Nothing: its unit is not whole, or had an error.
+    /// None: the unit of the loop is not whole, or had an error.
     Nothing,
     /// The children of an object.
     Children,
@@ -35,16 +30,16 @@ pub enum Over {
     All,
 }
 
-/// The case of a `switch` that is open.
+/// The open case of a `switch`.
 #[derive(Clone, Copy, Debug, PartialEq, Eq)]
 pub enum Case {
     Nothing,
-    /// With the label of the next one.
+    /// A case of values, with the label of the next case.
     Values(Label),
     Default,
 }
 
-/// What holds other statements.
+/// The kind of a statement that holds others.
 #[derive(Clone, Copy, Debug, PartialEq, Eq)]
 pub enum Kind {
     If,
@@ -53,39 +48,29 @@ pub enum Kind {
     While,
     Do,
     For,
-    /// With the variable of the loop.
+    /// A loop over objects, with its variable.
     Objects(Over, u8),
-    /// With its open case, and whether a default was among its cases.
+    /// A `switch`, with its open case, and whether a default was among its cases.
     Switch(Case, bool),
-    /// The cases of a routine itself, with the same.
+    /// The cases of a routine itself, with the open case, and whether a default was among them.
     Cases(Case, bool),
 }
 
-/// A statement that is open.
+/// An open statement.
 #[derive(Debug, Drop)]
 pub struct Construct {
     pub kind: Kind,
-    /// Where what a loop holds begins.
+    /// The label where the body of a loop begins.
     pub top: Label,
-    /// Where `continue` goes; of an `if` where it goes without its condition.
+    /// The label to which `continue` goes; of an `if`, the one for a condition that is not true.
     pub next: Label,
-    /// Where `break` goes; of an `if` behind its other side.
+    /// The label to which `break` goes; of an `if`, the one behind its `else`.
     pub end: Label,
     /// The step of a `for`.
     pub step: Option<Items>,
 }
 
-/// A branch to a label where a test has this truth.
-fn to(sense: bool, label: Label) -> Branch
-    ensures { result ≡ record { sense = sense; target = Destination.To label } }
-{
-    Branch {
-        sense,
-        target: Destination::To(label),
-    }
-}
-
-/// A construct of a kind, whose labels are handed out.
+/// Returns an open statement of a kind, and hands out its labels.
 fn with_labels<B: Bounds>(kind: Kind, out: &mut Output<B>) -> Construct
     ensures { (result, out.new) ≡ with_labels kind out.old }
 {
@@ -101,7 +86,7 @@ fn with_labels<B: Bounds>(kind: Kind, out: &mut Output<B>) -> Construct
     }
 }
 
-/// What is laid where its word was read.
+/// Lays the beginning of a statement, where its word was read.
 fn lay_front<B: Bounds>(construct: &Construct, out: &mut Output<B>) -> Result<(), AllocError>
     ensures { OnOk result (out.new ≡ front B.most construct.now.kind construct.now out.old) }
 {
@@ -112,7 +97,7 @@ fn lay_front<B: Bounds>(construct: &Construct, out: &mut Output<B>) -> Result<()
     }
 }
 
-/// Where its word was read.
+/// Opens a statement, where its word was read.
 #[tactic(auto, unfolding(crate::specs::Constructs::opened))]
 fn open<B: Bounds>(kind: Kind, out: &mut Output<B>) -> Result<Construct, AllocError>
     ensures { IfOk result (λ c. (c, out.new) ≡ opened B.most kind out.old) }
@@ -122,27 +107,7 @@ fn open<B: Bounds>(kind: Kind, out: &mut Output<B>) -> Result<Construct, AllocEr
     Ok(construct)
 }
 
-/// Where a branch goes where its condition is not true.
-fn otherwise(construct: &Construct) -> Label
-    ensures { result ≡ otherwise construct.now construct.now.kind }
-{
-    match construct.kind {
-        Kind::If => construct.next,
-        Kind::Do => construct.top,
-        _ => construct.end,
-    }
-}
-
-fn kind_behind(kind: Kind) -> Kind
-    ensures { result ≡ kind_behind kind }
-{
-    match kind {
-        Kind::If => Kind::Else,
-        _ => kind,
-    }
-}
-
-/// What is laid between its parts.
+/// Lays the joint between the parts of a statement.
 fn lay_joint<B: Bounds>(construct: &Construct, out: &mut Output<B>) -> Result<(), AllocError>
     ensures { OnOk result (out.new ≡ joint B.most construct.now construct.now.kind out.old) }
 {
@@ -158,112 +123,7 @@ fn lay_joint<B: Bounds>(construct: &Construct, out: &mut Output<B>) -> Result<()
     }
 }
 
-/// A loop over the children of the object that the tree at a place is.
-fn lay_over_children<B: Bounds>(
-    nodes: &Nodes,
-    parent: usize,
-    variable: u8,
-    construct: &Construct,
-    tasks: &mut Tasks,
-    out: &mut Output<B>,
-) -> Result<(), AllocError>
-    ensures { OnOk result (out.new ≡ over_children B.most (tree_at nodes.now parent) variable construct.now out.old) }
-{
-    lay_instruction(
-        tasks,
-        nodes,
-        Opcode::GetChild,
-        &[Argument::Of(parent)],
-        Some(variable),
-        Some(to(false, construct.end)),
-        out,
-    )?;
-    out.mark(construct.top)
-}
-
-/// The test of a loop over all objects, which a variable alone is not.
-fn lay_test<B: Bounds>(
-    nodes: &Nodes,
-    place: usize,
-    next: Label,
-    tasks: &mut Tasks,
-    out: &mut Output<B>,
-) -> Result<(), AllocError>
-    ensures { OnOk result (out.new ≡ tested_over (at B.most nodes.now place).operand (at B.most nodes.now place) next out.old) }
-{
-    match simple_of::<B>(nodes, place) {
-        Some(_) => Ok(()),
-        None => lay_branch(tasks, nodes, place, false, next, out),
-    }
-}
-
-/// A loop over all objects.
-fn lay_over_all<B: Bounds>(
-    nodes: &Nodes,
-    place: usize,
-    variable: u8,
-    construct: &Construct,
-    tasks: &mut Tasks,
-    out: &mut Output<B>,
-) -> Result<(), AllocError>
-    ensures { OnOk result (out.new ≡ over_all B.most (at B.most nodes.now place) variable construct.now out.old) }
-{
-    let first = [Simple::Known(FIRST_OBJECT)];
-    out.instruct_naming(Opcode::Store, variable, &first, None, None)?;
-    out.mark(construct.top)?;
-    lay_test(nodes, place, construct.next, tasks, out)
-}
-
-/// What a loop goes over that the tree at a place says.
-fn lay_loop<B: Bounds>(
-    nodes: &Nodes,
-    root: Root,
-    variable: u8,
-    mut construct: Construct,
-    tasks: &mut Tasks,
-    out: &mut Output<B>,
-) -> Result<Construct, AllocError>
-    ensures { let e = tree_at nodes.now root.place in
-        IfOk result (λ c. (c, out.new) ≡ looped_by B.most (children_of e) e variable construct out.old) }
-{
-    match children_of(nodes, root.place) {
-        Some(parent) => {
-            lay_over_children(nodes, parent, variable, &construct, tasks, out)?;
-            construct.kind = Kind::Objects(Over::Children, variable);
-        }
-        None => {
-            lay_over_all(nodes, root.place, variable, &construct, tasks, out)?;
-            construct.kind = Kind::Objects(Over::All, variable);
-        }
-    }
-    Ok(construct)
-}
-
-/// How a loop over objects goes on.
-fn lay_loop_end<B: Bounds>(
-    over: Over,
-    variable: u8,
-    top: Label,
-    out: &mut Output<B>,
-) -> Result<(), AllocError>
-    ensures { OnOk result (out.new ≡ looped_on B.most over variable top out.old) }
-{
-    match over {
-        Over::Nothing => Ok(()),
-        Over::Children => out.instruct(
-            Opcode::GetSibling,
-            &[Simple::Variable(variable)],
-            Some(variable),
-            Some(to(true, top)),
-        ),
-        Over::All => {
-            let last = [Simple::Later(Target::System(SystemConstant::HighestObjectNumber))];
-            out.instruct_naming(Opcode::IncChk, variable, &last, None, Some(to(false, top)))
-        }
-    }
-}
-
-/// The end of a case.
+/// Lays the end of a case.
 fn close_case<B: Bounds>(case: Case, end: Label, out: &mut Output<B>) -> Result<(), AllocError>
     ensures { OnOk result (out.new ≡ case_closed B.most case end out.old) }
 {
@@ -277,7 +137,7 @@ fn close_case<B: Bounds>(case: Case, end: Label, out: &mut Output<B>) -> Result<
     }
 }
 
-/// The end of a `for`.
+/// Lays the end of a `for`.
 fn close_for<B: Bounds>(construct: &Construct, out: &mut Output<B>) -> Result<(), AllocError>
     ensures { OnOk result (out.new ≡ ending B.most construct.now Kind.For out.old) }
 {
@@ -289,7 +149,7 @@ fn close_for<B: Bounds>(construct: &Construct, out: &mut Output<B>) -> Result<()
     out.mark(construct.end)
 }
 
-/// Where it ends.
+/// Lays the end of a statement.
 #[tactic(auto, unfolding(crate::specs::Constructs::closed))]
 fn close<B: Bounds>(construct: &Construct, out: &mut Output<B>) -> Result<(), AllocError>
     ensures { OnOk result (out.new ≡ closed B.most construct.now out.old) }
@@ -314,7 +174,7 @@ fn close<B: Bounds>(construct: &Construct, out: &mut Output<B>) -> Result<(), Al
     }
 }
 
-/// What has an open case: the cases of a routine itself, or a `switch`.
+/// Returns the kind of a statement with an open case: the cases of a routine itself, or a `switch`.
 fn with_case(are_own: bool, case: Case, had_default: bool) -> Kind
     ensures { result ≡ with_case are_own case had_default }
 {
@@ -325,7 +185,7 @@ fn with_case(are_own: bool, case: Case, had_default: bool) -> Kind
     }
 }
 
-/// A default begins behind an open case.
+/// Begins a default behind an open case.
 fn enter_default<B: Bounds>(
     are_own: bool,
     case: Case,
@@ -339,7 +199,7 @@ fn enter_default<B: Bounds>(
     Ok(construct)
 }
 
-/// A case of values begins behind an open case, behind a default or not.
+/// Begins a case of values behind an open case, where a default may have come before.
 fn enter_values<B: Bounds>(
     are_own: bool,
     case: Case,
@@ -355,7 +215,7 @@ fn enter_values<B: Bounds>(
     Ok(construct)
 }
 
-/// A case begins behind an open case, which is the default or not.
+/// Begins a case behind an open case, which is the default or not.
 fn enter_case<B: Bounds>(
     are_own: bool,
     is_default: bool,
@@ -373,7 +233,7 @@ fn enter_case<B: Bounds>(
     }
 }
 
-/// A case begins, which is the default or not.
+/// Begins a case, which is the default or not.
 #[tactic(auto, unfolding(crate::specs::Constructs::entered))]
 fn enter<B: Bounds>(
     is_default: bool,
@@ -393,79 +253,7 @@ fn enter<B: Bounds>(
     }
 }
 
-/// Whether these are the cases of a routine itself.
-fn are_cases(kind: Kind) -> bool
-    ensures { result ≡ are_cases kind }
-{
-    matches!(kind, Kind::Cases(..))
-}
-
-/// How many of so many are statements, where the outermost is this.
-fn depth_by(outermost: Option<Kind>, count: usize) -> usize
-    ensures { result ≡ depth_by outermost count }
-{
-    match outermost {
-        Some(kind) => {
-            if are_cases(kind) {
-                count.saturating_sub(1)
-            } else {
-                count
-            }
-        }
-        None => count,
-    }
-}
-
-/// Whether a case of this would come behind its default.
-fn is_late_in(kind: Kind) -> bool
-    ensures { result ≡ is_late_in kind }
-{
-    match kind {
-        Kind::Switch(_, had_default) | Kind::Cases(_, had_default) => had_default,
-        _ => false,
-    }
-}
-
-/// The label behind its open case, if that is one of values.
-fn next_case_in(kind: Kind) -> Option<Label>
-    ensures { result ≡ next_case_in kind }
-{
-    match kind {
-        Kind::Switch(Case::Values(next), _) | Kind::Cases(Case::Values(next), _) => Some(next),
-        _ => None,
-    }
-}
-
-fn break_of(construct: &Construct) -> Option<Label>
-    ensures { result ≡ break_of construct.now construct.now.kind }
-{
-    match construct.kind {
-        Kind::If | Kind::Else => None,
-        _ => Some(construct.end),
-    }
-}
-
-fn continue_of(construct: &Construct) -> Option<Label>
-    ensures { result ≡ continue_of construct.now construct.now.kind }
-{
-    match construct.kind {
-        Kind::If | Kind::Else | Kind::Switch(..) | Kind::Cases(..) => None,
-        _ => Some(construct.next),
-    }
-}
-
-/// Where `continue`, or `break`, goes from a construct.
-fn left_to(on: bool, construct: &Construct) -> Option<Label>
-    ensures { result ≡ left_to_by on construct.now }
-{
-    if on {
-        continue_of(construct)
-    } else {
-        break_of(construct)
-    }
-}
-
-/// The statements that are open, of which each is held by the one before: in contracts the innermost comes first.
+/// The open statements, each of which is held by the one before: in contracts the innermost comes first.
 #[derive(Drop)]
 pub struct Constructs {
     list: Vec<Construct>,
@@ -483,7 +271,7 @@ impl Model for Constructs {
 impl Constructs {
     ghost use Rattle.std.specs.Prelude.{length};
 
-    /// None. It takes no memory until the first one comes.
+    /// Creates an empty list of open statements. It takes no memory until the first one comes.
     pub fn new(alloc: Global) -> Constructs
         ensures { result ≡ [] }
     {
@@ -492,28 +280,28 @@ impl Constructs {
         }
     }
 
-    /// Forgets all: another routine begins.
+    /// Removes all statements: another routine begins.
     pub fn clear(&mut self)
         ensures { self.new ≡ [] }
     {
         self.list.clear();
     }
 
-    /// How many there are.
+    /// Returns the number of open statements, with the cases of a routine itself.
     pub fn len(&self) -> usize
         ensures { result ≡ length self.now }
     {
         self.list.len()
     }
 
-    /// The innermost.
+    /// Returns the innermost statement.
     fn innermost(&self) -> Option<&Construct>
         ensures { MatchOption result (self.now ≡ []) (λ c. (others : List Construct) × (self.now ≡ c.now ∷ others)) }
     {
         self.list.last()
     }
 
-    /// A statement of a kind begins.
+    /// Begins a statement of a kind.
     pub fn begin<B: Bounds>(&mut self, kind: Kind, out: &mut Output<B>) -> Result<(), AllocError>
         ensures { OnOk result ((self.new, out.new) ≡ begun B.most kind self.old out.old) }
     {
@@ -522,7 +310,8 @@ impl Constructs {
         Ok(())
     }
 
-    /// `else`, `until` or the first `:` of the innermost, or what a loop over objects holds begins.
+    /// Goes on behind `else`, `until` or the first `:` of the innermost statement, or where the body of a loop over objects
+    /// begins.
     #[tactic(auto, unfolding(crate::specs::Constructs::between))]
     pub fn go_on<B: Bounds>(&mut self, out: &mut Output<B>) -> Result<(), AllocError>
         ensures { OnOk result ((self.new, out.new) ≡ changed (between B.most) self.old out.old) }
@@ -536,7 +325,7 @@ impl Constructs {
         Ok(())
     }
 
-    /// What was laid apart is the step of the innermost.
+    /// Keeps the code that was laid apart as the step of the innermost statement.
     pub fn keep_step<B: Bounds>(
         &mut self,
         alloc: Global,
@@ -553,7 +342,7 @@ impl Constructs {
         Ok(())
     }
 
-    /// What the innermost, a loop over objects, goes over: the first tree of a unit.
+    /// Begins the loop over objects that is the innermost statement, over the objects that the first tree of a unit names.
     #[tactic(auto, unfolding(crate::specs::Constructs::looped))]
     pub fn go_over<B: Bounds>(
         &mut self,
@@ -575,7 +364,7 @@ impl Constructs {
         Ok(())
     }
 
-    /// Before a case: one outside of any statement is one of the routine's own.
+    /// Begins the routine's own cases before a case that is outside of any statement.
     pub fn begin_cases<B: Bounds>(&mut self, out: &mut Output<B>) -> Result<(), AllocError>
         ensures { OnOk result ((self.new, out.new) ≡ cases_begun B.most self.old out.old) }
     {
@@ -585,7 +374,7 @@ impl Constructs {
         }
     }
 
-    /// Whether a case is one of the routine's own: its values are actions.
+    /// Returns whether a case would be one of the routine's own: its values are actions.
     pub fn are_own(&self) -> bool
         ensures { result ≡ are_own self.now }
     {
@@ -595,7 +384,7 @@ impl Constructs {
         }
     }
 
-    /// The kind of the outermost.
+    /// Returns the kind of the outermost statement.
     #[tactic(auto, using(crate::proofs::Outermost::outermost_none, crate::proofs::Outermost::outermost_some))]
     fn outermost(&self) -> Option<Kind>
         ensures { result ≡ outermost self.now }
@@ -606,14 +395,14 @@ impl Constructs {
         }
     }
 
-    /// How many statements are open: the cases of a routine itself are none.
+    /// Returns the number of open statements: the cases of a routine itself are none.
     pub fn depth(&self) -> usize
         ensures { result ≡ depth self.now }
     {
         depth_by(self.outermost(), self.len())
     }
 
-    /// A case of the innermost begins, which is the default or not.
+    /// Begins a case of the innermost statement, which is the default or not.
     pub fn enter<B: Bounds>(
         &mut self,
         is_default: bool,
@@ -629,7 +418,7 @@ impl Constructs {
         Ok(())
     }
 
-    /// The innermost ends.
+    /// Ends the innermost statement.
     pub fn end<B: Bounds>(&mut self, out: &mut Output<B>) -> Result<(), AllocError>
         ensures { OnOk result ((self.new, out.new) ≡ ended B.most self.old out.old) }
     {
@@ -639,7 +428,7 @@ impl Constructs {
         close(&construct, out)
     }
 
-    /// So many end, the innermost first.
+    /// Ends the innermost `count` statements, the innermost first.
     pub fn end_all<B: Bounds>(
         &mut self,
         count: usize,
@@ -655,7 +444,7 @@ impl Constructs {
         Ok(())
     }
 
-    /// Where a branch goes where the condition of the innermost is not true.
+    /// Returns the label to which a branch goes where the condition of the innermost statement is not true.
     pub fn condition_label(&self) -> Option<Label>
         ensures { result ≡ condition_label self.now }
     {
@@ -665,7 +454,7 @@ impl Constructs {
         }
     }
 
-    /// Whether a case of the innermost would come behind its default, which is an error.
+    /// Returns whether a case of the innermost statement would follow its default, which is an error.
     pub fn is_late(&self) -> bool
         ensures { result ≡ is_late self.now }
     {
@@ -675,7 +464,7 @@ impl Constructs {
         }
     }
 
-    /// The label behind the open case of the innermost, if that is one of values.
+    /// Returns the label behind the open case of the innermost statement, if that is a case of values.
     pub fn next_case(&self) -> Option<Label>
         ensures { result ≡ next_case self.now }
     {
@@ -683,7 +472,8 @@ impl Constructs {
         next_case_in(construct.kind)
     }
 
-    /// Where `continue`, or `break`, goes: the innermost that there is.
+    /// Returns the label to which `continue` goes where `on` holds, otherwise that of `break`: the label of the innermost
+    /// statement that has one.
     pub fn left_to(&self, on: bool) -> Option<Label>
         ensures { result ≡ left_to on self.now }
     {

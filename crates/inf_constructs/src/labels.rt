@@ -9,19 +9,18 @@ use inf_opcode::Label;
 use std::alloc::{AllocError, Global};
 use std::marker::Model;
 
-/// What is known of a label.
+/// A label of a name, with the spelling of the name.
 #[derive(Debug, Drop)]
 pub struct Entry {
-    /// The name as it is spelled where it stands first.
+    /// The name as it is spelled at its first place in the source.
     spelling: ArrayVec<u8, MOST_NAME_BYTES>,
     label: Label,
-    /// Whether its place was given.
+    /// Tells whether the place of the label was given.
     is_given: bool,
 }
 
-/// The labels of a routine that have names, in the order in which these first stand in it, whether as the name of a place or of where a
-/// jump or a
-/// branch goes (Designer's Manual, fourth edition, section 1.12).
+/// The labels of a routine that have names, in the order in which these first appear in it, whether as the name of a place
+/// or as the goal of a jump or a branch (Designer's Manual, fourth edition, section 1.12).
 #[derive(Drop)]
 pub struct Labels {
     entries: IndexMap<ArrayVec<u8, MOST_NAME_BYTES>, Entry>,
@@ -37,7 +36,7 @@ impl Model for Labels {
     ghost view = { λ l. map as_named l.entries.entries };
 }
 
-/// A name of at most 32 bytes, without case.
+/// Returns a name of at most 32 bytes, without case.
 fn folded(name: &[u8]) -> ArrayVec<u8, MOST_NAME_BYTES>
     requires { length name.now ≤ 32 }
     ensures { result.items ≡ folded name.now }
@@ -49,7 +48,7 @@ fn folded(name: &[u8]) -> ArrayVec<u8, MOST_NAME_BYTES>
     key
 }
 
-/// A name of at most 32 bytes, as it is spelled.
+/// Returns a name of at most 32 bytes, as it is spelled.
 fn spelled(name: &[u8]) -> ArrayVec<u8, MOST_NAME_BYTES>
     requires { length name.now ≤ 32 }
     ensures { result.items ≡ name.now }
@@ -65,7 +64,7 @@ impl Labels {
     ghost use Rattle.inf_constructs.specs.Labels.{given, is_given, known_at, known_of, label_of, missing, missing_at, put, wanted};
     ghost use Rattle.inf_constructs.specs.Entries.{known};
 
-    /// None. It takes no memory until the first one comes.
+    /// Creates an empty list of labels. It takes no memory until the first one comes.
     pub fn new(alloc: Global) -> Labels
         ensures { result ≡ [] }
     {
@@ -74,14 +73,14 @@ impl Labels {
         }
     }
 
-    /// Forgets all: another routine begins.
+    /// Removes all labels: another routine begins.
     pub fn clear(&mut self)
         ensures { self.new ≡ [] }
     {
         self.entries.clear();
     }
 
-    /// What is known of the label of a name, in any case.
+    /// Returns the entry of a name, in any case, if it has one.
     fn entry(&self, name: &[u8]) -> Option<&Entry>
         requires { length name.now ≤ 32 }
         ensures { option_map (λ e. known e.now) result ≡ known_of (folded name.now) self.now }
@@ -90,7 +89,7 @@ impl Labels {
         self.entries.get(&key)
     }
 
-    /// Whether the place of the label of a name, in any case, was given.
+    /// Returns whether the place of the label of a name, in any case, was given.
     pub fn is_given(&self, name: &[u8]) -> bool
         requires { length name.now ≤ 32 }
         ensures { result ≡ is_given name.now self.now }
@@ -101,7 +100,8 @@ impl Labels {
         }
     }
 
-    /// A jump or a branch goes to the label of a name, in any case. Answers that label: this new one, where the name has none.
+    /// Uses the label of `name`, in any case, as the goal of a jump or a branch. Returns this label, which is `new` where
+    /// the name has none.
     pub fn want(&mut self, name: &[u8], new: Label) -> Result<Label, AllocError>
         requires { length name.now ≤ 32 }
         ensures label { IfOk result (λ label. label ≡ label_of name.now new self.old) }
@@ -114,7 +114,7 @@ impl Labels {
         Ok(new)
     }
 
-    /// The place of the label of a name, in any case, is given. Answers that label: this new one, where the name has none.
+    /// Gives the label of `name`, in any case, its place. Returns this label, which is `new` where the name has none.
     pub fn give(&mut self, name: &[u8], new: Label) -> Result<Label, AllocError>
         requires { length name.now ≤ 32 }
         ensures label { IfOk result (λ label. label ≡ label_of name.now new self.old) }
@@ -128,7 +128,7 @@ impl Labels {
         Ok(label)
     }
 
-    /// The label of a name, as it is spelled where it stands first, in its place or behind the others.
+    /// Puts the label of a name, with its spelling, in the place of its entry or behind the others.
     fn add(
         &mut self,
         name: &[u8],
@@ -151,7 +151,7 @@ impl Labels {
         Ok(())
     }
 
-    /// What is known of the label at a place among them.
+    /// Returns the entry at `place` among the labels, if there is one.
     fn entry_at(&self, place: usize) -> Option<&Entry>
         ensures { option_map (λ e. known e.now) result ≡ known_at place self.now }
     {
@@ -159,14 +159,14 @@ impl Labels {
         Some(entry)
     }
 
-    /// How many there are.
+    /// Returns the number of labels.
     fn len(&self) -> usize
         ensures { result ≡ length self.now }
     {
         self.entries.len()
     }
 
-    /// The name at a place among them, as it is spelled where it stands first, if its place is not given.
+    /// Returns the name at `place` among the labels, as it is first spelled, if its place is not given.
     fn missing_at(&self, place: usize) -> Option<&[u8]>
         ensures { option_map (λ name. name.now) result ≡ missing_at (known_at place self.now) }
     {
@@ -178,7 +178,7 @@ impl Labels {
         }
     }
 
-    /// The first label that is used and whose place is not given, as it is spelled where it stands first.
+    /// Returns the name of the first label that is used and whose place is not given, as it is first spelled.
     pub fn missing(&self) -> Option<&[u8]>
         ensures { option_map (λ name. name.now) result ≡ missing self.now }
     {

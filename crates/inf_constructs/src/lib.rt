@@ -5,5 +5,7 @@
 mod cases;
 pub mod constructs;
 pub mod labels;
+mod loops;
+mod questions;
 
 pub use cases::{SWITCHED, lay_case};

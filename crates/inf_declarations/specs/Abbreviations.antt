@@ -68,7 +68,8 @@ abbrev pub text_declared : Option ℕ → List TextItem → Code
 text_declared None items o = record o { texts = record o.texts { declared = o.texts.declared ++ items ∷ [] } }
 text_declared (Some number) items o = o
 
--- Its low string is added, which is packed without abbreviations. Where it would pass the limit it is not, and the limit is passed.
+-- The low string of an abbreviation is added, packed without abbreviations. Where it would pass the limit, it is not added, and the limit
+-- is passed.
 abbrev pub with_abbreviations : List ℕ → AllTables → AllTables
 with_abbreviations bytes tables = record tables { low_strings = with_abbreviation bytes tables.low_strings }
 
@@ -86,7 +87,7 @@ low_unless limits (Some number) items o = o
 abbrev pub abbreviation_added : Limits → Option ℕ → List TextItem → Code
 abbreviation_added limits number items o = low_unless limits number items (text_declared number items o)
 
--- what is wrong with a text is told of the text
+-- the finding about a text, at the text
 abbrev pub at_text : ℕ → Finding
 at_text number = record { order = 0; number = number }
 
@@ -114,7 +115,7 @@ abbreviate_header limits context first w = unit_ended limits context first false
 
 -- Low strings with names
 
--- a name with an error stands for 0
+-- a name whose declaration has an error stands for 0
 abbrev pub named_nothing : Limits → Name → Code
 named_nothing limits name o = declared limits name.bytes name.place (meaning.Number 0) o
 

@@ -30,15 +30,15 @@ use Rattle.inf_unit.specs.Messages.{Diagnostic}
 use Rattle.inf_compilation.specs.Context.{Context}
 use Rattle.inf_unit.specs.Tokens.{SourceToken}
 use Rattle.inf_unit.specs.Units.{bytes_at, name_order, order}
-use Rattle.inf_world.specs.declared.faults.AddFault.{AddFault}
-use Rattle.inf_world.specs.World.{WorldOf, attribute_fault, property_fault, with_attribute, with_property}
+use Rattle.inf_tables.specs.declared.faults.WorldFault.{WorldFault}
+use Rattle.inf_tables.specs.World.{WorldOf, attribute_fault, property_fault, with_attribute, with_property}
 use Rattle.inf_compilation.specs.Actions.{Compilation, finding_at, passed, settled_of, trees_at, unit_ended}
 use Rattle.inf_compilation.specs.Findings.{Again, Findings, again_by, again_finding, many_finding}
 use Rattle.inf_declarations.specs.declared.declarations.Declared.{Declared}
 
--- What is wrong with the name
+-- Findings about the name
 
--- why a name that stands already cannot be declared
+-- the reason why a name cannot be declared that is declared already, or is one of the language
 abbrev pub standing_fault : Found Place → Option (DeclareFault Place)
 standing_fault (found.System m) = Some (declaring.Present None)
 standing_fault (found.Declared m first) = Some (declaring.Present (Some first))
@@ -58,7 +58,7 @@ names_from tokens name (l ∷ leaves) found = names_from tokens name leaves (fou
 abbrev pub names_itself : List SourceToken → List ℕ → List Leaf → Bool
 names_itself tokens name leaves = names_from tokens name leaves false
 
--- One of these may not be declared behind a use of its name, and its own expression may not use it.
+-- Whether a declaration comes too late: its name may not be used before, and its own expression may not use it.
 abbrev pub is_late : Found Place → Bool → Bool
 is_late (found.System m) names_itself = false
 is_late (found.Declared m first) names_itself = false
@@ -82,20 +82,20 @@ name_known_by f name order are_many w = record {
 abbrev pub name_known : Name → ℕ → Bool → Compilation → Declared
 name_known name order are_many w = name_known_by (found_in name.bytes w.output.names) name order are_many w
 
--- with what is wrong with its expression
+-- the declaration of a name, as far as it is known, with the finding about its expression
 abbrev pub valued : Name → ℕ → Bool → Compilation → Declared
 valued name order are_many w =
     let d = name_known name order are_many w in
     record { found = d.found; finding = least_of_both d.finding (finding_at 0 wanted.Constant w) }
 
--- what is known of a name that may have been used before
+-- the declaration of a name that may have been used before, as far as it is known
 abbrev pub plainly_known_by : Found Place → Name → ℕ → Declared
 plainly_known_by f name order = record { found = f; finding = again_finding order (again_by name (standing_fault f)) }
 
 abbrev pub plainly_known : Name → ℕ → Compilation → Declared
 plainly_known name order w = plainly_known_by (found_in name.bytes w.output.names) name order
 
--- what is wrong with a declaration of a kind
+-- the findings about a declaration of a kind
 abbrev pub declared_findings : Name → FixedLimit → Declared → Findings
 declared_findings name kind d = record { least = d.finding; many = kind; again = again_by name (standing_fault d.found) }
 
@@ -139,7 +139,7 @@ abbrev pub alias_meaning : FixedLimit → Found Place → Option Meaning
 alias_meaning countable.Attributes f = attribute_found f
 alias_meaning _ f = property_found f
 
--- what a name of this kind stands for whose declaration has an error
+-- the meaning of a name of this kind whose declaration has an error
 abbrev pub nothing_of : FixedLimit → Meaning
 nothing_of countable.Attributes = meaning.Attribute 0
 nothing_of countable.Globals = meaning.Variable 16
@@ -167,7 +167,7 @@ alias_by limits m context first name at kind w =
           (alias_finding w.unit.tokens m);
     }) w
 
--- what the last name of the unit stands for, where that is one of this kind
+-- the meaning of the last name of the unit, where it is one of this kind
 abbrev pub last_meaning : FixedLimit → Compilation → Option Meaning
 last_meaning kind w = alias_meaning kind (found_in (bytes_at w.unit.tokens (length w.unit.tokens - 1)) w.output.names)
 
@@ -179,7 +179,7 @@ alias_told limits context first name at kind w = alias_by limits (last_meaning k
 abbrev pub with_world : WorldOf → Code
 with_world world o = record o { tables = record o.tables { world = world } }
 
-abbrev pub new_attribute_by : Option AddFault → Code
+abbrev pub new_attribute_by : Option WorldFault → Code
 new_attribute_by None o = with_world (with_attribute o.tables.world) o
 new_attribute_by (Some fault) o = o
 
@@ -189,7 +189,7 @@ new_attribute o = new_attribute_by (attribute_fault o.tables.world) o
 abbrev pub attribute_number : Out → ℕ
 attribute_number o = o.tables.world.attributes % 256
 
--- a name with an error stands for the first
+-- a name whose declaration has an error stands for the first attribute
 abbrev pub attribute_added : Limits → Option Finding → Name → Code
 attribute_added limits (Some f) name o = declared limits name.bytes name.place (meaning.Attribute 0) o
 attribute_added limits None name o = new_attribute (declared limits name.bytes name.place (meaning.Attribute (attribute_number o)) o)
@@ -227,7 +227,7 @@ value_of limits context w = value_in (map tree_in (trees_at 0 wanted.Constant (s
 
 -- Properties
 
-abbrev pub new_property_by : Option AddFault → Bool → Value → Code
+abbrev pub new_property_by : Option WorldFault → Bool → Value → Code
 new_property_by None is_additive v o = with_world (with_property is_additive v o.tables.world) o
 new_property_by (Some fault) is_additive v o = o
 

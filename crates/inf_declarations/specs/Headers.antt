@@ -22,7 +22,7 @@ abbrev pub known_number : List Tree → Option ℕ
 known_number ((Leaf (operand.Known number)) ∷ trees) = Some number
 known_number _ = None
 
--- what is wrong with it: also that it is not known
+-- the finding about a release: that about its expression, or else that its number is not known
 abbrev pub release_finding : Option ℕ → Option Finding → Option Finding
 release_finding None None = Some (no_constant 0)
 release_finding number found = found

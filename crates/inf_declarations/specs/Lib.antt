@@ -3,3 +3,4 @@ pub mod Defaults
 pub mod Switches
 pub mod Abbreviations
 pub mod Headers
+pub mod Arrays

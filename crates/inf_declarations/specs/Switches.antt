@@ -12,7 +12,7 @@ use Rattle.inf_compilation.specs.Context.{Context}
 use Rattle.inf_compilation.specs.Actions.{Compilation, letters_chosen, passed, unit_ended}
 use Rattle.inf_compilation.specs.Findings.{found_alone, nothing_found}
 
--- that it comes behind another unit, or has letters that are unknown, which is told of its first token
+-- the finding about the first token that the directive comes behind another unit, or has letters that are unknown
 abbrev pub misplaced : Finding
 misplaced = record { order = 0; number = 20 }
 
@@ -20,20 +20,20 @@ misplaced = record { order = 0; number = 20 }
 abbrev pub has_code : Routines → Bool
 has_code routines = nat_lt 0 (routine_count routines)
 
--- what letters say with more behind them: none is heard where code has begun, or one is unknown
+-- the choices of letters with more behind them: there are none where code has begun, or a letter is unknown
 abbrev pub letters_behind : Bool → List ℕ → Letters → Option Letters
 letters_behind is_late more letters = if is_late then None else with_letters more letters
 
--- They hold from now on, and from the next token on all sources are read by their character set.
+-- The letters' choices hold from now on, and from the next token on all sources are read by their character set.
 abbrev pub switched : Letters → Compilation → Compilation
 switched letters w = record (letters_chosen letters w) { asked = Characters (set_of letters) }
 
--- in error it changes nothing
+-- the end of the directive, which changes nothing where it has an error
 abbrev pub switches_by : Limits → Context → Place → Option Letters → Compilation → Compilation
 switches_by limits context first None w = unit_ended limits context first true (found_alone (Some misplaced)) w
 switches_by limits context first (Some letters) w = unit_ended limits context first true nothing_found (switched letters w)
 
--- Where the letters so far have it ignored it is not looked at.
+-- Where the letters so far have the directive ignored, it is not looked at.
 abbrev pub switches : Limits → Context → Place → List Name → Compilation → Compilation
 switches limits context first [] w = passed true w
 switches limits context first (name ∷ names) w =

@@ -30,11 +30,11 @@ use inf_settings::setting::Setting;
 use inf_text::{AbbrevFault, CharSet, Mode, Text, TextFault, pack, read_text};
 use std::alloc::{AllocError, Global};
 
-/// The most abbreviations: a story has three banks of 32, the first of which has the string variables (Z-Machine Standard 1.1,
-/// section 3.3).
+/// The greatest number of abbreviations: a story has three banks of 32, the first of which has the string variables
+/// (Z-Machine Standard 1.1, section 3.3).
 const MOST_ABBREVIATIONS: usize = 64;
 
-/// The characters of a text in a character set, or the number of the message about its first fault.
+/// Returns the characters of a text in a character set, or the number of the message about its first fault.
 fn read_numbered(
     alloc: Global,
     set: CharSet,
@@ -61,7 +61,7 @@ fn has_most_abbreviations<B: Bounds>(out: &Output<B>) -> bool
     out.tables.low_strings.abbreviation_places().len() >= MOST_ABBREVIATIONS
 }
 
-/// Declares a text as an abbreviation, unless it is refused: then it answers the number of the message.
+/// Declares a text as an abbreviation, or returns the number of the message where it is refused.
 fn declare_text<B: Bounds>(text: &Text, out: &mut Output<B>) -> Result<Option<u8>, AllocError>
     ensures number { IfOk result (λ number. number ≡ refused_number (declared_number out.old.texts.declared text.now)) }
     ensures declared { OnOk result (out.new
@@ -103,7 +103,7 @@ fn add_unless<B: Bounds>(
     }
 }
 
-/// One more abbreviation, with its low string. Where it is refused it answers the number of the message.
+/// Declares one more abbreviation and adds its low string. Where it is refused, returns the number of the message.
 fn add_abbreviation<B: Bounds>(
     alloc: Global,
     text: &Text,
@@ -123,7 +123,7 @@ fn add_abbreviation<B: Bounds>(
     Ok(refused)
 }
 
-/// Returns the findings about a text of `Abbreviate`: that with the message of `number`, if there is one.
+/// Returns the findings about a text of `Abbreviate`: the one with the message of `number`, if there is one.
 fn abbreviation_findings(number: Option<u8>) -> Findings
     ensures { found_as result ≡ abbreviation_findings number }
 {
@@ -171,8 +171,8 @@ fn abbreviate<B: Bounds>(
 
 /// Ends a text of `Abbreviate` before a token at `place`: declares it as an abbreviation, and adds its low string.
 ///
-/// One error is told, at the text: the first fault in it, that there are 64 abbreviations, or that a text was packed before, that this one
-/// is declared, or that it is shorter than two characters. Then nothing is declared.
+/// One error is told, at the text: the first fault in it, that there are 64 abbreviations, or that a text was packed
+/// before, that this one is declared, or that it is shorter than two characters. Then nothing is declared.
 pub fn abbreviation<B: Bounds>(
     compilation: &mut Compilation<B>,
     context: &Context<'_>,
@@ -190,7 +190,7 @@ pub fn abbreviation<B: Bounds>(
     abbreviate(compilation, context, first, text)
 }
 
-/// Ends the word `Abbreviate`, which stands at `first` and with which nothing can be wrong.
+/// Ends the word `Abbreviate` at `first`, with which nothing can be wrong.
 pub fn abbreviate_header<B: Bounds>(
     compilation: &mut Compilation<B>,
     context: &Context<'_>,
@@ -203,7 +203,7 @@ pub fn abbreviate_header<B: Bounds>(
 
 // Low strings
 
-/// Has `name` stand for 0.
+/// Declares `name` as 0.
 fn name_nothing<B: Bounds>(name: &Name, out: &mut Output<B>) -> Result<(), AllocError>
     ensures { OnOk result (out.new ≡ named_nothing B.most (as_name name.now) out.old) }
 {
@@ -211,7 +211,7 @@ fn name_nothing<B: Bounds>(name: &Name, out: &mut Output<B>) -> Result<(), Alloc
     Ok(())
 }
 
-/// Adds `text` as a low string, which is packed without abbreviations, and has `name` stand for it.
+/// Adds `text` as a low string, which is packed without abbreviations, and declares `name` as that.
 fn name_low<B: Bounds>(
     alloc: Global,
     name: &Name,
@@ -227,7 +227,7 @@ fn name_low<B: Bounds>(
     Ok(())
 }
 
-/// Has `name` stand for a new low string of `text`, or for 0 where a fault was found in the text.
+/// Declares `name` as a new low string of `text`, or as 0 where a fault was found in the text.
 fn name_text<B: Bounds>(
     alloc: Global,
     name: &Name,
@@ -242,7 +242,7 @@ fn name_text<B: Bounds>(
     }
 }
 
-/// Has `name` stand for a new low string of the unit's text, or for 0 where `found` is an error or the text has a fault.
+/// Declares `name` as a new low string of the unit's text, or as 0 where `found` is an error or the text has a fault.
 fn add_low_string<B: Bounds>(
     compilation: &mut Compilation<B>,
     context: &Context<'_>,
@@ -265,7 +265,8 @@ fn add_low_string<B: Bounds>(
     name_text(compilation.alloc, name, text, &mut compilation.output)
 }
 
-/// Ends a `Lowstring`, which begins at `first` and declares `name`, of which `declared` is known.
+/// Ends a `Lowstring`, which begins at `first` and declares `name`; `declared` is the declaration as far as it is
+/// known.
 fn end_low_string<B: Bounds>(
     compilation: &mut Compilation<B>,
     context: &Context<'_>,

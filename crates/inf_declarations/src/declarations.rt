@@ -1,4 +1,4 @@
-//! Directives that declare attributes, and what all declarations share.
+//! Directives that declare attributes, and the common parts of all declarations.
 ghost use Rattle.inf_compilation.specs.Context.{handed};
 ghost use Rattle.std.specs.Prelude.{IfOk, OnOk, map, option_map, ◌≡◌};
 ghost use Rattle.inf_expressions.specs.Forests.{trees_in as rooted_in};
@@ -34,17 +34,19 @@ use inf_unit::unit::order;
 use inf_unit::unit_tokens::UnitTokens;
 use std::alloc::AllocError;
 
-/// A declaration, as far as it is known: what looking for its name found, and the least of what is wrong with it.
+/// A declaration, as far as it is known: the answer of the look-up of its name, and the least of the findings about it.
 #[derive(Clone, Copy)]
 pub struct Declared {
     pub found: Found<Place>,
     pub finding: Option<Finding>,
 }
 
-/// The most attributes, declared properties and global variables (Z-Machine Standard 1.1, sections 12.3, 12.2 and 6.2).
+/// The greatest number of attributes (Z-Machine Standard 1.1, section 12.3). Those of properties and global variables
+/// are in sections 12.2 and 6.2.
 const MOST_ATTRIBUTES: usize = 48;
 
-/// Why a name that stands already cannot be declared, by what looking for it found.
+/// Returns the reason why a name cannot be declared that is declared already, or is one of the language, by `found`,
+/// the answer of its look-up.
 fn standing_fault(found: Found<Place>) -> Option<DeclareFault<Place>>
     ensures { result ≡ standing_fault found }
 {
@@ -65,7 +67,7 @@ fn is_name_at(tokens: &UnitTokens, name: &[u8], leaf: Leaf) -> bool
     }
 }
 
-/// Returns whether an expression names what its unit declares.
+/// Returns whether an expression has the name that its unit declares.
 fn names_itself(tokens: &UnitTokens, name: &[u8], leaves: &[Leaf]) -> bool
     ensures { result ≡ names_itself tokens.now name.now leaves.now }
 {
@@ -76,8 +78,8 @@ fn names_itself(tokens: &UnitTokens, name: &[u8], leaves: &[Leaf]) -> bool
     found
 }
 
-/// Tells whether a name was used before its declaration, by `found`, what looking for it found, or is used by the declaration, by
-/// `names_itself`.
+/// Returns whether a name was used before its declaration, by `found`, the answer of its look-up, or is used by the
+/// declaration, by `names_itself`.
 pub fn is_late(found: Found<Place>, names_itself: bool) -> bool
     ensures { result ≡ is_late found names_itself }
 {
@@ -88,7 +90,7 @@ pub fn is_late(found: Found<Place>, names_itself: bool) -> bool
     }
 }
 
-/// Returns the finding that the name with an order is used before its declaration.
+/// Returns the finding that a name, which has `order`, is used before its declaration, where `is_late`.
 fn late_finding(order: u32, is_late: bool) -> Option<Finding>
     ensures { result ≡ late_finding order is_late }
 {
@@ -102,8 +104,8 @@ fn late_finding(order: u32, is_late: bool) -> Option<Finding>
     }
 }
 
-/// Returns the finding about a declaration beside its expression: at `order`, that its name stands already or is late, or that `are_many`
-/// of its kind are declared.
+/// Returns the finding about a declaration beside its expression: at `order`, that its name is declared already or is
+/// late, or that `are_many` of its kind are declared.
 fn declared_finding(
     order: u32,
     again: &Option<Again>,
@@ -125,7 +127,8 @@ pub(crate) fn is_alias(names: &[Name], leaves: &[Leaf]) -> bool
     !names.is_empty() && leaves.is_empty()
 }
 
-/// Returns what a name of `kind` stands for that is another name of one, by `found`, what looking for that one found.
+/// Returns the meaning of a name of `kind` that is another name of one, by `found`, the answer of the look-up of that
+/// one.
 fn alias_meaning(kind: FixedLimit, found: Found<Place>) -> Option<Meaning>
     ensures { result ≡ alias_meaning kind found }
 {
@@ -163,7 +166,7 @@ fn alias_meaning(kind: FixedLimit, found: Found<Place>) -> Option<Meaning>
     }
 }
 
-/// Returns what a name of `kind` stands for whose declaration has an error.
+/// Returns the meaning of a name of `kind` whose declaration has an error.
 pub(crate) fn nothing_of(kind: FixedLimit) -> Meaning
     ensures { result ≡ nothing_of kind }
 {
@@ -177,7 +180,7 @@ pub(crate) fn nothing_of(kind: FixedLimit) -> Meaning
     }
 }
 
-/// Returns the finding that the last of these tokens names no attribute or property, unless it stands for something.
+/// Returns the finding that the last of these tokens names no attribute or property, unless it has a `meaning`.
 fn alias_finding(tokens: &UnitTokens, meaning: Option<Meaning>) -> Option<Finding>
     ensures { result ≡ alias_finding tokens.now meaning }
 {
@@ -187,7 +190,7 @@ fn alias_finding(tokens: &UnitTokens, meaning: Option<Meaning>) -> Option<Findin
     }
 }
 
-/// Returns what an alias stands for: `meaning`, or nothing of its `kind` where `found` is an error.
+/// Returns the meaning of an alias: `meaning`, or that of no name of its `kind` where `found` is an error.
 fn aliased(kind: FixedLimit, meaning: Option<Meaning>, found: Option<Finding>) -> Meaning
     ensures { result ≡ aliased kind meaning found }
 {
@@ -207,8 +210,8 @@ pub fn value_in(forest: &Forest) -> Value
     }
 }
 
-/// Looks for `name`, which is declared by a token of `order`. The finding is that it stands already; whether it was used before does not
-/// matter.
+/// Looks for `name`, which is declared by a token of `order`, and returns the declaration as far as it is known. The
+/// finding is that the name is declared already; whether it was used before does not matter.
 pub fn plainly_known<B: Bounds>(compilation: &Compilation<B>, name: &Name, order: u32) -> Declared
     ensures { result ≡ plainly_known (as_name name.now) order (work compilation.now) }
 {
@@ -231,8 +234,8 @@ fn declared_findings(name: &Name, kind: FixedLimit, declared: Declared) -> Findi
     }
 }
 
-/// Ends the header of a declaration, or a whole one, of `name` and `kind`, which begins at `first`. The error that `declared` shows is
-/// told.
+/// Ends the header of a declaration, or a whole one, of `name` and `kind`, which begins at `first`. The error that
+/// `declared` shows is told.
 pub fn end_declared<B: Bounds>(
     compilation: &mut Compilation<B>,
     context: &Context<'_>,
@@ -249,7 +252,7 @@ pub fn end_declared<B: Bounds>(
     compilation.end_unit(context, first, has_last, &found)
 }
 
-/// The end of a declaration that begins at a place: what is wrong with it is told.
+/// Ends a declaration of `name` and `kind`, which begins at `first`. The error that `declared` shows is told.
 pub(crate) fn end_declaration<B: Bounds>(
     compilation: &mut Compilation<B>,
     context: &Context<'_>,
@@ -337,7 +340,8 @@ fn one_attribute<B: Bounds>(
     end_attribute(compilation, context, first, name, declared)
 }
 
-/// Ends the declaration of `name` as an attribute, which begins at `first` and of which `declared` is known.
+/// Ends the declaration of `name` as an attribute, which begins at `first`; `declared` is the declaration as far as it
+/// is known.
 fn end_attribute<B: Bounds>(
     compilation: &mut Compilation<B>,
     context: &Context<'_>,
@@ -359,7 +363,7 @@ fn end_attribute<B: Bounds>(
     )
 }
 
-/// The number of the next attribute.
+/// Returns the number of the next attribute.
 fn attribute_number<B: Bounds>(compilation: &Compilation<B>) -> u8
     ensures { result ≡ attribute_number (work compilation.now).output }
 {
@@ -388,7 +392,7 @@ fn add_attribute<B: Bounds>(
     new_attribute(compilation)
 }
 
-/// One attribute more.
+/// Makes one attribute more.
 fn new_attribute<B: Bounds>(compilation: &mut Compilation<B>) -> Result<(), AllocError>
     ensures { let before = work compilation.old in OnOk result
         (work compilation.new ≡ record before { output = new_attribute before.output }) }
@@ -445,7 +449,7 @@ pub fn value<B: Bounds>(
     Ok(value_in(&forest))
 }
 
-/// Returns what the last name of the unit stands for, where that is of `kind`.
+/// Returns the meaning of the last name of the unit, where it is one of `kind`.
 fn last_meaning<B: Bounds>(compilation: &Compilation<B>, kind: FixedLimit) -> Option<Meaning>
     ensures { result ≡ last_meaning kind (work compilation.now) }
 {
@@ -454,7 +458,7 @@ fn last_meaning<B: Bounds>(compilation: &Compilation<B>, kind: FixedLimit) -> Op
     alias_meaning(kind, compilation.output.names.look(other))
 }
 
-/// Declares a name as another one for what the last name of the unit stands for.
+/// Declares a name as another one for the meaning of the last name of the unit.
 pub(crate) fn alias<B: Bounds>(
     compilation: &mut Compilation<B>,
     context: &Context<'_>,

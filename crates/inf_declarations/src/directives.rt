@@ -40,7 +40,7 @@ use inf_unit::messages::location;
 use inf_unit::unit_tokens::UnitTokens;
 use std::alloc::AllocError;
 
-/// The most locals of a routine that `Stub` makes (Designer's Manual, fourth edition, section 25).
+/// The greatest number of locals of a routine that `Stub` makes (Designer's Manual, fourth edition, section 25).
 const MOST_STUB_LOCALS: u16 = 4;
 
 /// Keeps the first of these names as that of a routine that is to be replaced, and uses it.
@@ -61,7 +61,7 @@ pub fn replace<B: Bounds>(
     compilation.end_unit(context, first, true, &Findings::none())
 }
 
-/// A name is that of a routine that is to be replaced, and is used.
+/// Notes a name as that of a routine that is to be replaced, and uses it.
 fn keep_replaced<B: Bounds>(compilation: &mut Compilation<B>, name: &Name) -> Result<(), AllocError>
     ensures { let before = work compilation.old in OnOk result (work compilation.new ≡ record before {
       output = referred B.most (as_name name.now).bytes name.now.place before.output;
@@ -108,7 +108,8 @@ fn new_stub<B: Bounds>(
     stub_routine(compilation, context, first)
 }
 
-/// The routine of a `Stub`, whose name is declared.
+/// Makes the routine of a `Stub`, whose name is declared, and ends the directive. It is an error that there are too
+/// many locals.
 fn stub_routine<B: Bounds>(
     compilation: &mut Compilation<B>,
     context: &Context<'_>,
@@ -155,7 +156,7 @@ fn is_first_declared<B: Bounds>(compilation: &Compilation<B>, names: &[Name]) ->
     }
 }
 
-/// Declares the first of these names as a constant, with what its expression is, or 0.
+/// Declares the first of these names as a constant, with the meaning of its expression, or as 0.
 pub fn constant<B: Bounds>(
     compilation: &mut Compilation<B>,
     context: &Context<'_>,
@@ -182,7 +183,7 @@ pub fn constant<B: Bounds>(
     declare_constant(compilation, context, first, name, meaning, found)
 }
 
-/// Returns the request that the file is read whose name is the text of the unit, for a directive that begins at `unit`.
+/// Returns the request to read the file whose name is the text of the unit, for a directive that begins at `unit`.
 pub fn inclusion<B: Bounds>(
     compilation: &Compilation<B>,
     unit: Place,
@@ -216,8 +217,8 @@ pub fn message<B: Bounds>(
         .words(location(context.files, first), weight_of(names), words)
 }
 
-/// Returns what a constant stands for, by the tree of its expression in `forest`: a known number, 0 where it has none, a string, a word, or
-/// what a name stands for that was declared before.
+/// Returns the meaning of a constant, by the tree of its expression in `forest`: a known number, 0 where it has none, a
+/// string, a word, or the meaning of a name that was declared before.
 fn constant_of<B: Bounds>(compilation: &Compilation<B>, forest: &Forest) -> Option<Meaning>
     ensures { result ≡ constant_of (map tree_in (rooted_in forest.now)) (work compilation.now) }
 {
@@ -230,8 +231,8 @@ fn constant_of<B: Bounds>(compilation: &Compilation<B>, forest: &Forest) -> Opti
     }
 }
 
-/// Returns what a constant stands for whose expression is one leaf: a text is the next string, and a word of the dictionary stands for
-/// itself.
+/// Returns the meaning of a constant whose expression is one leaf: a text is the next string, and a word of the
+/// dictionary is itself.
 fn leaf_constant<B: Bounds>(compilation: &Compilation<B>) -> Option<Meaning>
     ensures { let w = work compilation.now in result ≡ leaf_meaning w.unit.gathering.leaves w }
 {
@@ -242,7 +243,7 @@ fn leaf_constant<B: Bounds>(compilation: &Compilation<B>) -> Option<Meaning>
     }
 }
 
-/// Returns what a constant stands for whose expression is one name, where that was declared before.
+/// Returns the meaning of a constant whose expression is one name, where that was declared before.
 fn named_constant<B: Bounds>(compilation: &Compilation<B>) -> Option<Meaning>
     ensures { let w = work compilation.now in
         result ≡ declared_meaning (found_in (named_leaf w.unit.tokens w.unit.gathering.leaves) w.output.names) }
@@ -257,7 +258,7 @@ fn named_constant<B: Bounds>(compilation: &Compilation<B>) -> Option<Meaning>
     }
 }
 
-/// Declares a name as a constant with what it stands for, if that is known, and tells the first error of its directive.
+/// Declares a name as a constant with its meaning, if that is known, and tells the first error of its directive.
 fn declare_constant<B: Bounds>(
     compilation: &mut Compilation<B>,
     context: &Context<'_>,
@@ -277,7 +278,8 @@ fn declare_constant<B: Bounds>(
     end_constant(compilation, context, first, name, refused, finding)
 }
 
-/// The end of the directive of a constant, whose name was refused or not.
+/// Ends the directive of a constant, whose name was refused or not. The text or the word of its expression is added
+/// where it has no error.
 fn end_constant<B: Bounds>(
     compilation: &mut Compilation<B>,
     context: &Context<'_>,
@@ -297,7 +299,8 @@ fn end_constant<B: Bounds>(
     compilation.end_unit(context, first, true, &found)
 }
 
-/// Returns the findings about a constant: that its name, at `order`, stands already by `again`, or `finding`, that about its expression.
+/// Returns the findings about a constant: that its name, at `order`, is declared already by `again`, or `finding`, that
+/// about its expression.
 fn constant_findings(order: u32, again: Option<Again>, finding: Option<Finding>) -> Findings
     ensures { found_as result ≡ constant_findings order (option_map again_as again) finding }
 {
@@ -327,7 +330,7 @@ pub(crate) fn add_leaf<B: Bounds>(
     )
 }
 
-/// Returns whether a name is declared, by what looking for it found.
+/// Returns whether a name is declared, by the answer of its look-up.
 fn is_declared(found: Found<Place>) -> bool
     ensures { result ≡ is_declared found }
 {
@@ -337,7 +340,7 @@ fn is_declared(found: Found<Place>) -> bool
     }
 }
 
-/// The name that is the first leaf of a unit with these tokens; an empty one where it is none.
+/// Returns the name that is the first leaf of a unit with these tokens; an empty one where that leaf is no name.
 fn named_leaf<'t>(tokens: &'t UnitTokens, leaves: &[Leaf]) -> &'t [u8]
     ensures value { result.now ≡ named_leaf tokens.now leaves.now }
     ensures few { length result.now ≤ 32 }
@@ -348,8 +351,8 @@ fn named_leaf<'t>(tokens: &'t UnitTokens, leaves: &[Leaf]) -> &'t [u8]
     }
 }
 
-/// Returns what a constant stands for that has the value of a name with `meaning`: a constant with the address of a routine is no routine
-/// itself.
+/// Returns the meaning of a constant that has the value of a name with `meaning`: a constant with the address of a
+/// routine is no routine itself.
 fn as_constant(meaning: Meaning) -> Meaning
     ensures { result ≡ as_constant meaning }
 {
@@ -359,7 +362,7 @@ fn as_constant(meaning: Meaning) -> Meaning
     }
 }
 
-/// Returns the finding about a constant's expression: `found`, or else that there is no `meaning` for which it stands.
+/// Returns the finding about a constant's expression: `found`, or else that it has no `meaning`.
 fn constant_finding(meaning: Option<Meaning>, found: Option<Finding>) -> Option<Finding>
     ensures { result ≡ constant_finding meaning found }
 {
@@ -369,7 +372,7 @@ fn constant_finding(meaning: Option<Meaning>, found: Option<Finding>) -> Option<
     }
 }
 
-/// Returns what a constant stands for: `meaning`, or 0 where `found` is an error.
+/// Returns the meaning of a constant: `meaning`, or 0 where `found` is an error.
 fn constant_meaning(meaning: Option<Meaning>, found: Option<Finding>) -> Meaning
     ensures { result ≡ constant_meaning meaning found }
 {
@@ -379,7 +382,7 @@ fn constant_meaning(meaning: Option<Meaning>, found: Option<Finding>) -> Meaning
     }
 }
 
-/// Returns the number of locals that a `Stub` gives its routine: that which is the last of `tokens`.
+/// Returns the number of locals that a `Stub` gives its routine: the last of `tokens`.
 fn stub_locals(tokens: &UnitTokens) -> u16
     ensures { result ≡ stub_locals tokens.now }
 {

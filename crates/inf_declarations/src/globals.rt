@@ -63,7 +63,8 @@ fn one_global<B: Bounds>(
     end_global(compilation, context, first, name, declared)
 }
 
-/// Ends the declaration of `name` as a global variable, which begins at `first` and of which `declared` is known.
+/// Ends the declaration of `name` as a global variable, which begins at `first`; `declared` is the declaration as far
+/// as it is known.
 fn end_global<B: Bounds>(
     compilation: &mut Compilation<B>,
     context: &Context<'_>,
@@ -110,7 +111,7 @@ fn add_global<B: Bounds>(
     new_global(compilation, value)
 }
 
-/// One variable more.
+/// Makes one variable more, unless there are as many as there may be.
 fn new_global<B: Bounds>(compilation: &mut Compilation<B>, value: Value) -> Result<(), AllocError>
     ensures { let before = work compilation.old in OnOk result
         (work compilation.new ≡ record before { output = new_global value before.output }) }

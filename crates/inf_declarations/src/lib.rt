@@ -1,7 +1,9 @@
-//! Directives that are one unit: what they declare.
+//! Directives that are one unit, and their declarations.
+//! The directive `Array`: its header and its entries.
 #![tactic(auto)]
 
 pub mod abbreviations;
+pub mod arrays;
 pub mod declarations;
 pub mod directives;
 pub mod globals;

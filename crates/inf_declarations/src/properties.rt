@@ -24,7 +24,7 @@ use std::alloc::AllocError;
 
 const MOST_PROPERTIES: usize = 60;
 
-/// The number of the first declared property, and of the first global variable.
+/// The number of the first declared property.
 const FIRST_PROPERTY: usize = 4;
 
 /// Returns whether a name is the word `additive`.
@@ -44,7 +44,7 @@ pub(crate) fn is_additive(names: &[Name]) -> bool
     }
 }
 
-/// The names of a property without the word `additive` before them.
+/// Returns the names of a property without the word `additive` before them.
 fn property_names(names: &[Name]) -> &[Name]
     ensures { map as_name result.now ≡ property_names (map as_name names.now) }
 {
@@ -54,7 +54,7 @@ fn property_names(names: &[Name]) -> &[Name]
     }
 }
 
-/// The order of the name of a property, which stands behind `additive` or not.
+/// Returns the order of the name of a property, behind `additive` or not.
 fn property_order(tokens: &UnitTokens, is_additive: bool) -> u32
     ensures { result ≡ property_order tokens.now is_additive }
 {
@@ -65,7 +65,7 @@ fn property_order(tokens: &UnitTokens, is_additive: bool) -> u32
     }
 }
 
-/// Declares the first of these names as a property, or as another name of one. The word `additive` may stand before it.
+/// Declares the first of these names as a property, or as another name of one. The word `additive` may come before it.
 pub fn property<B: Bounds>(
     compilation: &mut Compilation<B>,
     context: &Context<'_>,
@@ -136,8 +136,8 @@ fn one_property<B: Bounds>(
     end_property(compilation, context, first, is_additive, name, declared)
 }
 
-/// Ends the declaration of `name` as a property, which begins at `first` and of which `declared` is known. The property is additive if
-/// `is_additive`.
+/// Ends the declaration of `name` as a property, which begins at `first`; `declared` is the declaration as far as it is
+/// known. The property is additive if `is_additive`.
 fn end_property<B: Bounds>(
     compilation: &mut Compilation<B>,
     context: &Context<'_>,
@@ -160,7 +160,7 @@ fn end_property<B: Bounds>(
     )
 }
 
-/// The number of the next property.
+/// Returns the number of the next property.
 fn property_number<B: Bounds>(compilation: &Compilation<B>) -> u8
     ensures { result ≡ property_number (work compilation.now).output }
 {
@@ -194,7 +194,7 @@ fn add_property<B: Bounds>(
     new_property(compilation, is_additive, value)
 }
 
-/// One property more, with what an object without it answers.
+/// Makes one property more, with the value that an object without it answers.
 fn new_property<B: Bounds>(
     compilation: &mut Compilation<B>,
     is_additive: bool,

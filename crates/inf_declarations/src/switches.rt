@@ -16,10 +16,12 @@ use inf_settings::bounds::Bounds;
 use inf_unit::directives::Request;
 use std::alloc::AllocError;
 
-/// Has the letters hold that the first of `names` has, behind those that were said before, unless these have it ignored.
+/// Chooses by the letters of the first of `names`, behind those that came before, unless these have the directive
+/// ignored.
 ///
-/// Letters behind the beginning of code, and a letter that is unknown, are errors, told at the place `first` where the directive begins;
-/// then nothing changes. Else all sources are read by the character set of the letters, which is asked of the reading.
+/// Letters behind the beginning of code, and a letter that is unknown, are errors, told at the place `first` where the
+/// directive begins; then nothing changes. Else all sources are read by the character set of the letters, which is
+/// asked of the reading.
 pub fn switches<B: Bounds>(
     compilation: &mut Compilation<B>,
     context: &Context<'_>,
@@ -40,7 +42,8 @@ pub fn switches<B: Bounds>(
     switch(compilation, context, first, letters)
 }
 
-/// Returns the letters so far with `more` behind them. There are none where code has begun or a letter of `more` is unknown.
+/// Returns the choices of the letters so far with `more` behind them. There are none where code has begun or a letter
+/// of `more` is unknown.
 fn letters_behind<B: Bounds>(compilation: &Compilation<B>, more: &[u8]) -> Option<Letters>
     ensures { let before = work compilation.now in
         result ≡ letters_behind (has_code before.output.code) more.now before.letters }
@@ -51,7 +54,8 @@ fn letters_behind<B: Bounds>(compilation: &Compilation<B>, more: &[u8]) -> Optio
     compilation.letters.and(more)
 }
 
-/// Ends the directive, which begins at `first`, with the letters that hold from now on, or an error where there are none.
+/// Ends the directive, which begins at `first`, with the choices that hold from now on, or an error where there are
+/// none.
 fn switch<B: Bounds>(
     compilation: &mut Compilation<B>,
     context: &Context<'_>,
@@ -68,7 +72,7 @@ fn switch<B: Bounds>(
     compilation.end_unit(context, first, true, &Findings::none())
 }
 
-/// Has `letters` hold from now on, and asks the reading for their character set.
+/// Makes `letters` the choices from now on, and asks the reading for their character set.
 fn choose<B: Bounds>(compilation: &mut Compilation<B>, letters: Letters)
     ensures { work compilation.new ≡ switched letters (work compilation.old) }
 {

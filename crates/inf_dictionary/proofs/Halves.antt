@@ -23,7 +23,7 @@ itself Less e = absurd (cc e)
 itself Equal e = refl
 itself Greater e = absurd (cc e)
 
--- what a step comes to, by how the text compares to the one half way
+-- the result of a step, by how the text compares to the one half way
 step_is : (steps : ℕ) (bytes : List ℕ) (text half : Text) (first end : ℕ) (o : Ordering) → first < end →
     text_written bytes (half_way first end) ≡ half
     → order text half ≡ o → found_by_halves (suc steps) bytes text first end

@@ -1,4 +1,4 @@
--- What is known of a word behind some uses is what those of this word say.
+-- Uses of other words leave the facts known of a word as they are.
 use Rattle.std.proofs.Common.{◌≡◌, ◌∷◌, ◌∙◌, List, [], Bool, true, false, cond, refl, ap, sym, Ordering, Less, Equal, Greater, Option, Some}
 use Rattle.std.specs.Ordering.{is_eq, match_ordering}
 use Rattle.std.specs.Cmp.{IsTotalOrder}
@@ -29,7 +29,7 @@ once : {A : Type 0} → (b : Bool) → (x y z : A) → cond b x z ≡ cond b x (
 once true x y z = refl
 once false x y z = refl
 
--- one more word: it is known by its text, and every other one as before
+-- adding a word makes it known by its text, and leaves every other one as it was
 known_with : IsTotalOrder order → (text : Text) (word : Word) (other : Text) (words : List (Text × Word))
     → lookup (is_at (order other)) (insert_entry order words text word)
     ≡ cond (is_eq (order other text)) (Some word) (lookup (is_at (order other)) words)
@@ -53,7 +53,7 @@ known_with total text word other (e ∷ words) = go (order text e.0) refl (known
       (λ a b. let same : order other e.0 ≡ order text e.0 = total.congr other text e.0 (is_equal (order other text) b) in
       absurd (cc (sym (is_equal (order other e.0) a) ∙ same ∙ h)))
 
--- one use more
+-- a further use says of a word what `said_by` has, and of every other one nothing
 said_with : (text other : Text) (how : WordUse) (is_plural : Bool) (words : Words) (b : Bool) → is_eq (order other text) ≡ b
     → cond b (Some (joined (word_of text words.list) how is_plural)) (word_of other words.list)
     ≡ cond b (Some (joined (word_of other words.list) how is_plural)) (word_of other words.list)

@@ -24,7 +24,7 @@ not_below Less e = absurd (cc e)
 not_below Equal e = refl
 not_below Greater e = refl
 
--- what stands before a text that is below another is below it, too
+-- a text before one that is below another is below that, too
 pub parted : IsTotalOrder order → (text : Text) (texts : List Text) → AreRising texts → IsPartitionedBy (λ other. is_below other text) texts
 parted total text [] rising i j d le lt below = absurd (omega (arith, lt))
 parted total text (first ∷ texts) rising zero zero d le lt below = below

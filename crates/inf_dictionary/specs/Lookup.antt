@@ -13,7 +13,7 @@ text_written bytes place = take 6 (drop (7 + 9 * place) bytes)
 abbrev pub half_way : ℕ → ℕ → ℕ
 half_way first end = first + (end - first) / 2
 
--- where a text stands among the entries from a place on and before another, in at most so many steps
+-- the place of a text among the entries from `first` on and before `end`, where at most the given number of steps finds it
 abbrev pub found_by_halves : ℕ → List ℕ → Text → ℕ → ℕ → Option ℕ
 found_by_halves zero bytes text first end = None
 found_by_halves (suc steps) bytes text first end =

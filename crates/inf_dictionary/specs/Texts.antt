@@ -10,7 +10,7 @@ use Rattle.inf_dictionary.specs.declared.uses.Word.{Word}
 abbrev pub Text : Type 0
 Text = List ℕ
 
--- the texts of words
+-- the texts of some words
 abbrev pub texts_of : List (Text × Word) → List Text
 texts_of words = keys_of words
 
@@ -18,15 +18,15 @@ texts_of words = keys_of words
 abbrev pub AreRising : List Text → Type 0
 AreRising texts = IsStrictlySortedBy (slice_cmp nat_cmp) texts
 
--- each has six bytes
+-- each text has six bytes
 abbrev pub AreWhole : List Text → Type 0
 AreWhole texts = AllByRecursion (λ text. length text ≡ 6) texts
 
--- where they first differ the byte of the first is lower
+-- Tells whether `text` is below `other`: its byte is lower where they first differ.
 abbrev pub is_below : Text → Text → Bool
 is_below text other = is_lt (slice_cmp nat_cmp text other)
 
--- how many of some texts are below one
+-- the number of texts that are below `text`
 abbrev pub rank_of : Text → List Text → ℕ
 rank_of text [] = 0
 rank_of text (other ∷ texts) = if is_below other text then rank_of text texts + 1 else rank_of text texts

@@ -18,7 +18,7 @@ use Rattle.inf_dictionary.specs.Texts.{Text}
 pub record Words : Type 0 where
   pub list : List (Text × Word)
 
--- what is known of the word with a text
+-- the facts known of the word with a text
 abbrev pub word_of : Text → List (Text × Word) → Option Word
 word_of text words = lookup (is_at (slice_cmp nat_cmp text)) words
 
@@ -26,7 +26,7 @@ abbrev pub verb_in_word : Option Word → Option ℕ
 verb_in_word None = None
 verb_in_word (Some word) = word.verb
 
--- the verb that it is a word of
+-- the verb that the text is a word of
 abbrev pub verb_of : Text → List (Text × Word) → Option ℕ
 verb_of text words = verb_in_word (word_of text words)
 
@@ -61,31 +61,32 @@ are_other (Some old) (Some new) = not (old == new)
 are_other (Some old) None = false
 are_other None new = false
 
--- whether a word of a verb would become one of another verb
+-- Tells whether a word of a verb would become one of another verb.
 abbrev pub is_of_other_verb : Option Word → WordUse → Bool
 is_of_other_verb word how = are_other (verb_in_word word) (verb_in how)
 
--- why a use cannot be added of a word of which this is known: the word is one of another verb's, or it is new and there are as many
--- as there may be
+-- the reason why a use cannot be added of a word, of which `word` is known: the word is one of another verb, or it is new and there are
+-- as many words as there may be
 abbrev pub add_fault : Limits → Option Word → WordUse → Words → Option AddFault
 add_fault limits word how words =
     if is_of_other_verb word how then Some fault.OtherVerb
     else if is_none word && nat_le (limits setting.DictionaryEntries) (length words.list) then Some fault.Full else None
 
--- whether a text cannot become that of a word of a new verb, where some stand before: the word is one of a verb's, or is among these
+-- Tells whether a text cannot become a word of a new verb behind the texts of `before`: it is a word of a verb already, or is among
+-- these.
 unfoldable pub is_misfit : List (Text × Word) → List (Text × Unit {0}) → Text → Bool
 is_misfit words before text = is_some (verb_of text words) || is_some (lookup (is_at (slice_cmp nat_cmp text)) before)
 
--- the place of the first such one
+-- the place of the first text that cannot become a word of a new verb
 abbrev pub first_misfit : List (Text × Word) → ℕ → List (Text × Unit {0}) → List Text → Option ℕ
 first_misfit words place before [] = None
 first_misfit words place before (text ∷ texts) =
     if is_misfit words before text then Some place else first_misfit words (place + 1) (insert_entry (slice_cmp nat_cmp) before text tt)
     texts
 
--- As it is written (Z-Machine Standard 1.1, section 13.2 to 13.4; Inform Technical Manual, section 8.5).
+-- The dictionary as it is written (Z-Machine Standard 1.1, section 13.2 to 13.4; Inform Technical Manual, section 8.5).
 
--- how a word tells its verb
+-- the byte that an entry has for its verb
 abbrev pub verb_byte_of : Option ℕ → ℕ
 verb_byte_of None = 0
 verb_byte_of (Some number) = 255 - number
@@ -93,7 +94,7 @@ verb_byte_of (Some number) = 255 - number
 abbrev pub verb_byte : Word → ℕ
 verb_byte word = verb_byte_of word.verb
 
--- the text, the flags, the verb, and a byte that is not used
+-- the bytes of an entry: the text, the flags, the verb, and a byte that is not used
 abbrev pub entry_bytes : Text × Word → List ℕ
 entry_bytes (text, word) = text ++ word.flags ∷ verb_byte word ∷ 0 ∷ []
 
@@ -101,6 +102,6 @@ abbrev pub entries_bytes : List (Text × Word) → List ℕ
 entries_bytes [] = []
 entries_bytes (entry ∷ words) = entry_bytes entry ++ entries_bytes words
 
--- three separators, `.` `,` and the quote, the length of an entry, how many there are, and the entries
+-- the bytes of a dictionary: three separators, `.` `,` and the quote, the length of an entry, the number of entries, and the entries
 abbrev pub dictionary_bytes : List (Text × Word) → List ℕ
 dictionary_bytes words = (3 ∷ 46 ∷ 44 ∷ 34 ∷ 9 ∷ length words / 256 % 256 ∷ length words % 256 ∷ []) ++ entries_bytes words

@@ -13,10 +13,10 @@ use std::alloc::{AllocError, AllocFailed, Global};
 use std::collections::BTreeMap;
 use std::marker::{Model, PhantomData};
 
-/// Why a use of a word was not added.
+/// The reason why a use of a word was not added.
 #[derive(Clone, Copy, Debug, PartialEq, Eq)]
 pub enum AddFault {
-    /// The word is one of another verb's.
+    /// The word is one of another verb.
     OtherVerb,
     /// There are as many words as there may be.
     Full,
@@ -32,7 +32,7 @@ impl<T: Drop> From<AllocFailed<T>> for AddFault {
     }
 }
 
-/// The words that were used so far, and how many there may be.
+/// The words that were used so far, and the most that there may be.
 #[derive(Drop)]
 pub struct Dictionary<B: Bounds> {
     words: BTreeMap<[u8; 6], Word>,
@@ -63,7 +63,8 @@ fn add_entry(bytes: &mut Vec<u8>, text: &[u8; 6], word: Word) -> Result<(), Allo
 }
 
 impl<B: Bounds> Dictionary<B> {
-    /// No words, of which there may be so many. It takes no memory until the first one comes.
+    /// Returns a dictionary without words, which takes `limit` words at most. It takes no memory until the first one
+    /// comes.
     pub fn new(alloc: Global, limit: usize) -> Dictionary<B>
         requires { limit ≡ B.most setting.DictionaryEntries }
         ensures { result ≡ record { list = [] } }
@@ -75,7 +76,7 @@ impl<B: Bounds> Dictionary<B> {
         }
     }
 
-    /// How many words there are, which is never more than there may be.
+    /// Returns the number of words, which is never more than there may be.
     pub fn len(&self) -> usize
         ensures value { result ≡ length self.now.list }
         ensures limited { result ≤ B.most setting.DictionaryEntries }
@@ -83,24 +84,25 @@ impl<B: Bounds> Dictionary<B> {
         self.words.len()
     }
 
-    /// What is known of the word with this text, if it was used.
+    /// Returns the facts known of the word with `text`, if it was used.
     pub fn word(&self, text: &[u8; 6]) -> Option<Word>
         ensures { result ≡ word_of text.now self.now.list }
     {
         self.words.get(text).copied()
     }
 
-    /// The number of the verb that the word with this text is a word of, if it is one of a verb's.
+    /// Returns the number of the verb that `text` is a word of, if it is one of a verb.
     pub fn verb_of(&self, text: &[u8; 6]) -> Option<u8>
         ensures { result ≡ verb_of text.now self.now.list }
     {
         self.word(text)?.verb
     }
 
-    /// A use of the word with this text, which joins what it says of the word to what other uses say.
+    /// Adds a use of the word with `text`, and joins the facts that it says to those of other uses.
     ///
-    /// Refuses first a word of a verb that is one of another verb's, then a new one where there are as many words as there may be,
-    /// then where no memory is left. The words then stay as they were.
+    /// Returns an error, the first that applies: `OtherVerb` where a word of a verb would become one of another, `Full`
+    /// where the word is new and there are as many words as there may be, `Memory` where no memory is left. The words
+    /// then stay as they were.
     pub fn add(&mut self, text: [u8; 6], word_use: WordUse, is_plural: bool) -> Result<(), AddFault>
         ensures ok { OnOk result (self.new ≡ with_use text word_use is_plural self.old) }
         ensures err { OnErr result (self.new ≡ self.old) }
@@ -116,7 +118,7 @@ impl<B: Bounds> Dictionary<B> {
         Ok(())
     }
 
-    // Why a use of a word of which this is known cannot be added, whatever memory there is.
+    // Returns the reason why a use cannot be added of a word, of which `before` is known, whatever memory there is.
     fn add_fault(&self, before: Option<Word>, word_use: WordUse) -> Option<AddFault>
         ensures value { result ≡ add_fault B.most before word_use self.now }
         ensures room { IfNone result (IsNone before → length self.now.list < B.most setting.DictionaryEntries) }
@@ -130,7 +132,7 @@ impl<B: Bounds> Dictionary<B> {
         None
     }
 
-    // What holds of the words at every moment.
+    // Shows that the texts of the words rise and have six bytes each, at every moment.
     pub(crate) fn is_in_order(&self)
         ensures rising { AreRising (texts_of self.now.list) }
         ensures whole { AreWhole (texts_of self.now.list) }
@@ -138,8 +140,8 @@ impl<B: Bounds> Dictionary<B> {
         let _words = &self.words;
     }
 
-    /// The place among some texts of the first that cannot become a word of a new verb: the word is one of a verb's already, or its
-    /// text stands before among these. There is none where all can.
+    /// Returns the place of the first of `texts` that cannot become a word of a new verb: it is a word of a verb
+    /// already, or it repeats one before it. Returns `None` where all can.
     pub fn first_misfit(
         &self,
         alloc: Global,
@@ -159,7 +161,7 @@ impl<B: Bounds> Dictionary<B> {
         Ok(None)
     }
 
-    // Whether a text cannot become that of a word of a new verb, behind some others.
+    // Returns whether `text` cannot become a word of a new verb, behind the texts in `before`.
     #[tactic(auto, unfolding(crate::specs::Words::is_misfit))]
     fn is_misfit(&self, before: &BTreeMap<[u8; 6], ()>, text: &[u8; 6]) -> bool
         ensures { result ≡ is_misfit self.now.list before.now.entries text.now }
@@ -167,8 +169,8 @@ impl<B: Bounds> Dictionary<B> {
         self.verb_of(text).is_some() || before.contains_key(text)
     }
 
-    /// Puts the dictionary behind an area: how texts are parted into words, the length of an entry, how many words there are, modulo
-    /// 65536, and the entries in rising order of their texts. Where no memory is left the area stays as it was.
+    /// Appends the dictionary to `area`: how texts are parted into words, the length of an entry, the number of words,
+    /// modulo 65536, and the entries in rising order of their texts. Where no memory is left, `area` stays as it was.
     pub fn write<A: Area>(&self, alloc: Global, area: &mut A) -> Result<(), AllocError>
         ensures ok { OnOk result (A.bytes area.new ≡ A.bytes area.old ++ dictionary_bytes self.now.list) }
         ensures err { OnErr result (A.bytes area.new ≡ A.bytes area.old) }
@@ -176,7 +178,7 @@ impl<B: Bounds> Dictionary<B> {
         area.append(&self.bytes(alloc)?)
     }
 
-    /// The bytes of the dictionary.
+    /// Returns the bytes of the dictionary.
     fn bytes(&self, alloc: Global) -> Result<Vec<u8>, AllocError>
         ensures { IfOk result (λ bytes. bytes.items ≡ dictionary_bytes self.now.list) }
     {
@@ -190,7 +192,7 @@ impl<B: Bounds> Dictionary<B> {
         Ok(bytes)
     }
 
-    /// Where each word stands in the dictionary as it is now.
+    /// Returns the places of the words in the dictionary as it is now.
     pub fn places(&self, alloc: Global) -> Result<Places, AllocError>
         ensures { IfOk result (λ places. places ≡ texts_of self.now.list) }
     {

@@ -1,7 +1,7 @@
 //! The dictionary of a story (Z-Machine Standard 1.1, section 13).
 //!
-//! A `Dictionary` is made of the uses of words in a source, in any order. Words are told by their six bytes of text, which
-//! `inf_text::dict_word` makes. `write` puts it behind an area; `Places` then tells where each word stands in it.
+//! A `Dictionary` is made of the uses of words in a source, in any order. A word is known by its six bytes of text, which
+//! `inf_text::dict_word` makes. `write` appends the dictionary to an area; `Places` then has the place of each word in it.
 #![tactic(auto)]
 
 mod dictionary;

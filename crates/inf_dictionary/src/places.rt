@@ -1,4 +1,4 @@
-//! Where words stand in a dictionary.
+//! The places of words in a dictionary.
 ghost use Rattle.std.specs.Prelude.{◌≡◌, ◌*◌, ◌+◌};
 ghost use Rattle.inf_dictionary.specs.Texts.{AreRising, is_below, rank_of};
 
@@ -21,7 +21,7 @@ impl Model for Places {
     ghost invariant = { λ p. AreRising p.texts.items };
 }
 
-/// Whether a text stands before another in a dictionary: where they first differ its byte is the lower one.
+/// Returns whether `text` comes before `other` in a dictionary: its byte is lower where they first differ.
 fn is_below(text: &[u8; 6], other: &[u8; 6]) -> bool
     ensures { result ≡ is_below text.now other.now }
 {
@@ -29,7 +29,7 @@ fn is_below(text: &[u8; 6], other: &[u8; 6]) -> bool
 }
 
 impl Places {
-    /// Those of texts that rise.
+    /// Returns the places of words with these texts, which have to rise.
     pub(crate) fn new(texts: Vec<[u8; 6]>) -> Places
         requires { AreRising texts.items }
         ensures { result ≡ texts.items }
@@ -37,7 +37,7 @@ impl Places {
         Places { texts }
     }
 
-    /// The texts, in rising order.
+    /// Returns the texts, in rising order.
     pub fn into_texts(self) -> Vec<[u8; 6]>
         ensures { result.items ≡ self }
     {
@@ -45,7 +45,7 @@ impl Places {
         texts
     }
 
-    /// How many words stand before the one with this text. It is found by halves.
+    /// Returns the number of words before the one with this text. Finds it by halves.
     pub fn rank(&self, text: [u8; 6]) -> usize
         ensures { result ≡ rank_of text self.now }
     {

@@ -1,8 +1,8 @@
-//! Uses of a word, and what they say of it together.
+//! Uses of a word, and the facts that they say of it together.
 ghost use Rattle.std.specs.Prelude.{◌≡◌};
 ghost use Rattle.inf_dictionary.specs.Words.{flags_of, is_of_other_verb, joined, verb_byte, verb_in};
 
-/// What a word is used as.
+/// The use of a word in a source.
 #[derive(Clone, Copy, Debug, PartialEq, Eq)]
 pub enum WordUse {
     /// A word of the verb that has this number.
@@ -14,17 +14,17 @@ pub enum WordUse {
     Other,
 }
 
-/// What all uses of a word say of it.
+/// The facts that all uses of a word say of it.
 #[derive(Clone, Copy, Debug, PartialEq, Eq)]
 pub struct Word {
     /// 1 for a verb, 2 for one that is meta, 4 for a plural, 8 for a preposition, 128 for any other use (Inform Technical Manual,
     /// section 8.5).
     pub flags: u8,
-    /// The verb that it is a word of.
+    /// The verb that the word belongs to.
     pub verb: Option<u8>,
 }
 
-/// The flags of a use.
+/// Returns the flags of a use.
 pub(crate) fn flags_of(word_use: WordUse, is_plural: bool) -> u8
     ensures { result ≡ flags_of word_use is_plural }
 {
@@ -37,7 +37,7 @@ pub(crate) fn flags_of(word_use: WordUse, is_plural: bool) -> u8
     }
 }
 
-/// The verb whose word a use makes a word.
+/// Returns the verb whose word a use makes a word.
 pub(crate) fn verb_in(word_use: WordUse) -> Option<u8>
     ensures { result ≡ verb_in word_use }
 {
@@ -47,7 +47,7 @@ pub(crate) fn verb_in(word_use: WordUse) -> Option<u8>
     }
 }
 
-/// What a use says of a word, beside those before, if there are any.
+/// Returns a word with the facts that a use says of it, joined to those of `before`, if there are any.
 pub(crate) fn joined(before: Option<Word>, word_use: WordUse, is_plural: bool) -> Word
     ensures { result ≡ joined before word_use is_plural }
 {
@@ -62,7 +62,7 @@ pub(crate) fn joined(before: Option<Word>, word_use: WordUse, is_plural: bool) -
     }
 }
 
-/// Whether a use would make a word that is one of another verb's already a word of its verb.
+/// Returns whether a use would make a word of a verb one of another verb.
 pub(crate) fn is_of_other_verb(before: Option<Word>, word_use: WordUse) -> bool
     ensures { result ≡ is_of_other_verb before word_use }
 {
@@ -81,7 +81,7 @@ pub(crate) fn is_of_other_verb(before: Option<Word>, word_use: WordUse) -> bool
 }
 
 impl Word {
-    /// The byte by which an entry tells its verb.
+    /// Returns the byte that an entry has for the word's verb.
     pub(crate) fn verb_byte(self) -> u8
         ensures { result ≡ verb_byte self }
     {

@@ -1,12 +1,12 @@
--- Devices of the system: what their calls answer, by what the system answered.
+-- Devices of the system: the answers of their calls, by the answers of the system.
 use Rattle.std.specs.Prelude.{◌≡◌, ⊤, ℕ, ◌-◌, length, slice_get, slice_set, List, [], ◌∷◌, ◌++◌, Option, Some, None, Result, Ok, Err}
 use Rattle.std.specs.Io.KnownBytes.{ReadConsumes, WriteAppends}
 use Rattle.std.specs.declared.io.ErrorKind.{ErrorKind}
 use Rattle.std.specs.declared.io.ErrorKind.TheVariants as kind
-use Rattle.inf_files.specs.declared.files.OpenFault.{OpenFault}
-use Rattle.inf_files.specs.declared.files.OpenFault.TheVariants as fault
+use Rattle.inf_devices.specs.declared.files.OpenFault.{OpenFault}
+use Rattle.inf_devices.specs.declared.files.OpenFault.TheVariants as fault
 
--- what it means that a file cannot be opened: it is absent where none has the name, or none can have it
+-- the fault of a file that cannot be opened: it is absent where none has the name, or none can have it
 abbrev pub fault_of_kind : ErrorKind → OpenFault
 fault_of_kind kind.NotFound = fault.Absent
 fault_of_kind kind.NotADirectory = fault.Absent

@@ -3,13 +3,13 @@ ghost use Rattle.std.specs.Prelude.{true, IsErr, IsSome, IsErrOf, IfOk, OnOk, On
 ghost use Rattle.std.specs.Prelude.{is_ok, length, min, if◌then◌else◌};
 ghost use Rattle.std.specs.Fs.{new_options, with_write, with_create, with_truncate};
 ghost use Rattle.std.specs.Io.KnownBytes.{ReadConsumes, WriteAppends};
-ghost use Rattle.inf_files.specs.Files.{Rose, last_count};
+ghost use Rattle.inf_devices.specs.Files.{Rose, last_count};
 ghost use Rattle.inf_disk.specs.Disk.{fault_of_kind, OpensFile, ReadsLast, WritesMade};
 
-use inf_files::failures::Failures;
-use inf_files::files::{Files, OpenFault, ReadFault};
-use inf_files::given_bytes::GivenBytes;
-use inf_sinks::sinks::{Sink, SinkFault};
+use inf_devices::failures::Failures;
+use inf_devices::files::{Files, OpenFault, ReadFault};
+use inf_devices::given_bytes::GivenBytes;
+use inf_devices::sinks::{Sink, SinkFault};
 use std::alloc::Global;
 use std::cell::Cell;
 use std::fs::{Metadata, OpenFile, OpenOptions};
@@ -17,19 +17,19 @@ use std::io::{ErrorKind, Read, Write};
 use std::os::unix::fs::MetadataExt;
 use std::{fs, rt};
 
-/// What went wrong at a device of the system.
+/// The failures of a device of the system.
 #[derive(Drop)]
 pub struct Trouble {
-    /// How often it failed.
+    /// The number of failures.
     pub failures: Failures,
-    /// Why its last call that failed did so, where one did. A file that is opened leaves none.
+    /// The reason of its last call that failed, if one did. A file that is opened leaves none.
     pub reason: Option<ErrorKind>,
     /// The system's number for the reason of the last call that the system refused, where it gave one.
     pub number: Option<i32>,
 }
 
 impl Trouble {
-    /// Nothing yet.
+    /// Returns the record of a device that has not failed.
     pub fn none() -> Trouble
         ensures failures { result.failures ≡ 0 }
         ensures reason { result.reason ≡ None }
@@ -61,7 +61,7 @@ struct FileNumbers {
 }
 
 impl FileNumbers {
-    /// The numbers that the system tells of a file.
+    /// Returns the numbers of a file, as the system gives them.
     fn of(metadata: &Metadata) -> FileNumbers {
         FileNumbers {
             device: metadata.dev(),
@@ -77,8 +77,8 @@ impl FileNumbers {
     }
 }
 
-/// Where the story of a run is to be written: a name, and whether a source of the run is the file of
-/// this name. The devices of a run share it, so that no source is overwritten.
+/// The place where the story of a run is to be written: a name, and whether a source of the run is the file of this
+/// name. The devices of a run share it, so that no source is overwritten.
 #[derive(Drop)]
 pub struct StoryPlace<'r> {
     name: &'r str,
@@ -86,7 +86,7 @@ pub struct StoryPlace<'r> {
 }
 
 impl<'r> StoryPlace<'r> {
-    /// The file of this name, which is no source yet.
+    /// Makes the place of the file with this name, which is no source yet.
     pub fn new(name: &'r str) -> StoryPlace<'r>
         ensures { result.name.now ≡ name.now }
     {
@@ -96,7 +96,7 @@ impl<'r> StoryPlace<'r> {
         }
     }
 
-    /// Returns whether a source that was opened is the file of this name. What a cell holds is not stated.
+    /// Returns whether a source that was opened is the file of this name. The contents of a cell are not stated.
     pub fn is_source(&self) -> bool {
         self.is_source.get()
     }
@@ -113,7 +113,8 @@ impl<'r> StoryPlace<'r> {
     }
 }
 
-/// How the story's file is opened: it is made where there is none, and no byte of an older one stays.
+/// Returns the way in which the story's file is opened: it is made where there is none, and no byte of an older one
+/// stays.
 fn story_options() -> OpenOptions
     ensures { result ≡ with_truncate (with_create (with_write new_options true) true) true }
 {
@@ -122,22 +123,22 @@ fn story_options() -> OpenOptions
     options
 }
 
-/// Files of the system, by their paths. What they hold is not stated.
+/// Files of the system, by their paths. Their contents are not stated.
 #[derive(Drop)]
 pub struct DiskFiles<'r, R: rt::Files> {
     system: &'r R,
     story: &'r StoryPlace<'r>,
     open_files: Vec<R::File>,
-    /// What went wrong so far.
+    /// The failures so far.
     pub trouble: Trouble,
     given: GivenBytes,
-    /// How many files were opened so far, each as often as it was.
+    /// The number of files that were opened so far, each as often as it was.
     pub opened: u64,
 }
 
 impl<'r, R: rt::Files> DiskFiles<'r, R> {
-    /// The files that `system` has, none of them open yet. Where one that is opened is the story's, its
-    /// place notes it.
+    /// Makes a reader of the files that `system` has, none of them open yet. Where one that is opened is the story's,
+    /// its place notes it.
     pub fn new(alloc: Global, system: &'r R, story: &'r StoryPlace<'r>) -> DiskFiles<'r, R>
         ensures files { result.open_files.items ≡ [] }
         ensures faults { result.trouble.failures ≡ 0 }
@@ -324,16 +325,16 @@ fn write_some<W: Write>(to: &mut W, bytes: &[u8], trouble: &mut Trouble) -> Resu
     Err(SinkFault::Device)
 }
 
-/// An open output. What it took is not stated.
+/// An open output. The bytes that it took are not stated.
 #[derive(Drop)]
 pub struct OutputSink<W: Write> {
     output: W,
-    /// What went wrong so far.
+    /// The failures so far.
     pub trouble: Trouble,
 }
 
 impl<W: Write> OutputSink<W> {
-    /// The output that `output` writes to.
+    /// Makes a sink that writes to `output`.
     pub fn new(output: W) -> OutputSink<W>
         ensures output { result.output ≡ output }
         ensures failures { result.trouble.failures ≡ 0 }
@@ -371,19 +372,19 @@ impl<W: Write> Sink for OutputSink<W> {
     }
 }
 
-/// A file for a story, which is made when its first byte comes: a file that stood there before
-/// stays as it was until then, and a source of the run for ever. What it took is not stated.
+/// A file for a story, which is made when its first byte comes: a file that was there before stays as it was until
+/// then, and a source of the run for ever. The bytes that it took are not stated.
 #[derive(Drop)]
 pub struct StorySink<'r, R: rt::Files> {
     system: &'r R,
     place: &'r StoryPlace<'r>,
     file: Option<R::File>,
-    /// What went wrong so far.
+    /// The failures so far.
     pub trouble: Trouble,
 }
 
 impl<'r, R: rt::Files> StorySink<'r, R> {
-    /// The file at this place, which is not made yet.
+    /// Makes a sink for the file at this place, which is not made yet.
     pub fn new(system: &'r R, place: &'r StoryPlace<'r>) -> StorySink<'r, R>
         ensures name { result.place.now.name.now ≡ place.now.name.now }
         ensures file { result.file ≡ None }

@@ -4,7 +4,8 @@
 //! `inf_templates`:
 //!
 //! - `Gathering` takes the leaves and operators of a unit's expressions as they are read, `Unit` the tokens of a unit beside them.
-//! - `judge` answers the least `Finding` of a unit, by its `Symbol`s and what its leaves stand for (`Leaf` is an operand of `Operand`); what
+//! - `judge` answers the least `Finding` of a unit, by its `Symbol`s and what its leaves stand for (`Leaf` is an operand of `Operand`);
+//!   what
 //!   is wanted of each expression is told by `Wanted`. `build` makes the trees, a `Forest` of `Nodes` with a `Root` each; `constant`,
 //!   `operand` and `range` ask what a tree is.
 //! - `lay_alone`, `lay_value`, `lay_branch`, `lay_call`, `lay_routine_call` and `lay_instruction` write the code of trees, with what is

@@ -1,4 +1,4 @@
--- What the events of an expression build, by those of its parts.
+-- The events of an expression build it, where those of its parts build these.
 use Rattle.std.proofs.Common.{◌≡◌, ℕ, suc, ◌+◌, ◌-◌, List, [], ◌∷◌, ◌++◌, length, Some, refl, ◌∙◌, ap, arith}
 use Rattle.std.proofs.lemmas.List.{length-append}
 use Rattle.inf_machine.specs.Grammar.{Event, Took, Did}
@@ -7,14 +7,14 @@ use Rattle.inf_syntax.specs.declared.actions.Action.TheVariants as does
 use Rattle.inf_expressions.specs.declared.operators.Binary.{Binary}
 use Rattle.inf_expressions.specs.declared.operators.Unary.{Unary}
 use Rattle.inf_expressions.specs.Sources.{Source, Leaf, Brackets, Prefix, Suffix, Two, Call, Alone}
-use Rattle.inf_unit.specs.declared.steps.Step.TheVariants as step
+use Rattle.inf_unit.specs.declared.steps.GatherStep.TheVariants as step
 use Rattle.inf_unit.specs.Steps.{step_of}
 use Rattle.inf_expression_laws.specs.Precedence.{leaf_count, leaf_count_of_all, list_of}
 use Rattle.inf_expression_laws.specs.Gathered.{first_of}
 use Rattle.inf_expression_laws.proofs.Built.{Builds, State, all_sources, behind, built, in_front_of, list_joined, one_more, over_one}
 use Rattle.inf_expression_laws.proofs.Built.{over_two, pushed, stepped, tested}
 
--- What the events of a list, which was just opened, build
+-- Tells whether events build the parts of a list that was just opened.
 abbrev pub Lists : (List (Event Action) → List (Event Action)) → ℕ → ℕ → ℕ → List Source → Type 0
 Lists events order place count parts =
     (s : State) → s.order ≡ order → s.place ≡ place → (counts : List ℕ) → s.counts ≡ 0 ∷ counts → (more : List (Event Action)) →

@@ -6,14 +6,14 @@ use Rattle.inf_expressions.specs.declared.operators.Binary.{Binary}
 use Rattle.inf_expressions.specs.declared.operators.Binary.TheVariants as binary
 use Rattle.inf_expressions.specs.declared.operators.Unary.{Unary}
 use Rattle.inf_expressions.specs.Sources.{Source, Leaf, Brackets, Prefix, Suffix, Two, Then, Call, Alone}
-use Rattle.inf_unit.specs.declared.steps.Step.{Step}
-use Rattle.inf_unit.specs.declared.steps.Step.TheVariants as step
+use Rattle.inf_unit.specs.declared.steps.GatherStep.{GatherStep}
+use Rattle.inf_unit.specs.declared.steps.GatherStep.TheVariants as step
 use Rattle.inf_unit.specs.Steps.{step_of}
 use Rattle.inf_expression_laws.specs.Precedence.{leaf_count, leaf_count_of_all, list_of}
 use Rattle.inf_expression_laws.specs.Gathered.{first_of}
 
--- Expressions so far, the latest first; how many parts each open list has, and the order of each open bracket; the order of the next token,
--- and the place of the next leaf.
+-- Expressions so far, the latest first; the number of parts of each open list, and the order of each open bracket; the
+-- order of the next token, and the place of the next leaf.
 pub record State : Type 0 where
   pub sources : List Source
   pub counts : List ℕ
@@ -29,7 +29,7 @@ abbrev pub over_two : (Source → Source → Source) → List Source → List So
 over_two make (b ∷ a ∷ sources) = make a b ∷ sources
 over_two make _ = []
 
--- the latest as a list
+-- the latest expressions as a list
 abbrev pub joined : ℕ → List Source → List Source
 joined zero sources = sources
 joined (suc n) sources = over_two Then (joined n sources)
@@ -57,7 +57,7 @@ abbrev pub bracketed : List ℕ → List Source → List Source
 bracketed [] sources = sources
 bracketed (order ∷ orders) sources = over_one (Brackets order) sources
 
-abbrev pub stepped : Option Step → State → State
+abbrev pub stepped : Option GatherStep → State → State
 stepped None s = s
 stepped (Some step.Leaf) s = record s { sources = Leaf (s.order - 1) (s.order - 1) s.place ∷ s.sources; place = s.place + 1 }
 stepped (Some step.Action) s = record s { sources = Leaf (s.order - 2) (s.order - 1) s.place ∷ s.sources; place = s.place + 1 }
@@ -78,16 +78,17 @@ built [] s = s
 built (Took atom ∷ events) s = built events (record s { order = s.order + 1 })
 built (Did a ∷ events) s = built events (stepped (step_of a) s)
 
--- an expression more, of so many tokens
+-- a state with an expression more, of `count` tokens
 abbrev pub pushed : ℕ → Source → State → State
 pushed count a s = record s { sources = a ∷ s.sources; order = s.order + count; place = s.place + leaf_count a }
 
--- What some events, before others, build of a state in which the next token and leaf have these places
+-- Tells whether some events, before others, build an expression in a state in which the next token and leaf have these
+-- places.
 abbrev pub Builds : (List (Event Action) → List (Event Action)) → ℕ → ℕ → ℕ → Source → Type 0
 Builds events order place count a =
     (s : State) → s.order ≡ order → s.place ≡ place → (more : List (Event Action)) → built (events more) s ≡ built more (pushed count a s)
 
--- several more, the parts of a list that is open, which had so many
+-- the expressions with several more, which are the parts of an open list
 abbrev pub all_sources : List Source → List Source → List Source
 all_sources [] sources = sources
 all_sources (a ∷ parts) sources = all_sources parts (a ∷ sources)

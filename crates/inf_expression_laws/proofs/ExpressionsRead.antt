@@ -1,4 +1,4 @@
--- The tokens of an expression are read: what is gathered is the expression that they are.
+-- The tokens of an expression are read: the expression that they are is gathered.
 use Rattle.std.proofs.Common.{◌≡◌, ℕ, ◌+◌, ◌≤◌, ◌<◌, List, [], ◌∷◌, ◌++◌, length, true, false, Option, Some, None, refl, sym, ◌∙◌, ap}
 use Rattle.std.proofs.Common.{subst, append_assoc, append-nil, arith}
 use Rattle.std.specs.Prelude.{option_map, slice_get}
@@ -14,8 +14,8 @@ use Rattle.inf_expressions.specs.declared.operators.Binary.TheVariants as binary
 use Rattle.inf_expressions.specs.declared.operators.Unary.{Unary}
 use Rattle.inf_expressions.specs.Sources.{Source}
 use Rattle.inf_gathering.specs.Gatherings.{Gathering, with_prefix, with_suffix, with_test, with_two}
-use Rattle.inf_unit.specs.declared.steps.Step.{Step}
-use Rattle.inf_unit.specs.declared.steps.Step.TheVariants as step
+use Rattle.inf_unit.specs.declared.steps.GatherStep.{GatherStep}
+use Rattle.inf_unit.specs.declared.steps.GatherStep.TheVariants as step
 use Rattle.inf_unit.specs.Steps.{step_of}
 use Rattle.inf_unit.specs.Tokens.{SourceToken}
 use Rattle.inf_unit.specs.Units.{Unit, acted, depth_behind, stepped, taken}
@@ -33,12 +33,12 @@ use Rattle.inf_expression_laws.proofs.Typed as typed
 use Rattle.inf_expression_laws.proofs.Typed.{Change, form_passes, Passes, below, between_changes, front_changes, joined, row_passes}
 use Rattle.inf_expression_laws.proofs.Typed.{step_changes, suffix_changes, test_changes, two_changes}
 
--- Where reading stands
+-- The state of the reading
 record Read (f : Frame) (items : List Item) (seen : List ℕ) (u : Unit) (tokens : List SourceToken) : Type 0 where
   stands : Stands f items seen u.gathering
   at : At f u (length seen) tokens
 
--- what is gathered changes nothing else
+-- gathering changes nothing else in the unit
 at_gathered : {f : Frame} {u : Unit} {count : ℕ} {tokens : List SourceToken} (g : Gathering) → At f u count tokens →
     At f (record u { gathering = g }) count tokens
 at_gathered g a = record { all = a.all; long = a.long; outer = a.outer; begun = a.begun; early = a.early; ready = a.ready; few = a.few }
@@ -50,7 +50,7 @@ at_sure a = record { all = a.all; long = a.long; outer = a.outer; begun = a.begu
 few_seen : {f : Frame} {u : Unit} {count : ℕ} {tokens : List SourceToken} → At f u count tokens → count < 4294967295
 few_seen {f} {u} {count} {tokens} a = omega (arith, a.few, ap length a.all, length-append u.tokens tokens, a.long)
 
--- what each kind of step makes of it
+-- the items after each kind of step
 front_by : {f : Frame} {seen : List ℕ} {g : Gathering} (rest : List Item) (op : Unary) (c : Change) (o : Option (ℕ × ℕ)) →
     sign_in_front op ≡ o → IsOneOf c (front_changes o) →
     Stands f (c.old ++ rest) seen g → Stands f (c.now ++ rest) seen (with_prefix op g)
@@ -94,7 +94,7 @@ two_by rest binary.Call c m s = elim m [ ]
 two_by rest binary.Then c m s = elim m [ ]
 two_by rest binary.To c m s = elim m [ ]
 
-stepped_stands : {f : Frame} {seen : List ℕ} (rest : List Item) (s : Step) (c : Change) → IsOneOf c (step_changes (Some s)) →
+stepped_stands : {f : Frame} {seen : List ℕ} (rest : List Item) (s : GatherStep) (c : Change) → IsOneOf c (step_changes (Some s)) →
     (u : Unit) (tokens : List SourceToken) →
     Read f (c.old ++ rest) seen u tokens → Read f (c.now ++ rest) seen (stepped s u) tokens
 stepped_stands rest step.Leaf c first u tokens r = record { stands = leaf_stands u tokens r.at r.stands; at = at_gathered _ r.at }
@@ -138,7 +138,7 @@ acts : {f : Frame} {seen : List ℕ} (rest : List Item) (a : Action) (c : Change
     Read f (c.old ++ rest) seen u tokens → Read f (c.now ++ rest) seen (acted a u) tokens
 acts {f} {seen} rest a c m u tokens r = by_step (step_of a) refl m
   where
-    by_step : (o : Option Step) → step_of a ≡ o → IsOneOf c (step_changes o) → Read f (c.now ++ rest) seen (acted a u) tokens
+    by_step : (o : Option GatherStep) → step_of a ≡ o → IsOneOf c (step_changes o) → Read f (c.now ++ rest) seen (acted a u) tokens
     by_step None e n = elim n [ ]
     by_step (Some s) e n =
         subst (λ v. Read f (c.now ++ rest) seen v tokens) (sym (acted_step a s u e)) (stepped_stands rest s c n u tokens r)
@@ -179,7 +179,7 @@ with_token {f} {items} {seen} {u} t tokens atom is r =
       },
     )
 
--- where nothing is left to be read
+-- where no symbols are left to be read
 at_end : {f : Frame} {symbols : List (Symbol Action)} {items target : List Item} → symbols ≡ [] → Passes items symbols target →
     {seen : List ℕ} {g : Gathering} → Stands f items seen g → Stands f target seen g
 at_end e (typed.done w) s = weakened s w

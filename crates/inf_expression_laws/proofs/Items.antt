@@ -1,4 +1,4 @@
--- What stands behind the tokens of an expression that were read, as far as the rows of the grammar go by it.
+-- The items of an expression's tokens that were read, as far as the rows of the grammar go by them.
 use Rattle.std.proofs.Common.{◌≡◌, ℕ, ◌≤◌, List, [], ◌∷◌, ◌++◌, Bool, true, false, ◌&&◌, ◌==◌, nat_le, Option, Some, None, refl, subst}
 use Rattle.std.proofs.Common.{arith, if◌then◌else◌}
 use Rattle.std.proofs.lemmas.Bool.{and_parts, eqb-true, leb-true}
@@ -7,9 +7,9 @@ use Rattle.inf_machine.specs.Decided.{is_within}
 use Rattle.inf_machine.specs.Grammar.{has}
 use Rattle.inf_machine.proofs.Sets.{has_within}
 
--- A token that no action has used; an expression that binds so tight at least; an opening bracket of an expression; an expression in
--- brackets of which the closing one is still to come; a list without parts; one with parts that bind so tight and have these signs
--- between them; one with or without.
+-- A token that no action has used; an expression that binds at a level at least; an opening bracket of an expression; an
+-- expression in brackets of which the closing one is still to come; a list without parts; one with parts that bind at a
+-- level and have these signs between them; one with or without parts.
 pub data Item : Type 0 where
   Sign : ℕ → Item
   Whole : ℕ → Item
@@ -19,7 +19,7 @@ pub data Item : Type 0 where
   Parts : ℕ → ℕ → Item
   Any : ℕ → ℕ → Item
 
--- what is a case of something wider
+-- an item that is a case of a wider one
 pub data Fits : Item → Item → Type 0 where
   sign : {set wider : ℕ} → ((atom : ℕ) → has set atom ≡ true → has wider atom ≡ true) → Fits (Sign set) (Sign wider)
   whole : {tight loose : ℕ} → loose ≤ tight → Fits (Whole tight) (Whole loose)
@@ -35,7 +35,7 @@ pub data Within : List Item → List Item → Type 0 where
   bottom : Within [] []
   item : {x y : Item} {xs ys : List Item} → Fits x y → Within xs ys → Within (x ∷ xs) (y ∷ ys)
 
--- The same as a test
+-- Cases of items as a test
 
 abbrev same_list : ℕ → ℕ → ℕ → ℕ → Bool
 same_list level signs other_level other_signs = (level == other_level) && (signs == other_signs)
@@ -124,7 +124,7 @@ all_fit_sound (x ∷ xs) [] e = cc
 all_fit_sound (x ∷ xs) (y ∷ ys) e =
     let both = and_parts (fits x y) (all_fit xs ys) e in item (fits_sound x y both.0) (all_fit_sound xs ys both.1)
 
--- Items on the top are taken away, where they are these or cases of them.
+-- Items on the top are removed, where they are these or cases of them.
 abbrev pub and_then : {A B : Type 0} → (A → Option B) → Option A → Option B
 and_then next None = None
 and_then next (Some a) = next a

@@ -1,4 +1,4 @@
--- Leaves and opening brackets: what the last token of a unit is.
+-- Leaves and opening brackets, by the last token of a unit.
 use Rattle.std.proofs.Common.{◌≡◌, ℕ, zero, suc, ◌+◌, ◌-◌, ◌≤◌, ◌<◌, List, [], ◌∷◌, ◌++◌, length, Bool, true, false, ◌&&◌, ◌==◌, Some, refl}
 use Rattle.std.proofs.Common.{sym, ◌∙◌, ap, append_assoc, arith}
 use Rattle.std.specs.Prelude.{option_map, slice_get}
@@ -61,7 +61,7 @@ alone_is f u count tokens a some at n e i =
     && (ap (λ b. is_some_mark mark.At (kind_at u.tokens b)) a.begun ∙ ap (is_some_mark mark.At)
     (kind_kept f u count tokens a f.begun (omega (arith, a.long, a.early, some)))) i
 
--- what a token that is a leaf by itself is read as
+-- the leaf of a token that is one by itself
 leaf_is : (f : Frame) (n : ℕ) (k : TokenKind) → kind_at f.all n ≡ Some k →
     leaf_read f.outer f.begun f.all n n ≡ told_leaf (is_first n f.outer && is_some_mark mark.At (kind_at f.all f.begun)) (leaf_of n k)
 leaf_is f n k e =
@@ -107,7 +107,7 @@ only_mark m atom h = by_test (atom == mark_atom m) refl
     by_test false e = absurd (both_ways (has (of_mark m) atom) (ap (λ b. b == 1) (bit_at-pow_other (mark_atom m) atom
         (eqb-false atom (mark_atom m) e))) h)
 
--- a name behind a sign of which it is known what leaf it makes
+-- a name behind a sign that determines its leaf
 signed_stands : (m : Mark) (made : ℕ → Gathered) → ((at : ℕ) → leaf_behind (Some (kind.Mark m)) at ≡ made at) →
     is_sign (Some (kind.Mark m)) ≡ true →
     ((order place sign atom : ℕ) → has (of_mark m) sign ≡ true → has operand_names atom ≡ true →

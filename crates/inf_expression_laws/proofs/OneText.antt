@@ -32,7 +32,7 @@ at_most_one rule = by_empty (known.is_empty rule) (decided_parts grammar known r
     by_empty true e = omega (arith, e)
     by_empty false e = omega (arith, e)
 
--- what is empty can be
+-- symbols that are read without a token can be empty
 ended : {symbols : List (Symbol Action)} {events : List (Event Action)} → Leads grammar symbols [] events [] → can_end known symbols ≡ true
 ended here = refl
 ended (action l) = ended l
@@ -47,7 +47,7 @@ ended (row {rule} {r} {symbols} m free l) =
     by_empty true e l = refl
     by_empty false e l = absurd (omega (arith, e, l))
 
--- so its events are those of the rows that can be empty
+-- symbols that are read without a token have one list of events: those of the rows that can be empty
 same_empty : {symbols : List (Symbol Action)} {events others : List (Event Action)} → Leads grammar symbols [] events [] →
     Leads grammar symbols [] others [] → events ≡ others
 same_empty here here = refl

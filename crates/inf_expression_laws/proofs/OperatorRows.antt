@@ -1,4 +1,4 @@
--- The rows of operators: what leads through each of them.
+-- The rows of operators: the texts of each of them.
 use Rattle.std.proofs.Common.{◌≡◌, ℕ, suc, ◌≤◌, List, [], ◌∷◌, ◌++◌, codes, Bool, true, false, ◌&&◌, bit_and, Some, refl, sym, ◌∙◌, ap}
 use Rattle.std.proofs.Common.{subst, arith}
 use Rattle.std.specs.Prelude.{get_or}
@@ -19,7 +19,7 @@ use Rattle.inf_expressions.specs.declared.operators.Binary.TheVariants as binary
 use Rattle.inf_expressions.specs.declared.operators.Operation.TheVariants as operation
 use Rattle.inf_expressions.specs.declared.operators.PropertyPart.TheVariants as property
 use Rattle.inf_expressions.specs.declared.operators.Single.TheVariants as single
-use Rattle.inf_expressions.specs.declared.operators.Step.TheVariants as stepping
+use Rattle.inf_expressions.specs.declared.operators.Direction.TheVariants as stepping
 use Rattle.inf_expressions.specs.declared.operators.Test.TheVariants as test
 use Rattle.inf_expressions.specs.declared.operators.Unary.{Unary}
 use Rattle.inf_expressions.specs.declared.operators.Unary.TheVariants as unary
@@ -78,7 +78,7 @@ pub free : (atoms : List ℕ) → IsNext_not 0 atoms
 free [] = tt
 free (atom ∷ atoms) = has_zero atom
 
--- Tails that are empty
+-- Tails of a row that are empty
 pub no_expression_tail : {K : List (Symbol Action)} {atoms : List ℕ} {events : List (Event Action)} → IsText grammar K atoms events →
     IsText grammar (expression_tail ∷ K) atoms events
 unfolding grammar
@@ -153,7 +153,7 @@ apart signs e atom h =
     by_both true y h n = n
     by_both false y h n = cc
 
--- Operators between two expressions: what stands in their rows
+-- Operators between two expressions: the texts of their rows
 
 pub record Between (op : Binary) (level signs : ℕ) : Type 0 where
   pub act : Action
@@ -341,7 +341,7 @@ between_entry binary.Call level signs e = cc
 between_entry binary.Then level signs e = cc
 between_entry binary.To level signs e = cc
 
--- in front of one
+-- operators in front of one expression
 
 pub record InFront (op : Unary) (level signs : ℕ) : Type 0 where
   pub act : Action
@@ -412,7 +412,7 @@ in_front_entry unary.Children level signs e = cc
 in_front_entry unary.Call level signs e = cc
 in_front_entry unary.Indirect level signs e = cc
 
--- and behind one
+-- operators behind one expression
 
 pub record Behind (op : Unary) (level signs : ℕ) : Type 0 where
   pub act : Action

@@ -1,4 +1,4 @@
--- What stands behind the tokens of an expression that were read, and what was gathered of them.
+-- The items of an expression's tokens that were read, and the gathering that they made.
 use Rattle.std.proofs.Common.{◌≡◌, ℕ, zero, suc, ◌+◌, ◌-◌, ◌≤◌, ◌<◌, List, [], ◌∷◌, ◌++◌, length, true, Option, Some, refl, ◌∙◌, ap, subst}
 use Rattle.std.proofs.Common.{append_assoc, arith}
 use Rattle.std.specs.Prelude.{drop}
@@ -19,9 +19,8 @@ use Rattle.inf_expression_laws.specs.Gathered.{first_of, is_open, joints, leaves
 use Rattle.inf_expression_laws.proofs.Items as it
 use Rattle.inf_expression_laws.proofs.Items.{Item, Sign, Whole, Opened, Closing, NoneYet, Parts, Any, Within}
 
--- The unit in which it is read: where its outermost expression and itself begin, all tokens with those still to come, the order of the
--- first
--- token, and what was gathered before.
+-- The unit in which an expression is read: the places where its outermost expression and the unit itself begin, all tokens
+-- with those still to come, the order of the first token, and the gathering before.
 pub record Frame : Type 0 where
   pub outer : Option ℕ
   pub begun : ℕ
@@ -40,7 +39,7 @@ all_gained f (a ∷ sources) g = all_gained f sources (gained f a g)
 abbrev pub with_parts : Frame → List Source → Gathering → Gathering
 with_parts f sources g = record (all_gained f sources g) { counts = length sources ∷ g.counts }
 
--- the token at a place
+-- the token at a place, with its atom
 pub record Known (f : Frame) (at atom : ℕ) : Type 0 where
   pub seen : TokenKind
   pub is : kind_at f.all at ≡ Some seen
@@ -66,7 +65,7 @@ pub data Stands (f : Frame) : List Item → List ℕ → Gathering → Type 0 wh
   nothing : {level signs : ℕ} {items : List Item} {seen : List ℕ} {g : Gathering} → Stands f (NoneYet ∷ items) seen g →
       Stands f (Any level signs ∷ items) seen g
 
--- What binds tighter binds as tight at least.
+-- An expression that binds tighter binds at each looser level as well.
 looser : {loose order place : ℕ} {atoms : List ℕ} {a : Source} (n tight : ℕ) → tight ≡ n + loose → Written tight order place atoms a →
     Written loose order place atoms a
 looser {loose} {order} {place} {atoms} {a} zero tight e w = subst (λ l. Written l order place atoms a) (omega (arith, e)) w
@@ -92,7 +91,7 @@ weakened (parts seen last a sources g s listed) (it.item it.some w) = some (part
 weakened (some s) (it.item it.any w) = some (weakened s (it.item it.parts w))
 weakened (nothing s) (it.item it.any w) = nothing (weakened s (it.item it.none_yet w))
 
--- What is written begins with its first token, is no list, and has its leaves.
+-- An expression that is written begins with its first token, is no list, and has its leaves.
 pub begins : {level order place : ℕ} {atoms : List ℕ} {a : Source} → Written level order place atoms a → first_of a ≡ order
 begins (operand h) = refl
 begins (action h k) = refl
@@ -189,7 +188,7 @@ parts_have_tokens (one w) = omega (arith, some_tokens w)
 parts_have_tokens (more sign left right sources a l h w) =
     omega (arith, parts_have_tokens l, length-append left (sign ∷ right), length-append sources (a ∷ []))
 
--- Several one behind the other
+-- Several expressions one behind the other
 pub all_gained_append : (f : Frame) (sources : List Source) (b : Source) (g : Gathering) →
     all_gained f (sources ++ b ∷ []) g ≡ gained f b (all_gained f sources g)
 all_gained_append f [] b g = refl

@@ -1,4 +1,4 @@
--- What each action of an expression makes of what stands behind its tokens.
+-- The change of items by each action of an expression.
 use Rattle.std.proofs.Common.{◌≡◌, ℕ, suc, ◌+◌, ◌-◌, ◌<◌, List, [], ◌∷◌, ◌++◌, length, Bool, true, false, ◌==◌, Some, refl, sym, ◌∙◌, ap}
 use Rattle.std.proofs.Common.{subst, append_assoc, arith}
 use Rattle.std.proofs.lemmas.List.{length-append}
@@ -36,7 +36,7 @@ pub placed : {f : Frame} {items : List Item} {seen other_seen : List ℕ} {g oth
     Stands f items seen g → Stands f items other_seen other
 placed {f} {items} {seen} {other_seen} {g} {other} e h s = subst (λ x. Stands f items other_seen x) h (subst (λ x. Stands f items x g) e s)
 
--- How many tokens stand before the next one
+-- Number of tokens before the next one
 length_next : (o : ℕ) (xs ys : List ℕ) (z : ℕ) → o + length ((xs ++ ys) ++ z ∷ []) ≡ suc ((o + length xs) + length ys)
 length_next o xs ys z = omega (arith, length-append (xs ++ ys) (z ∷ []), length-append xs ys)
 
@@ -63,7 +63,7 @@ front_stands {f} {level} {signs} op e (whole _ atoms a g (read seen sign s h k) 
     })
     (whole seen (sign ∷ atoms) (Prefix (f.order + length seen) op a) g s (in_front signs e h (moved o refl w)))
 
--- and behind
+-- An operator behind
 pub suffix_stands : {f : Frame} {level signs : ℕ} {rest : List Item} {seen : List ℕ} {g : Gathering} (op : Unary) →
     sign_behind op ≡ Some (level, signs) →
     Stands f (Sign signs ∷ Whole level ∷ rest) seen g → Stands f (Whole level ∷ rest) seen (with_suffix op g)
@@ -98,7 +98,7 @@ both_gained f a b op last g e i = record {
   brackets = g.brackets;
 }
 
--- The places of the second one
+-- The places of the second expression
 second : (f : Frame) {level : ℕ} (a : Source) {b : Source} (g : Gathering) {right : List ℕ} (seen left : List ℕ) (sign : ℕ) →
     Written level (f.order + length ((seen ++ left) ++ sign ∷ [])) (length (gained f a g).leaves) right b →
     Written level (suc ((f.order + length seen) + length left)) (length g.leaves + leaf_count a) right b
@@ -146,7 +146,7 @@ comma_stands {f} (whole _ right b _ (read _ sign (whole seen left a g s w) h k) 
     (whole seen (left ++ sign ∷ right) (Two binary.Comma a b) g s
     (between comma_sign sign left right refl w h (second f a g seen left sign v)))
 
--- What is gathered of calls, tests and parts
+-- The gathering of calls, tests and parts
 more_gained : (f : Frame) (a : Source) (sources : List Source) (b : Source) (g : Gathering) →
     length (a ∷ (sources ++ b ∷ [])) ≡ counted (length (a ∷ sources)) →
     with_parts f (a ∷ (sources ++ b ∷ [])) g ≡ with_part (gained f b (with_parts f (a ∷ sources) g))
@@ -294,7 +294,7 @@ closed_stands {f} right r (closing seen left atoms a g s h w) =
     placed (sym (append_assoc seen (left ∷ atoms) (right ∷ []))) refl
     (whole seen (left ∷ (atoms ++ right ∷ [])) (Brackets (f.order + length seen) a) g s (brackets right atoms h w r))
 
--- where the closing one is taken first
+-- brackets where the closing one is taken before the action
 pub bracketed_stands : {f : Frame} {rest : List Item} {seen : List ℕ} {g : Gathering} →
     Stands f (Sign closing_sign ∷ Whole commas ∷ Opened ∷ rest) seen g → Stands f (Whole primaries ∷ rest) seen (with_closed_bracket g)
 bracketed_stands (read _ right s r k) = closed_stands right r (closing_stands s)

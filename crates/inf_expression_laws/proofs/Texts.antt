@@ -16,7 +16,7 @@ use Rattle.inf_syntax.specs.Parts.{array_tail, assign, assign_tail, call_1, call
 use Rattle.inf_syntax.specs.Parts.{post, post_tail, prim, step_prefix, step_tail, sum, sum_tail, term_tail, test_tail, tested_1}
 use Rattle.inf_expressions.specs.declared.operators.Binary.TheVariants as binary
 use Rattle.inf_expressions.specs.Sources.{Source}
-use Rattle.inf_unit.specs.declared.steps.Step.TheVariants as step
+use Rattle.inf_unit.specs.declared.steps.GatherStep.TheVariants as step
 use Rattle.inf_unit.specs.Steps.{step_of}
 use Rattle.inf_grammar.specs.Language.{grammar}
 use Rattle.inf_expression_laws.specs.Precedence as written
@@ -33,7 +33,7 @@ use Rattle.inf_expression_laws.proofs.OperatorRows.{no_address_tail, no_array_ta
 use Rattle.inf_expression_laws.proofs.OperatorRows.{no_expression_tail, no_logic_tail, no_post_tail, no_step_tail, no_sum_tail}
 use Rattle.inf_expression_laws.proofs.OperatorRows.{no_term_tail, no_test_tail, no_tested_1, test_entry}
 
--- A stack in which what stands at the bottom is put in place of other symbols
+-- A stack of symbols where those at the bottom are put in place of others
 
 head_is : {x y : Symbol Action} {xs ys : List (Symbol Action)} → x ∷ xs ≡ y ∷ ys → x ≡ y
 head_is {x} e = ap (head_or x) e
@@ -66,7 +66,7 @@ under (s ∷ top) {below = below} {other = other} f
     subst (λ x. IsText grammar (x ∷ (top ++ other)) atoms events) (head_is e)
     (row m clear (subst (λ x. IsText grammar x atoms events) (append_assoc r.parts top other) on))
 
--- What may be assigned to is read as the row of assignments has it.
+-- An expression that may be assigned to is read as the row of assignments has it.
 after_unary_on : {K : List (Symbol Action)} (atoms : List ℕ) (events : List (Event Action)) →
     IsText grammar (array_tail ∷ term_tail ∷ sum_tail ∷ test_tail ∷ logic_tail ∷ assign_tail ∷ K) atoms events → IsText grammar
     (after_unary ∷ K) atoms events
@@ -287,7 +287,7 @@ alone_atoms : (atoms : List ℕ) (left right : ℕ) (rest : List ℕ) →
 alone_atoms atoms left right rest =
     sym (append_assoc atoms (left ∷ []) (right ∷ rest)) ∙ sym (append_assoc (atoms ++ left ∷ []) (right ∷ []) rest)
 
--- All of them
+-- The texts of all expressions
 
 record Text (symbols : List (Symbol Action)) (atoms rest : List ℕ) (last : List (Event Action)) (order place : ℕ) (a : Source) : Type 0
   where

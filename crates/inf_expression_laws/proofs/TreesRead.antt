@@ -1,4 +1,4 @@
--- The symbols of an expression that is written come to its tree.
+-- The symbols of an expression that is written make its tree.
 use Rattle.std.proofs.Common.{◌≡◌, ℕ, suc, ◌-◌, ◌≤◌, List, [], ◌∷◌, ◌++◌, length, reverse, Bool, true, false, ◌||◌, ◌==◌, Some, refl, sym}
 use Rattle.std.proofs.Common.{◌∙◌, ap, append_assoc, append-nil, arith}
 use Rattle.std.proofs.lemmas.Bool.Decides.{nat_tests}
@@ -18,7 +18,7 @@ use Rattle.inf_expression_laws.specs.Laws.{SymbolsComeToTheirTree, joins_commas}
 use Rattle.inf_expression_laws.proofs.Standing.{list_joints}
 use Rattle.inf_expression_laws.proofs.Steps.{test_symbols}
 
--- an expression more
+-- an expression more, and several more
 abbrev gained : ℕ → List Operand → Source → Gathered → Gathered
 gained unit operands a g = record { trees = meant operands a ∷ g.trees; finding = found_in unit operands a g.finding }
 
@@ -26,7 +26,7 @@ abbrev all_gained : ℕ → List Operand → List Source → Gathered → Gather
 all_gained unit operands [] g = g
 all_gained unit operands (a ∷ sources) g = all_gained unit operands sources (gained unit operands a g)
 
--- Its symbols are read as that, whatever follows them.
+-- Tells whether the symbols of an expression are read as that expression, whatever follows them.
 abbrev IsRead : Wanted → Bool → ℕ → List Operand → Source → Type 0
 IsRead w in_brackets unit operands a =
     (rest : List Symbol) (g : Gathered) → gathered w unit operands (symbols_of in_brackets a ++ rest) g ≡ gathered w unit operands rest
@@ -42,7 +42,7 @@ one_more_read : (w : Wanted) (in_brackets : Bool) (unit : ℕ) (operands : List 
 one_more_read w in_brackets unit operands [] b are is = (is, are)
 one_more_read w in_brackets unit operands (a ∷ sources) b are is = (are.0, one_more_read w in_brackets unit operands sources b are.1 is)
 
--- the parts of a list
+-- the parts of a list are read
 list_read : (w : Wanted) (in_brackets : Bool) (unit : ℕ) (operands : List Operand) (a : Source) (sources : List Source) →
     AreRead w in_brackets unit operands (a ∷ sources) →
     (rest : List Symbol) (g : Gathered) →
@@ -54,7 +54,7 @@ list_read w in_brackets unit operands a (b ∷ sources) are rest g =
     ∙ are.0 (symbols_of in_brackets (list_of b sources) ++ rest) g
     ∙ list_read w in_brackets unit operands b sources are.1 rest (gained unit operands a g)
 
--- are joined to the list
+-- the parts of a list are joined to it
 list_joined : (unit : ℕ) (operands : List Operand) (a : Source) (sources : List Source) (g : Gathered) →
     listed unit (length sources) (all_gained unit operands (a ∷ sources) g) ≡ gained unit operands (list_of a sources) g
 list_joined unit operands a [] g = refl
@@ -109,7 +109,7 @@ behind_one w in_brackets unit operands a is last rest g =
     ∙ is (last ++ rest) g
     ∙ gathered_on w unit operands last rest (gained unit operands a g)
 
--- an expression, those that another one or a list is read as, and symbols behind them
+-- an expression, another one or a list, and symbols behind them
 behind_two : (w : Wanted) (in_brackets : Bool) (unit : ℕ) (operands : List Operand) (a list : Source) (after : Gathered → Gathered) →
     IsRead w in_brackets unit operands a →
     ((rest : List Symbol) (g : Gathered) → gathered w unit operands (symbols_of in_brackets list ++ rest) g ≡ gathered w unit operands rest

@@ -1,4 +1,4 @@
--- What each row of an expression does to what stands behind its tokens: a table of its rules, checked against the grammar by evaluation.
+-- The change of items by each row of an expression: a table of its rules, checked against the grammar by evaluation.
 use Rattle.std.proofs.Common.{◌≡◌, ℕ, suc, List, [], ◌∷◌, ◌++◌, Bool, true, false, ◌&&◌, ◌==◌, Option, Some, None, refl, sym, ◌∙◌, ap}
 use Rattle.std.proofs.Common.{subst, append_assoc, inl, inr, if◌then◌else◌}
 use Rattle.std.proofs.lemmas.Bool.{agree_below, agree_below_at, and_parts, cases_lt}
@@ -21,8 +21,8 @@ use Rattle.inf_syntax.specs.Parts.{step_prefix, step_tail, sum, sum_operator, su
 use Rattle.inf_syntax.specs.Parts.{test_tail_1, tested, tested_1}
 use Rattle.inf_expressions.specs.declared.operators.Binary.{Binary}
 use Rattle.inf_expressions.specs.declared.operators.Binary.TheVariants as binary
-use Rattle.inf_unit.specs.declared.steps.Step.{Step}
-use Rattle.inf_unit.specs.declared.steps.Step.TheVariants as step
+use Rattle.inf_unit.specs.declared.steps.GatherStep.{GatherStep}
+use Rattle.inf_unit.specs.declared.steps.GatherStep.TheVariants as step
 use Rattle.inf_unit.specs.Steps.{step_of}
 use Rattle.inf_grammar.specs.Language.{grammar}
 use Rattle.inf_grammar.specs.Evaluated.{rows_past}
@@ -36,7 +36,7 @@ use Rattle.inf_expression_laws.proofs.Items.{Item, Sign, Whole, Opened, Closing,
 use Rattle.inf_expression_laws.proofs.Items.{all_popped, all_popped_sound, and_then, fits_same, item, within_append, within_same}
 use Rattle.inf_expression_laws.proofs.Items.{within_trans}
 
--- What is taken from the top, and what is put there
+-- The items that are taken from the top, and those that are put there
 pub record Change : Type 0 where
   pub old : List Item
   pub now : List Item
@@ -65,8 +65,8 @@ abbrev pub test_changes : Option ℕ → List Change
 test_changes None = []
 test_changes (Some signs) = change (Parts sums or_sign ∷ Sign signs ∷ Whole sums ∷ []) (Whole tests ∷ []) ∷ []
 
--- of an action, by what it gathers: one of these
-abbrev pub step_changes : Option Step → List Change
+-- the changes of an action, by the step that it gathers: one of these
+abbrev pub step_changes : Option GatherStep → List Change
 step_changes None = []
 step_changes (Some step.Leaf) = change (Sign operands ∷ []) (Whole primaries ∷ []) ∷ []
 step_changes (Some step.Action) = change (Sign operand ∷ Sign (of_mark mark.DoubleHash) ∷ []) (Whole primaries ∷ []) ∷ []
@@ -89,7 +89,7 @@ step_changes (Some step.Bracket) = change (Sign opening_sign ∷ []) (Opened ∷
 step_changes (Some step.Bracketed) =
     change (Sign closing_sign ∷ Whole commas ∷ Opened ∷ []) (Whole primaries ∷ []) ∷ change (Whole commas ∷ Opened ∷ []) (Closing ∷ []) ∷ []
 
--- of a rule
+-- the change of a rule
 pub record Typing : Type 0 where
   pub rule : Symbol Action
   pub change : Change
@@ -163,7 +163,7 @@ found_change number (t ∷ rest) = if is_rule number t.rule then Some t.change e
 abbrev pub rule_change : ℕ → Option Change
 rule_change number = found_change number typings
 
--- Symbols are passed: what stands behind them, if each finds what it takes.
+-- Items behind symbols that are passed, if each finds the items that it takes.
 
 abbrev pub changed : Change → List Item → Option (List Item)
 changed c items = and_then (λ rest. Some (c.now ++ rest)) (all_popped c.old items)
@@ -192,7 +192,7 @@ passed (Act a ∷ symbols) items =
     if is_sure a then passed symbols items else and_then (passed symbols) (changed_by_one (step_changes (step_of a)) items)
 passed (Rule rule ∷ symbols) items = and_then (passed symbols) (changed_by (rule_change rule) items)
 
--- the same as a relation
+-- the passing of symbols as a relation
 pub data Passes : List Item → List (Symbol Action) → List Item → Type 0 where
   done : {items target : List Item} → Within items target → Passes items [] target
   token : {class : ℕ} {items target : List Item} {symbols : List (Symbol Action)} →
@@ -208,7 +208,7 @@ pub data Passes : List Item → List (Symbol Action) → List Item → Type 0 wh
   rule : {r : ℕ} {items target : List Item} {symbols : List (Symbol Action)} (c : Change) (rest : List Item) → rule_change r ≡ Some c →
       Within items (c.old ++ rest) → Passes (c.now ++ rest) symbols target → Passes items (Rule r ∷ symbols) target
 
--- what a change took from the top, and that the rest stays
+-- the items that a change took from the top, where the rest stays
 record Took (c : Change) (items next : List Item) : Type 0 where
   rest : List Item
   within : Within items (c.old ++ rest)
@@ -298,7 +298,7 @@ passed_sound (Rule r ∷ symbols) items target last e w =
         let t = by_sound (rule_change r) items next p in
         rule t.c t.took.rest t.is t.took.within (subst (λ n. Passes n symbols target) t.took.is (on next q))
 
--- Where fewer cases are left, and what stands below
+-- Items that are cases of wider ones pass where those do, and the items below stay.
 
 narrower : {items wider target : List Item} {symbols : List (Symbol Action)} → Within items wider → Passes wider symbols target →
     Passes items symbols target
@@ -334,7 +334,7 @@ below under (rule {items = items} {target = target} {symbols = symbols} c rest i
     (subst (λ xs. Within (items ++ under) xs) (append_assoc c.old rest under) (within_append under w))
     (subst (λ xs. Passes xs symbols (target ++ under)) (append_assoc c.now rest under) (below under p))
 
--- By evaluation over the table: each row of a rule does what is said of the rule.
+-- Each row of a rule changes items as the rule does, by evaluation over the table.
 
 abbrev fit_now : Change → Option (List Item) → Bool
 fit_now c None = false
@@ -385,7 +385,7 @@ abbrev all_forms : (Form → Bool) → List Form → Bool
 all_forms is [] = true
 all_forms is (form ∷ others) = is form && all_forms is others
 
--- and so does each form in which an expression stands
+-- each form of an expression changes items as its level says
 forms_typed : all_forms (λ form. row_fits (change [] (Whole form.level ∷ [])) form.symbols) forms ≡ true
 unfolding grammar
 forms_typed = refl

@@ -1,4 +1,4 @@
--- What a unit has gathered of an expression once its tokens were taken.
+-- The parts of an expression that a unit has gathered once its tokens were taken.
 use Rattle.std.specs.Prelude.{◌≡◌, ℕ, suc, ◌==◌, List, [], ◌∷◌, ◌++◌, Bool, true, false, ◌&&◌, if◌then◌else◌, Option, Some, None, ⊤}
 use Rattle.inf_machine.specs.Grammar.{Event, Took, Did}
 use Rattle.inf_scanner.specs.declared.tokens.Mark.{Mark}
@@ -18,38 +18,39 @@ use Rattle.inf_gathering.specs.Gatherings.{Gathering}
 use Rattle.inf_unit.specs.Tokens.{SourceToken}
 use Rattle.inf_unit.specs.Units.{Unit, acted, is_first, is_some_mark, kind_at, leaf_of, taken, told_leaf}
 
--- Tokens are taken and actions carried out, one behind the other.
+-- The unit once tokens were taken and actions carried out, one behind the other.
 abbrev pub read_by : List (Event Action) → List SourceToken → Unit → Unit
 read_by [] tokens u = u
 read_by (Did action ∷ events) tokens u = read_by events tokens (acted action u)
 read_by (Took atom ∷ events) [] u = u
 read_by (Took atom ∷ events) (t ∷ tokens) u = read_by events tokens (taken t u)
 
--- A token whose atom is a mark's is that mark.
+-- Tells whether a token whose atom is a mark's is that mark.
 abbrev pub IsSeen : ℕ → SourceToken → Type 0
 IsSeen atom t = (m : Mark) → atom ≡ mark_atom m → t.kind ≡ kind.Mark m
 
--- the tokens of some atoms
+-- Tells whether tokens have these atoms.
 abbrev pub AreSeen : List ℕ → List SourceToken → Type 0
 AreSeen [] [] = ⊤
 AreSeen (atom ∷ atoms) (t ∷ tokens) = IsSeen atom t × AreSeen atoms tokens
 AreSeen [] (t ∷ tokens) = false ≡ true
 AreSeen (atom ∷ atoms) [] = false ≡ true
 
--- How many joints a list has
+-- Number of joints of a list
 abbrev pub joints : Source → ℕ
 joints (Then a b) = suc (joints b)
 joints _ = 0
 
--- What stands behind two expressions. A test is against a list, and a comma in no brackets is told apart.
+-- The symbols behind those of two expressions. A test is against a list, and a comma in no brackets has a symbol of its
+-- own.
 abbrev pub symbols_behind : Bool → Binary → Source → List Symbol
 symbols_behind in_brackets (binary.Test t) list = symbol.List (joints list) ∷ symbol.Two (binary.Test t) ∷ []
 symbols_behind in_brackets (binary.Fails t) list = symbol.List (joints list) ∷ symbol.Two (binary.Fails t) ∷ []
 symbols_behind in_brackets binary.Comma b = (if in_brackets then symbol.Two binary.Comma else symbol.Comma) ∷ []
 symbols_behind in_brackets op b = symbol.Two op ∷ []
 
--- The symbols of an expression, each operator behind its parts, and those of a list one behind the other, where brackets are open
--- around it or not.
+-- The symbols of an expression, each operator behind its parts, and those of a list one behind the other, where brackets
+-- are open around it or not.
 abbrev pub symbols_of : Bool → Source → List Symbol
 symbols_of in_brackets (Leaf first token place) = symbol.Leaf first token place ∷ []
 symbols_of in_brackets (Brackets order a) = symbols_of true a ++ symbol.Bracketed order ∷ []
@@ -60,7 +61,7 @@ symbols_of in_brackets (Then a b) = symbols_of in_brackets a ++ symbols_of in_br
 symbols_of in_brackets (Call f list) = (symbols_of in_brackets f ++ symbols_of in_brackets list) ++ symbol.Call (suc (joints list)) ∷ []
 symbols_of in_brackets (Alone f) = symbols_of in_brackets f ++ symbol.Call 0 ∷ []
 
--- Where its first token stands
+-- The order of the first token of an expression
 abbrev pub first_of : Source → ℕ
 first_of (Leaf first token place) = first
 first_of (Brackets order a) = order
@@ -71,8 +72,8 @@ first_of (Then a b) = first_of a
 first_of (Call f list) = first_of f
 first_of (Alone f) = first_of f
 
--- The kind of a leaf, by the tokens of its unit: the name of an action or of a system constant behind its sign, else that of its own token.
--- An operand of an assembly line that is a name by itself is told apart.
+-- The kind of a leaf, by the tokens of its unit: the name of an action or of a system constant behind its sign, otherwise
+-- that of its own token. An operand of an assembly line that is a name by itself has a kind of its own.
 abbrev pub kind_in : Option TokenKind → TokenKind
 kind_in None = kind.Name
 kind_in (Some k) = k
@@ -102,7 +103,7 @@ abbrev pub is_open : List ℕ → Bool
 is_open [] = false
 is_open (bracket ∷ brackets) = true
 
--- An expression more was gathered.
+-- An expression more is gathered.
 abbrev pub with_source : Option ℕ → ℕ → List SourceToken → Source → Gathering → Gathering
 with_source outer begun tokens a g = record g {
   leaves = g.leaves ++ leaves_of outer begun tokens a;

@@ -1,4 +1,4 @@
--- Laws of expressions: what the grammar's actions gather of a text is the one expression that the text is.
+-- Laws of expressions: the grammar's actions gather of a text the one expression that the text is.
 use Rattle.std.specs.Prelude.{◌≡◌, ℕ, ◌≤◌, ◌<◌, List, [], ◌∷◌, ◌++◌, length, Bool, true, false, ◌||◌, None}
 use Rattle.inf_machine.specs.declared.symbols.Symbol.{Symbol}
 use Rattle.inf_machine.specs.Grammar.{Event, IsOneOf, IsText}
@@ -20,7 +20,7 @@ use Rattle.inf_unit.specs.Units.{Unit}
 use Rattle.inf_expression_laws.specs.Precedence.{Written, assignments, commas, connections, members, negations, primaries}
 use Rattle.inf_expression_laws.specs.Gathered.{AreSeen, read_by, symbols_of, with_source}
 
--- Symbols of the grammar that stand for an expression, and how tight it binds at least
+-- Symbols of the grammar for an expression, and the level at which it binds at least
 pub record Form : Type 0 where
   pub symbols : List (Symbol Action)
   pub level : ℕ
@@ -28,10 +28,10 @@ pub record Form : Type 0 where
 abbrev form : List (Symbol Action) → ℕ → Form
 form symbols level = record { symbols = symbols; level = level }
 
--- Where an expression stands by itself: in brackets and behind `return` and the like, as a value or a condition of a directive, as an
--- operand. Then as a statement, which begins with a name, another operand, a text or an operator; where a `switch` is over a statement or a
--- case may begin, which parts the operators by those that bind tighter than a sign; and as what is printed, where a name in brackets may be
--- a print rule.
+-- The forms of an expression by itself: in brackets and behind `return` and the like, as a value or a condition of a
+-- directive, as an operand; as a statement, which begins with a name, another operand, a text or an operator; where a
+-- `switch` is over a statement or a case may begin, which separates the operators from those that bind tighter than a sign;
+-- and as a thing to be printed, where a name in brackets may be a print rule.
 abbrev pub forms : List Form
 forms =
     form (expression ∷ []) commas
@@ -79,9 +79,9 @@ forms =
     'close_parenthesis' ∷ after_prim ∷ []) assignments
     ∷ []
 
--- Whatever the tokens of a text of such a form are, they are an expression by the levels of its operators; and taking them, with the
--- actions of the text, makes the unit gather that expression: its leaves by their tokens, its symbols, each operator behind its parts,
--- and its first token. No unit has so many tokens that two have one order.
+-- The tokens of a text of such a form are an expression by the levels of its operators; and taking them, with the actions
+-- of the text, makes the unit gather that expression: its leaves by their tokens, its symbols, each operator behind its
+-- parts, and its first token. The tokens of a unit are few enough for their orders to differ.
 abbrev pub ExpressionsAreRead : Type 0
 ExpressionsAreRead =
     (symbols : List (Symbol Action)) (level : ℕ) → IsOneOf (form symbols level) forms →
@@ -93,12 +93,12 @@ ExpressionsAreRead =
     × ((read_by events tokens u).gathering ≡ with_source u.outer u.begun (u.tokens ++ tokens) a u.gathering)
     × ((read_by events tokens u).tokens ≡ u.tokens ++ tokens)
 
--- Whether a comma in no brackets joins what stands around it: between the values of a case it does not.
+-- Whether a comma in no brackets joins the expressions around it: between the values of a case it does not.
 abbrev pub joins_commas : Wanted → Bool
 joins_commas wanted.Case = false
 joins_commas _ = true
 
--- What the symbols of an expression come to is the tree of this expression, made of those of its parts, and the least that is wrong in it.
+-- The symbols of an expression make its tree, of the trees of its parts, and give the least of its faults.
 abbrev pub SymbolsComeToTheirTree : Type 0
 SymbolsComeToTheirTree =
     (w : Wanted) (in_brackets : Bool) (unit : ℕ) (operands : List Operand) (level order place : ℕ) (atoms : List ℕ) (a : Source) →

@@ -1,4 +1,4 @@
--- Expressions as they are written: which operator binds tighter than which, said without the rows of the grammar. Tokens are told by
+-- Expressions as they are written: the levels at which operators bind, without the rows of the grammar. Tokens are given by
 -- their atoms. Designer's Manual, fourth edition, section 1.6, and the table of operators in its appendix.
 use Rattle.std.specs.Prelude.{◌≡◌, ℕ, suc, ◌+◌, List, [], ◌∷◌, ◌++◌, length, codes, true, Option, Some, None}
 use Rattle.inf_machine.specs.Grammar.{has}
@@ -10,15 +10,15 @@ use Rattle.inf_expressions.specs.declared.operators.Binary.TheVariants as binary
 use Rattle.inf_expressions.specs.declared.operators.Operation.TheVariants as operation
 use Rattle.inf_expressions.specs.declared.operators.PropertyPart.TheVariants as property
 use Rattle.inf_expressions.specs.declared.operators.Single.TheVariants as single
-use Rattle.inf_expressions.specs.declared.operators.Step.TheVariants as stepping
+use Rattle.inf_expressions.specs.declared.operators.Direction.TheVariants as stepping
 use Rattle.inf_expressions.specs.declared.operators.Test.TheVariants as test
 use Rattle.inf_expressions.specs.declared.operators.Unary.{Unary}
 use Rattle.inf_expressions.specs.declared.operators.Unary.TheVariants as unary
 use Rattle.inf_expressions.specs.Sources.{Source, Leaf, Brackets, Prefix, Suffix, Two, Then, Call, Alone}
 
--- How tight expressions are bound, from the loosest: those with commas, assignments, `&&` and `||`, `~~`, tests, sums, products, `~`,
--- entries of arrays, signs, steps in front, steps behind, addresses and lengths of properties, properties and calls, and what has no
--- operator outside of its brackets.
+-- The levels at which expressions are bound, from the loosest: those with commas, assignments, `&&` and `||`, `~~`, tests,
+-- sums, products, `~`, entries of arrays, signs, steps in front, steps behind, addresses and lengths of properties,
+-- properties and calls, and those with no operator outside of their brackets.
 abbrev pub commas : ℕ
 commas = 0
 
@@ -64,7 +64,7 @@ members = 13
 abbrev pub primaries : ℕ
 primaries = 14
 
--- Operators between two expressions that join from the left: how tight each binds, and its sign.
+-- Operators between two expressions that join from the left: the level at which each binds, and its sign.
 abbrev pub sign_between : Binary → Option (ℕ × ℕ)
 sign_between binary.Comma = Some (commas, of_mark mark.Comma)
 sign_between binary.And = Some (connections, of_mark mark.LogicalAnd)
@@ -83,7 +83,7 @@ sign_between (binary.Property property.Length) = Some (addresses, of_mark mark.D
 sign_between (binary.Property property.Value) = Some (members, of_mark mark.Dot)
 sign_between _ = None
 
--- those in front of one
+-- operators in front of one expression
 abbrev pub sign_in_front : Unary → Option (ℕ × ℕ)
 sign_in_front unary.Not = Some (denials, of_mark mark.LogicalNot)
 sign_in_front (unary.Single single.Complement) = Some (complements, of_mark mark.BitNot)
@@ -92,13 +92,13 @@ sign_in_front (unary.Before stepping.Up) = Some (steps_in_front, of_mark mark.In
 sign_in_front (unary.Before stepping.Down) = Some (steps_in_front, of_mark mark.Decrement)
 sign_in_front _ = None
 
--- those behind one
+-- operators behind one expression
 abbrev pub sign_behind : Unary → Option (ℕ × ℕ)
 sign_behind (unary.Behind stepping.Up) = Some (steps_behind, of_mark mark.Increment)
 sign_behind (unary.Behind stepping.Down) = Some (steps_behind, of_mark mark.Decrement)
 sign_behind _ = None
 
--- Tests, which stand alone between two sums, or a sum and some with `or` between them.
+-- Tests, which are between two sums, or between a sum and several with `or` between them, and are not joined.
 abbrev pub sign_of_test : Binary → Option ℕ
 sign_of_test (binary.Test test.Equal) = Some (of_mark mark.Equal)
 sign_of_test (binary.Fails test.Equal) = Some (of_mark mark.NotEqual)
@@ -114,7 +114,7 @@ sign_of_test (binary.Test test.OfClass) = Some (of_word (codes "ofclass"))
 sign_of_test (binary.Test test.Provides) = Some (of_word (codes "provides"))
 sign_of_test _ = None
 
--- what is an operand by itself
+-- the tokens that are operands by themselves
 abbrev pub operands : ℕ
 operands = joined (operand_names ∷ number ∷ char ∷ word_literal ∷ text ∷ [])
 
@@ -130,7 +130,7 @@ opening_sign = of_mark mark.OpenParenthesis
 abbrev pub closing_sign : ℕ
 closing_sign = of_mark mark.CloseParenthesis
 
--- How many leaves an expression or a list has
+-- Number of leaves of an expression or a list
 abbrev pub leaf_count : Source → ℕ
 leaf_count (Leaf first token leaf) = 1
 leaf_count (Brackets order a) = leaf_count a
@@ -150,8 +150,8 @@ abbrev pub list_of : Source → List Source → Source
 list_of a [] = a
 list_of a (b ∷ sources) = Then a (list_of b sources)
 
--- Atoms are an expression that binds so tight at least. Its first token has an order, and its first leaf a place among those of its
--- unit.
+-- Atoms are an expression that binds at `level` at least. Its first token has order `order`, and its first leaf is at
+-- `place` among the leaves of its unit.
 mutual
   pub data Written : ℕ → ℕ → ℕ → List ℕ → Source → Type 0 where
     operand : {order place atom : ℕ} → has operands atom ≡ true → Written primaries order place (atom ∷ []) (Leaf order order place)
@@ -193,7 +193,7 @@ mutual
         has closing_sign right ≡ true →
         Written members order place ((atoms ++ left ∷ []) ++ right ∷ []) (Alone f)
 
-  -- some of these, with one of some signs between two of them
+  -- several expressions that bind at a level, with one of some signs between two of them
   pub data Listed : ℕ → ℕ → ℕ → ℕ → List ℕ → List Source → Type 0 where
     one : {level signs order place : ℕ} {atoms : List ℕ} {a : Source} → Written level order place atoms a →
         Listed level signs order place atoms (a ∷ [])

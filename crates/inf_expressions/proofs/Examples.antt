@@ -10,7 +10,7 @@ use Rattle.inf_expressions.specs.declared.operators.Operation.{Operation}
 use Rattle.inf_expressions.specs.declared.operators.Operation.TheVariants as operation
 use Rattle.inf_expressions.specs.declared.operators.PropertyPart.TheVariants as property
 use Rattle.inf_expressions.specs.declared.operators.Test.TheVariants as test
-use Rattle.inf_expressions.specs.declared.operators.Step.TheVariants as step
+use Rattle.inf_expressions.specs.declared.operators.Direction.TheVariants as step
 use Rattle.inf_expressions.specs.declared.operators.Single.TheVariants as single
 use Rattle.inf_expressions.specs.declared.operators.Relative.TheVariants as relative
 use Rattle.inf_expressions.specs.declared.operators.Unary.TheVariants as unary
@@ -26,9 +26,8 @@ use Rattle.inf_expressions.specs.Rooted.{Rooted}
 use Rattle.inf_expressions.specs.Questions.{children_of, constant_of, range_of}
 use Rattle.inf_expressions.specs.Units.{judged, trees_of}
 
--- Operands by place: the numbers 0 to 5; then a variable, a constant known later, the functions `child`, `random` and `indirect`, and `#`
--- with
--- an unknown name.
+-- Operands by place: the numbers 0 to 5; then a variable, a constant known later, the functions `child`, `random` and `indirect`,
+-- and `#` with an unknown name.
 abbrev operands : List Operand
 operands =
     operand.Known 0 ∷ operand.Known 1 ∷ operand.Known 2 ∷ operand.Known 3 ∷ operand.Known 4 ∷ operand.Known 5 ∷ operand.Variable 1
@@ -61,16 +60,16 @@ leaf order place = symbol.Leaf order order place
 abbrev op : Operation → Symbol
 op o = Two (binary.Operation o)
 
--- in a unit that begins at the order 10
+-- the finding of a unit that begins at the order 10
 abbrev found : List Symbol → Option Finding
 found symbols = judged wanted.Value 10 operands symbols
 
 abbrev trees : List Symbol → List Tree
 trees symbols = map (λ (r : Rooted). r.tree) (trees_of wanted.Value 10 operands symbols)
 
--- What is of a wrong kind.
+-- Expressions of a wrong kind.
 
--- x + (child): a function of the system is no value, and is told by its name
+-- x + (child): a function of the system is no value; the error is at its name
 function_without_brackets : found (leaf 10 x ∷ leaf 13 child ∷ Bracketed 12 ∷ op operation.Add ∷ []) ≡ Some (wrong_kind 13)
 function_without_brackets = refl
 
@@ -86,7 +85,7 @@ function_of_nothing = refl
 call_in_brackets : found (leaf 11 child ∷ Bracketed 10 ∷ leaf 13 x ∷ Call 1 ∷ []) ≡ None
 call_in_brackets = refl
 
--- x + #y: the name is told; #y = 3: the sign, since the target is wrong as well
+-- x + #y: the error is at the name; #y = 3: at the sign, since the target is wrong as well
 unknown_constant : found (leaf 10 x ∷ symbol.Leaf 12 13 unknown ∷ op operation.Add ∷ []) ≡ Some (wrong_kind 13)
 unknown_constant = refl
 
@@ -117,7 +116,7 @@ address_as_target : found (leaf 10 x ∷ leaf 12 1 ∷ Two (binary.Property prop
     (wrong_kind 10)
 address_as_target = refl
 
--- What a unit wants.
+-- The kinds that a unit wants.
 
 -- child(x) is a value and no constant; a variable is none, and the constant known later no number
 no_constant_of_code : judged wanted.Constant 10 operands (leaf 10 child ∷ leaf 12 x ∷ Call 1 ∷ []) ≡ Some (no_constant 10)
@@ -155,7 +154,7 @@ range_to_variable = refl
 comma_in_case : judged wanted.Case 10 operands (leaf 11 1 ∷ leaf 13 2 ∷ Two binary.Comma ∷ Bracketed 10 ∷ []) ≡ Some (no_constant 10)
 comma_in_case = refl
 
--- x in 5, (x) in 5, (x in 5); of (5) in x the bracket is told, of (5 in x) the number, of -x in 5 the sign
+-- x in 5, (x) in 5, (x in 5); for (5) in x the error is at the bracket, for (5 in x) at the number, for -x in 5 at the sign
 loop : judged wanted.Loop 10 operands (leaf 10 x ∷ leaf 12 5 ∷ Two (binary.Test test.In) ∷ []) ≡ None
 loop = refl
 
@@ -175,7 +174,7 @@ loop_of_negative : judged wanted.Loop 9 operands (leaf 11 x ∷ Prefix 10 unary.
     (wrong_kind 10)
 loop_of_negative = refl
 
--- Numbers that cannot be.
+-- Numbers that are out of range.
 
 -- 5 / 0 and 5 / random, where the function is wrong too, but further on; x / 0 is code
 by_zero : found (leaf 10 5 ∷ leaf 12 0 ∷ op operation.Divide ∷ []) ≡ Some (out_of_range 10)
@@ -224,7 +223,7 @@ eight_for_indirect = refl
 nine_for_indirect : found (leaf 10 indirect ∷ ones 9 (Call 9 ∷ [])) ≡ Some (too_many_arguments 10)
 nine_for_indirect = refl
 
--- The least: of several the first, and at one token the least number.
+-- The least finding: the first of several, and at one token that with the least number.
 first_of_two : found (leaf 10 x ∷ leaf 12 child ∷ op operation.Add ∷ leaf 14 random ∷ op operation.Add ∷ []) ≡ Some (wrong_kind 12)
 first_of_two = refl
 
@@ -346,7 +345,7 @@ bare symbols = map (λ (r : Rooted). r.origin.bare) (trees_of wanted.Operand 10 
 bare_leaf : bare (leaf 10 x ∷ leaf 12 x ∷ Bracketed 11 ∷ leaf 15 3 ∷ Prefix 14 unary.Negate ∷ []) ≡ Some x ∷ None ∷ None ∷ []
 bare_leaf = refl
 
--- What is asked of a tree.
+-- Questions about a tree.
 abbrev at_x : Tree → Tree
 at_x e = tree.Two (binary.Test test.In) (tree.Leaf (operand.Variable 1)) e
 

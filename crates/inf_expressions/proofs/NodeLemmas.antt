@@ -1,4 +1,4 @@
--- The trees that nodes stand for, place by place.
+-- The trees that nodes are, place by place.
 use Rattle.std.proofs.Common.{◌≡◌, ℕ, suc, ◌+◌, ◌<◌, ◌≤◌, List, [], ◌∷◌, ◌++◌, length, get_or, take, drop, refl, sym, ◌∙◌, ap, subst, arith}
 use Rattle.std.proofs.Common.{length-append, drop-cons}
 use Rattle.std.proofs.lemmas.List.{get_or_append_left, get_or_push, get_or_past, length-take, take-append-drop}
@@ -8,7 +8,7 @@ use Rattle.inf_expressions.specs.declared.nodes.Node.TheVariants as node
 use Rattle.inf_expressions.specs.Trees.{Tree, Leaf}
 use Rattle.inf_expressions.specs.Nodes.{tree_at, tree_of, trees_from, IsBelow, AreBelow}
 
--- Nodes in two parts.
+-- The trees of two lists of nodes joined are those of the second behind those of the first.
 joined_from : (trees : List Tree) (front back : List Node) → trees_from trees (front ++ back) ≡ trees_from (trees_from trees front) back
 joined_from trees [] back = refl
 joined_from trees (n ∷ front) back = joined_from (trees ++ tree_of trees n ∷ []) front back
@@ -35,7 +35,7 @@ below_at : (place : ℕ) (front : List Node) (n : Node) (back : List Node) → A
 below_at place [] n back below = subst (λ p. IsBelow p n) (omega arith) below.0
 below_at place (m ∷ front) n back below = subst (λ p. IsBelow p n) (omega arith) (below_at (place + 1) front n back below.1)
 
--- What follows leaves a tree as it is.
+-- The nodes that follow leave a tree as it is.
 kept_at : (trees : List Tree) (back : List Node) (place : ℕ) → place < length trees →
     tree_at (trees_from trees back) place ≡ tree_at trees place
 kept_at trees [] place within = refl
@@ -48,7 +48,7 @@ kept_of trees back (node.Leaf operand) below = refl
 kept_of trees back (node.One op a) below = let e = kept_at trees back a below in cc
 kept_of trees back (node.Two op a b) below = let e = kept_at trees back a below.0 in let f = kept_at trees back b below.1 in cc
 
--- Where a node stands, stands its tree.
+-- At the place of a node is its tree.
 stands : (front : List Node) (n : Node) (back : List Node) → AreBelow 0 (front ++ n ∷ back) →
     tree_at (trees_from [] (front ++ n ∷ back)) (length front) ≡ tree_of (trees_from [] (front ++ n ∷ back)) n
 stands front n back below =
@@ -61,7 +61,7 @@ stands front n back below =
     ∙ sym (kept_of before (n ∷ back) n parts)
     ∙ ap (λ trees. tree_of trees n) (sym (joined_from [] front (n ∷ back)))
 
--- The node at a place parts the others.
+-- A list is the nodes before a place, the node at the place, and those behind it.
 cut_at : (nodes : List Node) (k : ℕ) (n : Node) → k < length nodes → n ≡ get_or nodes k n → take k nodes ++ n ∷ drop (suc k) nodes ≡ nodes
 cut_at nodes k n within is =
     ap (λ m. take k nodes ++ m ∷ drop (suc k) nodes) is

@@ -1,5 +1,5 @@
--- Symbols are read one by one into a state. What a state does at each kind of symbol is all that has to be known to read an expression from
--- its symbols: that is said once, for any state.
+-- Symbols are read one by one into a state. The step of the state at each kind of symbol is all that has to be known to read an
+-- expression from its symbols: this is shown once, for any state.
 use Rattle.std.proofs.Common.{◌≡◌, ℕ, zero, suc, List, [], ◌∷◌, ◌++◌, refl, ◌∙◌, ap, append_assoc}
 use Rattle.inf_expressions.specs.declared.operators.Unary.{Unary}
 use Rattle.inf_expressions.specs.declared.operators.Binary.{Binary}
@@ -16,7 +16,7 @@ abbrev pub joints : {S : Type 0} → (S → S) → ℕ → S → S
 joints joint zero state = state
 joints joint (suc n) state = joint (joints joint n state)
 
--- how a state takes symbols, and how it has an expression more
+-- the way in which a state takes symbols, and in which it gains a whole expression
 pub record Reads {S : Type 0} (act : Symbol → S → S) (joint : S → S) (have : Source → S → S) : Type 0 where
   pub leaf : (first token leaf : ℕ) (state : S) → act (symbol.Leaf first token leaf) state ≡ have (Leaf first token leaf) state
   pub brackets : (order : ℕ) (a : Source) (state : S) → act (symbol.Bracketed order) (have a state) ≡ have (Brackets order a) state
@@ -30,7 +30,7 @@ pub record Reads {S : Type 0} (act : Symbol → S → S) (joint : S → S) (have
   pub call : (n : ℕ) (f list : Source) (state given : S) → n ≡ (opened list).1 → joints joint n given ≡ have list (have f state) →
       act (symbol.Call (suc n)) given ≡ have (Call f list) state
 
--- the members of a list, one behind the other
+-- the state that gains the members of a list, one behind the other
 abbrev pub spread : {S : Type 0} → (Source → S → S) → Source → S → S
 spread have (Then a b) state = spread have b (have a state)
 spread have (Leaf first token leaf) state = have (Leaf first token leaf) state
@@ -41,7 +41,7 @@ spread have (Two op a b) state = have (Two op a b) state
 spread have (Call f list) state = have (Call f list) state
 spread have (Alone f) state = have (Alone f) state
 
--- its joints make the list of them
+-- The joints of a list make one expression of its members.
 gathers : {S : Type 0} {act : Symbol → S → S} {joint : S → S} {have : Source → S → S} (reads : Reads act joint have)
     (a : Source) (state : S) → joints joint (opened a).1 (spread have a state) ≡ have a state
 gathers {joint = joint} {have = have} reads (Then a b) state = ap joint (gathers reads b (have a state)) ∙ reads.next a b state
@@ -53,7 +53,7 @@ gathers reads (Two op a b) state = refl
 gathers reads (Call f list) state = refl
 gathers reads (Alone f) state = refl
 
--- a list that is closed
+-- A list that is closed is read as its members and its joints.
 closes : {S : Type 0} {act : Symbol → S → S} {joint : S → S} {have : Source → S → S} (reads : Reads act joint have)
     (symbols : List Symbol) (n : ℕ) (rest : List Symbol) (before members after : S) →
     ((more : List Symbol) → run act (symbols ++ more) before ≡ run act more members) → joints joint n members ≡ after →
@@ -64,7 +64,7 @@ closes {act = act} reads symbols (suc n) rest before members after opens is =
     ∙ opens (symbol.List (suc n) ∷ rest)
     ∙ ap (run act rest) (reads.list n members ∙ is)
 
--- a whole expression, where its symbols without that of the list are read as its members
+-- A whole expression is read from its symbols, where its symbols without that of the list are read as its members.
 whole : {S : Type 0} {act : Symbol → S → S} {joint : S → S} {have : Source → S → S} (reads : Reads act joint have) (a : Source) →
     ((more : List Symbol) (state : S) → run act ((opened a).0 ++ more) state ≡ run act more (spread have a state)) →
     (rest : List Symbol) (state : S) → run act (postfix a ++ rest) state ≡ run act rest (have a state)
@@ -72,7 +72,7 @@ whole {have = have} reads a opens rest state =
     closes reads (opened a).0 (opened a).1 rest state (spread have a state) (have a state) (λ more. opens more state)
     (gathers reads a state)
 
--- an expression, and one symbol behind it
+-- An expression and one symbol behind it are read, one after the other.
 behind : {S : Type 0} {act : Symbol → S → S} {joint : S → S} {have : Source → S → S} (reads : Reads act joint have) (a : Source) →
     ((more : List Symbol) (state : S) → run act ((opened a).0 ++ more) state ≡ run act more (spread have a state)) →
     (s : Symbol) (rest : List Symbol) (state after : S) → act s (have a state) ≡ after →
@@ -117,7 +117,7 @@ abbrev pub all : {S : Type 0} → (Source → S → S) → List Source → S →
 all have [] state = state
 all have (a ∷ sources) state = all have sources (have a state)
 
--- and so are several
+-- Several expressions are read from their symbols, one after another.
 pub reading_all : {S : Type 0} {act : Symbol → S → S} {joint : S → S} {have : Source → S → S} (reads : Reads act joint have)
     (sources : List Source) (state : S) → run act (postfixes sources) state ≡ all have sources state
 reading_all reads [] state = refl

@@ -1,4 +1,4 @@
--- The latest trees and their places.
+-- The latest trees and their roots.
 use Rattle.std.proofs.Common.{◌≡◌, ℕ, ◌<◌, List, [], ◌∷◌, ◌++◌, length, map, refl, sym, ap, arith, length-append}
 use Rattle.std.specs.Prelude.{reverse, option_map, slice_get}
 use Rattle.std.proofs.lemmas.List.{get_or_append_left, get_or_push, map-append, reverse-append, reverse-reverse}
@@ -9,7 +9,7 @@ use Rattle.inf_expressions.specs.declared.trees.Root.{Root}
 use Rattle.inf_expressions.specs.Trees.{Tree, Leaf}
 use Rattle.inf_expressions.specs.Nodes.{tree_at, rooted_at, rooted, AreRoots}
 
--- One root more, and one less.
+-- A root that is pushed is the latest tree, and one that is popped was.
 pub rooted_pushed : (trees : List Tree) (roots : List Root) (root : Root) →
     rooted trees (roots ++ root ∷ []) ≡ rooted_at trees root ∷ rooted trees roots
 rooted_pushed trees roots root = simp (map-append, reverse-append)
@@ -24,7 +24,7 @@ pub roots_popped : (trees : List Tree) (roots : List Root) (root : Root) → Are
 roots_popped trees [] root all = (tt, all.0)
 roots_popped trees (r ∷ roots) root all = let others = roots_popped trees roots root all.1 in ((all.0, others.0), others.1)
 
--- One tree more leaves roots, and the trees at them, as they are.
+-- One more tree leaves roots, and the trees at them, as they are.
 pub roots_after : (trees : List Tree) (t : Tree) (roots : List Root) → AreRoots trees roots → AreRoots (trees ++ t ∷ []) roots
 roots_after trees t [] all = tt
 roots_after trees t (root ∷ roots) all = (omega (arith, all.0, length-append trees (t ∷ [])), roots_after trees t roots all.1)
@@ -46,7 +46,7 @@ pub rooted_after : (trees : List Tree) (t : Tree) (roots : List Root) → AreRoo
     rooted (trees ++ t ∷ []) roots ≡ rooted trees roots
 rooted_after trees t roots all = ap reverse (kept_roots trees t roots all)
 
--- A new tree, at whose place the latest root stands.
+-- A new tree with a root at its place is the latest tree.
 pub grown : (trees : List Tree) (t : Tree) (roots : List Root) (origin : Origin) → AreRoots trees roots →
     rooted (trees ++ t ∷ []) (roots ++ record { place = length trees; origin = origin } ∷ []) ≡ record { tree = t; origin = origin } ∷
     rooted trees roots
@@ -64,7 +64,7 @@ roots_grown trees t roots origin all =
 
 pub ruleset roots_step = (grown, roots_grown, roots_after, rooted_after, rooted_pushed, roots_popped, roots_pushed)
 
--- In the order of their texts.
+-- The roots in their own order are the trees in the order of their texts.
 pub reversed_roots : (trees : List Tree) (roots : List Root) → map (rooted_at trees) roots ≡ reverse (rooted trees roots)
 reversed_roots trees roots = sym (reverse-reverse (map (rooted_at trees) roots))
 

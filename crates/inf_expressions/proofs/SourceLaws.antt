@@ -1,4 +1,4 @@
--- What symbols come to: the trees of the expressions whose symbols they are, and these expressions themselves.
+-- The symbols of expressions come to the trees of these expressions, and give back the expressions themselves.
 use Rattle.std.proofs.Common.{◌≡◌, ℕ, zero, suc, List, [], ◌∷◌, ◌++◌, ◌-◌, ◌==◌, false, map, None, refl, sym, ◌∙◌, ap, append_assoc}
 use Rattle.std.proofs.Common.{append-nil, arith}
 use Rattle.std.proofs.lemmas.Bool.Decides.{nat_tests}
@@ -15,7 +15,7 @@ use Rattle.inf_expressions.specs.Sources.{Source, Leaf, Brackets, Prefix, Suffix
 use Rattle.inf_expressions.specs.Sources.{opened, postfixes}
 use Rattle.inf_expressions.proofs.Reading.{Reads, all, joints, reading_all, run}
 
--- Into trees and what is found.
+-- The symbols read into trees and findings.
 abbrev gained : ℕ → List Operand → Source → Gathered → Gathered
 gained unit operands a g = record { trees = meant operands a ∷ g.trees; finding = found_in unit operands a g.finding }
 
@@ -83,7 +83,7 @@ finding_is w unit operands sources =
     ap (λ (g : Gathered). roots_finding w unit (reverse g.trees) g.finding) (gathered_all w unit operands sources)
     ∙ ap (λ trees. roots_finding w unit trees (found_in_all unit operands sources None)) (reverse-reverse (map (meant operands) sources))
 
--- Into the expressions themselves, the latest first.
+-- The symbols read into the expressions themselves, the latest first.
 abbrev over_one : (Source → Source) → List Source → List Source
 over_one make [] = []
 over_one make (a ∷ sources) = make a ∷ sources

@@ -1,4 +1,4 @@
--- What is found of a unit. The least is told: by the order of its token, then by its number.
+-- The findings of a unit. The least is reported: by the order of its token, then by its number.
 use Rattle.std.specs.Prelude.{ℕ, nat_lt, ◌==◌, Bool, ◌&&◌, ◌||◌, Option, Some, None, if◌then◌else◌}
 use Rattle.inf_expressions.specs.declared.findings.Finding.{Finding}
 
@@ -17,7 +17,7 @@ least_of_both found (Some finding) = least found finding
 abbrev pub wrong_kind : ℕ → Finding
 wrong_kind order = record { order = order; number = 9 }
 
--- `Not a constant known here`, at the first token of the unit, as the next two
+-- `Not a constant known here`, at the first token of the unit, as the two messages below
 abbrev pub no_constant : ℕ → Finding
 no_constant order = record { order = order; number = 12 }
 

@@ -1,4 +1,4 @@
--- The tree of an operator. Of known numbers it is the number that the operator gives.
+-- The tree of an operator; where its operands are known numbers, the number that it gives.
 use Rattle.std.specs.Prelude.{ℕ, ◌==◌, Bool, true, false, not, ◌&&◌, ◌||◌, Option, Some, None}
 use Rattle.inf_expressions.specs.declared.operators.Operand.TheVariants as operand
 use Rattle.inf_expressions.specs.declared.operators.Function.{Function}
@@ -13,7 +13,7 @@ use Rattle.inf_expressions.specs.declared.operators.Binary.TheVariants as binary
 use Rattle.inf_expressions.specs.Trees.{Tree, Leaf, One, Two}
 use Rattle.inf_expressions.specs.Numbers.{computed, computed_single, holds, same, truth}
 
--- what is no value stands as 0
+-- the number that a tree is, if it is one; a leaf that has no value counts as 0
 abbrev pub known : Tree → Option ℕ
 known (Leaf (operand.Known n)) = Some n
 known (Leaf (operand.Function f)) = Some 0
@@ -32,7 +32,7 @@ abbrev pub holds_known : Test → ℕ → Option ℕ → Option Bool
 holds_known t n (Some m) = holds t n m
 holds_known t n None = None
 
--- whether a test holds of a number and any of a list, beside what was found of those before
+-- tells whether a test holds of a number and any of a list, or was found to hold of those before
 abbrev pub any_holds : Option Bool → Test → ℕ → Tree → Option Bool
 any_holds found t n (Two binary.Then a others) = any_holds (or_known found (holds_known t n (known a))) t n others
 any_holds found t n a = or_known found (holds_known t n (known a))
@@ -51,7 +51,7 @@ folded_two binary.And (Some a) (Some b) = Some (truth (not (a == 0) && not (b ==
 folded_two binary.Or (Some a) (Some b) = Some (truth (not (a == 0) || not (b == 0)))
 folded_two _ _ _ = None
 
--- the number that an operator gives, if it is known
+-- the number that an operator gives of two trees, if it is known
 abbrev pub folded : Binary → Tree → Tree → Option ℕ
 folded (binary.Test t) a b = sensed true (any_known t (known a) b)
 folded (binary.Fails t) a b = sensed false (any_known t (known a) b)
@@ -61,7 +61,7 @@ abbrev pub folded_single : Unary → Option ℕ → Option ℕ
 folded_single op (Some a) = computed_single op a
 folded_single op None = None
 
--- what a call of a function of the system is
+-- the operator that a call of a function of the system is
 abbrev pub operator_of : Function → Unary
 operator_of function.Child = unary.Relative relative.Child
 operator_of function.Sibling = unary.Relative relative.Sibling

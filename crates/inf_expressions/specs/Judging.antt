@@ -1,4 +1,5 @@
--- What is found of an expression, operator by operator: the least of what was found before and of what is found now.
+-- The errors in an expression, operator by operator: each function gives the least of the finding so far and of the errors that
+-- it finds itself.
 use Rattle.std.specs.Prelude.{ℕ, nat_lt, ◌==◌, Bool, true, false, ◌&&◌, Option, Some, None, if◌then◌else◌}
 use Rattle.inf_expressions.specs.declared.findings.Finding.{Finding}
 use Rattle.inf_expressions.specs.declared.operators.Operand.{Operand}
@@ -17,7 +18,7 @@ use Rattle.inf_expressions.specs.declared.units.Wanted.{Wanted}
 use Rattle.inf_expressions.specs.declared.units.Wanted.TheVariants as wanted
 use Rattle.inf_expressions.specs.Findings.{least, no_constant, out_of_range, too_many_arguments, wrong_kind}
 
--- what is wrong by itself
+-- a leaf that is wrong by itself
 abbrev pub leaf_finding : Operand → ℕ → Option Finding → Option Finding
 leaf_finding operand.Unknown token found = least found (wrong_kind token)
 leaf_finding (operand.Known n) token found = found
@@ -25,7 +26,7 @@ leaf_finding (operand.Variable v) token found = found
 leaf_finding (operand.Later target) token found = found
 leaf_finding (operand.Function f) token found = found
 
--- a function of the system is no value
+-- a function of the system where a value is needed
 abbrev pub value_finding_of : Kind → ℕ → Option Finding → Option Finding
 value_finding_of (kind.Function f) token found = least found (wrong_kind token)
 value_finding_of _ token found = found
@@ -33,7 +34,7 @@ value_finding_of _ token found = found
 abbrev pub value_finding : Seen → Option Finding → Option Finding
 value_finding s found = value_finding_of s.kind s.origin.token found
 
--- only variables, entries of arrays and properties are assigned and stepped
+-- a target that is no variable, entry of an array or property: only these are assigned and stepped
 abbrev pub target_finding_of : Kind → ℕ → Option Finding → Option Finding
 target_finding_of kind.Variable first found = found
 target_finding_of kind.Entry first found = found
@@ -43,14 +44,14 @@ target_finding_of _ first found = least found (wrong_kind first)
 abbrev pub target_finding : Seen → Option Finding → Option Finding
 target_finding s found = target_finding_of s.kind s.origin.first found
 
--- a constant must stand
+-- an expression that is no constant where one is needed
 abbrev pub constant_finding : ℕ → Kind → Option Finding → Option Finding
 constant_finding unit (kind.Number n) found = found
 constant_finding unit kind.Constant found = found
 constant_finding unit (kind.Function f) found = found
 constant_finding unit _ found = least found (no_constant unit)
 
--- a known number; what is no value stands as 0
+-- tells whether an expression is a known number; a function of the system counts as 0
 abbrev pub is_known : Kind → Bool
 is_known (kind.Number n) = true
 is_known (kind.Function f) = true
@@ -61,11 +62,11 @@ is_zero (kind.Number n) = n == 0
 is_zero (kind.Function f) = true
 is_zero _ = false
 
--- a known number is not divided by 0
+-- a known number that is divided by 0
 abbrev pub division_finding : ℕ → Kind → Kind → Option Finding → Option Finding
 division_finding unit a b found = if is_known a && is_zero b then least found (out_of_range unit) else found
 
--- an operator of one expression
+-- the errors of an operator of one expression
 abbrev pub unary_finding : Unary → Seen → Option Finding → Option Finding
 unary_finding (unary.Before step) a found = target_finding a (value_finding a found)
 unary_finding (unary.Behind step) a found = target_finding a (value_finding a found)
@@ -74,7 +75,7 @@ unary_finding _ a found = value_finding a found
 abbrev pub values_finding : Seen → Seen → Option Finding → Option Finding
 values_finding a b found = value_finding b (value_finding a found)
 
--- an operator of two, in a unit that begins at an order
+-- the errors of an operator of two expressions, in a unit that begins at the order `unit`
 abbrev pub two_finding : Binary → ℕ → Seen → Seen → Option Finding → Option Finding
 two_finding binary.Assign unit a b found = target_finding a (values_finding a b found)
 two_finding (binary.Operation operation.Divide) unit a b found = division_finding unit a.kind b.kind (values_finding a b found)
@@ -82,14 +83,15 @@ two_finding (binary.Operation operation.Remainder) unit a b found = division_fin
 two_finding binary.To unit a b found = constant_finding unit b.kind (constant_finding unit a.kind (values_finding a b found))
 two_finding _ unit a b found = values_finding a b found
 
--- The most arguments of a call. Of a message an object and a property stand before them, and of `indirect` the routine that it calls.
+-- The most arguments of a call. In a message an object and a property come before them, and behind `indirect` the routine that it
+-- calls is counted as one.
 abbrev pub most_arguments : Kind → ℕ
 most_arguments (kind.Function function.Indirect) = 8
 most_arguments (kind.Function _) = 1
 most_arguments kind.Property = 5
 most_arguments _ = 7
 
--- a call with so many arguments, which are a list
+-- the errors of a call with a list of `given` arguments
 abbrev pub call_finding : ℕ → ℕ → Seen → Seen → Option Finding → Option Finding
 call_finding unit given callee list found =
     if nat_lt (most_arguments callee.kind) given then least (value_finding list found) (too_many_arguments unit) else value_finding list
@@ -98,17 +100,17 @@ call_finding unit given callee list found =
 abbrev pub number_finding : ℕ → Kind → Option Finding → Option Finding
 number_finding unit k found = if is_known k then found else least found (no_constant unit)
 
--- an operand of an instruction is a constant or a variable
+-- an operand of an instruction that is neither a constant nor a variable
 abbrev pub operand_finding : ℕ → Kind → Option Finding → Option Finding
 operand_finding unit kind.Variable found = found
 operand_finding unit k found = constant_finding unit k found
 
--- a value of a case is a constant or a range
+-- a value of a case that is neither a constant nor a range
 abbrev pub case_finding : ℕ → Kind → Option Finding → Option Finding
 case_finding unit kind.Range found = found
 case_finding unit k found = constant_finding unit k found
 
--- a loop over objects begins with its variable
+-- a loop over objects that does not begin with its variable
 abbrev pub lead_finding_of : Option ℕ → ℕ → Option Finding → Option Finding
 lead_finding_of (Some v) first found = found
 lead_finding_of None first found = least found (wrong_kind first)
@@ -124,6 +126,6 @@ wanted_finding wanted.Operand unit s found = operand_finding unit s.kind found
 wanted_finding wanted.Case unit s found = case_finding unit s.kind found
 wanted_finding wanted.Loop unit s found = lead_finding s.origin.lead found
 
--- a whole expression, as a unit wants it
+-- the errors of a whole expression, by the kind that a unit wants
 abbrev pub root_finding : Wanted → ℕ → Seen → Option Finding → Option Finding
 root_finding w unit s found = wanted_finding w unit s (value_finding s found)

@@ -1,4 +1,4 @@
--- The trees that nodes stand for, each with those before it.
+-- The trees that nodes are, each together with the trees before it.
 use Rattle.std.specs.Prelude.{ℕ, ◌+◌, ◌<◌, List, [], ◌∷◌, ◌++◌, length, map, reverse, slice_index_or}
 use Rattle.inf_expressions.specs.declared.operators.Operand.TheVariants.{Known}
 use Rattle.inf_expressions.specs.declared.nodes.Node.{Node}
@@ -24,7 +24,7 @@ abbrev pub trees_from : List Tree → List Node → List Tree
 trees_from trees [] = trees
 trees_from trees (n ∷ nodes) = trees_from (trees ++ tree_of trees n ∷ []) nodes
 
--- the parts of a node stand below a place
+-- tells whether the parts of a node come before a place
 abbrev pub IsBelow : ℕ → Node → Type 0
 IsBelow place (node.Leaf operand) = Unit {0}
 IsBelow place (node.One op a) = a < place
@@ -34,14 +34,14 @@ abbrev pub AreBelow : ℕ → List Node → Type 0
 AreBelow place [] = Unit {0}
 AreBelow place (n ∷ nodes) = IsBelow place n × AreBelow (place + 1) nodes
 
--- the trees at some places, the latest first
+-- the tree of a root, with its origin; below, all trees of a list of roots, the latest first
 abbrev pub rooted_at : List Tree → Root → Rooted
 rooted_at trees root = record { tree = tree_at trees root.place; origin = root.origin }
 
 abbrev pub rooted : List Tree → List Root → List Rooted
 rooted trees roots = reverse (map (rooted_at trees) roots)
 
--- all within these trees
+-- tells whether all roots are places within the trees
 abbrev pub AreRoots : List Tree → List Root → Type 0
 AreRoots trees [] = Unit {0}
 AreRoots trees (root ∷ roots) = (root.place < length trees) × AreRoots trees roots

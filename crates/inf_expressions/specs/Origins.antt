@@ -1,11 +1,11 @@
--- Where the text of an expression begins.
+-- The tokens with which the text of an expression begins.
 use Rattle.std.specs.Prelude.{ℕ, true, false, Option, Some, None, if◌then◌else◌}
 use Rattle.inf_expressions.specs.declared.operators.Operand.{Operand}
 use Rattle.inf_expressions.specs.declared.operators.Operand.TheVariants as operand
 use Rattle.inf_expressions.specs.declared.origins.Lead.{Lead}
 use Rattle.inf_expressions.specs.declared.origins.Origin.{Origin}
 
--- of no expression
+-- the origin of no expression
 abbrev pub nowhere : Origin
 nowhere = record { first = 0; token = 0; bare = None; lead = record { first = 0; variable = None; is_whole = false } }
 
@@ -16,7 +16,7 @@ variable_of (operand.Later target) = None
 variable_of (operand.Function f) = None
 variable_of operand.Unknown = None
 
--- a leaf begins with itself
+-- the origin of a leaf, which begins with itself
 abbrev pub of_leaf : ℕ → ℕ → ℕ → Operand → Origin
 of_leaf first token leaf operand = record {
   first = first;
@@ -25,7 +25,8 @@ of_leaf first token leaf operand = record {
   lead = record { first = first; variable = variable_of operand; is_whole = true };
 }
 
--- Brackets begin what stands in them; what it begins with has them only where it is all that stands there.
+-- The origin of an expression in brackets. Its text begins with the opening one; its first part has the brackets only where it is
+-- all that is in them.
 abbrev pub bracketed_lead : ℕ → Lead → Lead
 bracketed_lead order lead =
     record { first = if lead.is_whole then order else lead.first; variable = lead.variable; is_whole = lead.is_whole }
@@ -33,11 +34,11 @@ bracketed_lead order lead =
 abbrev pub bracketed : ℕ → Origin → Origin
 bracketed order o = record { first = order; token = o.token; bare = None; lead = bracketed_lead order o.lead }
 
--- an operator in front hides what stands behind it
+-- the origin of an expression behind an operator, which hides the first part of the expression
 abbrev pub prefixed : ℕ → Origin → Origin
 prefixed order o = record { first = order; token = o.token; bare = None; lead = record { first = order; variable = None; is_whole = true } }
 
--- behind an expression stands an operator, or an operator and another expression
+-- the origin of an expression with an operator behind it, or with an operator and another expression
 abbrev pub followed : Origin → Origin
 followed o = record {
   first = o.first;

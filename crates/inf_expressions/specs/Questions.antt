@@ -1,4 +1,4 @@
--- What is asked of a tree.
+-- Questions about a tree.
 use Rattle.std.specs.Prelude.{Bool, true, false, Option, Some, None, if◌then◌else◌}
 use Rattle.inf_area.specs.declared.targets.Value.{Value}
 use Rattle.inf_area.specs.declared.targets.Value.TheVariants as value
@@ -8,7 +8,7 @@ use Rattle.inf_expressions.specs.declared.operators.Test.TheVariants as test
 use Rattle.inf_expressions.specs.declared.operators.Binary.TheVariants as binary
 use Rattle.inf_expressions.specs.Trees.{Tree, Leaf, Two}
 
--- the operand that it is without code
+-- the operand that a tree is without code
 abbrev pub operand_of : Tree → Option Operand
 operand_of (Leaf operand) = Some operand
 operand_of _ = None
@@ -18,7 +18,7 @@ constant_of (Leaf (operand.Known n)) = Some (value.Known n)
 constant_of (Leaf (operand.Later target)) = Some (value.Later target)
 constant_of _ = None
 
--- the ends of a range
+-- the least and the greatest value of a range
 abbrev pub range_of : Tree → Option (Tree × Tree)
 range_of (Two binary.To least greatest) = Some (least, greatest)
 range_of _ = None
@@ -27,7 +27,7 @@ abbrev pub is_list : Tree → Bool
 is_list (Two binary.Then a others) = true
 is_list _ = false
 
--- e of `v in e`, where that is one value
+-- the tree `e` of `v in e`, where that is a single expression
 abbrev pub children_of : Tree → Option Tree
 children_of (Two (binary.Test test.In) (Leaf v) e) = if is_list e then None else Some e
 children_of _ = None

@@ -1,4 +1,4 @@
--- The latest trees of a unit, each with where its text begins.
+-- The latest trees of a unit, each with the tokens with which its text begins.
 use Rattle.std.specs.Prelude.{ℕ, List, [], ◌∷◌, Option, Some, None, refl}
 use Rattle.std.specs.Coded.{Coded, code_by, coded×}
 use Rattle.inf_expressions.specs.declared.operators.Operand.{Operand}
@@ -34,14 +34,14 @@ kind_of (Two (binary.Property property.Value) a b) = kind.Property
 kind_of (Two binary.To a b) = kind.Range
 kind_of (Two op a b) = kind.Code
 
--- what judging sees of a tree
+-- the kind and the origin of a tree
 abbrev pub seen : Rooted → Seen
 seen r = record { kind = kind_of r.tree; origin = r.origin }
 
 abbrev pub nobody : Seen
 nobody = record { kind = kind.Code; origin = nowhere }
 
--- What a leaf, brackets or an operator make of the latest trees, the latest first.
+-- The latest trees, the latest first, once a leaf, brackets or an operator are read.
 abbrev pub with_leaf : Operand → Origin → List Rooted → List Rooted
 with_leaf operand origin trees = record { tree = Leaf operand; origin = origin } ∷ trees
 
@@ -49,7 +49,7 @@ abbrev pub bracketed_latest : ℕ → List Rooted → List Rooted
 bracketed_latest order [] = []
 bracketed_latest order (a ∷ trees) = record { tree = a.tree; origin = bracketed order a.origin } ∷ trees
 
--- where an operator in front, with its order, or behind begins
+-- the origin of an operator and its part, where the operator is in front, with its order, or behind
 abbrev pub begun : Option ℕ → Origin → Origin
 begun (Some order) origin = prefixed order origin
 begun None origin = followed origin
@@ -70,7 +70,7 @@ abbrev pub seen_two : List Rooted → Seen × Seen
 seen_two (b ∷ a ∷ trees) = (seen a, seen b)
 seen_two _ = (nobody, nobody)
 
--- how it is stored
+-- the way in which a tree with its origin is stored
 abbrev pub rooted_code : Coded Operand → Coded Unary → Coded Binary → Coded Origin → Coded Rooted
 rooted_code operand unary binary origin =
     code_by (Tree × Origin) (coded× (tree_code operand unary binary) origin) (λ r. (r.tree, r.origin))

@@ -1,4 +1,4 @@
--- Expressions as they are written, the order of their symbols, and what they come to: a law above the symbols.
+-- Expressions as they are written, the order of their symbols, and the trees and findings to which they come: a law about the symbols.
 use Rattle.std.specs.Prelude.{ℕ, zero, suc, List, [], ◌∷◌, ◌++◌, Option}
 use Rattle.inf_expressions.specs.declared.findings.Finding.{Finding}
 use Rattle.inf_expressions.specs.declared.operators.Operand.{Operand}
@@ -16,7 +16,7 @@ use Rattle.inf_expressions.specs.Judging.{call_finding, leaf_finding, two_findin
 use Rattle.inf_expressions.specs.Units.{operand_at}
 
 pub data Source : Type 0 where
-  -- its first token, the token that it is told by, and its place among the operands
+  -- a leaf: its first token, the token at which its errors are reported, and its place among the operands
   Leaf : ℕ → ℕ → ℕ → Source
   Brackets : ℕ → Source → Source
   Prefix : ℕ → Unary → Source → Source
@@ -26,15 +26,15 @@ pub data Source : Type 0 where
   Then : Source → Source → Source
   -- a call with a list of arguments
   Call : Source → Source → Source
-  -- and one without
+  -- a call without arguments
   Alone : Source → Source
 
--- The symbols of an expression. Those of a list stand behind one another; the symbol of the list comes where it is closed.
+-- The symbols of an expression. Those of the members of a list follow one another; the symbol of the list comes where it is closed.
 abbrev pub closed : List Symbol → ℕ → List Symbol
 closed symbols zero = symbols
 closed symbols (suc n) = symbols ++ symbol.List (suc n) ∷ []
 
--- the symbols without that of the list, and how many joints the list has
+-- the symbols without that of the list, and the number of joints of the list
 abbrev pub opened : Source → List Symbol × ℕ
 opened (Leaf first token leaf) = (symbol.Leaf first token leaf ∷ [], zero)
 opened (Brackets order a) = (closed (opened a).0 (opened a).1 ++ symbol.Bracketed order ∷ [], zero)
@@ -52,7 +52,7 @@ abbrev pub postfixes : List Source → List Symbol
 postfixes [] = []
 postfixes (a ∷ sources) = postfix a ++ postfixes sources
 
--- The tree of an expression, and where its text begins.
+-- The tree of an expression, and the tokens with which its text begins.
 abbrev pub meant : List Operand → Source → Rooted
 meant operands (Leaf first token leaf) =
     record { tree = tree.Leaf (operand_at operands leaf); origin = of_leaf first token leaf (operand_at operands leaf) }
@@ -68,7 +68,7 @@ meant operands (Call f list) =
     record { tree = joined binary.Call (meant operands f).tree (meant operands list).tree; origin = followed (meant operands f).origin }
 meant operands (Alone f) = record { tree = joined_single unary.Call (meant operands f).tree; origin = followed (meant operands f).origin }
 
--- What is found of it, beside what was found before, in a unit that begins at an order.
+-- The least of the finding so far and of the findings in an expression, in a unit that begins at the order `unit`.
 abbrev pub found_in : ℕ → List Operand → Source → Option Finding → Option Finding
 found_in unit operands (Leaf first token leaf) found = leaf_finding (operand_at operands leaf) token found
 found_in unit operands (Brackets order a) found = found_in unit operands a found

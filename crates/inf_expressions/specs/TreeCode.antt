@@ -1,4 +1,4 @@
--- How a tree is stored: as its leaves and operators, each operator in front of its parts.
+-- The way in which a tree is stored: as its leaves and operators, each operator in front of its parts.
 use Rattle.std.specs.Prelude.{◌≡◌, List, [], ◌∷◌, ◌++◌, ◌⊎◌, refl}
 use Rattle.std.proofs.Common.{◌∙◌, ap, sym, inl, inr, append_assoc, append-nil}
 use Rattle.std.specs.Coded.{Coded, code_by, coded⊎, coded_list}
@@ -8,7 +8,7 @@ use Rattle.inf_expressions.specs.declared.operators.Unary.{Unary}
 use Rattle.inf_expressions.specs.declared.operators.Binary.{Binary}
 use Rattle.inf_expressions.specs.Trees.{Tree, Leaf, One, Two}
 
--- a leaf, an operator of one part, or one of two
+-- a piece of a tree: a leaf, an operator of one part, or one of two
 abbrev pub Piece : Type 0
 Piece = Operand ⊎ (Unary ⊎ Binary)
 
@@ -17,7 +17,7 @@ pieces (Leaf operand) = inl operand ∷ []
 pieces (One op a) = inr (inl op) ∷ pieces a
 pieces (Two op a b) = inr (inr op) ∷ (pieces a ++ pieces b)
 
--- the trees that begin with some pieces, in order
+-- The trees that pieces are, in order.
 abbrev pub over_one : Unary → List Tree → List Tree
 over_one op [] = []
 over_one op (a ∷ trees) = One op a ∷ trees

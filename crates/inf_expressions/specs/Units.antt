@@ -1,4 +1,4 @@
--- What the symbols of a unit come to. Each operator stands behind its parts.
+-- The trees and the finding to which the symbols of a unit come. Each operator comes behind its parts.
 use Rattle.std.specs.Prelude.{ℕ, zero, suc, ◌-◌, ◌==◌, List, [], ◌∷◌, reverse, Option, Some, None, refl, slice_index_or, if◌then◌else◌}
 use Rattle.std.specs.Coded.{Coded, code_by, coded×, coded_list, coded_option}
 use Rattle.inf_expressions.specs.declared.findings.Finding.{Finding}
@@ -18,7 +18,7 @@ use Rattle.inf_expressions.specs.Rooted.{Rooted, rooted_code, bracketed_latest, 
 use Rattle.inf_expressions.specs.Rooted.{with_unary}
 use Rattle.inf_expressions.specs.Judging.{call_finding, leaf_finding, root_finding, two_finding, unary_finding}
 
--- the trees so far, the latest first, and the least of what was found
+-- the trees so far, the latest first, and the least finding
 pub record Gathered : Type 0 where
   pub trees : List Rooted
   pub finding : Option Finding
@@ -38,17 +38,17 @@ with_brackets order g = record { trees = bracketed_latest order g.trees; finding
 abbrev pub with_unary_of : Unary → Option ℕ → Gathered → Gathered
 with_unary_of op front g = record { trees = with_unary op front g.trees; finding = unary_finding op (seen_latest g.trees) g.finding }
 
--- in a unit that begins at an order
+-- the state where the latest two trees are joined, in a unit that begins at the order `unit`
 abbrev pub with_two_of : ℕ → Binary → Gathered → Gathered
 with_two_of unit op g =
     record { trees = with_two op g.trees; finding = two_finding op unit (seen_two g.trees).0 (seen_two g.trees).1 g.finding }
 
--- a list of the latest trees: so many joints, from the last one on
+-- the state where the latest trees are joined to a list, joint by joint, from the last one on
 abbrev pub listed : ℕ → ℕ → Gathered → Gathered
 listed unit zero g = g
 listed unit (suc n) g = with_two_of unit binary.Then (listed unit n g)
 
--- a call with a list of so many arguments
+-- the state where a call is joined to its list of `given` arguments
 abbrev pub call_joined : ℕ → ℕ → Gathered → Gathered
 call_joined unit given g = record {
   trees = with_two binary.Call g.trees;
@@ -58,7 +58,7 @@ call_joined unit given g = record {
 abbrev pub called : ℕ → ℕ → Gathered → Gathered
 called unit given g = if given == 0 then with_unary_of unary.Call None g else call_joined unit given (listed unit (given - 1) g)
 
--- a comma in no brackets
+-- the state behind a comma outside of brackets
 abbrev pub parted : Wanted → ℕ → Gathered → Gathered
 parted wanted.Case unit g = g
 parted _ unit g = with_two_of unit binary.Comma g
@@ -80,7 +80,7 @@ abbrev pub gathered : Wanted → ℕ → List Operand → List Symbol → Gather
 gathered w unit operands [] g = g
 gathered w unit operands (s ∷ symbols) g = gathered w unit operands symbols (acted w unit operands s g)
 
--- what is found of whole expressions, in order
+-- the least of the finding so far and of the errors of whole expressions, in order
 abbrev pub roots_finding : Wanted → ℕ → List Rooted → Option Finding → Option Finding
 roots_finding w unit [] found = found
 roots_finding w unit (r ∷ trees) found = roots_finding w unit trees (root_finding w unit (seen r) found)
@@ -89,12 +89,12 @@ roots_finding w unit (r ∷ trees) found = roots_finding w unit trees (root_find
 abbrev pub trees_of : Wanted → ℕ → List Operand → List Symbol → List Rooted
 trees_of w unit operands symbols = reverse (gathered w unit operands symbols nothing_gathered).trees
 
--- the least of what is found of a unit
+-- the least finding of a unit
 abbrev pub judged : Wanted → ℕ → List Operand → List Symbol → Option Finding
 judged w unit operands symbols =
     roots_finding w unit (trees_of w unit operands symbols) (gathered w unit operands symbols nothing_gathered).finding
 
--- how it is stored
+-- the way in which the trees and the finding are stored
 abbrev pub gathered_code : Coded Operand → Coded Unary → Coded Binary → Coded Origin → Coded Finding → Coded Gathered
 gathered_code operand unary binary origin finding =
     code_by (List Rooted × Option Finding) (coded× (coded_list (rooted_code operand unary binary origin)) (coded_option finding))

@@ -1,4 +1,4 @@
-//! The node of an operator: of known numbers the number that it gives.
+//! The node of an operator; where its operands are known numbers, the number that it gives.
 ghost use Rattle.std.specs.Prelude.{◌≡◌, ◌<◌, Option, IfSome, MatchOption, Bool, ℕ};
 ghost use Rattle.inf_expressions.specs.Nodes.{tree_at, tree_of, IsBelow};
 ghost use Rattle.inf_expressions.specs.Folding.{any_holds, any_known, folded, folded_single, folded_two, function_of, holds_known};
@@ -8,7 +8,7 @@ use crate::nodes::{Node, Nodes};
 use crate::numbers::{computed, computed_single, holds, truth};
 use crate::operators::{Binary, Function, Operand, Relative, Single, Test, Unary};
 
-/// The number that the tree at a place is, if it is one. What is no value stands as 0.
+/// Returns the number that the tree at a place is, if it is one. A leaf that has no value counts as 0.
 fn known(nodes: &Nodes, place: usize) -> Option<u16>
     ensures { result ≡ known (tree_at nodes.now place) }
 {
@@ -21,7 +21,7 @@ fn known(nodes: &Nodes, place: usize) -> Option<u16>
     }
 }
 
-/// The function of the system that the tree at a place is.
+/// Returns the function of the system that the tree at a place is, if it is one.
 fn function_of(nodes: &Nodes, place: usize) -> Option<Function>
     ensures { result ≡ function_of (tree_at nodes.now place) }
 {
@@ -31,7 +31,7 @@ fn function_of(nodes: &Nodes, place: usize) -> Option<Function>
     }
 }
 
-/// Whether one of two holds, where both are known.
+/// Returns whether one of two truths holds, where both are known.
 fn or_known(a: Option<bool>, b: Option<bool>) -> Option<bool>
     ensures { result ≡ or_known a b }
 {
@@ -41,7 +41,7 @@ fn or_known(a: Option<bool>, b: Option<bool>) -> Option<bool>
     }
 }
 
-/// Whether a test holds of a number and of what may be one.
+/// Returns whether a test holds of `a` and `b`, where `b` is known and the test is computed.
 fn holds_known(test: Test, a: u16, b: Option<u16>) -> Option<bool>
     ensures { result ≡ holds_known test a b }
 {
@@ -51,7 +51,7 @@ fn holds_known(test: Test, a: u16, b: Option<u16>) -> Option<bool>
     }
 }
 
-/// The first of a list and the list of the others, if there are any.
+/// Returns the first tree of a list and the list of the others, or `None` for a tree that is not a list.
 fn split(nodes: &Nodes, list: usize) -> Option<(usize, usize)>
     ensures parts { (found : Option Bool) (t : Test) (n : ℕ) → MatchOption result
         (any_holds found t n (tree_at nodes.now list) ≡ or_known found (holds_known t n (known (tree_at nodes.now list))))
@@ -65,7 +65,7 @@ fn split(nodes: &Nodes, list: usize) -> Option<(usize, usize)>
     }
 }
 
-/// Whether a test holds of a number and any of a list, where all are known.
+/// Returns whether a test holds of `a` and any tree of a list, where all of them are known.
 fn any_holds(nodes: &Nodes, test: Test, a: u16, list: usize) -> Option<bool>
     ensures { result ≡ any_known test (Some a) (tree_at nodes.now list) }
 {
@@ -87,7 +87,7 @@ fn any_known(nodes: &Nodes, test: Test, a: Option<u16>, list: usize) -> Option<b
     }
 }
 
-/// The number of a truth, or of its contrary where the sense is false.
+/// Returns the number of a known truth, or of its contrary where `sense` is false.
 fn sensed(sense: bool, found: Option<bool>) -> Option<u16>
     ensures { result ≡ sensed sense found }
 {
@@ -97,7 +97,7 @@ fn sensed(sense: bool, found: Option<bool>) -> Option<u16>
     }
 }
 
-/// What an operator of two parts, which is no test, gives of what may be numbers.
+/// Returns the number that an operator of two parts gives, other than a test, where both parts are known and the operator is computed.
 fn folded_two(op: Binary, a: Option<u16>, b: Option<u16>) -> Option<u16>
     ensures { result ≡ folded_two op a b }
 {
@@ -109,7 +109,7 @@ fn folded_two(op: Binary, a: Option<u16>, b: Option<u16>) -> Option<u16>
     }
 }
 
-/// The number that an operator gives of two trees, if it is known.
+/// Returns the number that an operator gives of two trees, if it is known.
 fn folded(nodes: &Nodes, op: Binary, a: usize, b: usize) -> Option<u16>
     ensures { result ≡ folded op (tree_at nodes.now a) (tree_at nodes.now b) }
 {
@@ -137,7 +137,7 @@ fn folded_single(op: Unary, a: Option<u16>) -> Option<u16>
     }
 }
 
-/// What a call of a function of the system is.
+/// Returns the operator that a call of a function of the system is.
 fn operator_of(function: Function) -> Unary
     ensures { result ≡ operator_of function }
 {
@@ -151,7 +151,7 @@ fn operator_of(function: Function) -> Unary
     }
 }
 
-/// The node of an operator of two trees. A call of a function of the system is an operator of its list.
+/// Returns the node of an operator of two trees. A call of a function of the system becomes an operator of its list of arguments.
 pub(crate) fn joined(nodes: &Nodes, op: Binary, a: usize, b: usize) -> Node
     ensures tree { tree_of nodes.now result ≡ joined op (tree_at nodes.now a) (tree_at nodes.now b) }
     ensures below { (place : ℕ) → a < place → b < place → IsBelow place result }
@@ -165,7 +165,7 @@ pub(crate) fn joined(nodes: &Nodes, op: Binary, a: usize, b: usize) -> Node
     }
 }
 
-/// The node of an operator of one tree.
+/// Returns the node of an operator of one tree.
 pub(crate) fn joined_single(nodes: &Nodes, op: Unary, a: usize) -> Node
     ensures tree { tree_of nodes.now result ≡ joined_single op (tree_at nodes.now a) }
     ensures below { (place : ℕ) → a < place → IsBelow place result }

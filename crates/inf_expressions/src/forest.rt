@@ -6,7 +6,7 @@ ghost use Rattle.inf_expressions.specs.Forests.{trees_in};
 use crate::nodes::Nodes;
 use crate::trees::Root;
 
-/// The trees of a unit: their nodes, and where each tree has its own, in the order of their texts.
+/// The trees of a unit: the nodes of all trees, and the root of each, in the order of their texts.
 #[derive(Drop)]
 pub struct Forest {
     pub nodes: Nodes,
@@ -14,7 +14,7 @@ pub struct Forest {
 }
 
 impl Forest {
-    /// The tree with this number, counted from 0, if there is one.
+    /// Returns the root of the tree with this number, counted from 0, if there is one.
     #[tactic(auto, using(crate::proofs::Roots::root_at))]
     pub fn root(&self, number: usize) -> Option<Root>
         ensures { option_map (rooted_at self.now.nodes) result ≡ slice_get (trees_in self.now) number }

@@ -1,4 +1,5 @@
-//! What is found of an expression, operator by operator. Each function answers the least of what was found before and of what it finds.
+//! The errors in an expression, operator by operator. Each function returns the least of `found`, the finding so far, and of the
+//! errors that it finds itself.
 ghost use Rattle.std.specs.Prelude.{◌≡◌, Option};
 ghost use Rattle.inf_expressions.specs.Judging.{call_finding, case_finding, constant_finding, division_finding, is_known, is_zero};
 ghost use Rattle.inf_expressions.specs.Judging.{lead_finding, leaf_finding, most_arguments, number_finding, operand_finding, root_finding};
@@ -10,7 +11,7 @@ use crate::operators::{Binary, Function, Operand, Operation, Unary};
 use crate::origins::Lead;
 use crate::units::Wanted;
 
-/// A leaf that is wrong by itself.
+/// Finds a leaf that is wrong by itself.
 pub(crate) fn leaf_finding(operand: Operand, token: u32, found: Option<Finding>) -> Option<Finding>
     ensures { result ≡ leaf_finding operand token found }
 {
@@ -21,7 +22,7 @@ pub(crate) fn leaf_finding(operand: Operand, token: u32, found: Option<Finding>)
     }
 }
 
-/// A function of the system is no value.
+/// Finds a function of the system where a value is needed.
 fn value_finding(seen: Seen, found: Option<Finding>) -> Option<Finding>
     ensures { result ≡ value_finding seen found }
 {
@@ -31,7 +32,7 @@ fn value_finding(seen: Seen, found: Option<Finding>) -> Option<Finding>
     }
 }
 
-/// Only variables, entries of arrays and properties are assigned and stepped.
+/// Finds a target that cannot be assigned or stepped: only variables, entries of arrays and properties can.
 fn target_finding(seen: Seen, found: Option<Finding>) -> Option<Finding>
     ensures { result ≡ target_finding seen found }
 {
@@ -43,7 +44,7 @@ fn target_finding(seen: Seen, found: Option<Finding>) -> Option<Finding>
     }
 }
 
-/// A constant must stand.
+/// Finds an expression that is no constant where one is needed.
 fn constant_finding(unit: u32, kind: Kind, found: Option<Finding>) -> Option<Finding>
     ensures { result ≡ constant_finding unit kind found }
 {
@@ -74,7 +75,7 @@ fn is_zero(kind: Kind) -> bool
     }
 }
 
-/// A known number is not divided by 0.
+/// Finds a known number divided by 0.
 fn division_finding(unit: u32, a: Kind, b: Kind, found: Option<Finding>) -> Option<Finding>
     ensures { result ≡ division_finding unit a b found }
 {
@@ -85,7 +86,7 @@ fn division_finding(unit: u32, a: Kind, b: Kind, found: Option<Finding>) -> Opti
     }
 }
 
-/// An operator of one expression.
+/// Finds the errors of an operator of one expression.
 pub(crate) fn unary_finding(op: Unary, a: Seen, found: Option<Finding>) -> Option<Finding>
     ensures { result ≡ unary_finding op a found }
 {
@@ -102,14 +103,14 @@ pub(crate) fn unary_finding(op: Unary, a: Seen, found: Option<Finding>) -> Optio
     }
 }
 
-/// Both parts of an operator are values.
+/// Finds functions of the system among the two parts of an operator, which are to be values.
 fn values_finding(a: Seen, b: Seen, found: Option<Finding>) -> Option<Finding>
     ensures { result ≡ values_finding a b found }
 {
     value_finding(b, value_finding(a, found))
 }
 
-/// An operator of two expressions, in a unit that begins at an order.
+/// Finds the errors of an operator of two expressions, in a unit that begins at the order `unit`.
 pub(crate) fn two_finding(
     op: Binary,
     unit: u32,
@@ -130,8 +131,8 @@ pub(crate) fn two_finding(
     }
 }
 
-/// The most arguments of a call: one of a function of the system, but seven behind the routine that `indirect` calls; five of a message,
-/// which stand behind an object and a property; else seven.
+/// Returns the most arguments that a call may have: one where it calls a function of the system, but eight behind `indirect`, the
+/// first of which is the routine that it calls; five of a message, which come behind an object and a property; else seven.
 fn most_arguments(callee: Kind) -> u32
     ensures { result ≡ most_arguments callee }
 {
@@ -143,7 +144,7 @@ fn most_arguments(callee: Kind) -> u32
     }
 }
 
-/// A call with so many arguments, which are a list.
+/// Finds the errors of a call with a list of `given` arguments.
 pub(crate) fn call_finding(
     unit: u32,
     given: u32,
@@ -161,7 +162,7 @@ pub(crate) fn call_finding(
     }
 }
 
-/// A number that is known where it stands.
+/// Finds an expression that is no number known in its place, where one is needed.
 fn number_finding(unit: u32, kind: Kind, found: Option<Finding>) -> Option<Finding>
     ensures { result ≡ number_finding unit kind found }
 {
@@ -172,7 +173,7 @@ fn number_finding(unit: u32, kind: Kind, found: Option<Finding>) -> Option<Findi
     }
 }
 
-/// An operand of an instruction: a constant or a variable.
+/// Finds an operand of an instruction that is neither a constant nor a variable.
 fn operand_finding(unit: u32, kind: Kind, found: Option<Finding>) -> Option<Finding>
     ensures { result ≡ operand_finding unit kind found }
 {
@@ -182,7 +183,7 @@ fn operand_finding(unit: u32, kind: Kind, found: Option<Finding>) -> Option<Find
     }
 }
 
-/// A value of a case: a constant, or a range.
+/// Finds a value of a case that is neither a constant nor a range.
 fn case_finding(unit: u32, kind: Kind, found: Option<Finding>) -> Option<Finding>
     ensures { result ≡ case_finding unit kind found }
 {
@@ -192,7 +193,7 @@ fn case_finding(unit: u32, kind: Kind, found: Option<Finding>) -> Option<Finding
     }
 }
 
-/// A loop over objects begins with its variable.
+/// Finds a loop over objects that does not begin with its variable.
 fn lead_finding(lead: Lead, found: Option<Finding>) -> Option<Finding>
     ensures { result ≡ lead_finding lead found }
 {
@@ -215,7 +216,7 @@ fn wanted_finding(wanted: Wanted, unit: u32, seen: Seen, found: Option<Finding>)
     }
 }
 
-/// A whole expression, as a unit wants it.
+/// Finds the errors of a whole expression, by the kind that a unit wants.
 pub(crate) fn root_finding(
     wanted: Wanted,
     unit: u32,

@@ -1,4 +1,4 @@
-//! What judging sees of an expression.
+//! The kind of an expression and its origin, by which errors are found.
 ghost use Rattle.std.specs.Prelude.{◌≡◌};
 ghost use Rattle.inf_expressions.specs.Nodes.{tree_at};
 ghost use Rattle.inf_expressions.specs.Rooted.{kind_of};
@@ -8,11 +8,11 @@ use crate::nodes::{Node, Nodes};
 use crate::operators::{Binary, Function, Operand, Operation, PropertyPart};
 use crate::origins::Origin;
 
-/// What a tree is.
+/// The kind of a tree.
 #[derive(Clone, Copy, Debug, PartialEq, Eq)]
 pub(crate) enum Kind {
     Number(u16),
-    /// A constant that is known when the story is laid out.
+    /// A constant that is known only when the story is laid out.
     Constant,
     Variable,
     Function(Function),
@@ -20,19 +20,19 @@ pub(crate) enum Kind {
     Entry,
     /// A property's value, which can be assigned, and called.
     Property,
-    /// The values of a case from one to another.
+    /// A range of values of a case, from one to another.
     Range,
     Code,
 }
 
-/// A tree's kind, and where its text begins.
+/// The kind of a tree, and the tokens with which its text begins.
 #[derive(Clone, Copy, Debug, PartialEq, Eq)]
 pub(crate) struct Seen {
     pub kind: Kind,
     pub origin: Origin,
 }
 
-/// The kind of a leaf.
+/// Returns the kind of a leaf.
 pub(crate) fn kind_of_leaf(operand: Operand) -> Kind
     ensures { result ≡ kind_of (Leaf operand) }
 {
@@ -45,7 +45,7 @@ pub(crate) fn kind_of_leaf(operand: Operand) -> Kind
     }
 }
 
-/// The kind of the tree at a place.
+/// Returns the kind of the tree at a place.
 pub(crate) fn kind_of(nodes: &Nodes, place: usize) -> Kind
     ensures { result ≡ kind_of (tree_at nodes.now place) }
 {

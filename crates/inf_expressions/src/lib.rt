@@ -1,8 +1,8 @@
 //! Expressions as trees.
 //!
-//! What the grammar reads of an expression is a list of symbols, each operator behind its parts. When the unit that they stand in ends,
-//! its operands are looked up, and `judge` says the least error of the symbols with these operands, or that there is none;
-//! `build` makes their trees, in which operators of known numbers are computed and brackets are gone.
+//! The grammar reads an expression as a list of symbols, each operator behind its parts. When the unit that has them ends, its
+//! operands are looked up; then `judge` gives the least error of the symbols with these operands, if there is one, and `build`
+//! makes their trees, in which operators of known numbers are computed and brackets are gone.
 #![tactic(auto)]
 
 mod findings;
@@ -27,7 +27,7 @@ pub use forest::Forest;
 pub use laws::{expressions_have_one_order, symbols_are_read_as_their_trees};
 pub use nodes::{Node, Nodes};
 pub use operators::{
-    Binary, Function, Operand, Operation, PropertyPart, Relative, Single, Step, Test, Unary,
+    Binary, Direction, Function, Operand, Operation, PropertyPart, Relative, Single, Test, Unary,
 };
 pub use origins::{Lead, Origin};
 pub use questions::{children_of, constant, operand, range};

@@ -1,4 +1,4 @@
-//! Nodes of trees, each behind those that are its parts.
+//! Nodes of trees, each behind the nodes of its parts.
 ghost use Rattle.std.specs.Prelude.{◌≡◌, ◌<◌, ◌∷◌, [], ◌++◌, length, OnErr, IfOk};
 ghost use Rattle.inf_expressions.specs.Nodes.{tree_at, tree_of, IsBelow};
 
@@ -14,7 +14,7 @@ pub enum Node {
     Two(Binary, usize, usize),
 }
 
-/// Nodes, of which each is a tree with those before it.
+/// A list of nodes, each of which is a tree together with nodes before it.
 #[derive(Drop)]
 pub struct Nodes {
     nodes: Vec<Node>,
@@ -41,7 +41,7 @@ impl Model for Nodes {
 }
 
 impl Nodes {
-    /// No nodes, with room for so many.
+    /// Returns the list of no nodes, with room for `count` of them.
     pub(crate) fn with_capacity(alloc: Global, count: usize) -> Result<Nodes, AllocError>
         ensures { IfOk result (λ nodes. nodes ≡ []) }
     {
@@ -50,7 +50,7 @@ impl Nodes {
         })
     }
 
-    /// One node more, whose parts stand before it. It answers its place.
+    /// Appends a node whose parts are in the list already, and returns its place.
     #[tactic(auto, using(crate::proofs::NodeLemmas::one_more))]
     pub(crate) fn add(&mut self, node: Node) -> Result<usize, AllocError>
         requires { IsBelow (length self.old) node }
@@ -63,7 +63,7 @@ impl Nodes {
         Ok(place)
     }
 
-    /// The node at a place, whose parts stand before it; the number 0 where there is none.
+    /// Returns the node at a place, whose parts come before it; the number 0 where there is no node.
     #[tactic(auto, using(crate::proofs::NodeLemmas::at_place))]
     pub fn node(&self, place: usize) -> Node
         ensures tree { tree_at self.now place ≡ tree_of self.now result }

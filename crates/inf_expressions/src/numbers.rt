@@ -4,14 +4,14 @@ ghost use Rattle.inf_expressions.specs.Numbers.{computed, computed_single, magni
 
 use crate::operators::{Operation, Single, Test, Unary};
 
-/// The number of 16 bits that is the negative of a number.
+/// Returns the number of 16 bits that is the negative of a number.
 fn negated(number: u16) -> u16
     ensures { result ≡ negated number }
 {
     ((0x10000 - number as u32) % 0x10000) as u16
 }
 
-/// How large a number is, read with a sign.
+/// Returns the magnitude of a number that is read with a sign.
 fn magnitude(number: u16) -> u16
     ensures { result ≡ magnitude number }
 {
@@ -22,7 +22,7 @@ fn magnitude(number: u16) -> u16
     }
 }
 
-/// The quotient of two numbers with signs, towards 0; by 0 it is 0.
+/// Returns the quotient of two numbers with signs, rounded towards 0; a number divided by 0 gives 0.
 fn quotient(a: u16, b: u16) -> u16
     ensures { result ≡ quotient a b }
 {
@@ -37,7 +37,7 @@ fn quotient(a: u16, b: u16) -> u16
     }
 }
 
-/// The remainder of two numbers with signs, which has the sign of the first; by 0 it is 0.
+/// Returns the remainder of two numbers with signs, which has the sign of `a`; where `b` is 0 it is 0.
 fn remainder(a: u16, b: u16) -> u16
     ensures { result ≡ remainder a b }
 {
@@ -48,7 +48,7 @@ fn remainder(a: u16, b: u16) -> u16
     if a < 0x8000 { size } else { negated(size) }
 }
 
-/// What an operator gives of two known numbers, where it is computed.
+/// Returns the number that an operator gives of two known numbers, if it is one that is computed.
 pub(crate) fn computed(operation: Operation, a: u16, b: u16) -> Option<u16>
     ensures { result ≡ computed operation a b }
 {
@@ -64,7 +64,7 @@ pub(crate) fn computed(operation: Operation, a: u16, b: u16) -> Option<u16>
     }
 }
 
-/// What an operator gives of a known number, where it is computed.
+/// Returns the number that an operator gives of a known number, if it is one that is computed.
 pub(crate) fn computed_single(unary: Unary, a: u16) -> Option<u16>
     ensures { result ≡ computed_single unary a }
 {
@@ -82,21 +82,21 @@ pub(crate) fn computed_single(unary: Unary, a: u16) -> Option<u16>
     }
 }
 
-/// The number that a truth is.
+/// Returns the number of a truth: 1 or 0.
 pub(crate) fn truth(is_true: bool) -> u16
     ensures { result ≡ truth is_true }
 {
     if is_true { 1 } else { 0 }
 }
 
-/// How far a number, read with a sign, stands above the least.
+/// Returns the distance of a number, read with a sign, from the least one.
 fn shifted(number: u16) -> u16
     ensures { result ≡ shifted number }
 {
     ((number as u32 + 0x8000) % 0x10000) as u16
 }
 
-/// Whether a test holds of two known numbers, where it is computed.
+/// Returns whether a test holds of two known numbers, if it is one that is computed.
 pub(crate) fn holds(test: Test, a: u16, b: u16) -> Option<bool>
     ensures { result ≡ holds test a b }
 {

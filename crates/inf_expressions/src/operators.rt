@@ -2,18 +2,18 @@
 
 use inf_area::Target;
 
-/// What a leaf of an expression stands for.
+/// The operand that is a leaf of an expression.
 #[derive(Clone, Copy, Debug, PartialEq, Eq)]
 pub enum Operand {
-    /// A number that is known where it stands.
+    /// A number that is known at once.
     Known(u16),
     /// A variable by its number, of which 0 is the stack (Z-Machine Standard 1.1, section 4.2.2).
     Variable(u8),
-    /// A constant that is known when the story is laid out.
+    /// A constant that is known only when the story is laid out.
     Later(Target),
-    /// A function of the system. It is no value, and stands only where it is called.
+    /// A function of the system, which is no value and may only be called.
     Function(Function),
-    /// What is wrong by itself. It stands as the number 0.
+    /// An operand that is wrong by itself; it counts as the number 0.
     Unknown,
 }
 
@@ -44,7 +44,7 @@ pub enum Operation {
     Word,
 }
 
-/// What is asked of a property.
+/// The part of a property that an operator gives.
 #[derive(Clone, Copy, Debug, PartialEq, Eq)]
 pub enum PropertyPart {
     Value,
@@ -52,7 +52,7 @@ pub enum PropertyPart {
     Length,
 }
 
-/// A test of a value against others. It holds where it holds of one of them.
+/// A test of a value against a list of others, which holds where it holds of one of them.
 #[derive(Clone, Copy, Debug, PartialEq, Eq)]
 pub enum Test {
     Equal,
@@ -66,9 +66,9 @@ pub enum Test {
     Provides,
 }
 
-/// One more, or one less.
+/// A step by one, up or down.
 #[derive(Clone, Copy, Debug, PartialEq, Eq)]
-pub enum Step {
+pub enum Direction {
     Up,
     Down,
 }
@@ -76,7 +76,7 @@ pub enum Step {
 /// An operator of one value that one instruction computes.
 #[derive(Clone, Copy, Debug, PartialEq, Eq)]
 pub enum Single {
-    /// All bits turned.
+    /// The operand with all bits turned.
     Complement,
     Parent,
     Random,
@@ -93,19 +93,19 @@ pub enum Relative {
 #[derive(Clone, Copy, Debug, PartialEq, Eq)]
 pub enum Unary {
     Negate,
-    /// Whether its part is 0.
+    /// The truth that the operand is 0.
     Not,
     Single(Single),
     /// A step before the value is read.
-    Before(Step),
-    /// A step behind it.
-    Behind(Step),
+    Before(Direction),
+    /// A step after the value is read.
+    Behind(Direction),
     Relative(Relative),
     /// The number of an object's children.
     Children,
     /// A call without arguments.
     Call,
-    /// A call of the first of a list, with the others as arguments.
+    /// A call of the first expression of a list, with the others as arguments.
     Indirect,
 }
 
@@ -116,7 +116,7 @@ pub enum Binary {
     Property(PropertyPart),
     /// A test of a value against a list.
     Test(Test),
-    /// The same test, which is to fail.
+    /// A test of a value against a list, which is to fail.
     Fails(Test),
     Assign,
     Comma,
@@ -124,8 +124,8 @@ pub enum Binary {
     Or,
     /// A call with a list of arguments.
     Call,
-    /// A list: an expression, and the list of what follows it.
+    /// A list: an expression, and the list of those that follow it.
     Then,
-    /// The least and the greatest value of a range.
+    /// A range, from its least to its greatest value.
     To,
 }

@@ -1,34 +1,34 @@
-//! Where the text of an expression begins.
+//! The tokens with which the text of an expression begins.
 ghost use Rattle.std.specs.Prelude.{◌≡◌};
 ghost use Rattle.inf_expressions.specs.Origins.{bracketed, bracketed_lead, followed, nowhere, of_leaf, prefixed};
 ghost use Rattle.inf_expressions.specs.Origins.{variable_of};
 
 use crate::operators::Operand;
 
-/// What the text of an expression begins with, its own brackets counted in: a leaf, or an operator in front with its part.
+/// The first part of the text of an expression, its own brackets counted in: a leaf, or an operator in front with its part.
 #[derive(Clone, Copy, Debug, PartialEq, Eq)]
 pub struct Lead {
-    /// The order of its first token.
+    /// The order of the first token of this part.
     pub first: u32,
-    /// The variable that it is.
+    /// The variable that this part is, if it is one.
     pub variable: Option<u8>,
-    /// Whether nothing follows it.
+    /// Whether nothing follows this part.
     pub is_whole: bool,
 }
 
-/// The tokens that errors of an expression are told by.
+/// The tokens at which errors of an expression are reported.
 #[derive(Clone, Copy, Debug, PartialEq, Eq)]
 pub struct Origin {
-    /// The order of its first token, brackets counted in.
+    /// The order of the first token, brackets counted in.
     pub first: u32,
-    /// The order of the token that a leaf is told by.
+    /// The order of the token at which an error of a leaf is reported.
     pub token: u32,
-    /// The place among the operands of the leaf that it is, where it stands without brackets.
+    /// The place among the operands of the leaf that the expression is, where it has no brackets.
     pub bare: Option<usize>,
     pub lead: Lead,
 }
 
-/// Of no expression.
+/// Returns the origin of no expression.
 pub(crate) fn nowhere() -> Origin
     ensures { result ≡ nowhere }
 {
@@ -54,7 +54,7 @@ fn variable_of(operand: Operand) -> Option<u8>
 }
 
 impl Origin {
-    /// Of the leaf with this operand, which has this place among the operands of its unit.
+    /// Returns the origin of a leaf with this operand, the one at the place `leaf` among the operands of its unit.
     pub(crate) fn of_leaf(first: u32, token: u32, leaf: usize, operand: Operand) -> Origin
         ensures { result ≡ of_leaf first token leaf operand }
     {
@@ -70,7 +70,7 @@ impl Origin {
         }
     }
 
-    /// Of the same in brackets, of which the opening one has this order.
+    /// Returns the origin of the expression in brackets, of which the opening one has this order.
     pub(crate) fn bracketed(self, order: u32) -> Origin
         ensures { result ≡ bracketed order self }
     {
@@ -82,7 +82,7 @@ impl Origin {
         }
     }
 
-    /// Of an operator with this order, and the same behind it.
+    /// Returns the origin of an operator with this order in front of the expression.
     pub(crate) fn prefixed(self, order: u32) -> Origin
         ensures { result ≡ prefixed order self }
     {
@@ -98,7 +98,7 @@ impl Origin {
         }
     }
 
-    /// Of the same with something behind it.
+    /// Returns the origin of the expression with an operator behind it.
     pub(crate) fn followed(self) -> Origin
         ensures { result ≡ followed self }
     {

@@ -1,4 +1,4 @@
-//! What is asked of the tree at a place.
+//! Questions about the tree at a place.
 ghost use Rattle.std.specs.Prelude.{◌≡◌, option_map};
 ghost use Rattle.inf_expressions.specs.Nodes.{tree_at, trees_at};
 ghost use Rattle.inf_expressions.specs.Questions.{children_of, constant_of, is_list, operand_of, range_of};
@@ -7,7 +7,7 @@ use crate::nodes::{Node, Nodes};
 use crate::operators::{Binary, Operand, Test};
 use inf_area::Value;
 
-/// The operand that a tree is without code, if it is a leaf or a known number.
+/// Returns the operand that a tree is without code, if it is a leaf; a known number is one.
 pub fn operand(nodes: &Nodes, place: usize) -> Option<Operand>
     ensures { result ≡ operand_of (tree_at nodes.now place) }
 {
@@ -17,7 +17,7 @@ pub fn operand(nodes: &Nodes, place: usize) -> Option<Operand>
     }
 }
 
-/// The constant that a tree is, if it is one.
+/// Returns the constant that a tree is, if it is one.
 pub fn constant(nodes: &Nodes, place: usize) -> Option<Value>
     ensures { result ≡ constant_of (tree_at nodes.now place) }
 {
@@ -30,7 +30,7 @@ pub fn constant(nodes: &Nodes, place: usize) -> Option<Value>
     }
 }
 
-/// The places of the least and the greatest value of a range, if the tree is one.
+/// Returns the places of the least and the greatest value of a range, if the tree is one.
 pub fn range(nodes: &Nodes, place: usize) -> Option<(usize, usize)>
     ensures { option_map (trees_at nodes.now) result ≡ range_of (tree_at nodes.now place) }
 {
@@ -40,7 +40,7 @@ pub fn range(nodes: &Nodes, place: usize) -> Option<(usize, usize)>
     }
 }
 
-/// The place of the object whose children a loop goes over, if the tree is `v in e` with no other alternative.
+/// Returns the place of the object whose children a loop goes over, if the tree is `v in e` and `e` is a single expression.
 pub fn children_of(nodes: &Nodes, place: usize) -> Option<usize>
     ensures { option_map (tree_at nodes.now) result ≡ children_of (tree_at nodes.now place) }
 {

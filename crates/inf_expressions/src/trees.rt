@@ -13,14 +13,14 @@ use crate::origins::{Origin, nowhere};
 use std::alloc::{AllocError, Global};
 use std::marker::Model;
 
-/// The place of a tree among the nodes, and where its text begins.
+/// The root of a tree: its place among the nodes, and the tokens with which its text begins.
 #[derive(Clone, Copy, Debug, PartialEq, Eq)]
 pub struct Root {
     pub place: usize,
     pub origin: Origin,
 }
 
-/// Trees: in contracts their list, the latest first.
+/// The trees so far; in contracts they are a list, the latest first.
 #[derive(Drop)]
 pub(crate) struct Trees {
     nodes: Nodes,
@@ -47,7 +47,7 @@ impl Model for Trees {
     ghost invariant = { λ t. AreRoots t.nodes t.roots.items };
 }
 
-/// What is seen where there is no tree.
+/// Returns the kind and the origin that count where there is no tree.
 fn nobody() -> Seen
     ensures { result ≡ nobody }
 {
@@ -57,7 +57,7 @@ fn nobody() -> Seen
     }
 }
 
-/// What is seen of a tree.
+/// Returns the kind and the origin of a tree.
 pub(crate) fn seen(nodes: &Nodes, root: Root) -> Seen
     ensures { result ≡ seen (rooted_at nodes.now root) }
 {
@@ -67,7 +67,7 @@ pub(crate) fn seen(nodes: &Nodes, root: Root) -> Seen
     }
 }
 
-/// Where the text of an operator begins that stands in front with its order, or behind.
+/// Returns the origin of an operator and its part, where the operator is in front and `front` is its order, or it is behind.
 fn begun(front: Option<u32>, origin: Origin) -> Origin
     ensures { result ≡ begun front origin }
 {
@@ -78,7 +78,7 @@ fn begun(front: Option<u32>, origin: Origin) -> Origin
 }
 
 impl Trees {
-    /// None, with room for so many.
+    /// Returns the list of no trees, with room for `count` of them.
     pub(crate) fn with_capacity(alloc: Global, count: usize) -> Result<Trees, AllocError>
         ensures { IfOk result (λ trees. trees ≡ []) }
     {
@@ -97,7 +97,7 @@ impl Trees {
         Ok(())
     }
 
-    /// The latest tree stands in brackets, of which the opening one has this order.
+    /// Puts the latest tree in brackets, of which the opening one has this order.
     #[tactic(auto, using(crate::proofs::Roots::roots_step))]
     pub(crate) fn bracketed(&mut self, order: u32) -> Result<(), AllocError>
         ensures { OnOk result (self.new ≡ bracketed_latest order self.old) }
@@ -111,7 +111,8 @@ impl Trees {
         Ok(())
     }
 
-    /// An operator of the latest tree, where it stands in front with its order. It answers what was seen of the tree.
+    /// Joins the latest tree to an operator, which is in front of it where `front` has its order. Returns the kind and the origin
+    /// that the tree had.
     #[tactic(auto, using(crate::proofs::Roots::roots_step))]
     pub(crate) fn unary(&mut self, op: Unary, front: Option<u32>) -> Result<Seen, AllocError>
         ensures value { OnOk result (self.new ≡ with_unary op front self.old) }
@@ -129,7 +130,7 @@ impl Trees {
         }
     }
 
-    /// An operator of the latest two trees. It answers what was seen of them.
+    /// Joins the latest two trees by an operator. Returns the kinds and the origins that they had.
     #[tactic(auto, using(crate::proofs::Roots::roots_step))]
     pub(crate) fn two(&mut self, op: Binary) -> Result<(Seen, Seen), AllocError>
         ensures value { OnOk result (self.new ≡ with_two op self.old) }
@@ -147,7 +148,7 @@ impl Trees {
         }
     }
 
-    /// The trees, in the order of their texts.
+    /// Returns the trees, in the order of their texts.
     #[tactic(auto, using(crate::proofs::Roots::reversed_roots))]
     pub(crate) fn into_forest(self) -> Forest
         ensures { map (rooted_at result.nodes) result.roots.items ≡ reverse self }

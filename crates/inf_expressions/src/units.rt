@@ -1,4 +1,4 @@
-//! The expressions of a unit, from their symbols.
+//! The expressions of a unit, made from their symbols.
 ghost use Rattle.std.specs.Prelude.{◌≡◌, [], ◌∷◌, IfOk, OnOk, List, reverse};
 ghost use Rattle.inf_expressions.specs.Forests.{trees_in};
 ghost use Rattle.inf_expressions.specs.Units.{acted, called, call_joined, gathered, judged, listed, nothing_gathered};
@@ -18,23 +18,23 @@ use crate::trees::{Trees, seen};
 use std::alloc::{AllocError, Global};
 use std::marker::Model;
 
-/// What a unit wants of each of its expressions.
+/// The kind that a unit wants each of its expressions to be.
 #[derive(Clone, Copy, Debug, PartialEq, Eq)]
 pub enum Wanted {
     Value,
-    /// A constant: a known number, or one that is known when the story is laid out.
+    /// A constant: a known number, or one that is known only when the story is laid out.
     Constant,
     /// A known number.
     Number,
     /// A constant or a variable.
     Operand,
-    /// A constant, or a range of constants. A comma outside of brackets stands between two of them.
+    /// A constant, or a range of constants. A comma outside of brackets parts two of them.
     Case,
-    /// What a loop over objects goes over, which begins with the loop's variable.
+    /// The condition of a loop over objects, which begins with the loop's variable.
     Loop,
 }
 
-/// The trees of a unit so far, and the least of what was found.
+/// The trees of a unit so far, and the least finding.
 #[derive(Drop)]
 struct Gathered {
     trees: Trees,
@@ -57,7 +57,7 @@ impl Model for Gathered {
 }
 
 impl Gathered {
-    /// Nothing, with room for so many trees.
+    /// Returns a state of no trees and no finding, with room for `count` trees.
     fn with_capacity(alloc: Global, count: usize) -> Result<Gathered, AllocError>
         ensures { IfOk result (λ g. g ≡ nothing_gathered) }
     {
@@ -88,7 +88,7 @@ impl Gathered {
         self.trees.bracketed(order)
     }
 
-    /// An operator of the latest tree, where it stands in front with its order.
+    /// Joins the latest tree to an operator, which is in front of it where `front` has its order.
     fn unary(&mut self, op: Unary, front: Option<u32>) -> Result<(), AllocError>
         ensures { OnOk result (self.new ≡ with_unary_of op front self.old) }
     {
@@ -97,7 +97,7 @@ impl Gathered {
         Ok(())
     }
 
-    /// An operator of the latest two trees, in a unit that begins at an order.
+    /// Joins the latest two trees by an operator, in a unit that begins at the order `unit`.
     fn two(&mut self, unit: u32, op: Binary) -> Result<(), AllocError>
         ensures { OnOk result (self.new ≡ with_two_of unit op self.old) }
     {
@@ -106,7 +106,7 @@ impl Gathered {
         Ok(())
     }
 
-    /// A list of the latest trees, with so many joints.
+    /// Joins the latest trees to a list with this number of joints.
     fn list(&mut self, unit: u32, joints: u32) -> Result<(), AllocError>
         ensures { OnOk result (self.new ≡ listed unit joints self.old) }
     {
@@ -124,7 +124,7 @@ impl Gathered {
         Ok(())
     }
 
-    /// A call with so many arguments, which are the latest trees.
+    /// Joins the latest `given` trees to the list of arguments of a call of the tree before them.
     fn call(&mut self, unit: u32, given: u32) -> Result<(), AllocError>
         ensures { OnOk result (self.new ≡ called unit given self.old) }
     {
@@ -136,7 +136,7 @@ impl Gathered {
         }
     }
 
-    /// A comma in no brackets.
+    /// Reads a comma outside of brackets: it parts two values of a case, and elsewhere joins the latest two trees.
     fn comma(&mut self, wanted: Wanted, unit: u32) -> Result<(), AllocError>
         ensures { OnOk result (self.new ≡ parted wanted unit self.old) }
     {
@@ -164,7 +164,7 @@ fn operand_at(operands: &[Operand], leaf: usize) -> Operand
     }
 }
 
-/// One symbol more.
+/// Reads one more symbol.
 fn act(
     gathered: &mut Gathered,
     wanted: Wanted,
@@ -207,7 +207,7 @@ fn gather(
     Ok(gathered)
 }
 
-/// The least of what was found, and of what is found of whole expressions.
+/// Returns the least of `finding` and of the errors of whole expressions.
 fn found_of(wanted: Wanted, unit: u32, forest: &Forest, finding: Option<Finding>) -> Option<Finding>
     ensures { result ≡ roots_finding wanted unit (trees_in forest.now) finding }
 {
@@ -218,7 +218,7 @@ fn found_of(wanted: Wanted, unit: u32, forest: &Forest, finding: Option<Finding>
     found
 }
 
-/// The least finding of a unit of one leaf. Most units are such ones, and it takes no tree to judge them.
+/// Returns the least finding of a unit of a single leaf. Most units are of this kind, and no tree is made to judge them.
 fn judge_leaf(
     wanted: Wanted,
     unit: u32,
@@ -237,10 +237,10 @@ fn judge_leaf(
     root_finding(wanted, unit, seen, leaf_finding(operand, token, None))
 }
 
-/// The least finding of a unit whose first token has the order `unit`, or that there is none.
+/// Returns the least finding of a unit whose first token has the order `unit`, or `None` where it has no error.
 ///
-/// The operands are those that looking names up gives, and nothing else changes by a look. A symbol whose place has none is the number 0.
-/// Refuses where no memory is left.
+/// The operands are those that the look-up of names gave; judging changes nothing. A symbol whose place has no operand is the
+/// number 0. Fails where no memory is left.
 pub fn judge(
     alloc: Global,
     wanted: Wanted,
@@ -260,9 +260,9 @@ pub fn judge(
     Ok(found_of(wanted, unit, &forest, finding))
 }
 
-/// The trees of a unit, in the order of their texts. Those of a unit with an error have no use.
+/// Returns the trees of a unit, in the order of their texts. The trees of a unit with an error are of no use.
 ///
-/// Refuses where no memory is left.
+/// Fails where no memory is left.
 pub fn build(
     alloc: Global,
     wanted: Wanted,

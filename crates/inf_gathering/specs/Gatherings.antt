@@ -1,4 +1,4 @@
--- What a unit gathers while it is read.
+-- The parts of its expressions that a unit gathers while it is read.
 use Rattle.std.specs.Prelude.{ℕ, zero, suc, ◌+◌, ◌-◌, ◌==◌, List, [], ◌∷◌, ◌++◌, length, map, drop, take, Bool, if◌then◌else◌}
 use Rattle.inf_expressions.specs.declared.symbols.Symbol.{Symbol}
 use Rattle.inf_expressions.specs.declared.symbols.Symbol.TheVariants as symbol
@@ -8,9 +8,9 @@ use Rattle.inf_expressions.specs.declared.operators.Binary.TheVariants as binary
 use Rattle.inf_gathering.specs.declared.gathering.Leaf.{Leaf}
 use Rattle.inf_gathering.specs.declared.gathering.Leaf.TheVariants as leaf
 
--- The leaves of the unit's expressions, their symbols, each operator behind its parts; the order of the first token of each expression that
--- is whole, the latest
--- first; of each list that is open how many parts it has; and the order of each opening bracket that is open, the latest first.
+-- The leaves of the unit's expressions; their symbols, each operator behind its parts; the order of the first token of each whole
+-- expression, the latest first; the number of parts of each open list; and the order of each opening bracket that is open, the
+-- latest first.
 pub record Gathering : Type 0 where
   pub leaves : List Leaf
   pub symbols : List Symbol
@@ -21,7 +21,7 @@ pub record Gathering : Type 0 where
 abbrev pub nothing_gathered : Gathering
 nothing_gathered = record { leaves = []; symbols = []; firsts = []; counts = []; brackets = [] }
 
--- a leaf whose first token has an order, and which is told by a token with another or the same
+-- a leaf whose first token has the order `first`, and which the token of the order `token` tells, another one or the same
 abbrev pub with_leaf : ℕ → ℕ → Leaf → Gathering → Gathering
 with_leaf first token leaf g = record g {
   leaves = g.leaves ++ leaf ∷ [];
@@ -29,12 +29,12 @@ with_leaf first token leaf g = record g {
   firsts = first ∷ g.firsts;
 }
 
--- so many numbers
+-- the gathering of `n` numbers
 abbrev pub numbers : ℕ → Gathering
 numbers zero = nothing_gathered
 numbers (suc n) = with_leaf n n (leaf.Number 0) (numbers n)
 
--- names are those of actions
+-- the leaf of a name as that of an action
 abbrev pub action_leaf : Leaf → Leaf
 action_leaf (leaf.Name at) = leaf.Action at
 action_leaf l = l
@@ -52,21 +52,21 @@ abbrev pub beginning : ℕ → List ℕ → List ℕ
 beginning order [] = []
 beginning order (first ∷ firsts) = order ∷ firsts
 
--- an operator of the latest expression, in front of it: its token is the one before
+-- an operator in front of the latest expression; its token is the one before
 abbrev pub with_prefix : Unary → Gathering → Gathering
 with_prefix op g =
     let order = latest g.firsts - 1 in
     record g { symbols = g.symbols ++ symbol.Prefix order op ∷ []; firsts = beginning order g.firsts }
 
--- one behind it
+-- an operator behind the latest expression
 abbrev pub with_suffix : Unary → Gathering → Gathering
 with_suffix op g = record g { symbols = g.symbols ++ symbol.Suffix op ∷ [] }
 
--- an operator of the latest two
+-- an operator between the latest two expressions
 abbrev pub with_two : Binary → Gathering → Gathering
 with_two op g = record g { symbols = g.symbols ++ symbol.Two op ∷ []; firsts = drop 1 g.firsts }
 
--- A comma: in brackets it is the operator.
+-- The symbol of a comma: in brackets it is the operator.
 abbrev pub comma : List ℕ → Symbol
 comma [] = symbol.Comma
 comma (bracket ∷ brackets) = symbol.Two binary.Comma
@@ -74,7 +74,7 @@ comma (bracket ∷ brackets) = symbol.Two binary.Comma
 abbrev pub with_comma : Gathering → Gathering
 with_comma g = record g { symbols = g.symbols ++ comma g.brackets ∷ []; firsts = drop 1 g.firsts }
 
--- A list begins, and has one part more. No list of a source has so many parts that their count stays.
+-- An open list, and the list with one part more. No list of a source has as many parts as 4,294,967,295, where the count stays.
 abbrev pub with_list : Gathering → Gathering
 with_list g = record g { counts = 0 ∷ g.counts }
 
@@ -112,7 +112,7 @@ closed_by (order ∷ brackets) g =
 abbrev pub with_closed_bracket : Gathering → Gathering
 with_closed_bracket g = closed_by g.brackets g
 
--- The bracket that was opened last, with the latest leaf in it, is a print rule. One of the language is no expression.
+-- The bracket that was opened last, with the latest leaf in it, as a print rule. A rule of the language is no expression.
 abbrev pub without_leaf : Gathering → Gathering
 without_leaf g =
     record g { leaves = take (length g.leaves - 1) g.leaves; symbols = take (length g.symbols - 1) g.symbols; firsts = drop 1 g.firsts }

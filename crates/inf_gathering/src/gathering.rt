@@ -1,4 +1,4 @@
-//! What a unit gathers of its expressions.
+//! Gathering the expressions of a unit.
 ghost use Rattle.std.specs.Prelude.{◌≡◌, OnOk, [], drop, length, map, reverse};
 ghost use Rattle.inf_gathering.specs.Gatherings.{action_leaf, beginning, comma, counted, latest, nothing_gathered, numbers, one_more};
 ghost use Rattle.inf_gathering.specs.Gatherings.{with_actions, with_bracket, with_call, with_closed_bracket, with_comma, with_leaf};
@@ -10,12 +10,12 @@ use inf_text::Zscii;
 use std::alloc::{AllocError, Global};
 use std::marker::Model;
 
-/// A leaf of an expression as it was read. A name, a text, an action and a system constant are told by their token, by its place
+/// A leaf of an expression as it was read. A name, a text, an action and a system constant are given by the place of their token
 /// among those of the unit.
 #[derive(Clone, Copy, Debug, PartialEq, Eq)]
 pub enum Leaf {
     Name(usize),
-    /// A name that is an operand of an assembly line by itself: one of the stack is told apart there.
+    /// A name that is an operand of an assembly line by itself: the name of the stack is told apart there.
     Alone(usize),
     Number(u16),
     Char(Zscii),
@@ -25,23 +25,23 @@ pub enum Leaf {
     System(usize),
 }
 
-/// What a unit gathered of its expressions so far: leaves, and symbols in the order of the grammar's actions, each operator behind its
-/// parts.
+/// The parts of a unit's expressions that were gathered so far: leaves, and symbols in the order of the grammar's actions, each
+/// operator behind its parts.
 ///
-/// Each call that takes memory refuses only where none was left.
+/// Each call that takes memory fails only where none was left.
 #[derive(Drop)]
 pub struct Gathering {
     leaves: Vec<Leaf>,
     symbols: Vec<Symbol>,
-    /// The order of the first token of each expression that is whole.
+    /// The order of the first token of each whole expression.
     firsts: Vec<u32>,
-    /// How many parts each list has that is open.
+    /// Number of parts of each open list.
     counts: Vec<u32>,
-    /// The orders of the brackets that are open.
+    /// The orders of the tokens that open brackets which are not closed yet.
     brackets: Vec<u32>,
 }
 
-/// A name as that of an action.
+/// Returns the leaf of a name as that of an action; any other leaf stays.
 fn action_leaf(leaf: Leaf) -> Leaf
     ensures { result ≡ action_leaf leaf }
 {
@@ -51,7 +51,7 @@ fn action_leaf(leaf: Leaf) -> Leaf
     }
 }
 
-/// Names are those of actions.
+/// Makes the names among `leaves` those of actions.
 fn name_all(leaves: &mut [Leaf])
     ensures { leaves.new ≡ map action_leaf leaves.old }
 {
@@ -76,7 +76,7 @@ impl Model for Gathering {
 }
 
 impl Gathering {
-    /// Nothing. It takes no memory until something is gathered.
+    /// Returns a gathering of nothing. It takes no memory until something is gathered.
     pub fn new(alloc: Global) -> Gathering
         ensures { result ≡ nothing_gathered }
     {
@@ -89,7 +89,7 @@ impl Gathering {
         }
     }
 
-    /// Forgets all: another unit begins.
+    /// Forgets all that was gathered, since another unit begins.
     pub fn clear(&mut self)
         ensures { self.new ≡ nothing_gathered }
     {
@@ -100,28 +100,28 @@ impl Gathering {
         self.brackets.clear();
     }
 
-    /// The leaves, in order.
+    /// Returns the leaves, in order.
     pub fn leaves(&self) -> &[Leaf]
         ensures { result.now ≡ self.now.leaves }
     {
         self.leaves.as_slice()
     }
 
-    /// The symbols, in order.
+    /// Returns the symbols, in order.
     pub fn symbols(&self) -> &[Symbol]
         ensures { result.now ≡ self.now.symbols }
     {
         self.symbols.as_slice()
     }
 
-    /// How many expressions are whole.
+    /// Returns the number of whole expressions.
     pub fn wholes(&self) -> usize
         ensures { result ≡ length self.now.firsts }
     {
         self.firsts.len()
     }
 
-    /// So many numbers stand for all that was gathered.
+    /// Gathers `count` numbers in place of all that was gathered.
     pub fn keep_numbers(&mut self, count: u32) -> Result<(), AllocError>
         ensures { OnOk result (self.new ≡ numbers count) }
     {
@@ -132,14 +132,15 @@ impl Gathering {
         Ok(())
     }
 
-    /// Names are those of actions.
+    /// Makes the names among the leaves those of actions.
     pub fn name_actions(&mut self)
         ensures { self.new ≡ with_actions self.old }
     {
         name_all(self.leaves.as_mut_slice());
     }
 
-    /// A leaf, whose first token has one order, and the token that tells it another or the same.
+    /// Adds a leaf, where `first` is the order of its first token, and `token` that of the token that tells the leaf: another one
+    /// or the same.
     pub fn leaf(&mut self, first: u32, token: u32, leaf: Leaf) -> Result<(), AllocError>
         ensures { OnOk result (self.new ≡ with_leaf first token leaf self.old) }
     {
@@ -154,7 +155,7 @@ impl Gathering {
         Ok(())
     }
 
-    /// An operator of the latest expression, in front of it.
+    /// Adds the operator `op` in front of the latest expression.
     pub fn prefix(&mut self, op: Unary) -> Result<(), AllocError>
         ensures { OnOk result (self.new ≡ with_prefix op self.old) }
     {
@@ -164,7 +165,7 @@ impl Gathering {
         Ok(())
     }
 
-    /// An operator of the latest expression, behind it.
+    /// Adds the operator `op` behind the latest expression.
     pub fn suffix(&mut self, op: Unary) -> Result<(), AllocError>
         ensures { OnOk result (self.new ≡ with_suffix op self.old) }
     {
@@ -172,7 +173,7 @@ impl Gathering {
         Ok(())
     }
 
-    /// An operator of the latest two expressions.
+    /// Joins the latest two expressions by the operator `op`.
     pub fn two(&mut self, op: Binary) -> Result<(), AllocError>
         ensures { OnOk result (self.new ≡ with_two op self.old) }
     {
@@ -181,7 +182,7 @@ impl Gathering {
         Ok(())
     }
 
-    /// A comma behind two expressions. In brackets it is the operator.
+    /// Joins the latest two expressions by a comma. In brackets it is the operator.
     pub fn comma(&mut self) -> Result<(), AllocError>
         ensures { OnOk result (self.new ≡ with_comma self.old) }
     {
@@ -190,7 +191,7 @@ impl Gathering {
         Ok(())
     }
 
-    /// A list begins: the arguments of a call, or what a test goes by.
+    /// Opens a list: the arguments of a call, or the values against which something is tested.
     pub fn open_list(&mut self) -> Result<(), AllocError>
         ensures { OnOk result (self.new ≡ with_list self.old) }
     {
@@ -198,14 +199,14 @@ impl Gathering {
         Ok(())
     }
 
-    /// The latest expression is a part of the open list.
+    /// Counts the latest expression as a part of the open list.
     pub fn part(&mut self)
         ensures { self.new ≡ with_part self.old }
     {
         count_part(&mut self.counts);
     }
 
-    /// A call with the parts of the open list as arguments.
+    /// Makes a call with the parts of the open list as arguments, and closes the list.
     pub fn call(&mut self) -> Result<(), AllocError>
         ensures { OnOk result (self.new ≡ with_call self.old) }
     {
@@ -216,7 +217,7 @@ impl Gathering {
         Ok(())
     }
 
-    /// A test against the parts of the open list.
+    /// Tests an expression by `op` against the parts of the open list, and closes the list.
     pub fn test(&mut self, op: Binary) -> Result<(), AllocError>
         ensures { OnOk result (self.new ≡ with_test op self.old) }
     {
@@ -230,7 +231,7 @@ impl Gathering {
         Ok(())
     }
 
-    /// A bracket is opened by a token with this order.
+    /// Opens a bracket, whose token has the order `order`.
     pub fn open_bracket(&mut self, order: u32) -> Result<(), AllocError>
         ensures { OnOk result (self.new ≡ with_bracket order self.old) }
     {
@@ -238,7 +239,8 @@ impl Gathering {
         Ok(())
     }
 
-    /// The bracket that was opened last, with the latest leaf in it, is a print rule: one of the language is no expression.
+    /// Takes the bracket that was opened last, with the latest leaf in it, for a print rule. A rule of the language, for which
+    /// `is_own` holds, is no expression, and its leaf is taken away.
     pub fn rule(&mut self, is_own: bool)
         ensures { self.new ≡ with_rule is_own self.old }
     {
@@ -250,7 +252,7 @@ impl Gathering {
         }
     }
 
-    /// The latest expression stands in the bracket that was opened last.
+    /// Closes the bracket that was opened last, in which the latest expression is.
     pub fn close_bracket(&mut self) -> Result<(), AllocError>
         ensures { OnOk result (self.new ≡ with_closed_bracket self.old) }
     {
@@ -262,7 +264,7 @@ impl Gathering {
     }
 }
 
-/// The last of some numbers, or 0.
+/// Returns the last of some numbers, or 0.
 fn latest(numbers: &Vec<u32>) -> u32
     ensures { result ≡ latest (reverse numbers.now.items) }
 {
@@ -272,7 +274,7 @@ fn latest(numbers: &Vec<u32>) -> u32
     }
 }
 
-/// The last of some numbers is this, if there is one.
+/// Sets the last of `numbers` to `order`, if there is one.
 fn begin(numbers: &mut Vec<u32>, order: u32)
     ensures { reverse numbers.new.items ≡ beginning order (reverse numbers.old.items) }
 {
@@ -281,7 +283,7 @@ fn begin(numbers: &mut Vec<u32>, order: u32)
     }
 }
 
-/// One part more, in the last of some counts.
+/// Adds one part to the last of `counts`, if there is one.
 fn count_part(counts: &mut Vec<u32>)
     ensures { reverse counts.new.items ≡ one_more (reverse counts.old.items) }
 {
@@ -290,14 +292,14 @@ fn count_part(counts: &mut Vec<u32>)
     }
 }
 
-/// One more, as far as numbers go.
+/// Returns one more than `count`, as far as numbers go.
 fn counted(count: u32) -> u32
     ensures { result ≡ counted count }
 {
     if count == u32::MAX { count } else { count + 1 }
 }
 
-/// Takes the last of some numbers away, so many or all.
+/// Removes the last `count` of `numbers`, or all where there are fewer.
 fn cut_back(numbers: &mut Vec<u32>, count: u32)
     ensures { reverse numbers.new.items ≡ drop count (reverse numbers.old.items) }
 {
@@ -305,7 +307,7 @@ fn cut_back(numbers: &mut Vec<u32>, count: u32)
     numbers.truncate(len.saturating_sub(count as usize));
 }
 
-/// What a comma is, by the brackets that are open.
+/// Returns the symbol of a comma, by the brackets that are open.
 fn comma(brackets: &Vec<u32>) -> Symbol
     ensures { result ≡ comma (reverse brackets.now.items) }
 {

@@ -1,4 +1,4 @@
--- What the program's tables say: by evaluation.
+-- The program's tables hold the grammar: by evaluation.
 use Rattle.std.proofs.Common.{◌≡◌, ℕ, ◌<◌, ◌≤◌, List, [], ◌∷◌, Bool, true, false, zero, suc, map, reverse, get_or, length, refl, sym, ◌∙◌}
 use Rattle.std.proofs.Common.{ap, arith, ◌&&◌, if◌then◌else◌}
 use Rattle.inf_machine.specs.declared.symbols.Symbol.{Symbol}
@@ -64,7 +64,7 @@ pub rules_same : map rule_view all_rules ≡ rules_of rules beginnings empties
 unfolding grammar known all_parts all_rows all_rules
 rules_same = refl
 
--- At a place of the tables
+-- The items of the tables are found at their places
 
 class_at : (sets : List Set) (ns : List ℕ) → map set_number sets ≡ ns → (at : ℕ) (d : Set) → at < length sets →
     set_number (get_or sets at d) ≡ get_or ns at 0
@@ -88,7 +88,7 @@ pub no_class : (class : ℕ) → length all_classes ≤ class → grammar.atoms_
 unfolding grammar
 no_class class l = past all_classes classes classes_same class l
 
--- a rule of the program is that of the grammar
+-- A rule of the program is that of the grammar.
 pub record IsRule (rule : CodeRule) (at : ℕ) : Type 0 where
   pub begins : set_number rule.begins ≡ known.begins at
   pub empty : rule.is_empty ≡ known.is_empty at
@@ -127,7 +127,7 @@ pub rules_length : length all_rules ≡ 251
 unfolding grammar known all_rules
 rules_length = refl
 
--- What stands for a rule that is passed over is actions alone
+-- The parts that are put in place of a rule that is passed over are actions alone
 
 abbrev all_acts : List (List (Row Action)) → Bool
 all_acts [] = true
@@ -168,7 +168,7 @@ found_is_chosen atom other (c ∷ code) (r ∷ rows) e =
     by_test true false q p r' = cc
     by_test false true q p r' = cc
 
--- What stands for a rule in the program is what the machine puts in its place
+-- The parts that the program puts in place of a rule are those that the machine puts there
 
 pub span_is_way : (atom at : ℕ) (rule : CodeRule) → IsRule rule at →
     reverse (cut (span_for rule atom) all_parts) ≡ way grammar known atom at

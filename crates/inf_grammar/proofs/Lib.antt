@@ -1,4 +1,5 @@
 pub mod Bits
+pub mod OpenStacks
 pub mod OpenRoutines
 pub mod CodeTables
 pub mod SourceLaws

@@ -1,4 +1,4 @@
--- What is computed of each rule, in the order of their numbers. Made from docs/grammar.txt; that it holds is proved.
+-- Facts computed of each rule, in the order of their numbers. Made from docs/grammar.txt; that they hold is proved.
 use Rattle.std.specs.Prelude.{ℕ, List, [], ◌∷◌, Bool, true, false}
 
 -- the atoms that begin it

@@ -1,4 +1,4 @@
--- The grammar of the language, and what the machine knows of it.
+-- The grammar of the language, and the facts that the machine knows of it.
 use Rattle.std.specs.Prelude.{List, ◌++◌}
 use Rattle.inf_machine.specs.Grammar.{Grammar, Row}
 use Rattle.inf_syntax.specs.declared.actions.Action.{Action}

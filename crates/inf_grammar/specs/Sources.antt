@@ -1,4 +1,4 @@
--- The pieces of a source, and what is skipped behind a bad token.
+-- The pieces of a source, and the tokens that are skipped behind a bad one.
 use Rattle.std.specs.Prelude.{ℕ, ◌+◌, List, [], ◌∷◌, Bool, false, Option, Some, None, ◌==◌, if◌then◌else◌}
 use Rattle.inf_machine.specs.declared.symbols.Symbol.TheVariants.{Rule}
 use Rattle.inf_machine.specs.Machine.{read, Read}
@@ -17,21 +17,21 @@ abbrev pub is_inside : Option (Read Action) → Bool
 is_inside None = false
 is_inside (Some r) = is_in_routine r.left
 
--- whether a routine is open behind tokens that begin a piece
+-- Tells whether a routine is open behind tokens that begin a piece.
 abbrev pub in_routine_behind : List ℕ → Bool
 in_routine_behind front = is_inside (read grammar known (Rule piece_rule ∷ []) front)
 
--- how many tokens there are up to a semicolon, which is counted in
+-- the number of tokens up to the first semicolon, which is counted in, or of all
 abbrev pub through_semicolon : List ℕ → ℕ
 through_semicolon [] = 0
 through_semicolon (atom ∷ atoms) = if atom == mark_atom mark.Semicolon then 1 else 1 + through_semicolon atoms
 
--- how many there are up to the first semicolon behind a bracket that ends a routine
+-- the number of tokens up to the first semicolon behind a bracket that ends a routine, or of all
 abbrev pub through_bracket : List ℕ → ℕ
 through_bracket [] = 0
 through_bracket (atom ∷ atoms) = if atom == mark_atom mark.CloseBracket then 1 + through_semicolon atoms else 1 + through_bracket atoms
 
--- How many tokens are skipped behind a bad one: up to the next semicolon, and in a routine up to the semicolon behind the next
+-- The number of tokens that are skipped behind a bad one: up to the next semicolon, and in a routine up to the semicolon behind the next
 -- bracket that ends one. The bad token may be the semicolon or the bracket. With neither, all are skipped.
 abbrev pub skipped_behind : List ℕ → ℕ → List ℕ → ℕ
 skipped_behind front bad rest =

@@ -36,7 +36,7 @@ parts_of_all (rows ∷ rest) = parts_of rows ++ parts_of_all rest
 unfoldable pub all_parts : List (Symbol Action)
 all_parts = parts_of_all rules
 
--- some rows, their parts beginning at a place
+-- some rows, the parts of the first at `place`
 abbrev pub rows_from : ℕ → List (Row Action) → List CodeRow
 rows_from place [] = []
 rows_from place (row ∷ rows) =
@@ -51,13 +51,13 @@ unfoldable pub all_rows : List CodeRow
 unfolding grammar known
 all_rows = rows_of_all 0 rules
 
--- where the parts of the row that can be empty stand
+-- the place of the parts of the row that can be empty
 abbrev pub other_from : ℕ → List (Row Action) → Span
 other_from place [] = span 0 0
 other_from place (row ∷ rows) =
     if can_end known row.parts then span place (length row.parts) else other_from (place + length row.parts) rows
 
--- where the parts stand that are put in place of a rule that is passed over
+-- the place of the parts that are put in place of a rule that is passed over
 abbrev pub passed_from : ℕ → List (Row Action) → Span
 passed_from place rows = if is_silent grammar known depth (empty_row known rows) then span 0 0 else other_from place rows
 
@@ -73,7 +73,7 @@ unfoldable pub all_rules : List CodeRule
 unfolding grammar known
 all_rules = rules_from 0 0 rules beginnings empties
 
--- Reading them
+-- The reading of the tables
 
 -- numbers of 64 bits as one, the lowest first
 abbrev pub joined_words : List ℕ → ℕ
@@ -87,11 +87,11 @@ set_number set = joined_words set.0
 abbrev pub cut : {X : Type 0} → Span → List X → List X
 cut s xs = if nat_le s.start s.end && nat_le s.end (length xs) then take (s.end - s.start) (drop s.start xs) else []
 
--- where the parts of the first row that an atom begins stand, or of another one
+-- the place of the parts of the first row that an atom begins, or else `other`
 abbrev pub found : ℕ → Span → List CodeRow → Span
 found atom other [] = other
 found atom other (row ∷ rows) = if has (set_number row.begins) atom then row.parts else found atom other rows
 
--- where the parts are that stand for a rule before an atom
+-- the place of the parts that are put in place of a rule before an atom
 abbrev pub span_for : CodeRule → ℕ → Span
 span_for rule atom = if has (set_number rule.begins) atom then found atom rule.other (cut rule.rows all_rows) else rule.other

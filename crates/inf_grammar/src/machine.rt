@@ -10,7 +10,7 @@ use inf_syntax::Action;
 use std::alloc::{AllocError, Global};
 use std::marker::Model;
 
-/// What is still to be read: in contracts a list of symbols, the one at hand first.
+/// The symbols that are still to be read: in contracts a list, the one at hand first.
 #[derive(Drop)]
 pub struct Machine {
     machine: inf_machine::Machine<Language>,
@@ -27,7 +27,7 @@ impl Model for Machine {
 }
 
 impl Machine {
-    /// Nothing is to be read. It takes no memory until `start`.
+    /// Returns a machine that has nothing to read. It takes no memory until `start`.
     pub fn new(alloc: Global) -> Machine
         ensures { result ≡ [] }
     {
@@ -36,7 +36,8 @@ impl Machine {
         }
     }
 
-    /// A text of a rule is to be read next. Where memory runs out, what is to be read is as it was.
+    /// Lets a text of `rule` be read next. Where memory runs out, returns an error, and the rest to be read is as it
+    /// was.
     pub fn start(&mut self, rule: u8) -> Result<(), AllocError>
         ensures ok { OnOk result (self.new ≡ Symbol.Rule rule ∷ self.old) }
         ensures err { OnErr result (self.new ≡ self.old) }
@@ -44,51 +45,52 @@ impl Machine {
         self.machine.start(rule)
     }
 
-    /// Whether nothing is to be read.
+    /// Returns whether nothing is left to be read.
     pub fn is_done(&self) -> bool
         ensures { IsTrue result ↔ (self.now ≡ []) }
     {
         self.machine.is_done()
     }
 
-    /// Whether what is to be read can be empty: whether the source may end here.
+    /// Returns whether the rest to be read can be empty: whether the source may end here.
     pub fn can_end(&self) -> bool
         ensures { result ≡ can_end known self.now }
     {
         self.machine.can_end()
     }
 
-    /// Whether the end of a routine is still to be read.
+    /// Returns whether the end of a routine is still to be read.
     pub fn is_in_routine(&self) -> bool
         ensures { result ≡ is_in_routine self.now }
     {
         is_in_routine(self.machine.symbols())
     }
 
-    /// How many compound statements are over, whatever the next token is.
+    /// Returns the number of compound statements that are over, whatever the next token is.
     pub fn closings(&self) -> usize
         ensures { result ≡ closings self.now }
     {
         closings(self.machine.symbols())
     }
 
-    /// Gives up what is to be read.
+    /// Gives up all that is left to be read.
     pub fn clear(&mut self)
         ensures { self.new ≡ [] }
     {
         self.machine.clear();
     }
 
-    /// Whether a token fits: whether it begins what is to be read.
+    /// Returns whether `atom` fits: whether it begins the rest to be read.
     pub fn fits(&self, atom: u8) -> bool
         ensures { result ≡ fits grammar known atom self.now }
     {
         self.machine.fits(atom)
     }
 
-    /// Takes a token that fits. The actions on the way to it are put behind `actions`, in order; the token is taken behind them.
+    /// Takes a token that fits. Appends the actions on the way to it to `actions`, in order; the token is taken behind
+    /// them.
     ///
-    /// Where memory runs out, what is to be read and the actions are as they were.
+    /// Where memory runs out, returns an error, and the rest to be read and the actions are as they were.
     pub fn take(&mut self, atom: u8, actions: &mut Vec<Action>) -> Result<(), AllocError>
         requires { fits grammar known atom self.old ≡ true }
         ensures left { OnOk result (self.new ≡ (taken grammar known atom self.old).left) }
@@ -99,9 +101,9 @@ impl Machine {
         self.machine.take(atom, actions)
     }
 
-    /// Whether a token fits; where it does, it is taken as `take` does.
+    /// Returns whether `atom` fits, and takes it as `take` does where it does.
     ///
-    /// Where it does not fit and where memory runs out, what is to be read and the actions are as they were.
+    /// Where it does not fit and where memory runs out, the rest to be read and the actions are as they were.
     pub fn read(&mut self, atom: u8, actions: &mut Vec<Action>) -> Result<bool, AllocError>
         ensures fits { IfOk result (λ fits_now. fits_now ≡ fits grammar known atom self.old) }
         ensures left { IfOk result (λ fits_now. fits_now ≡ true → self.new ≡ (taken grammar known atom self.old).left) }
@@ -116,7 +118,7 @@ impl Machine {
     }
 }
 
-/// Whether the end of a routine is on a stack, the top last.
+/// Returns whether the end of a routine is on a stack, the top last.
 fn is_in_routine(stack: &[Symbol<Action>]) -> bool
     ensures { result ≡ is_in_routine (reverse stack.now) }
 {
@@ -129,7 +131,7 @@ fn is_in_routine(stack: &[Symbol<Action>]) -> bool
     false
 }
 
-/// How many compound statements are over on a stack, the top last, whatever comes next.
+/// Returns the number of compound statements that are over on a stack, the top last, whatever comes next.
 fn closings(stack: &[Symbol<Action>]) -> usize
     ensures { result ≡ closings (reverse stack.now) }
 {

@@ -1,4 +1,4 @@
-//! What the machine knows of a rule.
+//! The facts that the machine knows of a rule.
 ghost use Rattle.std.specs.Prelude.{◌≡◌, reverse, true};
 ghost use Rattle.inf_machine.specs.Grammar.{has};
 ghost use Rattle.inf_grammar.specs.Language.{grammar, known};
@@ -23,52 +23,53 @@ pub(crate) struct Span {
 /// A way to write a rule.
 #[derive(Clone, Copy)]
 pub(crate) struct Row {
-    /// The atoms that begin it.
+    /// The atoms that begin the row.
     pub(crate) begins: Set,
-    /// Its parts, the last first, as they go onto a stack.
+    /// The parts of the row, the last first, as they go onto a stack.
     pub(crate) parts: Span,
 }
 
 /// A rule.
 #[derive(Clone, Copy)]
 pub(crate) struct Rule {
-    /// The atoms that begin it.
+    /// The atoms that begin the rule.
     pub(crate) begins: Set,
     pub(crate) is_empty: bool,
     pub(crate) rows: Span,
-    /// The parts that stand for it before any other atom: those of the row that can be empty, or none where that has no action.
+    /// The parts that are put in place of the rule before any other atom: those of the row that can be empty, or none
+    /// where that has no action.
     pub(crate) other: Span,
 }
 
-/// The classes of tokens.
+/// Returns the classes of tokens.
 fn classes() -> &'static [Set]
     ensures { result.now ≡ all_classes }
 {
     &CLASSES
 }
 
-/// The parts of the rows.
+/// Returns the parts of the rows.
 fn parts() -> &'static [Symbol<Action>]
     ensures { result.now ≡ all_parts }
 {
     &PARTS
 }
 
-/// The rows.
+/// Returns the rows.
 fn rows() -> &'static [Row]
     ensures { result.now ≡ all_rows }
 {
     &ROWS
 }
 
-/// The rules.
+/// Returns the rules.
 fn rules() -> &'static [Rule]
     ensures { result.now ≡ all_rules }
 {
     &RULES
 }
 
-/// Whether an atom is in a set, of which these are the words.
+/// Returns whether `atom` is in the set of these words.
 fn is_in(words: &[u64], atom: u8) -> bool
     ensures { result ≡ has (joined_words words.now) atom }
 {
@@ -78,7 +79,7 @@ fn is_in(words: &[u64], atom: u8) -> bool
     }
 }
 
-/// The rows of a span.
+/// Returns the rows of a span.
 fn rows_at(span: Span) -> &'static [Row]
     ensures { result.now ≡ cut span all_rows }
 {
@@ -88,7 +89,7 @@ fn rows_at(span: Span) -> &'static [Row]
     }
 }
 
-/// The parts of a span. Most rules that are passed over have none.
+/// Returns the parts of `span`. Most rules that are passed over have none.
 fn parts_at(span: Span) -> &'static [Symbol<Action>]
     ensures { result.now ≡ cut span all_parts }
 {
@@ -101,7 +102,7 @@ fn parts_at(span: Span) -> &'static [Symbol<Action>]
     }
 }
 
-/// Where the parts of the first row that an atom begins stand, or of the other row.
+/// Returns the place of the parts of the first row that `atom` begins, or else `other`.
 fn found(rows: &[Row], other: Span, atom: u8) -> Span
     ensures { result ≡ found atom other rows.now }
 {
@@ -113,7 +114,7 @@ fn found(rows: &[Row], other: Span, atom: u8) -> Span
     other
 }
 
-/// Whether an atom is of a class of tokens.
+/// Returns whether an atom is of a class of tokens.
 pub(crate) fn is_of(class: u8, atom: u8) -> bool
     ensures { result ≡ has (grammar.atoms_of class) atom }
 {
@@ -123,7 +124,7 @@ pub(crate) fn is_of(class: u8, atom: u8) -> bool
     }
 }
 
-/// Whether an atom begins a rule.
+/// Returns whether an atom begins a rule.
 pub(crate) fn begins(rule: u8, atom: u8) -> bool
     ensures { result ≡ has (known.begins rule) atom }
 {
@@ -133,7 +134,7 @@ pub(crate) fn begins(rule: u8, atom: u8) -> bool
     }
 }
 
-/// Whether a rule can be empty.
+/// Returns whether a rule can be empty.
 pub(crate) fn can_be_empty(rule: u8) -> bool
     ensures { result ≡ known.is_empty rule }
 {
@@ -143,7 +144,8 @@ pub(crate) fn can_be_empty(rule: u8) -> bool
     }
 }
 
-/// Where the parts are that stand for a rule before an atom. Only where the atom begins it are its rows looked at.
+/// Returns the place of the parts that are put in place of a rule before `atom`. Looks at the rows only where `atom`
+/// begins the rule.
 fn span_for(rule: &Rule, atom: u8) -> Span
     ensures { result ≡ span_for rule.now atom }
 {
@@ -154,7 +156,7 @@ fn span_for(rule: &Rule, atom: u8) -> Span
     }
 }
 
-/// What stands for a rule before an atom, its last part first.
+/// Returns the parts that are put in place of `rule` before `atom`, the last part first.
 pub(crate) fn way(rule: u8, atom: u8) -> &'static [Symbol<Action>]
     ensures { reverse result.now ≡ way grammar known atom rule }
 {
@@ -164,7 +166,8 @@ pub(crate) fn way(rule: u8, atom: u8) -> &'static [Symbol<Action>]
     }
 }
 
-/// What stands for a rule that can be empty before an atom that does not begin it, its last part first: actions alone.
+/// Returns the parts that are put in place of `rule`, which can be empty, before an atom that does not begin it, the
+/// last part first: actions alone.
 pub(crate) fn passed(rule: u8) -> &'static [Symbol<Action>]
     ensures row { reverse result.now ≡ passed_row grammar known (grammar.rows_of rule) }
     ensures acts { are_acts (passed_row grammar known (grammar.rows_of rule)) ≡ true }

@@ -1,17 +1,17 @@
-//! What else is asked of machines than to read a piece.
+//! The other questions to machines, beside those to read a piece.
 use crate::pieces::token;
 use crate::reader::Reader;
 use inf_grammar::{FILE, PIECE, atom_of};
 use std::alloc::{AllocError, Global};
 
-/// Whether all tokens of a piece fit, and their actions, in order.
+/// Returns whether all tokens of a piece fit, and their actions, in order.
 pub(crate) fn actions(alloc: Global, piece: &str) -> Result<String, AllocError> {
     let mut reader = Reader::new(alloc, PIECE)?;
     let fit = reader.read_all(piece)?;
     format!(in alloc; "fit: {fit}, {:?}", reader.actions.as_slice())
 }
 
-/// Whether all tokens of a source fit, whether it may end behind them, and whether a routine is open there.
+/// Returns whether all tokens of a source fit, whether it may end behind them, and whether a routine is open there.
 pub(crate) fn source(alloc: Global, tokens: &str) -> Result<String, AllocError> {
     let mut reader = Reader::new(alloc, FILE)?;
     let fit = reader.read_all(tokens)?;
@@ -20,14 +20,14 @@ pub(crate) fn source(alloc: Global, tokens: &str) -> Result<String, AllocError> 
     format!(in alloc; "fit: {fit}, can end: {can_end}, in a routine: {is_in_routine}")
 }
 
-/// Whether two words are the same to the grammar.
+/// Returns whether two words are the same to the grammar.
 pub(crate) fn same(alloc: Global, words: &str) -> Result<String, AllocError> {
     let (word, other) = words.split_once(' ').unwrap_or((words, ""));
     let is_same = atom_of(token(word.as_bytes())) == atom_of(token(other.as_bytes()));
     format!(in alloc; "{is_same}")
 }
 
-/// Of each of some tokens, whether a piece may begin with it.
+/// Returns of each of some tokens whether a piece may begin with it.
 pub(crate) fn begin(alloc: Global, tokens: &str) -> Result<String, AllocError> {
     let reader = Reader::new(alloc, PIECE)?;
     let mut answers = Vec::new(alloc);
@@ -37,8 +37,8 @@ pub(crate) fn begin(alloc: Global, tokens: &str) -> Result<String, AllocError> {
     format!(in alloc; "{:?}", answers.as_slice())
 }
 
-/// Takes the first token of a piece and gives the piece up; then begins another one. Tells whether a routine is open, whether the
-/// machine is done then, and whether the token fits before and behind the beginning.
+/// Takes the first token of a piece and gives the piece up; then begins another one. Returns whether a routine is open,
+/// whether the machine is done then, and whether the token fits before and behind the beginning.
 pub(crate) fn give_up(alloc: Global, spelling: &str) -> Result<String, AllocError> {
     let mut reader = Reader::new(alloc, PIECE)?;
     reader.take(spelling)?;

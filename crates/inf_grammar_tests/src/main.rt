@@ -1,17 +1,17 @@
-//! The machine over pieces of source, a line each with spaces between its tokens. Each piece is answered by a line: whole, or how
-//! many of its tokens stand before the bad one. A line that begins with `! ` is a title.
+//! The machine over pieces of source, a line each with spaces between its tokens. Each piece is answered by a line: whole, or the
+//! number of its tokens before the bad one. A line that begins with `! ` is a title.
 //!
-//! `stdin` has pieces of each kind of directive and statement, with and without a bad token, and the pieces of whole sources; what
-//! `stdout` says of them comes from a recognizer that was written apart.
+//! `stdin` has pieces of each kind of directive and statement, with and without a bad token, and the pieces of whole sources; the
+//! answers in `stdout` come from a recognizer that was written apart.
 //!
-//! Other lines begin with `!` and what is asked:
+//! Other lines begin with `!` and a question:
 //!
 //! - `!actions PIECE` tells whether all tokens of a piece fit, and their actions, in order;
 //! - `!source TOKENS` tells whether all tokens fit, whether a source may end behind them, and whether a routine is open there;
 //! - `!same WORD WORD` tells whether two words are the same to the grammar;
 //! - `!begin TOKENS` tells of each token whether a piece may begin with it;
-//! - `!bad PIECE` tries bad tokens before each token of a piece, and tells whether they changed anything, or whether what `read` does is
-//!   not what `take` does;
+//! - `!bad PIECE` tries bad tokens before each token of a piece, and tells whether they changed anything, or whether `read` and `take` do
+//!   not do the same;
 //! - `!give_up TOKEN` takes a token, gives the piece up, and begins another one.
 #![tactic(auto)]
 
@@ -23,7 +23,7 @@ mod tried;
 use std::alloc::{AllocError, Global};
 use std::io::{self, BufRead, BufReader};
 
-/// What comes of a question, and of a title.
+/// Returns the answer to a question, or a title itself.
 fn answer_of(alloc: Global, question: &str) -> Result<String, AllocError> {
     let (name, tokens) = question.split_once(' ').unwrap_or((question, ""));
     match name {
@@ -38,7 +38,7 @@ fn answer_of(alloc: Global, question: &str) -> Result<String, AllocError> {
     }
 }
 
-/// What comes of a line.
+/// Returns the answer to a line.
 fn answer(alloc: Global, line: &str) -> Result<String, AllocError> {
     match line.strip_prefix('!') {
         Some(question) => answer_of(alloc, question),
@@ -46,7 +46,7 @@ fn answer(alloc: Global, line: &str) -> Result<String, AllocError> {
     }
 }
 
-/// Answers a line.
+/// Writes the answer to a line.
 fn write_answer(rt: &HostRuntime, line: &str) -> io::Result<()> {
     let answer = answer(rt.alloc(), line)?;
     println!(rt; "{answer}")

@@ -1,17 +1,17 @@
-//! The tokens of pieces, and what the machine says of a piece.
+//! The tokens of pieces, and the machine's answer to a piece.
 use crate::reader::Reader;
 use inf_grammar::{Mark, PIECE, Token};
 use std::alloc::{AllocError, Global};
 use std::fmt;
 
-/// What the machine says of a piece.
+/// The machine's answer to a piece.
 #[derive(Clone, Copy)]
 enum Answer {
-    /// It ended with the last token, after so many actions.
+    /// The piece ended with its last token, after this number of actions.
     Whole(usize),
-    /// It took all tokens, and waits for more.
+    /// The machine took all tokens, and waits for more.
     More,
-    /// So many tokens stand before the one that does not fit.
+    /// The number of tokens before the one that does not fit.
     Bad(usize),
 }
 
@@ -25,7 +25,7 @@ impl fmt::Display for Answer {
     }
 }
 
-/// Reads a piece with spaces between its tokens.
+/// Reads a piece with spaces between its tokens, and returns the machine's answer.
 fn read(alloc: Global, piece: &str) -> Result<Answer, AllocError> {
     let mut reader = Reader::new(alloc, PIECE)?;
     Ok(if !reader.read_all(piece)? {
@@ -37,13 +37,14 @@ fn read(alloc: Global, piece: &str) -> Result<Answer, AllocError> {
     })
 }
 
-/// What is told of a piece.
+/// Returns the machine's answer to a piece in words.
 pub(crate) fn told(alloc: Global, piece: &str) -> Result<String, AllocError> {
     let answer = read(alloc, piece)?;
     format!(in alloc; "{answer}")
 }
 
-/// The token that is spelled so. A `^` stands before the name of a class, `!` is the end, and what is spelled otherwise is bad.
+/// Returns the token with this spelling. A `^` comes before the name of a class, `!` is the end, and any other spelling
+/// is that of a bad token.
 pub(crate) fn token(spelling: &[u8]) -> Token<'_> {
     if let Some(mark) = mark(spelling) {
         return Token::Mark(mark);
@@ -60,7 +61,7 @@ pub(crate) fn token(spelling: &[u8]) -> Token<'_> {
     }
 }
 
-/// The mark that is spelled so.
+/// Returns the mark with this spelling, if there is one.
 fn mark(spelling: &[u8]) -> Option<Mark> {
     for (mark, kind) in &MARKS {
         if *mark == spelling {

@@ -3,18 +3,18 @@ use crate::pieces::token;
 use inf_grammar::{Action, Machine, atom_of};
 use std::alloc::{AllocError, Global};
 
-/// A machine, with what came of the tokens that it took.
+/// A machine, with the tokens that it took.
 #[derive(Drop)]
 pub(crate) struct Reader {
     pub(crate) machine: Machine,
-    /// The actions on the way to them.
+    /// The actions on the way to the tokens.
     pub(crate) actions: Vec<Action>,
-    /// How many there were.
+    /// The number of tokens.
     pub(crate) taken: usize,
 }
 
 impl Reader {
-    /// One that starts with a rule.
+    /// Makes a reader that starts with a rule.
     pub(crate) fn new(alloc: Global, rule: u8) -> Result<Reader, AllocError> {
         let mut machine = Machine::new(alloc);
         machine.start(rule)?;
@@ -25,12 +25,12 @@ impl Reader {
         })
     }
 
-    /// Whether a token fits.
+    /// Returns whether a token fits.
     pub(crate) fn fits(&self, spelling: &str) -> bool {
         self.machine.fits(atom_of(token(spelling.as_bytes())))
     }
 
-    /// Takes a token if it fits, and answers whether it does.
+    /// Takes a token if it fits, and returns whether it does.
     pub(crate) fn take(&mut self, spelling: &str) -> Result<bool, AllocError> {
         let atom = atom_of(token(spelling.as_bytes()));
         let fits = self.machine.fits(atom);
@@ -40,13 +40,13 @@ impl Reader {
         Ok(fits)
     }
 
-    /// The same, by one call of the machine.
+    /// Takes a token if it fits, and returns whether it does, by one call of the machine.
     pub(crate) fn read(&mut self, spelling: &str) -> Result<bool, AllocError> {
         let atom = atom_of(token(spelling.as_bytes()));
         self.machine.read(atom, &mut self.actions)
     }
 
-    /// Reads tokens with spaces between them up to one that does not fit. Answers whether all fit.
+    /// Reads tokens with spaces between them up to one that does not fit. Returns whether all fit.
     pub(crate) fn read_all(&mut self, tokens: &str) -> Result<bool, AllocError> {
         for spelling in tokens.split(' ') {
             if !self.read(spelling)? {

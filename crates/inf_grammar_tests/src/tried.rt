@@ -3,10 +3,11 @@ use crate::reader::Reader;
 use inf_grammar::PIECE;
 use std::alloc::{AllocError, Global};
 
-/// What is tried at each place where it does not fit.
+/// The tokens that are tried at each place where they do not fit.
 const TRIED: &str = "] ) : ; meta";
 
-/// Whether a reader refuses each of those that do not fit another one, which has taken the same.
+/// Returns whether `reader` refuses each token that does not fit `other`, which has taken the same
+/// tokens.
 fn refuses(reader: &mut Reader, other: &Reader) -> Result<bool, AllocError> {
     for spelling in TRIED.split(' ') {
         if !other.fits(spelling) && reader.read(spelling)? {
@@ -16,13 +17,14 @@ fn refuses(reader: &mut Reader, other: &Reader) -> Result<bool, AllocError> {
     Ok(true)
 }
 
-/// Whether both take a token, each in its own way, and have the same actions behind it.
+/// Returns whether both take a token, each in its own way, and have the same actions behind it.
 fn both_take(reader: &mut Reader, other: &mut Reader, spelling: &str) -> Result<bool, AllocError> {
     let is_taken = other.take(spelling)? && reader.read(spelling)?;
     Ok(is_taken && reader.actions.as_slice() == other.actions.as_slice())
 }
 
-/// Reads a piece, with bad tokens before each of its own. Tells whether they changed anything.
+/// Reads a piece, with bad tokens before each of its own. Returns in words whether they changed
+/// anything.
 fn told(reader: &mut Reader, other: &mut Reader, piece: &str) -> Result<&'static str, AllocError> {
     for spelling in piece.split(' ') {
         if !refuses(reader, other)? {
@@ -39,7 +41,8 @@ fn told(reader: &mut Reader, other: &mut Reader, piece: &str) -> Result<&'static
     })
 }
 
-/// What is told of a piece that is read from its beginning.
+/// Reads a piece from its beginning, with bad tokens before each of its own. Returns in words
+/// whether they changed anything.
 pub(crate) fn tried(alloc: Global, piece: &str) -> Result<String, AllocError> {
     let mut reader = Reader::new(alloc, PIECE)?;
     let mut other = Reader::new(alloc, PIECE)?;

@@ -1,11 +1,11 @@
--- Files that include one another keep what each of them keeps.
+-- Files that include one another keep the tokens that each of them keeps.
 use Rattle.std.proofs.Common.{◌≡◌, ℕ, zero, suc, ◌+◌, ◌≤◌, length, List, [], ◌∷◌, ◌++◌, map, reverse, cond, ◌&&◌, Bool, true, false, Option}
 use Rattle.std.proofs.Common.{Some, None, refl, sym, ap, subst, ◌∙◌, append_assoc, arith}
 use Rattle.std.proofs.lemmas.List.{append-nil, map-append}
 use Rattle.inf_settings.specs.Bounds.{Limits}
 use Rattle.inf_scanner.specs.declared.tokens.Mark.TheVariants as mark
 use Rattle.inf_scanner.specs.declared.tokens.Place.{Place}
-use Rattle.inf_files.specs.Files.{Sources}
+use Rattle.inf_devices.specs.Files.{Sources}
 use Rattle.inf_characters.specs.declared.characters.CharSet.{CharSet}
 use Rattle.inf_sources.specs.Choosing.{waiting_with}
 use Rattle.inf_sources.specs.Inclusions.{Inclusion, Opens, OpensNone, Waiting, inclusion}
@@ -116,7 +116,7 @@ behind_staying : (tokens : List At) (c : Nested) → steps_behind (map staying t
 behind_staying [] c = refl
 behind_staying (t ∷ tokens) c = behind_staying tokens (step_behind (staying t) c)
 
--- What steps come to
+-- The outcome of steps
 
 record StepsLed (all : List Step) (c : Nested) (given : List Handing) (told : List Place) : Type 0 where
   hands : handed_by all c ≡ given
@@ -135,7 +135,7 @@ staying_led : (tokens : List At) (c : Nested) (given : List Handing) (told : Lis
     all_told tokens c.now ≡ told → StepsLed (map staying tokens) c given told
 staying_led tokens c given told hands tells = record { hands = hands_staying tokens c ∙ hands; tells = tells_staying tokens c ∙ tells }
 
--- how a file may end: so its end is handed on there, and nothing is left out or read behind it
+-- The end of a file is handed on as `h`, perhaps behind the sign `o`, and nothing is left out or read behind it.
 record EndsAs (o : Option Sign) (h : Forwarded) (s : Around) (c : Conditions) : Type 0 where
   base : At → Conditions
   said : At → Option Said
@@ -164,7 +164,7 @@ record Begun (s : Around) (c : Conditions) : Type 0 where
   is : at c (conditionals s.inside) (conditionals s.between) None c.declared ≡ c
   none_read : c.pending ≡ []
 
--- what is open behind it, with how many names and levels
+-- the conditionals that are open behind parts, with the numbers of names and levels
 abbrev stretch_last : Answers → Around → Conditions → Parts → Last
 stretch_last d s c parts =
     last_at (behind_parts d s parts) (declared_tokens (all_tokens parts) c.declared) (0 + length (all_tokens parts))
@@ -360,7 +360,7 @@ record LeftAt (o : Option Sign) (h : Forwarded) (t : At) (s inner : Around) (w :
   begun : Begun (around_behind s) (step_behind (leaves t) c).now
   waits : (step_behind (leaves t) c).waiting ≡ w
 
--- the places that are told at an end
+-- The places that are told at an end are those of the conditionals that are open.
 misses_at : (t : At) (o : Option Sign) (h : Forwarded) (s : Around) (c : Conditions) → EndsAs o h s c →
     is_end t.token.kind ≡ true → told_behind Leaves (judged_at t c).now ≡ all_unended s
 misses_at t o h s c e is_last =
@@ -470,7 +470,7 @@ cut_hash p others ks taken last sign c is_so e all is makes =
           (ap (λ e. ended_behind e then) is.goes_on, ap (λ e. ended_places e inner) is.goes_on));
     }
 
--- it does not fit there, or a condition takes it
+-- a sign that does not fit, and one that a condition takes
 abbrev UnfitSo : Pending → List Pending → At → ℕ → List Conditional → List Conditional → Conditions → List Condition → Type 0
 UnfitSo p others sign declared inner among = SignUnfit p others sign inner among declared
 
@@ -645,7 +645,7 @@ led_on h place (x ∷ more) w held free given told frees follows rest =
       behind = ap (steps_behind more) same;
     }
 
--- where reading stands makes no difference to it
+-- the site, as between directives or not: to a sign that makes no difference
 abbrev stands_so : Bool → Site → Site
 stands_so is_between site = record site { is_between = is_between }
 
@@ -806,7 +806,7 @@ hash_last s sign c st outside is =
       };
     }
 
--- In a side that is left out each is passed over, and so it is at the end of the file.
+-- In a side that is left out each `#` is passed over, also at the end of the file.
 
 record Passes (signs : List At) (w : List (List Conditional)) (c base : Conditions) (inner among : List Conditional) (b : Bool) (m : ℕ) :
     Type 0 where
@@ -985,7 +985,7 @@ broken_led d s c parts outer u first has =
       begun = b;
     }
 
--- with those behind it that its condition takes
+-- A directive, with the signs behind it that its condition takes, hands on no token.
 taken_led : (toks taken : List At) (w : List (List Conditional)) (c : Conditions) (told : List Place) → all_handed_on toks c ≡ []
     → all_told toks c ≡ told → all_handed_on taken (all_behind toks c) ≡ [] → all_told taken (all_behind toks c) ≡ []
     → StepsLed (map staying (toks ++ taken)) (nested_in w c) [] told
@@ -1528,7 +1528,7 @@ carried_out_passes sources o s = go s.work.report.counts.is_over (is_mode_ended 
     go false true = left_nested s.nesting.waiting s refl
     go false false = asked_nested s.work.asked sources o s
 
--- what rests keeps the files that wait
+-- A state that rests keeps the files that wait.
 rested_waiting : (s : State) → (rested s).nesting.waiting ≡ s.nesting.waiting
 rested_waiting s =
     of_both (λ (t : State). t.nesting.waiting ≡ s.nesting.waiting) (has_ended s) s (cond (is_resting s) (piece_closed s) s) (λ _. refl)

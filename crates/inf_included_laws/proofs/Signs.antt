@@ -1,4 +1,4 @@
--- The `#`s that a condition takes, and what is behind them.
+-- The `#`s that a condition takes, and the conditionals behind them.
 use Rattle.std.proofs.Common.{◌≡◌, ℕ, List, [], ◌∷◌, ◌++◌, cond, Bool, true, false, Option, Some, None, unwrap_or, refl, sym, ap, subst}
 use Rattle.std.proofs.Common.{◌∙◌}
 use Rattle.std.proofs.Math.Bool.{and-false}
@@ -24,7 +24,7 @@ use Rattle.inf_included_laws.specs.Unfinished.{AreHashes, Takes}
 use Rattle.inf_side_laws.proofs.KeptSides.{GivesUp, TokenSame, at, behind_taken, counted, directive, same_behind, same_hands, same_tells}
 use Rattle.inf_side_laws.proofs.KeptSides.{sign_inner, state, taken_same, taken_unfit, with_sign}
 
--- a directive waits for a condition, of which this holds
+-- a directive waits for a condition with the property `holds`
 pub record HasAsked (p : Pending) (ks : List Condition) (holds : Condition → Type 0) : Type 0 where
   pub wanted : Bool
   pub waits : p.awaits ≡ awaits.Condition wanted
@@ -71,7 +71,8 @@ same_token t c other e = record {
   next = ap (λ (x : Conditions). silent (judged_at t x).now) e;
 }
 
--- Nothing is handed on or told of them, and behind them another `#` is as where they were taken before.
+-- The signs that a condition takes are not handed on, and nothing is told of them; behind them the token `t` is judged
+-- as in a directive that is read.
 pub record SignsTaken (p : Pending) (others : List Pending) (ks : List Condition) (signs : List At) (t : At) (c : Conditions)
     (inner among : List Conditional) (declared : ℕ) : Type 0 where
   pub base : Conditions
@@ -179,7 +180,7 @@ asked_unfit p others ks sign h base inner among declared site =
     declared) (sym h.condition)
     (ap (λ (b : Bool). cond b (asked_on h.wanted site (hash place) (condition_took (hash place) h.k) q here) (unfit here)) h.is))
 
--- and another token behind one that it takes
+-- the condition behind a sign that it takes
 abbrev pub condition_taken : At → Condition → Condition
 condition_taken sign k = condition_took (hash sign.token.place) k
 

@@ -53,7 +53,7 @@ use Rattle.inf_side_laws.proofs.KeptSides.{same_first, same_hands, same_tells}
 use Rattle.inf_side_laws.proofs.KeptSides.{sign_inner, sign_kept, sign_left, some_open, stack_of, stands_at, state, takes_none, tells_both}
 use Rattle.inf_side_laws.proofs.KeptSides.{turns_left, with_condition, with_sign, within, within_led}
 
--- what the innermost one waits for
+-- the token for which the innermost directive waits
 abbrev IsAwaited : Unfinished → Awaits → Type 0
 IsAwaited (Unnamed is_inner if_declared first before) a = a ≡ awaits.Name if_declared
 IsAwaited (Named is_inner if_declared first before name behind) a = (e : Effect) × (a ≡ awaits.End e)
@@ -63,13 +63,13 @@ IsAwaited (Closes is_inner hashes first parts) a = (e : Effect) × (a ≡ awaits
 IsAwaited (Fronting sign parts) a = a ≡ awaits.Word
 IsAwaited (FrontingWord sign parts u) a = IsAwaited u a
 
--- no other one stands around that with which it begins
+-- no other directive is around the sign with which it begins
 abbrev pub IsAlone : Unfinished → Pending → List Pending → Type 0
 IsAlone (Fronting sign parts) p others = (p ≡ directive false sign.token.place awaits.Word) × (others ≡ [])
 IsAlone (FrontingWord sign parts u) p others = HasWord u
 IsAlone u p others = Unit {0}
 
--- and its condition
+-- the innermost directive has its condition, if it is one with a condition
 abbrev HasCondition : Answers → Around → Unfinished → List Condition → Type 0
 HasCondition d s (Request is_inner wanted first parts) ks =
     (others : List Condition) × (ks ≡ condition_so first (kept_sides d s parts) ∷ others)
@@ -129,7 +129,7 @@ parts_read d parts p others ks after s declared n c e are takes read few =
       ends = subst (λ (q : Reader). StandsAt q l (all_behind (all_tokens parts) c)) read is.ends;
     }
 
--- a condition so far
+-- A condition so far takes its tokens.
 read_so : (tokens : List SourceToken) (k : Condition) (is_inner wanted : Bool) (place : Place) (others : List Pending) (ks : List Condition)
     → GoOn tokens k
     → TakesAll (Reads (directive is_inner place (awaits.Condition wanted)) others (k ∷ ks)) tokens
@@ -186,7 +186,7 @@ begun_kept d parts r is_inner w a first ks after s declared n c base holds si sb
     (reading is_inner (begins first) a (record base { conditions = ks }) inner among now) start are takes read
     (omega (arith, few, less)))))
 
--- or its word ends a side that was left out
+-- A directive begins whose word ends a side that was left out.
 begun_left : (w : ConditionalWord) (act : Around → Around) → LeftLed w act → (d : Answers) (parts : Parts) (r : Reader) (is_inner : Bool)
     (first : First) (s : Around) (declared n : ℕ) (c : Conditions)
     → (e : StandsAt r (last_at s declared n) c) → all_kept s ≡ false → all_kept (act s) ≡ true → IsFirst false is_inner (within r) w first
@@ -810,7 +810,7 @@ all_begun_led d (x ∷ outer) u r s declared n c e are few =
       alone = rest.alone;
     }
 
--- What cuts them
+-- The tokens that cut directives
 
 -- the token that does not fit
 abbrev pub unfit_so : Conditions → Behind
@@ -910,7 +910,7 @@ cut_by d s [] u p others ks base inner among declared front t waits condition no
 cut_by d s (x ∷ outer) u p others ks base inner among declared front t waits condition no_hash cut =
     cut_by d (behind_begun d s x.begun) outer u p others ks base inner among declared front t waits condition no_hash cut
 
--- in the midst of directives, whose conditionals stand so
+-- A token that does not fit cuts the directives in which it is.
 pub unfit_there : (d : Answers) (s : Around) (outer : List Outer) (u : Unfinished) (last : Last) (toks : List At) (places : List Place)
     (c : Conditions) (b : AllBegun d outer u s last toks places c) (declared : ℕ) (front : Bool) (t : At)
     → is_mark mark.Hash t.token.kind ≡ false → AreCutBy d s outer u t
@@ -1044,7 +1044,7 @@ front_end_kept d s outer sign parts last toks places c b t is = ap (judged_at t)
         (passed (passed_by (word_of (keyword t.token)) t.token side (at base inner among (Some side) last.declared)))) is
         ∙ front_there d s outer sign parts last toks places c b last.declared false t is
 
--- a `#` and what is behind it
+-- A `#` and the token behind it cut a directive.
 pub sign_cut : (t : At) (base : Conditions) (p : Pending) (others : List Pending) (inner among : List Conditional) (declared : ℕ) →
     base.pending ≡ p ∷ others → is_mark mark.Hash t.token.kind ≡ true
     → judged_at t (at base inner among None declared) ≡ passed (state base (Some t.token.place) inner among None declared)
@@ -1085,7 +1085,7 @@ sign_cut_one d s (Fronting front parts) p others ks base inner among declared si
 sign_cut_one d s (FrontingWord front parts u) p others ks base inner among declared sign site waits condition cut =
     sign_cut_one d (behind_parts d s parts) u p others ks base inner among declared sign site waits condition cut
 
--- with those around it
+-- A sign cuts a directive with those around it.
 sign_cut_by : (d : Answers) (s : Around) (outer : List Outer) (u : Unfinished) (p : Pending) (others : List Pending)
     (ks : List Condition) (base : Conditions) (inner among : List Conditional) (declared : ℕ) (sign : At) (site : Site)
     → IsAwaited u p.awaits → HasAllCondition d s outer u ks → AreCutBySign d s outer u [] sign → IsSignUnfit p others ks base inner among
@@ -1113,7 +1113,7 @@ taken_asked d s [] u p ks taken sign holds waits condition is =
 taken_asked d s (y ∷ outer) u p ks taken sign holds waits condition is =
     taken_asked d (behind_begun d s y.begun) outer u p ks taken sign holds waits condition is
 
--- Behind those that are taken a further one comes, of which this is so.
+-- Behind the signs that are taken a further one comes, for which `is_so` holds.
 pub record Further (p : Pending) (others : List Pending) (taken : List At) (sign : At) (c : Conditions) (inner among : List Conditional)
     (declared : ℕ) (is_so : Conditions → List Condition → Type 0) : Type 0 where
   pub ks : List Condition
@@ -1153,7 +1153,7 @@ further_cut d s outer u last toks places c b base inner among declared (x ∷ ta
           among declared site;
     }
 
--- or the condition takes it, too, of which this holds then
+-- the condition takes the sign, too, and has the property then
 abbrev pub SignTaken : Pending → At → (Condition → Type 0) → Conditions → List Condition → Type 0
 SignTaken p sign holds base ks = HasAsked p ks (Takes (sign ∷ []) holds)
 
@@ -1173,7 +1173,7 @@ further_taken d s outer u last toks places c b base inner among declared taken s
       is = behind_asked b.p b.ks taken (Takes (sign ∷ []) holds) h;
     }
 
--- and then the end of the file does not fit
+-- Behind a sign that a condition takes, the end of the file does not fit.
 pub behind_end_unfit : (p : Pending) (others : List Pending) (ks : List Condition) (sign : At) (holds : Condition → Type 0)
     (h : HasAsked p ks (Takes (sign ∷ []) holds)) (t : At) (base : Conditions) (inner among : List Conditional) (declared : ℕ)
     → is_end t.token.kind ≡ true

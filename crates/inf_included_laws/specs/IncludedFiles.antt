@@ -2,7 +2,7 @@
 use Rattle.std.specs.Prelude.{◌≡◌, ◌≤◌, ◌+◌, ℕ, zero, suc, List, [], ◌∷◌, ◌++◌, map, reverse, length, Bool, true, false, if◌then◌else◌}
 use Rattle.std.specs.Prelude.{Option, Some, None}
 use Rattle.inf_settings.specs.Bounds.{Limits}
-use Rattle.inf_files.specs.Files.{Sources}
+use Rattle.inf_devices.specs.Files.{Sources}
 use Rattle.inf_scanner.specs.declared.tokens.Place.{Place}
 use Rattle.inf_sources.specs.Inclusions.{Inclusion, Opens, OpensNone, Waiting, inclusion}
 use Rattle.inf_sources.specs.declared.open_file.Conditional.{Conditional}
@@ -74,16 +74,16 @@ abbrev pub steps_behind : List Step → Nested → Nested
 steps_behind [] c = c
 steps_behind (x ∷ steps) c = steps_behind steps (step_behind x c)
 
--- those behind tokens at which reading stays in its file
+-- the conditionals behind tokens at which reading stays in its file
 abbrev pub tokens_behind : List At → Nested → Nested
 tokens_behind tokens c = record c { now = all_behind tokens c.now }
 
--- what is handed on
+-- the tokens that steps hand on
 abbrev pub handed_by : List Step → Nested → List Handing
 handed_by [] c = []
 handed_by (x ∷ steps) c = handed_on (judged_at x.at c.now).judged x.at.token ++ handed_by steps (step_behind x c)
 
--- and what is told: at the end of a file those conditionals that are open in it
+-- the places that a token tells: at the end of a file those of the conditionals that are open in it
 abbrev pub told_behind : Passage → Conditions → List Place
 told_behind Leaves c = places (reverse c.inner) ++ places (reverse c.among)
 told_behind _ c = []
@@ -98,14 +98,11 @@ told_by (x ∷ steps) c = told_at x c ++ told_by steps (step_behind x c)
 
 -- Files
 
--- What is still to come of a file: no more than parts; or parts and a conditional directive that the end of the file cuts; or parts, one
--- that a
--- token cuts, this token, and what comes behind it; or parts, the token with which an included file is entered, what that has, the token at
--- its
--- end, and what comes behind. A `#` may stand last, or before another one, with which the rest of the file begins, behind parts or where it
--- cuts a
--- directive; it may stand last where a condition takes it; some that it takes may stand before it; and some may stand last in a side that
--- is left out.
+-- The rest of a file: only parts; or parts and a conditional directive that the end of the file cuts; or parts, one that a token cuts, this
+-- token, and the rest behind it; or parts, the token with which an included file is entered, that file, the token at its end, and the rest
+-- behind. A `#` may come last, or before another one, with which the rest of the file begins, behind parts or where it cuts a directive; it
+-- may come last where a condition takes it; some that the condition takes may come before it; and some may come last in a side that is left
+-- out.
 pub data Files : Type 0 where
   Alone : (parts : Parts) → Files
   HashLast : (parts : Parts) (sign : At) → Files
@@ -120,8 +117,8 @@ pub data Files : Type 0 where
   Breaking : (parts : Parts) (outer : List Outer) (u : Unfinished) (misfit : Misfit) (behind : Files) → Files
   Including : (parts : Parts) (entering : At) (included : Files) (leaving : At) (behind : Files) → Files
 
--- Where the first one stands behind a `#` that cuts a directive, it is taken as inside another one, whether that was between the others or
--- not.
+-- The steps, the first of which is taken as inside a directive where it comes behind a `#` that cuts one, whether the `#` was between
+-- directives or not.
 abbrev pub standing : Bool → List Step → List Step
 standing is_between [] = []
 standing is_between (x ∷ steps) = record x { at = record x.at { site = record x.at.site { is_between = is_between } } } ∷ steps
@@ -153,11 +150,11 @@ around_included entering s = ended_in entering.ended (record s { between = [] })
 abbrev pub around_behind : Around → Around
 around_behind s = record s { inside = [] }
 
--- what is open behind a token that cuts a directive: that has not acted
+-- the conditionals that are open behind a token that cuts a directive, which has not acted
 abbrev pub around_broken : Answers → Around → Parts → List Outer → Unfinished → Misfit → Around
 around_broken answers s parts outer u misfit = behind_misfit misfit (behind_all_begun answers (behind_parts answers s parts) outer u)
 
--- what is open at the end of a file
+-- the conditionals that are open at the end of a file
 abbrev pub behind_files : Answers → Around → Files → Around
 behind_files answers s (Alone parts) = behind_parts answers s parts
 behind_files answers s (Cut parts outer u) = behind_all_begun answers (behind_parts answers s parts) outer u
@@ -232,7 +229,7 @@ handed_files answers s (Including parts entering included leaving behind) =
     ∷ (handed_files answers (around_included entering (behind_parts answers s parts)) included
     ++ (handed_end included leaving.token ++ handed_files answers (around_behind (behind_parts answers s parts)) behind))
 
--- what is told: of each file by its own conditionals, and at the end of each included one what is open in it
+-- the places that files tell: each those of its own conditionals, and at the end of each included one those that are open in it
 abbrev pub all_unended : Around → List Place
 all_unended s = unended s.inside ++ unended s.between
 
@@ -267,7 +264,7 @@ told_files answers s (Including parts entering included leaving behind) =
 
 -- The law
 
--- parts of a file, by what is told of their names and conditions
+-- parts of a file, by the answers about their names and conditions
 pub record AreOfAFile (answers : Answers) (s : Around) (declared : ℕ) (parts : Parts) : Type 0 where
   pub are_parts : AreParts answers false s declared parts
   pub few : length (all_tokens parts) ≤ most_levels
@@ -283,17 +280,17 @@ abbrev pub first_step : List Step → Option At
 first_step [] = None
 first_step (x ∷ steps) = Some x.at
 
--- where a `#` that was held back is handed on, and what was read is given up
+-- the conditionals where a `#` that was held back is handed on, and all that was read is given up
 abbrev pub released : Conditions → Conditions
 released c = record c { pending = []; conditions = []; sign = None }
 
--- A `#` that another one follows, with which these begin, stands inside a directive, and so does the other one.
+-- A `#` before another one, with which these files begin, is inside a directive, and the other one is, too.
 pub record IsThen (s : Around) (sign : At) (behind : Files) : Type 0 where
   pub is_kept : all_kept s ≡ true
   pub is_sign : IsSign true sign
   pub follows : Follows true true false (first_step (steps behind))
 
--- where a side is left out, behind so many tokens of the file
+-- a side is left out, behind `before` tokens of the file
 pub record AreLeft (s : Around) (before : ℕ) (is_inner : Bool) (signs : List At) : Type 0 where
   pub is_left : all_kept s ≡ false
   pub none_inside : NoneInside is_inner s
@@ -364,13 +361,12 @@ AreFiles answers s c (Including parts entering included leaving behind) =
     (steps_behind (steps included) (step_behind (record { at = entering; passage = Enters }) (tokens_behind (all_tokens parts) c))))
     behind))
 
--- what is handed on of a token
+-- the tokens that are handed on for a token
 abbrev pub handed_at : At → Conditions → List Handing
 handed_at t c = handed_on (judged_at t c).judged t.token
 
 -- Just these tokens are handed on, each as one that is kept or as one that does not fit, and just these places are told, in this order; at
--- the end of the
--- outermost file those of what is open in it. The end is handed on too, perhaps behind a `#`.
+-- the end of the outermost file those of the conditionals that are open in it. The end is handed on too, perhaps behind a `#`.
 pub record KeepsFiles (answers : Answers) (files : Files) (c : Nested) : Type 0 where
   pub handed_on : handed_by (steps files) c ≡ handed_files answers none_around files
   pub told : told_by (steps files) c ≡ told_files answers none_around files
@@ -384,7 +380,7 @@ FilesKeepSides =
 
 -- Turns
 
--- what is open in the files of a reading
+-- the conditionals that are open in the files of a reading
 abbrev pub nested : State → Nested
 nested s = record { now = s.conditions; waiting = map (λ (w : Waiting). w.conditionals) s.nesting.waiting }
 
@@ -411,9 +407,8 @@ abbrev pub steps_at : Limits → Sources → Choices → ℕ → State → List 
 steps_at limits sources o zero s = []
 steps_at limits sources o (suc n) s = step_at limits sources o s ∷ steps_at limits sources o n (turn limits sources o s)
 
--- Turns whose steps are those of files keep what these keep, and the next one hands on the end of the file. That tells what is told behind
--- its step,
--- in this order, after all else.
+-- Turns whose steps are those of files keep the tokens that these keep, and the next turn hands on the end of the file. Behind its step,
+-- the conditionals that are still open are told, in this order, after all else.
 pub record TurnsKeep (limits : Limits) (answers : Answers) (sources : Sources) (o : Choices) (n : ℕ) (s : State) (files : Files) : Type 0
   where
     pub handed_on : map shown (given_in limits sources o n s) ≡ handed_files answers none_around files

@@ -20,12 +20,11 @@ use Rattle.inf_side_laws.specs.KeptSides.{before_parts, behind_name, behind_part
 use Rattle.inf_side_laws.specs.KeptSides.{declared_first, declared_tokens, ended_in, first_tokens, kept_sides, missing_in, opening}
 use Rattle.inf_side_laws.specs.KeptSides.{placed_word, told_parts, turned}
 
--- What is there of one
+-- The parts of a directive that is not whole
 
 -- A directive with a name up to where that must come, or up to its semicolon; one with a condition up to a further token of it; and an
--- `Ifnot` and an
--- `Endif` up to the semicolon. And a `#` that begins a directive, of which no more is known, or
--- with parts before the word of a conditional one, which is given with the same `#`.
+-- `Ifnot` and an `Endif` up to the semicolon. And a `#` that begins a directive, of which no more is known, or with parts before the word
+-- of a conditional one, which is given with the same `#`.
 pub data Unfinished : Type 0 where
   Unnamed : (is_inner if_declared : Bool) (first : First) (before : Parts) → Unfinished
   Named : (is_inner if_declared : Bool) (first : First) (before : Parts) (name : At) (behind : Parts) → Unfinished
@@ -44,7 +43,7 @@ begun_tokens (Closes is_inner hashes first within) = hashes ++ first_tokens firs
 begun_tokens (Fronting sign within) = sign ∷ all_tokens within
 begun_tokens (FrontingWord sign within u) = sign ∷ (all_tokens within ++ drop 1 (begun_tokens u))
 
--- It has not acted, but for one whose word ended a side that was left out.
+-- A directive that is not whole has not acted, but for one whose word ended a side that was left out.
 abbrev pub behind_begun : Answers → Around → Unfinished → Around
 behind_begun answers s (Unnamed is_inner if_declared first before) = behind_parts answers s before
 behind_begun answers s (Named is_inner if_declared first before name behind) =
@@ -55,7 +54,7 @@ behind_begun answers s (Closes is_inner hashes first within) = behind_parts answ
 behind_begun answers s (Fronting sign within) = behind_parts answers s within
 behind_begun answers s (FrontingWord sign within u) = behind_begun answers (behind_parts answers s within) u
 
--- what is told of its parts
+-- the places that its parts tell
 abbrev pub told_begun : Answers → Around → Unfinished → List Place
 told_begun answers s (Unnamed is_inner if_declared first before) = told_parts answers s before
 told_begun answers s (Named is_inner if_declared first before name behind) =
@@ -76,7 +75,7 @@ GoOn (t ∷ tokens) k =
 abbrev pub condition_so : First → List SourceToken → Condition
 condition_so first tokens = condition_behind tokens (condition_took (placed_word first) condition_begun)
 
--- Some may stand before the `#` of a word that ends a side that is left out.
+-- Some `#`s may come before the `#` of a word that ends a side that is left out.
 abbrev pub AreHashes : Bool → List At → Type 0
 AreHashes is_inner [] = Unit {0}
 AreHashes is_inner (sign ∷ signs) = IsSign is_inner sign × AreHashes is_inner signs
@@ -91,8 +90,8 @@ HasWord (Fronting sign within) = ⊥
 HasWord (FrontingWord sign within u) = HasWord u
 HasWord u = Unit {0}
 
--- It is read, and so it is kept; an `Ifnot` or `Endif` may begin in a side that its word ends. Behind the last of its parts a side may be
--- left out.
+-- A directive that is not whole is read, and for that it is kept; an `Ifnot` or `Endif` may begin in a side that its word ends. Behind the
+-- last of its parts a side may be left out.
 abbrev pub IsBegun : Answers → Bool → Around → ℕ → Unfinished → Type 0
 IsBegun answers is_within s declared (Unnamed is_inner if_declared first before) =
     IsFirst true is_inner is_within (opening if_declared) first
@@ -140,7 +139,7 @@ IsBegun answers is_within s declared (FrontingWord sign within u) =
     × (((begun_tokens u ≡ sign ∷ drop 1 (begun_tokens u)) × (sign.ended ≡ None))
     × (HasWord u × IsBegun answers is_within x (declared_tokens (all_tokens within) now) u)))))
 
--- The end of the file cuts a conditional directive. Behind a `#` that begins another one it is kept, and so is that.
+-- The end of the file cuts a conditional directive. A `#` before it that begins another one is kept, and the end is kept behind that.
 abbrev pub begun_sign : Unfinished → Option Sign
 begun_sign (Fronting sign within) = Some (record { place = sign.token.place; handed = handed.Kept })
 begun_sign u = None
@@ -157,7 +156,7 @@ Takes [] holds k = holds k
 Takes (sign ∷ signs) holds k =
     (fits grammar known (atom_of (hash sign.token.place)) k.stack ≡ true) × Takes signs holds (condition_took (hash sign.token.place) k)
 
--- of a directive with a condition, whose condition so far is so
+-- a directive with a condition, where the condition so far has a property
 abbrev pub OfCondition : Answers → Around → Unfinished → (Condition → Type 0) → Type 0
 OfCondition answers s (Request is_inner wanted first within) holds = holds (condition_so first (kept_sides answers s within))
 OfCondition answers s (FrontingWord sign within u) holds = OfCondition answers (behind_parts answers s within) u holds
@@ -165,12 +164,12 @@ OfCondition answers s u holds = ⊥
 
 -- One in the other
 
--- one around others, and the `#`s that its condition takes before them
+-- a directive around others, and the `#`s that its condition takes before them
 pub record Outer : Type 0 where
   pub begun : Unfinished
   pub taken : List At
 
--- those around it, from the outermost one on
+-- the tokens of the directives around one, from the outermost one on, and of that one
 abbrev pub all_begun_tokens : List Outer → Unfinished → List At
 all_begun_tokens [] u = begun_tokens u
 all_begun_tokens (x ∷ outer) u = begun_tokens x.begun ++ (x.taken ++ all_begun_tokens outer u)
@@ -183,7 +182,7 @@ abbrev pub told_all_begun : Answers → Around → List Outer → Unfinished →
 told_all_begun answers s [] u = told_begun answers s u
 told_all_begun answers s (x ∷ outer) u = told_begun answers s x.begun ++ told_all_begun answers (behind_begun answers s x.begun) outer u
 
--- Some `#`s stand where all is kept, before another one.
+-- Some `#`s come where all is kept, before another one.
 abbrev pub first_at : List At → Option At
 first_at [] = None
 first_at (t ∷ tokens) = Some t
@@ -202,7 +201,7 @@ AreBegun answers is_within s declared (x ∷ outer) u =
     × (TakesSigns answers s x.begun x.taken (first_at (all_begun_tokens outer u))
     × AreBegun answers true (behind_begun answers s x.begun) (declared_tokens (begun_tokens x.begun) declared) outer u)
 
--- behind so many tokens of its file
+-- directives have begun behind `before` tokens of their file
 pub record HaveBegun (answers : Answers) (s : Around) (declared before : ℕ) (outer : List Outer) (u : Unfinished) : Type 0 where
   pub are : AreBegun answers false s declared outer u
   pub few : before + length (all_begun_tokens outer u) ≤ most_levels
@@ -235,13 +234,13 @@ behind_misfit (Bare t) s = ended_in t.ended s
 behind_misfit (Hashed taken sign t) s = ended_in t.ended s
 behind_misfit (BehindSign taken sign t) s = ended_in t.ended s
 
--- what is told behind it
+-- the places that are told behind a token that does not fit
 abbrev pub told_misfit : Misfit → Around → List Place
 told_misfit (Bare t) s = missing_in t.ended s
 told_misfit (Hashed taken sign t) s = missing_in t.ended s
 told_misfit (BehindSign taken sign t) s = missing_in t.ended s
 
--- no name, no semicolon, or not what the grammar takes
+-- the token is no name, no semicolon, or none that the grammar takes
 abbrev pub IsCutBy : Answers → Around → Unfinished → At → Type 0
 IsCutBy answers s (Unnamed is_inner if_declared first before) t = t.token.kind ≡ kind.Name → ⊥
 IsCutBy answers s (Named is_inner if_declared first before name behind) t = is_mark mark.Semicolon t.token.kind ≡ false
@@ -278,7 +277,7 @@ abbrev pub AreSignTaken : Answers → Around → List Outer → Unfinished → L
 AreSignTaken answers s [] u taken sign holds = OfCondition answers s u (Takes taken (Takes (sign ∷ []) holds))
 AreSignTaken answers s (x ∷ outer) u taken sign holds = AreSignTaken answers (behind_begun answers s x.begun) outer u taken sign holds
 
--- it stands where it is kept
+-- the token that does not fit is where all is kept
 abbrev pub IsMisfit : Answers → Around → List Outer → Unfinished → Misfit → Type 0
 IsMisfit answers s outer u (Bare t) =
     (all_kept (behind_all_begun answers s outer u) ≡ true) × ((is_mark mark.Hash t.token.kind ≡ false) × AreCutBy answers s outer u t)

@@ -10,8 +10,8 @@ use Rattle.inf_expressions.specs.declared.operators.Operation.{Operation}
 use Rattle.inf_expressions.specs.declared.operators.Operation.TheVariants as operation
 use Rattle.inf_expressions.specs.declared.operators.PropertyPart.{PropertyPart}
 use Rattle.inf_expressions.specs.declared.operators.PropertyPart.TheVariants as property
-use Rattle.inf_expressions.specs.declared.operators.Step.{Step}
-use Rattle.inf_expressions.specs.declared.operators.Step.TheVariants as step
+use Rattle.inf_expressions.specs.declared.operators.Direction.{Direction}
+use Rattle.inf_expressions.specs.declared.operators.Direction.TheVariants as step
 use Rattle.inf_expressions.specs.declared.operators.Test.{Test}
 use Rattle.inf_expressions.specs.declared.operators.Test.TheVariants as test
 use Rattle.inf_expressions.specs.declared.operators.Unary.{Unary}
@@ -206,31 +206,31 @@ assign_owns limits v a h k =
     valued_owns limits (code.assigned_value limits v.target a) (code.assigned_alone limits v.target a)
     (assigned_value limits v.target h.target a k) (assigned_alone limits v.target h.target a k)
 
-stepping_owns : (limits : Limits) (how : Step) (v : ℕ) → Owned (code.stepping limits how v) []
+stepping_owns : (limits : Limits) (how : Direction) (v : ℕ) → Owned (code.stepping limits how v) []
 stepping_owns limits step.Up v = owned_naming limits opcode.Inc v [] None None
 stepping_owns limits step.Down v = owned_naming limits opcode.Dec v [] None None
 
-in_memory : (limits : Limits) (before : Bool) (how : Step) (m : Memory) (ps : List Part) → OwnsParts ps → (store : Option ℕ) →
+in_memory : (limits : Limits) (before : Bool) (how : Direction) (m : Memory) (ps : List Part) → OwnsParts ps → (store : Option ℕ) →
     Owned (code.step_in_memory limits before how m ps store) []
 in_memory limits before how m ps k store =
     let more = is (code.by how) ∷ is (code.leaves_new before) ∷ [] in
     owned_ask limits (code.stepper m) (ps ++ more)
     (joined_parts ps more k (simple_owns (code.by how), (simple_owns (code.leaves_new before), tt))) store
 
-stepped_value : (limits : Limits) (before : Bool) (how : Step) (t : Target) → OwnsTarget t → (a : Meaning) → OwnsAll a → (d : ℕ) →
+stepped_value : (limits : Limits) (before : Bool) (how : Direction) (t : Target) → OwnsTarget t → (a : Meaning) → OwnsAll a → (d : ℕ) →
     Owned (code.stepped_value limits before how t a d) []
 stepped_value limits before how Nowhere k a h d = h.value d
 stepped_value limits true how (InVariable v) k a h d = owned_before (stepping_owns limits how v) (owned_load limits v d)
 stepped_value limits false how (InVariable v) k a h d = owned_before (owned_load limits v d) (stepping_owns limits how v)
 stepped_value limits before how (InMemory m ps) k a h d = in_memory limits before how m ps k (Some d)
 
-stepped_alone : (limits : Limits) (before : Bool) (how : Step) (t : Target) → OwnsTarget t → (a : Meaning) → OwnsAll a →
+stepped_alone : (limits : Limits) (before : Bool) (how : Direction) (t : Target) → OwnsTarget t → (a : Meaning) → OwnsAll a →
     Owned (code.stepped_alone limits before how t a) []
 stepped_alone limits before how Nowhere k a h = h.alone
 stepped_alone limits before how (InVariable v) k a h = stepping_owns limits how v
 stepped_alone limits before how (InMemory m ps) k a h = in_memory limits before how m ps k None
 
-step_owns : (limits : Limits) (before : Bool) (how : Step) (a : Meaning) → OwnsAll a → OwnsAll (code.stepped limits before how a)
+step_owns : (limits : Limits) (before : Bool) (how : Direction) (a : Meaning) → OwnsAll a → OwnsAll (code.stepped limits before how a)
 unfolding code.step_value code.step_alone
 step_owns limits before how a h =
     valued_owns limits (code.stepped_value limits before how a.target a) (code.stepped_alone limits before how a.target a)

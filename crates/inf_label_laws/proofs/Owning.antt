@@ -19,9 +19,9 @@ use Rattle.inf_assembler.specs.declared.routines.Limit.{Limit}
 use Rattle.inf_names.specs.declared.symbols.ReferFault.{ReferFault}
 use Rattle.inf_names.specs.Symbols.{refer_fault}
 use Rattle.inf_label_laws.specs.Labels.{times}
-use Rattle.inf_meaning_laws.specs.Laws.{Laid, code_behind, kept_behind}
+use Rattle.inf_interpreter.specs.Claims.{Laid, code_behind, kept_behind}
 use Rattle.inf_label_laws.specs.Programs.{marks}
-use Rattle.inf_meaning_laws.proofs.Laying.{code_none, item_laid, kept_none, laid_then, used_code, used_fits, used_kept}
+use Rattle.inf_interpreter.proofs.Laying.{code_none, item_laid, kept_none, laid_then, used_code, used_fits, used_kept}
 
 -- Numbers in lists
 
@@ -85,7 +85,7 @@ within_then a b low mid high x y f g = record {
         let q = g.once n in
         omega (arith, e, d, p, q)
 
--- a label that is handed out is given to what is laid behind that
+-- A label that is handed out belongs to the items that are laid behind that.
 within_label : (given : List ℕ) (low high : ℕ) (ms : List ℕ) → Within (low ∷ given) (suc low) high ms → Within given low high ms
 within_label given low high ms f = record {
   grows = let p = f.grows in omega (arith, p);
@@ -119,7 +119,7 @@ within_as a b low high ms h f = record {
   over = λ n more. let p = f.over n more in let q = h n in omega (arith, p, q);
 }
 
--- marks of what is given and of nothing else
+-- marks of the labels that are given, and of no others
 within_given : (given : List ℕ) (low : ℕ) → Within given low low given
 within_given given low = record {
   grows = omega arith;

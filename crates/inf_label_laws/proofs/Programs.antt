@@ -7,10 +7,11 @@ use Rattle.inf_output.specs.declared.items.Item.{Item}
 use Rattle.inf_output.specs.declared.items.Item.TheVariants.{Instruction, Mark}
 use Rattle.inf_output.specs.Output.{Code, Out, apart, items_of}
 use Rattle.inf_templates.specs.Meaning.{meaning}
-use Rattle.inf_meaning_laws.specs.Machine.{World, Place, Stands, ◌then◌}
-use Rattle.inf_meaning_laws.specs.Laws.{Does}
+use Rattle.inf_interpreter.specs.Machine.{World, Place, Stands, ◌then◌}
+use Rattle.inf_interpreter.specs.Claims.{Does}
 use Rattle.inf_label_laws.specs.Programs.{AreDifferent, IsAbsent, ProgramsCompute, ProgramsPush, RunsTo, behind_mark, items_laid}
-use Rattle.inf_meaning_laws.specs.Laws.{Claim, GivesValue, state, taken}
+use Rattle.inf_interpreter.specs.Claims.{Claim, state}
+use Rattle.inf_meaning_laws.specs.Laws.{GivesValue, taken}
 use Rattle.inf_label_laws.specs.Programs.{marks}
 use Rattle.inf_meaning_laws.specs.Values.{sense}
 use Rattle.inf_meaning_laws.proofs.Expressions.{values_are_computed}
@@ -28,7 +29,7 @@ found_mark ((Mark m) ∷ front) tail l h =
     ap (λ b. if b then front ++ Mark l ∷ tail else behind_mark (front ++ Mark l ∷ tail) l) (absent_before m.number front tail l h.0)
     ∙ found_mark front tail l h.1
 
--- so the labels of a piece stand where the program marks them
+-- The labels of a piece are at the places where the program marks them.
 stand : (program front items : List Item) (rest : Place) → program ≡ front ++ (items ++ rest) → AreDifferent (marks program) →
     Stands (behind_mark program) items rest
 stand program front [] rest e h = tt

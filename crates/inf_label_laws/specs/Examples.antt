@@ -1,4 +1,4 @@
--- Some expressions at a store where `x` is 2 and `y` is 4: what a machine has on the stack behind their code, and what they mean.
+-- Some expressions at a store where `x` is 2 and `y` is 4: their meanings, and the stack of a machine behind their code.
 use Rattle.std.specs.Prelude.{◌≡◌, ℕ, zero, suc, ◌==◌, false, List, [], ◌∷◌, Option, Some, None, if◌then◌else◌}
 use Rattle.inf_settings.specs.Bounds.{Limits}
 use Rattle.inf_opcode.specs.declared.instructions.Label.{Label}
@@ -9,7 +9,7 @@ use Rattle.inf_expressions.specs.declared.operators.Test.{Test}
 use Rattle.inf_expressions.specs.declared.operators.Test.TheVariants as test
 use Rattle.inf_expressions.specs.declared.operators.Binary.TheVariants as binary
 use Rattle.inf_expressions.specs.Trees.{Tree, Leaf, Two}
-use Rattle.inf_cells.specs.declared.scale.Scale.TheVariants.{Four}
+use Rattle.inf_area.specs.declared.scale.Scale.TheVariants.{Four}
 use Rattle.inf_code.specs.Code.{no_routines}
 use Rattle.inf_names.specs.Symbols.{no_names}
 use Rattle.inf_output.specs.Strings.{no_strings}
@@ -18,9 +18,9 @@ use Rattle.inf_tables.specs.Tables.{no_tables}
 use Rattle.inf_output.specs.declared.items.Item.{Item}
 use Rattle.inf_output.specs.Output.{Out}
 use Rattle.inf_templates.specs.Meaning.{meaning}
-use Rattle.inf_meaning_laws.specs.Machine.{State, Store, World, ◌then◌, stepped}
+use Rattle.inf_interpreter.specs.Machine.{State, Store, World, ◌then◌, stepped}
 use Rattle.inf_meaning_laws.specs.Values.{value_of}
-use Rattle.inf_meaning_laws.specs.Laws.{state}
+use Rattle.inf_interpreter.specs.Claims.{state}
 use Rattle.inf_label_laws.specs.Programs.{behind_mark, items_laid}
 
 abbrev pub many : Limits

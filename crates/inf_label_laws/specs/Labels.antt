@@ -7,7 +7,7 @@ use Rattle.inf_output.specs.Output.{Code, Out, apart}
 use Rattle.inf_templates.specs.Meaning.{meaning}
 use Rattle.inf_label_laws.specs.Programs.{items_laid, marks}
 
--- how often a number stands in a list
+-- the number of times that a number is in a list
 abbrev pub times : ℕ → List ℕ → ℕ
 times n [] = 0
 times n (m ∷ ms) = (if n == m then 1 else 0) + times n ms
@@ -21,7 +21,7 @@ MarksItsOwn c =
     × (n < o.next → times n (marks (items_laid c o)) ≡ 0)
     × ((c (apart o)).next ≤ n → times n (marks (items_laid c o)) ≡ 0)
 
--- This holds of every tree, in each use of it.
+-- The code of every tree marks labels of its own, in each use of the tree.
 abbrev pub LabelsAreOwn : Type 0
 LabelsAreOwn =
     (limits : Limits) (t : Tree) →

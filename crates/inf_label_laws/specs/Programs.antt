@@ -1,5 +1,5 @@
--- The code of an expression wherever it stands in a program, with the labels looked up.
-use Rattle.std.specs.Prelude.{◌≡◌, ℕ, ◌==◌, Bool, false, List, [], ◌∷◌, ◌++◌, Option, Some, if◌then◌else◌}
+-- The code of an expression, anywhere in a program, with the labels looked up.
+use Rattle.std.specs.Prelude.{◌≡◌, ℕ, ◌==◌, Bool, false, List, [], ◌∷◌, ◌++◌, Some, if◌then◌else◌}
 use Rattle.inf_settings.specs.Bounds.{Limits}
 use Rattle.inf_opcode.specs.declared.instructions.Label.{Label}
 use Rattle.inf_expressions.specs.Trees.{Tree}
@@ -7,13 +7,14 @@ use Rattle.inf_output.specs.declared.items.Item.{Item}
 use Rattle.inf_output.specs.declared.items.Item.TheVariants.{Instruction, Mark}
 use Rattle.inf_output.specs.Output.{Code, Out, apart, items_of}
 use Rattle.inf_templates.specs.Meaning.{meaning}
-use Rattle.inf_meaning_laws.specs.Machine.{World, Store, State, Place, run}
-use Rattle.inf_meaning_laws.specs.Supplied.{Supplies}
+use Rattle.inf_interpreter.specs.Machine.{World, Store, State, Place, run}
+use Rattle.inf_interpreter.specs.Supplied.{Supplies}
 use Rattle.inf_meaning_laws.specs.Values.{sense, value_of}
 use Rattle.inf_meaning_laws.specs.Covered.{Covered}
-use Rattle.inf_meaning_laws.specs.Laws.{state, taken, taker}
+use Rattle.inf_interpreter.specs.Claims.{state}
+use Rattle.inf_meaning_laws.specs.Laws.{taken, taker}
 
--- a label stands behind its first mark
+-- the place of a label, behind its first mark
 abbrev pub behind_mark : List Item → Label → Place
 behind_mark [] l = []
 behind_mark ((Instruction i) ∷ items) l = behind_mark items l
@@ -33,11 +34,11 @@ abbrev pub AreDifferent : List ℕ → Type 0
 AreDifferent [] = Unit {0}
 AreDifferent (n ∷ others) = IsAbsent n others × AreDifferent others
 
--- what code lays, kept apart from all that was laid before
+-- the items that code lays, kept apart from all that was laid before
 abbrev pub items_laid : Code → Out → List Item
 items_laid c o = items_of (c (apart o)).kept
 
--- Wherever these items stand in a program, some number of steps leads from their front to their end.
+-- Wherever these items are in a program, some number of steps leads from their front to their end.
 abbrev pub RunsTo : World → List Item → List Item → State → (ℕ → State) → Type 0
 RunsTo w program items start now =
     (rest : Place) → (front : List Item) → program ≡ front ++ (items ++ rest) → AreDifferent (marks program) →

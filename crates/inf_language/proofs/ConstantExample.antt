@@ -1,4 +1,4 @@
--- `Constant K = 5;` meets the premises of the law about constants, which is seen by evaluation.
+-- `Constant K = 5;` meets the premises of the law about constants, as evaluation shows.
 use Rattle.std.proofs.Common.{◌≡◌, ℕ, List, [], ◌∷◌, ◌++◌, false, Some, None, refl, subst, lit≤}
 use Rattle.std.specs.Prelude.{codes}
 use Rattle.inf_settings.specs.Bounds.{Limits}

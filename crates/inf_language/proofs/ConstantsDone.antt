@@ -1,4 +1,4 @@
--- What the happenings of a directive `Constant NAME = expression ;` do, from its tree.
+-- The effect of the happenings of a directive `Constant NAME = expression ;`, by its tree.
 use Rattle.std.proofs.Common.{◌≡◌, List, [], ◌∷◌, ◌++◌, false, Option, Some, None, refl, ◌∙◌, ap}
 use Rattle.std.specs.Prelude.{◌-◌, if◌then◌else◌}
 use Rattle.inf_settings.specs.Bounds.{Limits}
@@ -17,8 +17,8 @@ use Rattle.inf_unit.specs.Tokens.{SourceToken, is_mark, keyword, name_of, name_o
 use Rattle.inf_unit.specs.Units.{Unit, depth_behind, directive_word, keyword_at, names_from, no_unit, taken, with_name}
 use Rattle.inf_compilation.specs.Context.{Context}
 use Rattle.inf_compilation.specs.Actions.{Compilation, code_begun, constant, opens, piece_begun, took}
-use Rattle.inf_actions.specs.Acting.{act}
-use Rattle.inf_actions.specs.Directives.{carried_out, code_begun_by, directive_end, directive_of_names}
+use Rattle.inf_reader.specs.Acting.{act}
+use Rattle.inf_reader.specs.Directives.{carried_out, code_begun_by, directive_end, directive_of_names}
 use Rattle.inf_expression_laws.specs.Gathered.{read_by}
 use Rattle.inf_statement_laws.specs.Happenings.{Acts, Between, Happening, Takes}
 use Rattle.inf_statement_laws.specs.Laid.{happens, next_comes, passed, run}
@@ -66,7 +66,7 @@ first_stay (t ∷ tokens) a b names =
 token_names : (t : SourceToken) → t.kind ≡ kind.Name → name_of t ≡ Some (as_name t)
 token_names t is = ap (λ k. name_of_kind k t.bytes t.place) is
 
--- Its unit ends.
+-- The unit ends, and the directive is carried out.
 unit_ends : (limits : Limits) (context : Context) (place : Place) (word name : SourceToken) (others : List SourceToken) (u : Unit)
     (w : Compilation) → word.kind ≡ kind.Name → keyword word ≡ Some keyword_of.Constant → name.kind ≡ kind.Name
     → let v = record w { unit = record u { tokens = word ∷ name ∷ others } } in
@@ -83,7 +83,7 @@ unit_ends limits context place word name others u w word_kind means name_kind =
     ∙ ap (λ k. carried_out limits (directive_of k) context word.place (as_name name ∷ on.0) (code_begun_by limits (directive_of k) v))
     is_constant
 
--- Its expression begins at the next token.
+-- The expression of the directive begins at the next token.
 outer_acts : (limits : Limits) (context : Context) (place : Place) (events : List (Event Action)) (tokens : List Seen) (w : Compilation)
     → run limits context (happenings_before place (Did action_of.Outer ∷ events) tokens) w
     ≡ run limits context (happenings_before place events tokens) (act limits context place action_of.Outer w)
@@ -95,7 +95,7 @@ outer_acts limits context place events (s ∷ tokens) w = refl
 abbrev begun_tokens : Constant → List SourceToken
 begun_tokens k = k.word.token ∷ k.name.token ∷ k.sign.token ∷ []
 
--- what is done at the end of its unit
+-- the compilation behind the end of the directive's unit
 abbrev declared : Limits → Context → Constant → Compilation → Compilation
 declared limits context k w =
     constant limits context k.word.token.place (as_name k.name.token ∷ []) (code_begun limits (record w { unit = unit_of k }))
@@ -110,14 +110,14 @@ semicolon_taken limits context k w plain =
     (took_is_told context t v.unit v
     ∙ ap (λ (x : Compilation). record x { unit = taken t v.unit }) (nothing_told context t v.unit.depth v plain))
 
--- What happens by its tokens, where its expression is read by some events
+-- The happenings of the directive's tokens, where its expression is read by some events
 abbrev pub constant_happenings : Constant → List (Event Action) → List Happening
 constant_happenings k events =
     Takes k.word.token k.word.behind ∷ Takes k.name.token k.name.behind ∷ Takes k.sign.token k.sign.behind
     ∷ (happenings_before k.semicolon.token.place (Did action_of.Outer ∷ events) k.tokens
     ++ Acts (plainly_at k.semicolon.token.place) action_of.EndDirective ∷ Takes k.semicolon.token k.semicolon.behind ∷ [])
 
--- The tokens of a tree are of the kinds that it has, and by these events the unit of the tree is read.
+-- Tells whether the tokens of a tree are of its kinds, and the unit of the tree is read by these events.
 pub record IsReadBy (k : Constant) (events : List (Event Action)) : Type 0 where
   pub word_kind : k.word.token.kind ≡ kind.Name
   pub word_means : keyword k.word.token ≡ Some keyword_of.Constant

@@ -1,4 +1,4 @@
--- Tokens that begin as `Constant NAME =` are read: their derivation, their tree, and what it does.
+-- Tokens that begin as `Constant NAME =` are read: their derivation, their tree, and its effect.
 use Rattle.std.proofs.Common.{◌≡◌, ℕ, ◌+◌, ◌≤◌, ◌<◌, List, [], ◌∷◌, ◌++◌, length, true, Some, refl, sym, ◌∙◌, ap, subst, arith}
 use Rattle.inf_settings.specs.Bounds.{Limits}
 use Rattle.inf_scanner.specs.declared.tokens.Mark.TheVariants as mark
@@ -30,7 +30,7 @@ use Rattle.inf_language.proofs.ExpressionsTold.{fields_stay, with_expression}
 use Rattle.inf_language.proofs.TextsActed.{rule_is_spaced, texts_do_their_actions}
 use Rattle.inf_language.proofs.TextsSplit.{assign_steps, only_steps, split}
 
--- What the machine makes of the word and of the sign, by evaluation
+-- The steps of the machine at the word and at the sign, by evaluation
 
 word_read : read grammar known constant_atom (piece ∷ [])
     ≡ record { actions = []; left = NAME ∷ whole_directive_3 ∷ !end_directive ∷ 'semicolon' ∷ [] }
@@ -53,7 +53,7 @@ ends_unit : (atoms : List ℕ) (events : List (Event Action)) → Leads grammar 
     → EndsUnit atoms events
 ends_unit atoms events (action (token {atom = atom} h here)) = record { atom = atom; one = refl; are = refl }
 
--- the tokens of an expression, and a semicolon
+-- the tokens of an expression, and a semicolon, with the events that read them
 record Valued (seen : List Seen) (events : List (Event Action)) : Type 0 where
   tokens : List Seen
   semicolon : Seen
@@ -84,7 +84,7 @@ valued seen events leads =
     valued_by seen events parts.early parts.late parts.front parts.rest parts.atoms_are parts.events_are parts.of_front
     (ends_unit parts.rest parts.late parts.of_rest)
 
--- behind some events, that
+-- the tokens of an expression and a semicolon, with other events before theirs
 record Behind (seen : List Seen) (before events : List (Event Action)) : Type 0 where
   rest : List (Event Action)
   are : events ≡ before ++ rest
@@ -129,7 +129,7 @@ behind_word name sign seen events atom is_word is_sign leads =
       value = behind.value;
     }
 
--- Its unit
+-- The tree of the directive, and its unit
 
 abbrev tree_of : Seen → Seen → Seen → List Seen → Seen → Source → Constant
 tree_of word name sign tokens semicolon value =

@@ -96,7 +96,7 @@ pub seen_front : (tokens : List Seen) (last : Seen) → AreSeen (atoms_of (token
 seen_front [] last are = tt
 seen_front (s ∷ tokens) last are = (are.0, seen_front tokens last are.1)
 
--- What happens by the events of two parts of a text
+-- The happenings of two parts of a text are those of the first part, and then those of the second.
 pub happenings-append : (early late : List (Event Action)) (tokens : List Seen) (s : Seen) (seen : List Seen) → TakeAll early tokens
     → happenings_of (early ++ late) (tokens ++ s ∷ seen) ≡ happenings_before s.token.place early tokens ++ happenings_of late (s ∷ seen)
 happenings-append [] late [] s seen all = refl

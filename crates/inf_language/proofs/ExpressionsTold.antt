@@ -1,4 +1,4 @@
--- While an expression is read, what is told of its tokens stands beside what is gathered of it: neither looks at the other.
+-- While an expression is read, the reports of its tokens do not depend on what is gathered of it, nor the other way round.
 use Rattle.std.proofs.Common.{◌≡◌, ℕ, ◌+◌, ◌-◌, List, [], ◌∷◌, ◌++◌, length, Bool, true, false, Option, Some, None, refl, sym, ◌∙◌, ap}
 use Rattle.std.proofs.Common.{append_assoc, arith, subst}
 use Rattle.std.specs.Prelude.{◌&&◌, if◌then◌else◌, nat_lt, option_map, slice_get, suc, is_some}
@@ -17,11 +17,11 @@ use Rattle.inf_unit.specs.Units.{Unit, acted, depth_behind, long_at, long_from, 
 use Rattle.inf_unit.specs.Units.{taken}
 use Rattle.inf_unit.specs.declared.roles.Role.{Role}
 use Rattle.inf_unit.specs.declared.roles.Role.TheVariants as role
-use Rattle.inf_unit.specs.declared.steps.Step.{Step}
-use Rattle.inf_unit.specs.declared.steps.Step.TheVariants as step
+use Rattle.inf_unit.specs.declared.steps.GatherStep.{GatherStep}
+use Rattle.inf_unit.specs.declared.steps.GatherStep.TheVariants as step
 use Rattle.inf_compilation.specs.Context.{Context, longest}
 use Rattle.inf_compilation.specs.Actions.{Compilation, nested, opens, stopped, token_checked, took}
-use Rattle.inf_actions.specs.Acting.{act, played}
+use Rattle.inf_reader.specs.Acting.{act, played}
 use Rattle.inf_expression_laws.specs.Gathered.{read_by}
 use Rattle.inf_statement_laws.specs.Laid.{next_comes, passed, run}
 use Rattle.inf_statement_laws.specs.Readings.{Seen}
@@ -29,7 +29,7 @@ use Rattle.inf_language.specs.Constants.{brackets_behind, expression_told, first
 use Rattle.inf_language.specs.Texts.{happenings_before, tokens_of}
 use Rattle.inf_language.specs.Units.{AllSteps, TakeAll, is_step}
 
--- What a token tells leaves the unit, and the unit leaves what a token tells.
+-- The report of a token leaves the unit unchanged, and does not depend on it.
 
 nested_beside : (context : Context) (place : Place) (is_deep : Bool) (w : Compilation) (u : Unit)
     → nested context place is_deep (record w { unit = u }) ≡ record (nested context place is_deep w) { unit = u }
@@ -46,7 +46,7 @@ took_beside context t (Some place) u w =
     let v = length_told context (Some place) (outer_tokens u) w in
     nested_beside context t.place (opens t.kind && is_too_deep u.depth (open_depth v.constructs) 0) v u
 
--- A token is taken: the unit takes it, and beside that it is told.
+-- A token is taken by the unit, and reported beside that.
 pub took_is_told : (context : Context) (t : SourceToken) (u : Unit) (w : Compilation)
     → let v = taken t u in
     took context t (record w { unit = u })
@@ -67,7 +67,7 @@ told_opening context t brackets (Some place) count w =
     let v = length_told context (Some place) count w in
     nested_opening context t.place (opens t.kind && is_too_deep brackets (open_depth v.constructs) 0) v
 
--- Outside of expressions a token that opens no bracket tells nothing.
+-- A token outside of expressions that opens no bracket has no report.
 pub nothing_told : (context : Context) (t : SourceToken) (brackets : ℕ) (w : Compilation) → opens t.kind ≡ false
     → token_told context t brackets None 0 w ≡ w
 nothing_told context t brackets w plain =
@@ -78,7 +78,7 @@ nothing_told context t brackets w plain =
 pub none_waits : (w : Compilation) → w.opening ≡ None → next_comes w ≡ w
 none_waits w none = ap (λ o. record w { opening = o }) (sym none)
 
--- Where the tokens of an expression stand behind others of its unit
+-- The tokens of an expression behind others of its unit
 
 got_behind : {A : Type 0} (before now : List A) (n : ℕ) → slice_get (before ++ now) (length before + n) ≡ slice_get now n
 got_behind [] now n = let same : 0 + n ≡ n = omega arith in ap (slice_get now) same
@@ -93,7 +93,7 @@ too_many_is before now most =
     ap (λ n. if nat_lt most n then place_at (before ++ now) (length before + most) else None) count
     ∙ ap (λ o. if nat_lt most (length now) then option_map (λ (t : SourceToken). t.place) o else None) (got_behind before now most)
 
--- A unit whose expression begins behind some of its tokens, and has some more so far
+-- A unit whose expression begins behind some of its tokens, and has some more tokens so far
 abbrev pub with_expression : List SourceToken → Unit → Gathering → ℕ → List SourceToken → Unit
 with_expression before u g brackets front = record u {
   tokens = before ++ front;
@@ -106,7 +106,7 @@ with_expression before u g brackets front = record u {
 
 -- A step changes nothing but what is gathered.
 
-stepped_gathers : (s : Step) (u : Unit) → stepped s u ≡ record u { gathering = (stepped s u).gathering }
+stepped_gathers : (s : GatherStep) (u : Unit) → stepped s u ≡ record u { gathering = (stepped s u).gathering }
 stepped_gathers step.Leaf u = refl
 stepped_gathers step.Action u = refl
 stepped_gathers step.System u = refl
@@ -177,7 +177,7 @@ told_beside limits context next before u (Took atom ∷ events) (s ∷ seen) g b
     ∙ (told_beside limits context next before u events seen g behind so_far (passed s.behind told) steps all still_none
     ∙ ap (λ x. record (expression_told context front brackets (s ∷ seen) w) { unit = read_by events (tokens_of seen) x }) (sym is_more)))
 
--- Beside its tokens, what is gathered and the brackets that are open, the unit stays as it is.
+-- Beside its tokens, the gathered expression and the number of open brackets, the unit is unchanged.
 pub fields_stay : (events : List (Event Action)) (seen : List Seen) (u : Unit) (g : Gathering) (brackets : ℕ) (tokens : List SourceToken)
     → AllSteps events → TakeAll events seen
     → let x = record u { tokens = tokens; gathering = g; is_over = false; depth = brackets } in

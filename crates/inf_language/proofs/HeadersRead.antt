@@ -17,7 +17,7 @@ use Rattle.inf_language.specs.Texts.{tokens_of}
 use Rattle.inf_language.specs.Units.{AllGather}
 use Rattle.inf_language.proofs.UnitsAlone.{units_are_read_alone}
 
--- The last of some things
+-- The last member of a list
 
 got_behind : {A : Type 0} (xs : List A) (x : A) → slice_get (xs ++ x ∷ []) (length xs) ≡ Some x
 got_behind [] x = refl

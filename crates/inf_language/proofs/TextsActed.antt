@@ -1,4 +1,4 @@
--- Tokens that are a text of the grammar fit, and do what the events of the text do.
+-- Tokens that are a text of the grammar fit, and have the effect of the events of the text.
 use Rattle.std.proofs.Common.{◌≡◌, ℕ, List, [], ◌∷◌, ◌++◌, Option, None, true, refl, sym, ◌∙◌, ap, subst}
 use Rattle.std.proofs.lemmas.Bool.{and_from}
 use Rattle.inf_settings.specs.Bounds.{Limits}
@@ -14,7 +14,7 @@ use Rattle.inf_grammar.specs.Language.{grammar, known}
 use Rattle.inf_grammar.specs.Routines.{closings}
 use Rattle.inf_compilation.specs.Context.{Context}
 use Rattle.inf_compilation.specs.Actions.{Compilation, took}
-use Rattle.inf_actions.specs.Acting.{all_acted}
+use Rattle.inf_reader.specs.Acting.{all_acted}
 use Rattle.inf_statement_laws.specs.Happenings.{Acts, Between, Happening}
 use Rattle.inf_statement_laws.specs.Laid.{next_comes, passed, run}
 use Rattle.inf_statement_laws.specs.Readings.{Seen, all_fit, all_happenings, all_taken, behind_ends, behind_token, directed, plainly_at}
@@ -23,11 +23,11 @@ use Rattle.inf_statement_laws.proofs.Laying.{run_then}
 use Rattle.inf_statement_laws.proofs.Reading.{tokens_happen}
 use Rattle.inf_language.specs.Texts.{NoneClosesAhead, TextsDoTheirActions, atoms_of, happenings_of}
 
--- one rule alone has nothing behind it that could begin as it does
+-- a rule alone is followed by nothing that could begin as it does
 pub rule_is_spaced : (rule : ℕ) → IsSpaced grammar known (Rule rule ∷ [])
 rule_is_spaced rule = ((λ atom f. cc), tt)
 
--- What happens by the events of a text, token by token
+-- The happenings of the events of a text, token by token
 
 nothing_left : (events : List (Event Action)) → happenings_of events [] ≡ []
 nothing_left [] = refl
@@ -72,7 +72,7 @@ texts_fit (s ∷ seen) symbols left events leads spaced =
     (texts_fit seen now.left left first.rest first.leads
     (spaced_left grammar known language_is_decided s.atom (work known s.atom symbols) symbols first.fits_here spaced))
 
--- and what that does
+-- the effect of these happenings, one after the other
 
 nothing_directed : (limits : Limits) (directive : Option Between) (count : ℕ) (w : Compilation) → directive ≡ None
     → directed limits directive count w ≡ w

@@ -1,4 +1,5 @@
--- A text of some symbols and of others behind them is a text of these and one of those. And the text of an expression only gathers.
+-- A text of some symbols and of others behind them is a text of these and one of those; and the text of an expression only
+-- gathers.
 use Rattle.std.proofs.Common.{◌≡◌, ℕ, List, [], ◌∷◌, ◌++◌, Bool, true, false, not, ◌&&◌, ◌||◌, refl, sym, ◌∙◌, ap, subst, append_assoc, inl}
 use Rattle.std.proofs.Common.{inr}
 use Rattle.std.specs.Prelude.{◌==◌}
@@ -29,7 +30,7 @@ pub record Split (xs ys : List (Symbol Action)) (atoms : List ℕ) (events : Lis
   pub of_front : IsText grammar xs front early
   pub of_rest : IsText grammar ys rest late
 
--- what may not come next behind all of a text may not come next behind its front
+-- a text whose next token is not of a set has a front whose next token is not either
 next_in_front : (set : ℕ) (front rest atoms : List ℕ) → atoms ≡ front ++ rest → IsNext_not set atoms → IsNext_not set front
 next_in_front set [] rest atoms are free = tt
 next_in_front set (atom ∷ front) rest atoms are free = subst (λ xs. IsNext_not set xs) are free
@@ -93,7 +94,7 @@ split {atoms = atoms} (row {rule} {r} {symbols} is_row free leads) none (x ∷ x
 
 -- Expressions
 
--- The rules by which an expression is read that stands as a value. Their rows have tokens, these rules, and actions that gather a step.
+-- The rules by which an expression is read as a value. Their rows have tokens, these rules, and actions that gather a step.
 abbrev expression_rules : List (Symbol Action)
 expression_rules =
     assign ∷ assign_tail ∷ assign_tail_1 ∷ sum ∷ sum_operator ∷ sum_tail ∷ term ∷ term_operator ∷ term_tail ∷ bit ∷ array_operator
@@ -116,7 +117,7 @@ all_steps (Token class ∷ symbols) = all_steps symbols
 all_steps (Act a ∷ symbols) = is_step a && all_steps symbols
 all_steps (Rule rule ∷ symbols) = is_rule rule && all_steps symbols
 
--- Each row of these rules is of them, which is seen by evaluation.
+-- Each row of these rules has nothing else, as evaluation shows.
 abbrev keeps : ℕ → Bool
 keeps rule = not (is_rule rule) || all_rows all_steps (grammar.rows_of rule)
 
@@ -150,7 +151,7 @@ steps-append (Token class ∷ xs) ys x y = steps-append xs ys x y
 steps-append (Act a ∷ xs) ys x y = let both = and_parts (is_step a) (all_steps xs) x in rw both.0 (steps-append xs ys both.1 y)
 steps-append (Rule rule ∷ xs) ys x y = let both = and_parts (is_rule rule) (all_steps xs) x in rw both.0 (steps-append xs ys both.1 y)
 
--- So while a text of them is read, tokens are taken and steps are gathered, and nothing else happens.
+-- While a text of these rules is read, tokens are taken and steps are gathered, and nothing else happens.
 pub only_steps : {symbols left : List (Symbol Action)} {atoms : List ℕ} {events : List (Event Action)}
     → Leads grammar symbols atoms events left → all_steps symbols ≡ true → AllSteps events
 only_steps here all = tt

@@ -1,4 +1,4 @@
--- The unit at hand, step by step: what the step does to it is what it does to a unit by itself.
+-- The unit at hand, step by step: each step in a compilation changes it as the step changes a unit by itself.
 use Rattle.std.proofs.Common.{◌≡◌, [], ◌∷◌, Bool, true, false, Option, Some, None, refl, ◌∙◌, ap}
 use Rattle.std.specs.Prelude.{◌&&◌}
 use Rattle.inf_settings.specs.Bounds.{Limits}
@@ -14,7 +14,7 @@ use Rattle.inf_unit.specs.declared.roles.Role.{Role}
 use Rattle.inf_unit.specs.declared.roles.Role.TheVariants as role
 use Rattle.inf_compilation.specs.Context.{Context, longest}
 use Rattle.inf_compilation.specs.Actions.{Compilation, is_deep, nested, opens, sized, stopped, took}
-use Rattle.inf_actions.specs.Acting.{act, noted, noted_of, played}
+use Rattle.inf_reader.specs.Acting.{act, noted, noted_of, played}
 use Rattle.inf_expression_laws.specs.Gathered.{read_by}
 use Rattle.inf_statement_laws.specs.Happenings.{Acts, Takes}
 use Rattle.inf_statement_laws.specs.Laid.{happens}
@@ -68,7 +68,7 @@ act_unit : (limits : Limits) (context : Context) (place : Place) (a : Action) (w
     → (act limits context place a w).unit ≡ acted a w.unit
 act_unit limits context place a w gather = played_unit limits context place (role_of a) w gather
 
--- One happens after the other.
+-- The happenings one after the other.
 
 pub units_are_read_alone : (limits : Limits) → UnitsAreReadAlone limits
 units_are_read_alone limits context next [] seen w gather = refl

@@ -1,4 +1,4 @@
--- The header of a routine where it is read in a compilation: behind its names the unit at hand has the locals of these.
+-- The header of a routine that is read in a compilation: behind its names the unit at hand has their locals.
 use Rattle.std.specs.Prelude.{◌≡◌, List, [], ◌∷◌, map, false}
 use Rattle.inf_settings.specs.Bounds.{Limits}
 use Rattle.inf_scanner.specs.declared.tokens.Place.{Place}
@@ -18,7 +18,7 @@ abbrev pub local_events : List Seen → List (Event Action)
 local_events [] = []
 local_events (s ∷ seen) = Took s.atom ∷ Did action.Local ∷ local_events seen
 
--- Where the tokens are names, the unit behind these events is the one before them with the locals of the names.
+-- The unit behind these events is the one before them with the locals of the names, where the tokens are names.
 abbrev pub HeadersNoteTheirNames : Limits → Type 0
 HeadersNoteTheirNames limits = (context : Context) (next : Place) (names : List Seen) (w : Compilation) → AreNames (tokens_of names)
     → w.unit.is_over ≡ false

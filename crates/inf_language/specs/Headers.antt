@@ -1,5 +1,5 @@
--- The header of a routine: its locals are those that its names are, though no token of it is kept. Designer's Manual, fourth edition,
--- section 1.4.
+-- The header of a routine: its locals are those of its names, though no token of it is kept. Designer's Manual, fourth
+-- edition, section 1.4.
 use Rattle.std.specs.Prelude.{◌≡◌, List, [], ◌∷◌, map, false}
 use Rattle.inf_scanner.specs.declared.tokens.TokenKind.TheVariants as kind
 use Rattle.inf_syntax.specs.declared.actions.Action.TheVariants as action
@@ -8,7 +8,7 @@ use Rattle.inf_names.specs.Spellings.{Name}
 use Rattle.inf_unit.specs.Tokens.{SourceToken}
 use Rattle.inf_unit.specs.Units.{Unit as UnitAtHand, acted, taken}
 
--- Each of some tokens is a name.
+-- Tells whether each token is a name.
 abbrev pub AreNames : List SourceToken → Type 0
 AreNames [] = Unit {0}
 AreNames (t ∷ tokens) = (t.kind ≡ kind.Name) × AreNames tokens
@@ -17,12 +17,12 @@ AreNames (t ∷ tokens) = (t.kind ≡ kind.Name) × AreNames tokens
 abbrev pub as_name : SourceToken → Name
 as_name t = record { bytes = t.bytes; place = t.place }
 
--- what a unit is once each of some tokens was taken and noted as a local
+-- the unit once each token was taken and noted as a local
 abbrev pub locals_read : List SourceToken → UnitAtHand → UnitAtHand
 locals_read [] u = u
 locals_read (t ∷ tokens) u = locals_read tokens (acted action.Local (taken t u))
 
--- Where the tokens are names, the unit has their locals behind those that it had, and is as it was in all else.
+-- The unit has the locals of the names behind those that it had, and is unchanged otherwise, where the tokens are names.
 abbrev pub HeadersHaveTheirLocals : Type 0
 HeadersHaveTheirLocals = (names : List SourceToken) (u : UnitAtHand) → AreNames names → u.is_over ≡ false
     → locals_read names u ≡ record u { headed = with_locals (map as_name names) u.headed }

@@ -1,5 +1,5 @@
--- What a text of the grammar does, with no machine: its actions act in their order, each before the token that comes next, and its tokens
--- are taken.
+-- The effect of a text of the grammar, with no machine: its actions act in their order, each before the token that comes
+-- next, and its tokens are taken.
 use Rattle.std.specs.Prelude.{◌≡◌, ℕ, List, [], ◌∷◌, map, None, true}
 use Rattle.inf_settings.specs.Bounds.{Limits}
 use Rattle.inf_scanner.specs.declared.tokens.Place.{Place}
@@ -14,15 +14,15 @@ use Rattle.inf_statement_laws.specs.Happenings.{Acts, Happening, Takes}
 use Rattle.inf_statement_laws.specs.Laid.{next_comes, run}
 use Rattle.inf_statement_laws.specs.Readings.{Seen, all_fit, all_taken, plainly_at}
 
--- the tokens that were seen, and the atoms as which the grammar sees them
+-- the tokens that were seen, and their atoms, by which the grammar knows them
 abbrev pub tokens_of : List Seen → List SourceToken
 tokens_of seen = map (λ (s : Seen). s.token) seen
 
 abbrev pub atoms_of : List Seen → List ℕ
 atoms_of seen = map (λ (s : Seen). s.atom) seen
 
--- What happens by the events of a text and its tokens: an action acts at the place of the next token, and each token is taken with what is
--- done behind it. No action stands behind the last token.
+-- The happenings of the events of a text and its tokens: an action acts at the place of the next token, and each token is
+-- taken with its happenings behind it. No action comes behind the last token.
 abbrev pub happenings_of : List (Event Action) → List Seen → List Happening
 happenings_of [] seen = []
 happenings_of (Did a ∷ events) [] = []
@@ -30,7 +30,8 @@ happenings_of (Did a ∷ events) (s ∷ seen) = Acts (plainly_at s.token.place) 
 happenings_of (Took atom ∷ events) [] = []
 happenings_of (Took atom ∷ events) (s ∷ seen) = Takes s.token s.behind ∷ happenings_of events seen
 
--- The same of a part of a text. Behind its last token comes another one, which stands at a place: there the actions act that are left.
+-- The happenings of a part of a text. Another token, whose place is `next`, follows its last one: the actions that are left
+-- act there.
 abbrev pub happenings_before : Place → List (Event Action) → List Seen → List Happening
 happenings_before next [] seen = []
 happenings_before next (Did a ∷ events) [] = Acts (plainly_at next) a ∷ happenings_before next events []
@@ -38,12 +39,13 @@ happenings_before next (Did a ∷ events) (s ∷ seen) = Acts (plainly_at s.toke
 happenings_before next (Took atom ∷ events) [] = []
 happenings_before next (Took atom ∷ events) (s ∷ seen) = Takes s.token s.behind ∷ happenings_before next events seen
 
--- Behind none of the tokens a conditional directive ends that would close statements ahead.
+-- Tells whether no conditional directive that closes statements ahead ends behind one of the tokens.
 abbrev pub NoneClosesAhead : List Seen → Type 0
 NoneClosesAhead [] = Unit {0}
 NoneClosesAhead (s ∷ seen) = (s.directive ≡ None) × NoneClosesAhead seen
 
--- Tokens that are a text of a rule all fit, one after the other, and do what happens by the events of the text.
+-- Tokens that are a text of a rule all fit, one after the other, and have the effect of the happenings of the text's
+-- events.
 pub record TextsDoTheirActions (limits : Limits) : Type 0 where
   pub fit : (rule : ℕ) (seen : List Seen) (events : List (Event Action)) → IsText grammar (Rule rule ∷ []) (atoms_of seen) events
       → all_fit seen (Rule rule ∷ []) ≡ true

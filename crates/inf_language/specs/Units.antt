@@ -1,5 +1,5 @@
--- What the unit at hand has while it is read: it depends on its tokens and actions alone, and on nothing that is compiled or told
--- meanwhile.
+-- The unit at hand while it is read: it depends on its tokens and actions alone, and on nothing that is compiled or
+-- reported meanwhile.
 use Rattle.std.specs.Prelude.{◌≡◌, List, [], ◌∷◌, Bool, true, false, is_some}
 use Rattle.inf_settings.specs.Bounds.{Limits}
 use Rattle.inf_scanner.specs.declared.tokens.Place.{Place}
@@ -18,7 +18,7 @@ use Rattle.inf_statement_laws.specs.Laid.{run}
 use Rattle.inf_statement_laws.specs.Readings.{Seen}
 use Rattle.inf_language.specs.Texts.{happenings_before, tokens_of}
 
--- Whether all is kept of what is noted, however much there is. Four things are not kept where a setting would be passed by them: a text
+-- Whether a note is always kept, whatever is noted already. Four notes are dropped where a setting would be passed: a text
 -- that is printed, an arrow before the name of an object, the end of an operand, and a token of a line of grammar.
 abbrev pub is_kept_whole : Note → Bool
 is_kept_whole note.PrintText = false
@@ -36,13 +36,14 @@ gathers_in _ = false
 abbrev pub gathers : Action → Bool
 gathers a = gathers_in (role_of a)
 
--- All actions among some events are such.
+-- Tells whether all actions among some events only change the unit at hand, by that unit alone.
 abbrev pub AllGather : List (Event Action) → Type 0
 AllGather [] = Unit {0}
 AllGather (Did a ∷ events) = (gathers a ≡ true) × AllGather events
 AllGather (Took atom ∷ events) = AllGather events
 
--- Then the unit in a compilation is what the same events and tokens make of the unit by itself.
+-- The unit in a compilation is the one that the same events and tokens make of the unit by itself, where all actions only
+-- change it, by it alone.
 abbrev pub UnitsAreReadAlone : Limits → Type 0
 UnitsAreReadAlone limits =
     (context : Context) (next : Place) (events : List (Event Action)) (seen : List Seen) (w : Compilation) → AllGather events
@@ -52,13 +53,13 @@ UnitsAreReadAlone limits =
 abbrev pub is_step : Action → Bool
 is_step a = is_some (step_of a)
 
--- All actions among some events are such.
+-- Tells whether all actions among some events gather a step of an expression, and note nothing.
 abbrev pub AllSteps : List (Event Action) → Type 0
 AllSteps [] = Unit {0}
 AllSteps (Did a ∷ events) = (is_step a ≡ true) × AllSteps events
 AllSteps (Took atom ∷ events) = AllSteps events
 
--- By some events as many tokens are taken as there are.
+-- Tells whether events take as many tokens as there are.
 abbrev pub TakeAll : List (Event Action) → List Seen → Type 0
 TakeAll [] [] = Unit {0}
 TakeAll [] (s ∷ seen) = ⊥

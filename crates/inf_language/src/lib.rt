@@ -1,5 +1,5 @@
-//! The language by its pieces: what tokens that are a text of the grammar do as a whole, with no machine that reads them one by one. Each
-//! function carries a law as its clause, and does nothing.
+//! The language by its pieces: the effect of tokens that are a text of the grammar as a whole, with no machine that reads
+//! them one by one. Each function carries a law as its clause, and does nothing.
 #![tactic(auto)]
 
 mod laws;

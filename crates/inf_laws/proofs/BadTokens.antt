@@ -1,4 +1,4 @@
--- A routine's bracket is open as the tokens before tell.
+-- A routine's bracket is open as the tokens before say.
 use Rattle.std.proofs.Common.{◌≡◌, ℕ, List, [], ◌∷◌}
 use Rattle.inf_machine.specs.declared.symbols.Symbol.TheVariants.{Rule}
 use Rattle.inf_machine.specs.Machine.{read}

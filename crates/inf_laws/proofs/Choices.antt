@@ -1,7 +1,7 @@
 -- Choices: tests, and the first of two things.
 use Rattle.std.proofs.Common.{◌≡◌, cond, ◌||◌, Bool, true, false, Option, None, Some, refl}
 
--- the first of two
+-- the first of two values, each of which there may be
 abbrev pub either : {A : Type 0} → Option A → Option A → Option A
 either (Some x) later = Some x
 either None later = later
@@ -28,7 +28,7 @@ pub or-assoc : (a b c : Bool) → (a || (b || c)) ≡ ((a || b) || c)
 or-assoc true b c = refl
 or-assoc false b c = refl
 
--- what is said already
+-- a test that another one implies adds nothing to it
 pub or-known : (a b : Bool) → (b ≡ true → a ≡ true) → a ≡ (a || b)
 or-known true b is = refl
 or-known false true is = is refl

@@ -8,9 +8,9 @@ use Rattle.inf_area.specs.declared.targets.Target.TheVariants as target
 use Rattle.inf_arrays.specs.Arrays.{all_of, arrays_laters}
 use Rattle.inf_arrays.specs.Kinds.{laters}
 use Rattle.inf_arrays.proofs.Sizes.{globals_later, laters_written as arrays_written}
-use Rattle.inf_cells.specs.Cells.{later_count, size_of}
-use Rattle.inf_cells.specs.declared.cells.Cell.{Cell}
-use Rattle.inf_cells.specs.declared.cells.Cell.TheVariants as cell
+use Rattle.inf_area.specs.Cells.{later_count, size_of}
+use Rattle.inf_area.specs.declared.cells.Cell.{Cell}
+use Rattle.inf_area.specs.declared.cells.Cell.TheVariants as cell
 use Rattle.inf_code.specs.Code.{Routines, code_cells, known, reference_count}
 use Rattle.inf_dictionary.specs.Words.{dictionary_bytes}
 use Rattle.inf_link.specs.Areas.{order}
@@ -25,12 +25,12 @@ use Rattle.inf_story.specs.Tables as story
 use Rattle.inf_tables.specs.Tables.{AllTables, more, references_with}
 use Rattle.inf_verbs.specs.Verbs.{verbs_laters}
 use Rattle.inf_verbs.proofs.Sizes.{later_routines, laters_written as verbs_written}
-use Rattle.inf_world.specs.Areas.{area_cells}
-use Rattle.inf_world.specs.World.{WorldOf, ended_fixups, fixups_now, later_defaults}
-use Rattle.inf_world.specs.declared.kinds.WorldArea.TheVariants as world_area
+use Rattle.inf_tables.specs.Areas.{area_cells}
+use Rattle.inf_tables.specs.World.{WorldOf, ended_fixups, fixups_now, later_defaults}
+use Rattle.inf_tables.specs.declared.kinds.WorldArea.TheVariants as world_area
 use Rattle.inf_laws.specs.Counts.{LimitsCountTheStory, later_in}
 
--- bytes alone have none
+-- bytes alone have no references
 later_known : (bytes : List ℕ) → later_count (known bytes) ≡ 0
 later_known [] = refl
 later_known (byte ∷ bytes) = later_known bytes
@@ -59,7 +59,7 @@ later_abbreviations places =
       later_undeclared (64 - length places),
     )
 
--- what belongs to nothing has none
+-- properties that belong to nothing have no references
 nothing_sum : (f : Property → ℕ) (ps : List Property) → ((p : Property) → f p ≡ 0) → sum_by f ps ≡ 0
 nothing_sum f [] none = refl
 nothing_sum f (p ∷ ps) none = omega (arith, sum_by-cons f p ps, none p, nothing_sum f ps none)

@@ -29,7 +29,7 @@ abbrev first_fault : Option Diagnostic → Option Diagnostic → Option Diagnost
 first_fault (Some b) later = Some b
 first_fault None later = later
 
--- what is told of a local that is named again, and of the name of a routine
+-- the errors of a local that is named again, and of the name of a routine
 abbrev local_fault : FileNames → Option Repeated → Option Diagnostic
 local_fault files r = option_map (again_told files) (again_local r)
 
@@ -48,7 +48,7 @@ not_both f g (inl less) (inr same) = omega (arith, less, same.0)
 not_both f g (inr same) (inl more) = omega (arith, same.0, more)
 not_both f g (inr same) (inr more) = omega (arith, same.1, more.1)
 
--- it is enough that each other one comes behind it
+-- a finding is the least where each other one comes behind it
 least : (f : Finding) (all : List Finding) → Contains all f → ((g : Finding) → Contains all g → (g ≡ f) ⊎ IsBefore f g) → IsLeast f all
 least f all there behind = record {
   is_there = there;
@@ -73,11 +73,11 @@ one_of_one f g among = go among.0 among.1 among.2
 told_one : (f : Finding) → IsTold (Some f.blame) (f ∷ [])
 told_one f = (f, refl, least f (f ∷ []) (0, omega arith, refl) (λ g among. inl (one_of_one f g among)))
 
--- each of these comes before each of those
+-- each of some findings comes before each of others
 abbrev AreBefore : List Finding → List Finding → Type 0
 AreBefore fs gs = (f g : Finding) → Contains fs f → Contains gs g → IsBefore f g
 
--- two lists, of which the first comes first
+-- the error of two lists, of which the first comes first
 first_before : (b : Diagnostic) (fs gs : List Finding) → IsTold (Some b) fs → AreBefore fs gs → IsTold (Some b) (fs ++ gs)
 first_before b fs gs told before =
     let f = told.0 in
@@ -87,7 +87,7 @@ first_before b fs gs told before =
     go g (inl among) = told.2.others_behind g among
     go g (inr among) = inr (before told.0 g told.2.is_there among)
 
--- or the second
+-- the error of two lists, of which the second comes first
 second_before : (b : Diagnostic) (fs gs : List Finding) → IsTold (Some b) gs → AreBefore gs fs → IsTold (Some b) (fs ++ gs)
 second_before b fs gs told before =
     let f = told.0 in
@@ -236,7 +236,7 @@ repeats_told files before token (n ∷ names) =
           (before ++ n ∷ []) (token + 1) names g there,
     ))))
 
--- more than 15 locals stay more
+-- where there are more than 15 locals there are still more behind further names
 full_stays : (names : List Name) (h : Headed) → h.are_too_many ≡ true → (with_locals names h).are_too_many ≡ true
 full_stays [] h full = full
 full_stays (n ∷ names) h full = full_stays names (with_local_by n (local_of n.bytes h.locals) h) (go (local_of n.bytes h.locals))
@@ -247,7 +247,7 @@ full_stays (n ∷ names) h full = full_stays names (with_local_by n (local_of n.
         cond_both (ltb (length h.locals) most_locals) (record h { locals = h.locals ++ new_local n ∷ [] })
         (record h { are_too_many = true }) (λ x. x.are_too_many ≡ true) (λ _. full) (λ _. refl)
 
--- What a header says of its locals: there are more than 15 different ones, or the first that comes again is told.
+-- The findings of a header's locals: there are more than 15 different ones, or the first that comes again is told.
 data Ends (before names : List Name) (h after : Headed) : Type 0 where
   Full : after.are_too_many ≡ true → 15 < length h.locals + different before names → Ends before names h after
   Fits : after.are_too_many ≡ false → length h.locals + different before names ≤ 15 →
@@ -257,7 +257,7 @@ first-earlier : (o later : Option Repeated) (r : Repeated) → either (earlier o
 first-earlier None later r = refl
 first-earlier (Some c) later r = refl
 
--- what the names behind one more make of it
+-- the findings of the names behind one more
 onward : (before names : List Name) (n : Name) (o : Option Name) (h next after : Headed) → first_named n.bytes before ≡ o →
     length next.locals ≡ length h.locals + cond (is_some o) 0 1 →
     ((later : Option Repeated) → either next.repeated later ≡ either h.repeated (either (repeat_by o n) later)) →
@@ -273,7 +273,7 @@ onward before names n o h next after is len same (Fits fits few repeated) =
     (repeated ∙ same (repeat_of (before ++ n ∷ []) names)
     ∙ ap (λ x. either h.repeated (either (repeat_by x n) (repeat_of (before ++ n ∷ []) names))) (sym is))
 
--- what a header says of its locals, after some of them
+-- the findings of a header's locals, after some of them
 ends : (names before : List Name) (h : Headed) → AreOf before h.locals → h.are_too_many ≡ false → length h.locals ≤ 15 →
     Ends before names h (with_locals names h)
 ends [] before h of fits few = Fits fits (omega (arith, few)) (sym (either-none h.repeated))
@@ -328,7 +328,7 @@ among_routine files (found.Declared meaning first) name g among = ap (λ f. f.to
 among_routine files found.Used name g among = absurd (one_of_none g among)
 among_routine files found.Unknown name g among = absurd (one_of_none g among)
 
--- What is told of a header: of its findings the least.
+-- The error that is told of a header: the least of its findings.
 abbrev header_fault : FileNames → Place → Option Again → Headed → Option Diagnostic
 header_fault files unit again h =
     cond h.are_too_many (Some (too_many_locals unit).blame)
@@ -430,7 +430,7 @@ never_itself a = go (is_before a a) refl
     go false e = e
     go true e = never_both a a e
 
--- where it is this one, which does not come before that
+-- the only finding of `x` does not come before `f`, by whatever name it is known
 not_earlier : (x : Option Found) (a f g : Found) → x ≡ Some a → x ≡ Some g → is_before a f ≡ false → is_before g f ≡ false
 not_earlier x a f g is is_g e = subst (λ h. is_before h f ≡ false) (some-injective (sym is ∙ is_g)) e
   where

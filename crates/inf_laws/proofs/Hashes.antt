@@ -13,7 +13,7 @@ use Rattle.inf_grammar.specs.Language.{grammar}
 use Rattle.inf_grammar.specs.Sources.{piece_rule}
 use Rattle.inf_laws.specs.Hashes.{NoPieceEndsWithAHash}
 
--- whether what a symbol stands for ends with a token that is none of one atom, so many rules deep
+-- whether the texts of a symbol end with a token that is none of one atom, found within `n` rules
 abbrev closes_without : Grammar Action → ℕ → Option (Symbol Action) → ℕ → Bool
 closes_without g atom None n = false
 closes_without g atom (Some (Token class)) n = not (has (g.atoms_of class) atom)
@@ -51,7 +51,7 @@ closes_row g atom rule r (s ∷ symbols) m n c = record {
   closes = subst (λ l. closes_without g atom l n ≡ true) (sym (last_append r.parts s symbols)) c;
 }
 
--- a text of it has a token
+-- a text of such a symbol has a token
 some_needed : (g : Grammar Action) (atom : ℕ) {symbols : List (Symbol Action)} {events : List (Event Action)} →
     Leads g symbols [] events [] → (n : ℕ) → closes_without g atom (last_symbol symbols) n ≡ true → ⊥
 some_needed g atom here n c = cc

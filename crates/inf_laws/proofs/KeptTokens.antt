@@ -1,4 +1,4 @@
--- Reading by the tokens that are handed on.
+-- The reading by the tokens that are handed on.
 use Rattle.std.proofs.Common.{◌≡◌, List, [], ◌∷◌, ◌++◌, map, cond, Bool, true, false, Option, Some, None, is_some, refl, sym, ap, subst}
 use Rattle.std.proofs.Common.{◌∙◌, append_assoc}
 use Rattle.std.proofs.lemmas.List.{append-nil, map-append}
@@ -35,7 +35,7 @@ use Rattle.inf_laws.specs.KeptTokens.{KeptTokensAreRead, Stands, TokensAreHanded
 use Rattle.inf_laws.specs.KeptTokens.{given_to, given_token, judged_by, kept_by, read_by, rests, skipped, token_in, took_by, unfit_by}
 use Rattle.inf_laws.proofs.BadTokens.{bracketed}
 
--- What is read is told by the tokens alone
+-- The tokens alone decide the reading
 
 judged_reads : (limits : Limits) (context : Context) (t : SourceToken) (r : Reading) (w : Compilation) →
     (judged limits context t r w).reading ≡ judged_by t r
@@ -162,7 +162,7 @@ no_token = record {
   is_read = record { r = record { events = []; left = piece }; is_read = refl; leaves = refl };
 }
 
--- what is passed over behind its tokens is told by their brackets
+-- the way in which tokens are passed over behind those of a piece is decided by their brackets
 skips_as : (tokens : List SourceToken) (r : Reading) → At tokens r → skip_of r.stack ≡ skip_behind (map atom_of tokens)
 skips_as tokens r at =
     let left : is_in_routine r.stack ≡ is_bracket_open (map atom_of tokens) =
@@ -170,7 +170,7 @@ skips_as tokens r at =
     ∙ bracketed (map atom_of tokens) (begins tokens r at) in
     ap (λ b. cond b mode.SkipsRoutine mode.SkipsDirective) left
 
--- Where reading stands
+-- The state of the reading
 
 pub data Now (given : List Given) (r : Reading) : Type 0 where
   Inside : (tokens : List SourceToken) → given ≡ map Kept tokens → At tokens r → (r.stack ≡ [] → ⊥) → Now given r
@@ -186,11 +186,11 @@ stands given r (Whole tokens e is at) = BehindAPiece tokens e is at
 stands given r (Skips tokens wrong behind e begun bad_one at) = BehindABadToken tokens wrong behind e begun bad_one at
 stands given r (Ended t e is at) = BehindTheEnd t e is at
 
--- one more
+-- one token more
 kept_more : (tokens : List SourceToken) (t : SourceToken) → map Kept tokens ++ Kept t ∷ [] ≡ map Kept (tokens ++ t ∷ [])
 kept_more tokens t = sym (map-append Kept tokens (t ∷ []))
 
--- a token is taken
+-- the state after a token is taken
 taken_now : (given : List Given) (tokens : List SourceToken) (r : Reading) (t : SourceToken) → given ≡ map Kept (tokens ++ t ∷ []) →
     At (tokens ++ t ∷ []) r → Now given r
 taken_now given tokens r t e at = by_stack r.stack refl
@@ -201,7 +201,7 @@ taken_now given tokens r t e at = by_stack r.stack refl
         (ap (λ m. record { mode = m; stack = r.stack }) at.reads ∙ ap (λ stack. record { mode = mode.Reads; stack = stack }) empty)
     by_stack (symbol ∷ symbols) some = Inside (tokens ++ t ∷ []) e at (λ empty. let never : [] ≡ symbol ∷ symbols = sym empty ∙ some in cc)
 
--- or is bad
+-- the state after a bad token
 wrong_now : (given : List Given) (tokens : List SourceToken) (r now : Reading) (wrong : Given) → given ≡ map Kept tokens ++ wrong ∷ [] →
     At tokens r → IsBad tokens wrong
     → now ≡ between (passed (skip_of r.stack) (token_in wrong).kind) → Now given now

@@ -3,7 +3,7 @@ use Rattle.std.proofs.Common.{◌≡◌, ℕ, zero, suc, List, cond, false, refl
 use Rattle.std.proofs.lemmas.List.{append-nil}
 use Rattle.inf_settings.specs.Bounds.{Limits}
 use Rattle.inf_scanner.specs.declared.tokens.Place.{Place}
-use Rattle.inf_files.specs.Files.{Sources}
+use Rattle.inf_devices.specs.Files.{Sources}
 use Rattle.inf_sources.specs.Inclusions.{Inclusion, Opens, OpensNone, inclusion}
 use Rattle.inf_sources.specs.declared.open_files.Included.{Included}
 use Rattle.inf_sources.specs.declared.open_files.Included.TheVariants as answer
@@ -19,7 +19,7 @@ use Rattle.inf_laws.specs.KeptTurns.{StayInFile, TurnsReadPieces, given_by, give
 use Rattle.inf_laws.proofs.KeptTokens.{given_both, kept_tokens_are_read, tokens_are_handed_on}
 use Rattle.inf_unit.proofs.Cases.{of_both}
 
--- What a turn does behind its token changes nothing of how pieces are read, unless it ends a file
+-- The reading of pieces is not changed behind the token of a turn, unless a file ends
 
 none_reading : (unit : Place) (text : List ℕ) (why : Included) (s : State) → (none_included unit text why s).reading ≡ s.reading
 none_reading unit text answer.Entered s = refl
@@ -57,7 +57,7 @@ pub turn_reading : (limits : Limits) (sources : Sources) (o : Choices) (s : Stat
 turn_reading limits sources o s going =
     rested_reading (carried_out sources o (stepped limits o s)) ∙ carried_out_reading sources o (stepped limits o s) going
 
--- By what is handed on
+-- The reading by the tokens that are handed on
 
 pub stepped_reading : (limits : Limits) (o : Choices) (s : State) → (stepped limits o s).reading ≡ all_given_to (given_by o s) s.reading
 stepped_reading limits o s =

@@ -1,4 +1,4 @@
--- What is known of names after declarations and uses.
+-- The findings of look-ups of names after declarations and uses.
 use Rattle.std.proofs.Common.{◌≡◌, ◌+◌, ◌<◌, ◌≤◌, ℕ, List, [], ◌∷◌, ◌++◌, append_assoc, append-nil, arith, length, filter, cond, not, ◌||◌}
 use Rattle.std.proofs.Common.{Bool, true, false, Option, None, Some, refl, sym, ap, subst, ◌∙◌}
 use Rattle.std.specs.Prelude.{find, is_some}
@@ -30,7 +30,7 @@ use Rattle.inf_laws.specs.NameEvents.{undeclared_use, undeclared_uses, uses, wit
 use Rattle.inf_laws.proofs.Choices.{cond-again, cond-swap, either, or-assoc, or-false, or-known}
 use Rattle.inf_laws.proofs.SameNames.{bytes_eq-sym, key_same, same_key}
 
--- What the compiler does is an event
+-- Declarations and uses of the compiler are events
 
 pub units_declare : (limits : Limits) → UnitsDeclare limits
 units_declare limits n m o = go (declare_fault limits n.bytes o.names)
@@ -70,7 +70,7 @@ no_fault limits (Uses name place) t room = ap (λ full. is_some (refer_fault_by 
     go found.Used = refl
     go found.Unknown = refl
 
--- one name more, at most, of as many as before
+-- there is at most one name more than before
 abbrev OneMore : Table Place → Table Place → Type 0
 OneMore t new = length new.names ≤ length t.names + 1
 
@@ -110,7 +110,7 @@ few_fit limits (e ∷ events) t few =
 pub few_have_room : (limits : Limits) → FewHaveRoom limits
 few_have_room limits debugging events few = few_fit limits events (no_names debugging) (omega (arith, few))
 
--- What is found after an event
+-- The finding of a name after an event
 
 standing_of-put : (key new : List ℕ) (s : Standing Place) (names : List (Named Place)) →
     standing_of key (put new s names) ≡ cond (bytes_eq key new) (Some s) (standing_of key names)
@@ -139,7 +139,7 @@ found_same a b t e =
     ap (λ m. found_as m (standing_of (folded a) t.names)) (system_same t.is_debugging a b e)
     ∙ ap (λ k. found_as (system_meaning t.is_debugging b) (standing_of k t.names)) e
 
--- what is found of a name, after it was declared, and after it was used, or another one
+-- the finding of a name after a declaration and after a use, of this name or another
 abbrev behind_declared : Bool → Meaning → Place → Found Place → Found Place
 behind_declared same m place (found.System x) = found.System x
 behind_declared same m place (found.Declared x first) = found.Declared x first
@@ -168,7 +168,7 @@ other_used (found.Declared x first) = refl
 other_used found.Used = refl
 other_used found.Unknown = refl
 
--- what is known of one name leaves another as it is
+-- the state of one name leaves the finding of another as it is
 found-other : (name other : List ℕ) (s : Standing Place) (t : Table Place) → bytes_eq (folded name) (folded other) ≡ false →
     found_as (system_meaning t.is_debugging name) (standing_of (folded name) (put (folded other) s t.names)) ≡ found_in name t
 found-other name other s t e =
@@ -247,7 +247,7 @@ found_behind : (limits : Limits) (name : List ℕ) (e : Event) (t : Table Place)
 found_behind limits name (Declares other m place) t room = declared_behind limits name other m place t room
 found_behind limits name (Uses other place) t room = used_behind limits name other place t room
 
--- What is found after some events
+-- The finding of a name after some events
 
 -- The names are those of these events.
 abbrev AreOf : Bool → List Event → Table Place → Type 0
@@ -273,7 +273,7 @@ first-append name (Declares other m place ∷ before) more = go (bytes_eq (folde
     go true later = refl
     go false later = later
 
--- what a name stands for after one event more
+-- the finding of a name after one event more
 stands_behind : (name : List ℕ) (e : Event) (system : Option Meaning) (first : Option (Meaning × Place)) (is_used : Bool) → behind_event
     name e (stands_for system first is_used) ≡ stands_for system (either first (first_declaration name (e ∷ [])))
     (is_used || list_any (uses name) (e ∷ []))
@@ -330,7 +330,7 @@ first_declarations_count limits debugging events name room =
 
 -- Undeclared names
 
--- the uses that the names are
+-- the uses that the states of names are
 abbrev use_in : Standing Place → List Use
 use_in (IsDeclared number m place) = []
 use_in (IsUsed spelling place) = record { name = spelling; place = place } ∷ []
@@ -356,12 +356,12 @@ told files (n ∷ names) r = go n.standing (told files names)
 abbrev has : List ℕ → List (Named Place) → Bool
 has key names = list_any (λ n. bytes_eq key n.name) names
 
--- a used name stands under its spelling without case
+-- a used name is kept under its spelling without case
 abbrev IsKeyed : List ℕ → Standing Place → Type 0
 IsKeyed key (IsDeclared number m place) = Unit {0}
 IsKeyed key (IsUsed spelling place) = folded spelling ≡ key
 
--- each name stands there once
+-- each name is in the list once
 abbrev Sound : List (Named Place) → Type 0
 Sound [] = Unit {0}
 Sound (n ∷ names) = (has n.name names ≡ false) × IsKeyed n.name n.standing × Sound names
@@ -434,12 +434,12 @@ others-absent key (n ∷ names) sound is =
     others-split key n.name n.standing (used_of names) sound.1 parts.0
     ∙ ap (λ u. use_in n.standing ++ u) (others-absent key names sound.2 parts.1)
 
--- where this name stands first, it stands nowhere else
+-- where a name is the first of a list, it is none of the other names
 others-behind : (key : List ℕ) (n : Named Place) (names : List (Named Place)) → Sound (n ∷ names) → bytes_eq key n.name ≡ true →
     others key (used_of names) ≡ used_of names
 others-behind key n names sound same = others-absent key names sound.2 (ap (λ k. has k names) (same_key key n.name same) ∙ sound.0)
 
--- a name that is no use
+-- a name that is no use is none of the uses
 used_of-known : (key : List ℕ) (names : List (Named Place)) → Sound names → use_at (standing_of key names) ≡ [] →
     used_of names ≡ others key (used_of names)
 used_of-known key [] sound is = refl
@@ -486,7 +486,7 @@ used_of-declaring limits name m place t sound =
     go None None true is = none None is refl
     go None None false is = declared
 
--- a name that is put behind all others
+-- the uses where a name is put behind all others
 used_of-put : (key : List ℕ) (s : Standing Place) (names : List (Named Place)) → is_some (standing_of key names) ≡ false →
     used_of (put key s names) ≡ used_of names ++ use_in s
 used_of-put key s [] is = append-nil (use_in s)

@@ -34,7 +34,7 @@ use Rattle.inf_conditionals.specs.Judging.{decided, effected, effected_by, given
 use Rattle.inf_conditionals.specs.Judging.{judged_by, kept, unmatched, named, offered, offered_to, passed, passed_by, saying, sign_asked}
 use Rattle.inf_conditionals.specs.Judging.{sign_awaited, sign_handed, sign_offered, taken, tokens_counted, unfit, went_on}
 
--- whether something is handed on
+-- whether a token is handed on
 abbrev pub gives : Option Forwarded → Bool
 gives None = false
 gives (Some handed.Kept) = true
@@ -139,7 +139,7 @@ front_fine : (w : Option ConditionalWord) (t : SourceToken) (p : Pending) (c : C
 front_fine None t p c e all = record { proper = none_proper c.pending e; clear = inr (e, all) }
 front_fine (Some w) t p c e all = begun_fine w t p.place p.is_inner c (none_proper c.pending e) all
 
--- What waits
+-- Directives that wait for a token
 
 named_fine : (k : TokenKind) (bytes : List ℕ) (if_declared : Bool) (o : Out) (p : Pending) (c : Conditions) → AreProper c.pending →
     AllKept c → Fine (named k bytes if_declared o p c)
@@ -206,7 +206,7 @@ offered_fine is_front site o t c front proper all =
     (λ _. passed_fine (held is_front t.place c) (held_proper is_front t.place c front proper))
     (λ _. to_fine c.pending is_front site o t c refl proper all)
 
--- with a `#` before it that was held back, and what became of that
+-- with a `#` before the token, which was held back, and with the judgement of that `#`
 abbrev signed : Place → Option Forwarded → Behind → Behind
 signed place h b = record b { judged = record b.judged { sign = sign_handed place h } }
 
@@ -222,7 +222,7 @@ signed_fine place h site o t c e all =
     (λ _. subst (λ ps. Fine (signed place (Some h) (offered_to ps false site o t c))) (sym e)
     (record { proper = none_proper c.pending e; clear = inr (e, all) }))
 
--- where a condition takes the `#` that is not handed on
+-- where a condition takes the `#`, which is not handed on
 never_front : (c : Conditions) → false ≡ true → c.pending ≡ []
 never_front c e = cc
 

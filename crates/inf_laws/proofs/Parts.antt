@@ -3,7 +3,7 @@ use Rattle.std.proofs.Common.{◌≡◌, ◌⊎◌, inl, inr, ℕ, zero, suc, Li
 use Rattle.std.proofs.Common.{None, refl, sym, ap, subst, ◌∙◌, append_assoc}
 use Rattle.std.proofs.lemmas.List.{append-nil, map-append}
 use Rattle.inf_settings.specs.Bounds.{Limits}
-use Rattle.inf_files.specs.Files.{Sources}
+use Rattle.inf_devices.specs.Files.{Sources}
 use Rattle.inf_scanner.specs.declared.tokens.Mark.TheVariants as mark
 use Rattle.inf_scanner.specs.declared.tokens.Place.{Place}
 use Rattle.inf_scanner.specs.declared.tokens.TokenKind.TheVariants as kind
@@ -110,7 +110,7 @@ hash_goes before h place r is (Ended t e ends at) =
     let same : token_in h ≡ t = ap token_in (last_one before h (Kept t) e) in
     absurd (no_end (sym ends ∙ ap (λ (x : SourceToken). is_end x.kind) (sym same ∙ is)))
 
--- Where a part stands behind some of its tokens
+-- The state of a part behind some of its tokens
 
 data Goes (given : List Given) (r : Reading) : Type 0 where
   None_yet : given ≡ [] → r ≡ between mode.Reads → Goes given r
@@ -137,7 +137,7 @@ sign_goes (Some sign) before r goes = go sign.handed
         let now = one_more before h r goes in Some_yet now (hash_goes before h sign.place (given_to h r) refl now)
     go handed.Condition = same_goes before r goes
 
--- behind a turn: it goes on, or rests behind something that was handed on
+-- the state behind a turn: the part goes on, or the reading rests behind a token that was handed on
 data Comes (before given : List Given) (r : Reading) : Type 0 where
   Still : Goes (before ++ given) r → Comes before given r
   Rests : Now (before ++ given) r → rests r ≡ true → (given ≡ [] → ⊥) → Comes before given r
@@ -245,7 +245,7 @@ all_proper limits sources o zero s proper = proper
 all_proper limits sources o (suc n) s proper =
     all_proper limits sources o n (turn limits sources o s) (turn_proper limits sources o s proper)
 
--- where something is handed on
+-- no `#` is handed on where `gives_sign` is false
 none_signed : (o : Option Sign) → gives_sign o ≡ false → given_sign o ≡ []
 none_signed None e = refl
 none_signed (Some sign) e = go sign.handed e
@@ -282,7 +282,7 @@ clear_behind limits o s proper some =
       | inr clear ↦ clear
     ]
 
--- A part ends where reading rests behind something that was handed on
+-- A part ends where the reading rests behind a token that was handed on
 
 or_true : (a : Bool) → (a || true) ≡ true
 or_true true = refl
@@ -321,7 +321,7 @@ carried_out_ends sources o s e empty =
     ((cond b (left s) (answered s.work.asked sources o (asked_nothing s))).reading ≡ between mode.Reads))
     (sym e) (left_ends s s.nesting.waiting e empty))
 
--- what rests is between two pieces, or at the end
+-- a reading that rests is between two pieces, or at the end
 now_rests : (given : List Given) (r : Reading) → Now given r → rests r ≡ true →
     (r ≡ between mode.Reads) ⊎ ((is_mode_ended r.mode ≡ true) × (r.stack ≡ []))
 now_rests given r (Inside tokens e at some) rest_now = absurd (no_end (sym rest_now ∙ goes_inside r at.reads some))
@@ -372,7 +372,7 @@ goes_behind limits sources o before s proper goes on =
           (clear_behind limits o s proper some)) ∙ on))
     ]
 
--- what comes of the last of them
+-- the reading behind the last of some turns
 abbrev LastOf : List Given → Reading → Type 0
 LastOf given r = (given ≡ []) ⊎ Stands given r
 

@@ -1,4 +1,4 @@
--- How a bad piece is skipped.
+-- The skipping of a bad piece.
 use Rattle.std.proofs.Common.{◌≡◌, ℕ, suc, zero, ◌≤◌, List, [], ◌∷◌, ◌++◌, length, take, cond, not, ◌||◌, true, false, refl, ap, ◌∙◌, arith}
 use Rattle.std.specs.List.{list_all}
 use Rattle.std.proofs.lemmas.Bool.{and_parts, not-true, or_parts}
@@ -84,7 +84,7 @@ module _ (m : Mark) (before after : Recovery) (passes : Passes m before after) w
       (and_parts (not (is_mark m (token_in g).kind || is_end (token_in g).kind))
       (list_all (λ g. not (is_mark m (token_in g).kind || is_end (token_in g).kind)) given) lack).1
 
-  -- each front of what is before the mark leads nowhere
+  -- each front of the tokens before the mark leads nowhere
   front_stays : (inside : List Given) (n : ℕ) → Lack m inside → n ≤ length inside → skipped before (take n inside) ≡ before
   front_stays inside zero lack le = refl
   front_stays [] (suc n) lack le = absurd (omega arith)

@@ -1,4 +1,4 @@
--- A token of a piece is taken or told as those before it tell.
+-- A token of a piece is taken or told as the tokens before it decide.
 use Rattle.std.proofs.Common.{◌≡◌, ◌⊎◌, inl, inr, append_assoc, List, [], ◌∷◌, ◌++◌, map, cond, true, false, refl, sym, ap, subst, ◌∙◌}
 use Rattle.std.proofs.lemmas.List.{append-nil}
 use Rattle.inf_settings.specs.Bounds.{Limits}
@@ -82,7 +82,7 @@ module _ (limits : Limits) (context : Context) (tokens : List SourceToken) (t : 
       (λ f. absurd (none (begins (tokens ++ t ∷ []) _ (goes tokens r t at f))))
       (λ _. refl)
 
--- how it comes to be judged
+-- the way in which a token comes to be judged
 comes : (limits : Limits) (context : Context) (t : SourceToken) (stack : List (Symbol Action)) (r : Reading) (w : Compilation) →
     (is_end t.kind ≡ false) ⊎ (stack ≡ [] → ⊥)
     → read_at limits context t stack r w ≡ judged limits context t (at_hand_by stack r) (work_by stack w)

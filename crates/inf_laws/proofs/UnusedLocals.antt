@@ -17,7 +17,7 @@ use Rattle.inf_laws.specs.UnusedLocals.{is_named_in, with_units, with_warnings}
 use Rattle.inf_laws.proofs.Choices.{or-swap}
 use Rattle.inf_laws.proofs.SameNames.{bytes_eq-sym, same_names}
 
--- a local that is named also where its name passes a test
+-- a local that counts as named also where its name passes a test
 abbrev marked : (List ℕ → Bool) → Local → Local
 marked test l = record { name = l.name; place = l.place; is_named = test l.name || l.is_named }
 

@@ -1,4 +1,5 @@
--- What is told of a unit: of all that is found the first, by its token and then by its number. And all that the rules find of a header.
+-- The error that is told of a unit: of all that is found the first, by its token and then by its number. And all that the rules
+-- find of a header.
 use Rattle.std.specs.Prelude.{◌≡◌, ◌+◌, ◌<◌, ◌⊎◌, ℕ, List, [], ◌∷◌, ◌++◌, find, Contains, nat_lt, if◌then◌else◌, Bool, false, Option, Some}
 use Rattle.std.specs.Prelude.{None, is_some}
 use Rattle.std.specs.Str.{str_eq_ignore_ascii_case}
@@ -20,36 +21,36 @@ use Rattle.inf_compilation.specs.Actions.{Compilation, unit_ended}
 use Rattle.inf_compilation.specs.Context.{Context}
 use Rattle.inf_compilation.specs.Findings.{Findings, again_by, header_findings as found_in_header, told_as}
 
--- What a rule finds: at which token of the unit, counted from 0, the unit's first; the number of the kind of its message; and
--- the message at its place. The kinds: 8, a name that was declared before or is a system name; 19, too many locals.
+-- The finding of a rule: the token of the unit at which it is, where the unit's first token is 0; the number of the kind of its
+-- message; and the message at its place. The kinds: 8, a name that was declared before or is a system name; 19, too many locals.
 pub record Finding : Type 0 where
   pub token : ℕ
   pub number : ℕ
   pub blame : Diagnostic
 
--- by token, then by number
+-- one finding before another: by token, then by number
 abbrev pub IsBefore : Finding → Finding → Type 0
 IsBefore f g = (f.token < g.token) ⊎ ((f.token ≡ g.token) × (f.number < g.number))
 
--- It is one of these, none of these comes before it, and each other one comes behind it.
+-- The finding `f` is one of `all`, none of these comes before it, and each other one comes behind it.
 pub record IsLeast (f : Finding) (all : List Finding) : Type 0 where
   pub is_there : Contains all f
   pub none_before : (g : Finding) → Contains all g → IsBefore g f → ⊥
   pub others_behind : (g : Finding) → Contains all g → (g ≡ f) ⊎ IsBefore f g
 
--- Nothing is told where nothing was found, and else what the least finding says.
+-- Nothing is told where nothing was found, and else the least finding.
 abbrev pub IsTold : Option Diagnostic → List Finding → Type 0
 IsTold None all = all ≡ []
 IsTold (Some b) all = (f : Finding) × (f.blame ≡ b) × IsLeast f all
 
 -- A header
 
--- a local that an earlier name of the header is, too
+-- the finding of a local that is an earlier name of the header, too
 abbrev pub repeated_local : FileNames → Name → ℕ → Name → Finding
 repeated_local files first token n =
     record { token = token; number = 8; blame = record { place = n.place; message = Declared n.bytes (location files first.place) } }
 
--- the first of these that is this name, in any case
+-- the first of some names that is this name, in any case
 abbrev pub first_named : List ℕ → List Name → Option Name
 first_named name names = find (λ n. str_eq_ignore_ascii_case n.bytes name) names
 
@@ -62,29 +63,29 @@ repeated_locals files before token [] = []
 repeated_locals files before token (n ∷ names) =
     repeated_one files (first_named n.bytes before) token n ++ repeated_locals files (before ++ n ∷ []) (token + 1) names
 
--- how many different names these add to those before
+-- the number of different names that are added to those before
 abbrev pub different : List Name → List Name → ℕ
 different before [] = 0
 different before (n ∷ names) =
     (if is_some (first_named n.bytes before) then 0 else 1) + different (before ++ n ∷ []) names
 
--- more than 15 different locals, which is told at the bracket
+-- the finding of more than 15 different locals, which is told at the bracket
 abbrev pub too_many_locals : Place → Finding
 too_many_locals unit = record { token = 0; number = 19; blame = record { place = unit; message = TooMany countable.Locals } }
 
 abbrev pub many_locals : Place → List Name → List Finding
 many_locals unit locals = if nat_lt 15 (different [] locals) then too_many_locals unit ∷ [] else []
 
--- the name of the routine behind the bracket: it was declared before, at a place
+-- the finding of a routine's name, behind the bracket, that was declared before, at a place
 abbrev pub declared_before : FileNames → Place → Name → Finding
 declared_before files first name =
     record { token = 1; number = 8; blame = record { place = name.place; message = Declared name.bytes (location files first) } }
 
--- or it is a system name, which the language itself declares
+-- the finding of a routine's name that is a system name, which the language itself declares
 abbrev pub system_routine : Name → Finding
 system_routine name = record { token = 1; number = 8; blame = record { place = name.place; message = SystemName name.bytes } }
 
--- By what the name stands for before its header. That a new name would be one too many is no finding.
+-- The findings by the meaning of the name before its header. A new name that would be one too many is no finding.
 abbrev pub taken_as : FileNames → FoundName Place → Name → List Finding
 taken_as files (found.System meaning) name = system_routine name ∷ []
 taken_as files (found.Declared meaning first) name = declared_before files first name ∷ []
@@ -98,7 +99,7 @@ abbrev pub header_findings : FileNames → Place → Table Place → Name → Li
 header_findings files unit names name locals =
     taken_name files names name ++ (repeated_locals files [] 2 locals ++ many_locals unit locals)
 
--- What is told of a unit that begins at this place
+-- The findings that are told of a unit that begins at a place
 
 abbrev pub HeadersTellTheFirst : Limits → Type 0
 HeadersTellTheFirst limits = (files : FileNames) (tokens : List SourceToken) (unit : Place) (names : Table Place) (name : Name)
@@ -109,7 +110,7 @@ HeadersTellTheFirst limits = (files : FileNames) (tokens : List SourceToken) (un
 
 -- Any unit
 
--- of two findings, each of which there may be: it is one of them, and none comes before it
+-- the least of two findings, each of which there may be: it is one of them, and neither comes before it
 pub record IsLeastOfTwo (x y : Option Found) (f : Found) : Type 0 where
   pub is_there : (x ≡ Some f) ⊎ (y ≡ Some f)
   pub none_before : (g : Found) → (x ≡ Some g) ⊎ (y ≡ Some g) → is_before g f ≡ false
@@ -121,7 +122,7 @@ IsLeastOf x y (Some f) = IsLeastOfTwo x y f
 abbrev pub LeastsAreFound : Type 0
 LeastsAreFound = (x y : Option Found) → IsLeastOf x y (least_of_both x y)
 
--- At its end the least is told, if anything was found, and then the first setting that was passed.
+-- At the end of a unit the least finding is told, if there is one, and then the first setting that was passed.
 abbrev pub UnitsTellTheLeast : Limits → Type 0
 UnitsTellTheLeast limits = (context : Context) (first : Place) (has_last : Bool) (all : Findings) (w : Compilation)
     → (unit_ended limits context first has_last all w).report

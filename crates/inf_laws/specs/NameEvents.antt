@@ -1,4 +1,4 @@
--- What is known of names, said of the declarations and uses of a source in their order.
+-- The findings of look-ups of names, by the declarations and uses of a source in their order.
 use Rattle.std.specs.Prelude.{◌≡◌, ◌≤◌, ℕ, List, [], ◌∷◌, ◌++◌, length, Bool, true, false, ◌||◌, if◌then◌else◌, Option, Some, None, is_some}
 use Rattle.std.specs.Prelude.{⊤}
 use Rattle.std.specs.List.{list_any}
@@ -20,12 +20,12 @@ use Rattle.inf_names.specs.declared.symbols.DeclareFault.TheVariants as declarin
 use Rattle.inf_output.specs.Output.{Out, declared}
 use Rattle.inf_statements.specs.Operands.{settled_by}
 
--- a name is declared with what it stands for, or used as it is spelled, at a place
+-- a name is declared with a meaning, or used as it is spelled, at a place
 pub data Event : Type 0 where
   Declares : (name : List ℕ) (stands_for : Meaning) (place : Place) → Event
   Uses : (name : List ℕ) (place : Place) → Event
 
--- The names after an event: what the names refuse changes nothing.
+-- The names after an event, which changes nothing where the names refuse it.
 abbrev pub with_event : Limits → Event → Table Place → Table Place
 with_event limits (Declares name m place) t = if is_some (declare_fault limits name t) then t else with_declared name place m t
 with_event limits (Uses name place) t = if is_some (refer_fault limits name t) then t else with_used name place t
@@ -44,18 +44,18 @@ abbrev pub is_too_many : Limits → Event → Table Place → Bool
 is_too_many limits (Declares name m place) t = is_full_fault (declare_fault limits name t)
 is_too_many limits (Uses name place) t = is_some (refer_fault limits name t)
 
--- None is.
+-- None of the events has a name too many.
 abbrev pub HaveRoom : Limits → List Event → Table Place → Type 0
 HaveRoom limits [] t = ⊤
 HaveRoom limits (e ∷ events) t = (is_too_many limits e t ≡ false) × HaveRoom limits events (with_event limits e t)
 
--- So it is where there may be as many names as there are events.
+-- There is room where there may be as many names as there are events.
 abbrev pub FewHaveRoom : Limits → Type 0
 FewHaveRoom limits =
     (debugging : Bool) (events : List Event) → length events ≤ limits setting.Symbols → HaveRoom limits events (no_names debugging)
 
--- What a name is declared with is such an event: the place of a routine, by its header, or the number of a constant. So is an operand
--- that is no local.
+-- The declaration of a name is an event: of a routine with its place, by its header, or of a constant with its number. An operand
+-- that is no local is an event, too: a use.
 abbrev pub UnitsDeclare : Limits → Type 0
 UnitsDeclare limits = (n : Name) (stands_for : Meaning) (o : Out)
     → (declared limits n.bytes n.place stands_for o).names ≡ with_event limits (Declares n.bytes stands_for n.place) o.names
@@ -66,24 +66,24 @@ OperandsUse limits =
 
 -- The first declaration of a name counts
 
--- what the first declaration of this name, in any case, says that it stands for, and its place
+-- the meaning that the first declaration of a name, in any case, gives it, and the place of this declaration
 abbrev pub first_declaration : List ℕ → List Event → Option (Meaning × Place)
 first_declaration name [] = None
 first_declaration name (Declares other m place ∷ events) =
     if str_eq_ignore_ascii_case name other then Some (m, place) else first_declaration name events
 first_declaration name (Uses other place ∷ events) = first_declaration name events
 
--- whether an event declares this name, in any case
+-- whether an event declares a name, in any case
 abbrev pub declares : List ℕ → Event → Bool
 declares name (Declares other m place) = str_eq_ignore_ascii_case name other
 declares name (Uses other place) = false
 
--- or uses it
+-- whether an event uses a name, in any case
 abbrev pub uses : List ℕ → Event → Bool
 uses name (Declares other m place) = false
 uses name (Uses other place) = str_eq_ignore_ascii_case name other
 
--- What a name stands for: first what the language has, then its first declaration; and whether it was used.
+-- The finding for a name: first the meaning that the language gives it, then its first declaration; and else whether it was used.
 abbrev pub stands_for : Option Meaning → Option (Meaning × Place) → Bool → Found Place
 stands_for (Some m) first is_used = found.System m
 stands_for None (Some first) is_used = found.Declared first.0 first.1
@@ -102,8 +102,8 @@ pub record Use : Type 0 where
   pub name : List ℕ
   pub place : Place
 
--- The use that an event is, where the language does not have its name, it is the first one of its name, and no event at all
--- declares that.
+-- The use that an event is, where the language does not have its name, it is the first use of its name, and no event at all
+-- declares this name.
 abbrev pub undeclared_use : Bool → List Event → List Event → Event → List Use
 undeclared_use debugging all before (Declares name m place) = []
 undeclared_use debugging all before (Uses name place) =
@@ -115,11 +115,11 @@ undeclared_uses debugging all before [] = []
 undeclared_uses debugging all before (e ∷ events) =
     undeclared_use debugging all before e ++ undeclared_uses debugging all (before ++ e ∷ []) events
 
--- all of them, in order
+-- all such uses, in order
 abbrev pub undeclared : Bool → List Event → List Use
 undeclared debugging events = undeclared_uses debugging events [] events
 
--- an error for each
+-- the messages with an error for each use
 abbrev pub with_uses_told : FileNames → List Use → Reported → Reported
 with_uses_told files [] r = r
 with_uses_told files (u ∷ uses) r =

@@ -1,7 +1,7 @@
 -- The parts of a reading, which its steps read, and the pieces of its files.
 use Rattle.std.specs.Prelude.{◌≡◌, ◌⊎◌, ℕ, zero, suc, List, [], true, false}
 use Rattle.inf_settings.specs.Bounds.{Limits}
-use Rattle.inf_files.specs.Files.{Sources}
+use Rattle.inf_devices.specs.Files.{Sources}
 use Rattle.inf_reader.specs.Reading.{between}
 use Rattle.inf_reader.specs.declared.recovery.Recovery.TheVariants as mode
 use Rattle.inf_session.specs.Choices.{Choices}
@@ -9,20 +9,20 @@ use Rattle.inf_session.specs.Session.{State, is_parted, start, stepped, turn}
 use Rattle.inf_laws.specs.KeptTokens.{Stands, rests}
 use Rattle.inf_laws.specs.KeptTurns.{given_by, given_in, turned}
 
--- none of so many turns ends a part
+-- none of `n` turns ends a part
 abbrev pub StayInPart : Limits → Sources → Choices → ℕ → State → Type 0
 StayInPart limits sources o zero s = Unit {0}
 StayInPart limits sources o (suc n) s =
     (is_parted (turn limits sources o s) ≡ false) × StayInPart limits sources o n (turn limits sources o s)
 
--- what is handed on within a part, and how it is read then: nothing, or tokens that stand as those of one piece
+-- the tokens that are handed on within a part, and the reading then: there are none, or they are those of one piece
 abbrev pub IsOfOnePiece : Limits → Sources → Choices → ℕ → State → Type 0
 IsOfOnePiece limits sources o n s =
     (given_in limits sources o (suc n) s ≡ []) ⊎ Stands (given_in limits sources o (suc n) s)
     (stepped limits o (turned limits sources o n s)).reading
 
--- From any place between two pieces of a reading on, the turns of one part hand on nothing, or the tokens of one piece, whole or bad, or of
--- the end of a file.
+-- From any place between two pieces of a reading on, the turns of one part hand on nothing, or the tokens of one piece, whole or
+-- bad, or of the end of a file.
 abbrev pub PartsArePieces : Limits → Type 0
 PartsArePieces limits =
     (sources : Sources) (o : Choices) (name : List ℕ) (m n : ℕ) → (turned limits sources o m (start sources o name)).reading ≡ between
@@ -30,7 +30,7 @@ PartsArePieces limits =
     → StayInPart limits sources o n (turned limits sources o m (start sources o name)) → IsOfOnePiece limits sources o n
     (turned limits sources o m (start sources o name))
 
--- And where the tokens of a turn bring reading to the end of a piece, or of a file, a part ends with it.
+-- Where the tokens of a turn bring the reading to the end of a piece, or of a file, a part ends with it.
 abbrev pub PartsEndWithPieces : Limits → Type 0
 PartsEndWithPieces limits =
     (sources : Sources) (o : Choices) (name : List ℕ) (m n : ℕ) → (turned limits sources o m (start sources o name)).reading ≡ between

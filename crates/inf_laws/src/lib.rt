@@ -1,5 +1,5 @@
-//! What the definitions of the language mean, in the language's own words. Each function carries a law
-//! as its clauses, and does nothing.
+//! Laws on the meaning of the language's definitions, in the language's own words. Each function carries a law as its
+//! clauses, and does nothing.
 #![tactic(auto)]
 
 mod laws;

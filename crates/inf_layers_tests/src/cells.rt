@@ -1,12 +1,13 @@
 //! Cells that go behind an area, or not.
 
 use crate::expecting::expect;
-use inf_area::{Area, AreaName, Fixup, FlatArea, Refs, Target, Value};
-use inf_cells::{Cells, WriteFault, append_cells};
+use inf_area::{
+    Area, AreaName, Cells, Fixup, FlatArea, Refs, Target, Value, WriteFault, append_cells,
+};
 use std::alloc::{AllocError, Global};
 use std::test::Fail;
 
-/// A byte, words, and values, three of which are known later.
+/// Returns the cells of a byte, of words, and of values, three of which are known later.
 fn table(alloc: Global) -> Result<Cells, AllocError> {
     let mut cells = Cells::new(alloc);
     cells.byte(7)?;
@@ -22,7 +23,8 @@ fn table(alloc: Global) -> Result<Cells, AllocError> {
     Ok(cells)
 }
 
-/// What two bytes and the table behind them come to, with so many fixups at most: the answer, the bytes, and the fixups.
+/// Returns the result of appending the table to two bytes, where there may be `most` fixups; and the bytes, and the
+/// fixups.
 fn laid(
     alloc: Global,
     most: usize,
@@ -41,7 +43,7 @@ fn laid(
     Ok((answer, area, refs))
 }
 
-/// A fixup of the table.
+/// Returns a fixup of the table.
 fn fixup(place: usize, target: Target) -> Fixup {
     Fixup {
         area: AreaName::Arrays,

@@ -3,9 +3,8 @@ ghost use Rattle.std.specs.Prelude.{◌≡◌};
 ghost use Rattle.inf_code.specs.Code.{code_limits};
 
 use crate::expecting::expect;
-use inf_area::{AddFault, Area, AreaName, Fixup, PagedArea, Refs, Target};
+use inf_area::{AddFault, Area, AreaName, Fixup, PagedArea, Refs, Scale, Target};
 use inf_assembler::{CloseFault, GrowFault, Limit, RoutineKind};
-use inf_cells::Scale;
 use inf_code::code::{Code, CodeLimits};
 use inf_opcode::{Branch, Destination, Instruction, Label, Opcode, Operand};
 use inf_settings::bounds::Bounds;
@@ -14,12 +13,12 @@ use std::marker::Brand;
 use std::process::Abort;
 use std::test::Fail;
 
-/// What is added to code.
+/// A thing that is added to code.
 #[derive(Drop)]
 enum Addition {
-    /// The beginning of a routine of so many locals, at most 15.
+    /// The beginning of a routine with this number of locals, at most 15.
     Open(u8),
-    /// The same of a routine that is lost.
+    /// The beginning of a routine that is lost, with this number of locals.
     OpenLost(u8),
     /// A branch to the label of this number, where the first local is not 0.
     BranchTo(u32),
@@ -37,47 +36,48 @@ enum Addition {
     Whole(usize),
 }
 
-/// A step with code, and what has to come of it.
+/// A step with code, and the result that it must have.
 #[derive(Drop)]
 enum Step {
     Adds(Addition),
-    /// This is refused, as it would pass a limit.
+    /// The addition is refused, as it would pass a limit.
     Refuses(Addition, Limit),
-    /// The end of a routine is refused for this.
+    /// The end of a routine is refused for this fault.
     Fails(CloseFault),
     GivesUp,
     /// Code begins, or would pass this limit.
     Begins(Option<Limit>),
-    /// Behind the first routine the finished ones have so many bytes.
+    /// The number of bytes that the finished routines have behind the first one.
     Len(usize),
-    /// With the first routine there are so many bytes, and so many references.
+    /// The numbers of bytes and of references, with those of the first routine.
     Counts(usize, usize),
-    /// So many labels, bytes and references there may be beside the open routine; nothing of a limit that is passed.
+    /// The numbers of labels, bytes and references that there may be beside the open routine; `None` for a limit that
+    /// is passed.
     Leaves(Option<usize>, Option<usize>, Option<usize>),
 }
 
 use Addition::*;
 use Step::*;
 
-/// More than each test needs.
+/// Limits that are higher than the cases of `WRITTEN` need.
 const ROOMY: CodeLimits = CodeLimits {
     labels: 100,
     code: 1_000,
     refs: 100,
 };
 
-/// A routine that is known later, by the number of its name.
+/// Returns a routine that is known later, by the number of its name.
 fn routine(number: usize) -> Target {
     Target::Name(number)
 }
 
-/// Calls a routine with the first local.
+/// Emits a call of a routine with the first local.
 fn emit_call<B: Bounds>(code: &mut Code<B>, number: usize) -> Result<(), GrowFault> {
     let operands = [Operand::Later(routine(number)), Operand::Variable(1)];
     code.emit(&Instruction::new(Opcode::Call2n, &operands, None))
 }
 
-/// Returns the number of a routine.
+/// Emits a return of the number of a routine.
 fn emit_return<B: Bounds>(code: &mut Code<B>, number: usize) -> Result<(), GrowFault> {
     let operands = [Operand::Later(routine(number))];
     code.emit(&Instruction::new(Opcode::Ret, &operands, None))
@@ -94,7 +94,7 @@ fn add_whole<B: Bounds>(
     code.close(RoutineKind::Plain)
 }
 
-/// A branch where the first local is not 0.
+/// Emits a branch that is taken where the first local is not 0.
 fn emit_branch<B: Bounds>(code: &mut Code<B>, number: u32) -> Result<(), GrowFault> {
     let branch = Branch {
         sense: false,
@@ -104,7 +104,7 @@ fn emit_branch<B: Bounds>(code: &mut Code<B>, number: u32) -> Result<(), GrowFau
     code.emit(&Instruction::new(Opcode::Jz, &operands, None).with_branch(branch))
 }
 
-/// What refuses to grow, as the end of a routine would say it.
+/// Returns the result of growing, as the end of a routine would give it.
 fn grown(grown: Result<(), GrowFault>) -> Result<(), CloseFault> {
     match grown {
         Ok(()) => Ok(()),
@@ -113,7 +113,7 @@ fn grown(grown: Result<(), GrowFault>) -> Result<(), CloseFault> {
     }
 }
 
-/// Adds this.
+/// Adds `addition` to `code`.
 fn add<B: Bounds>(
     rt: &impl Abort,
     alloc: Global,
@@ -178,8 +178,8 @@ fn take_all<B: Bounds>(
     }
 }
 
-/// What a case shows, its steps, the places of numbers that are known later with the numbers of their names, and the bytes behind the first
-/// routine.
+/// Cases by the law that they show, each with its steps, the places of numbers that are known later with the numbers of
+/// their names, and the bytes behind the first routine.
 const WRITTEN: [(&str, &[Step], &[(usize, usize)], &[u8]); 6] = [
     (
         "a call waits for its number",
@@ -221,7 +221,7 @@ const WRITTEN: [(&str, &[Step], &[(usize, usize)], &[u8]); 6] = [
         ],
     ),
     (
-        // Of a lost one nothing is left, but what is wrong with its labels is told.
+        // A lost routine leaves nothing, but the faults of its labels are reported.
         "a lost routine gives nothing",
         &[
             Adds(OpenLost(1)),
@@ -260,7 +260,7 @@ const WRITTEN: [(&str, &[Step], &[(usize, usize)], &[u8]); 6] = [
             // No routine is open: nothing is written and nothing closed.
             Adds(NewLine),
             Adds(Close),
-            // What is open at the end is no part of the code.
+            // The routine that is open at the end is no part of the code.
             Adds(Open(4)),
         ],
         &[(11, 0)],
@@ -270,7 +270,7 @@ const WRITTEN: [(&str, &[Step], &[(usize, usize)], &[u8]); 6] = [
     ),
 ];
 
-/// The bytes of an area.
+/// Returns the bytes of an area.
 fn bytes_of(alloc: Global, area: &PagedArea) -> Result<Vec<u8>, AllocError> {
     let mut bytes = Vec::new(alloc);
     for place in 0..area.len() {
@@ -279,14 +279,14 @@ fn bytes_of(alloc: Global, area: &PagedArea) -> Result<Vec<u8>, AllocError> {
     Ok(bytes)
 }
 
-/// The area of some code and its fixups, where its first routine calls the place 8.
+/// Returns the area of some code and its fixups, where its first routine calls the place 8.
 fn handed_over<B: Bounds>(alloc: Global, code: Code<B>) -> Result<(Vec<u8>, Refs), AddFault> {
     let mut refs = Refs::new(alloc, 100);
     let area = code.into_area(Target::Place(AreaName::Code, 8), &mut refs)?;
     Ok((bytes_of(alloc, &area)?, refs))
 }
 
-/// A fixup of code.
+/// Returns a fixup of code.
 fn fixup(place: usize, target: Target) -> Fixup {
     Fixup {
         area: AreaName::Code,
@@ -295,7 +295,7 @@ fn fixup(place: usize, target: Target) -> Fixup {
     }
 }
 
-/// Code of one case that is handed over.
+/// Asserts the bytes and the fixups of a case's code.
 fn expect_written(
     rt: &impl Abort,
     case: &str,
@@ -318,12 +318,12 @@ fn expect_written(
     }
 }
 
-/// The name of a case, by its bytes.
+/// Returns the name of a case, by its bytes.
 fn text_of(case: &[u8]) -> &str {
     str::from_utf8(case).unwrap_or("")
 }
 
-/// Code that takes the steps of a case, where there may be so much, and is handed over.
+/// Returns the bytes and the fixups of code that takes the steps of a case under `limits`.
 fn written_under<B: Bounds>(
     rt: &impl Abort,
     alloc: Global,
@@ -352,9 +352,10 @@ fn routines_are_written_out(rt: HostRuntime) -> Result<(), Fail> {
     Ok(())
 }
 
-/// What a case shows, the most bytes and references, and the steps. A routine may have three labels.
+/// Cases by the law that they show, each with the most bytes and references, and its steps. A routine may have three
+/// labels.
 const LIMITED: [(&str, usize, usize, &[Step]); 13] = [
-    // Its bytes and references are counted for nothing, its labels are counted.
+    // The bytes and references of a lost routine are not counted, its labels are.
     (
         "a lost routine is bounded by its labels",
         8,
@@ -394,7 +395,7 @@ const LIMITED: [(&str, usize, usize, &[Step]); 13] = [
             Leaves(Some(2), Some(971), Some(95)),
         ],
     ),
-    // The first routine; the number of locals, the five bytes of a call, what returns, and a zero.
+    // The first routine; the number of locals, the five bytes of a call, the return, and a zero.
     (
         "a routine takes the last byte",
         16,
@@ -521,7 +522,7 @@ const LIMITED: [(&str, usize, usize, &[Step]); 13] = [
     ),
 ];
 
-/// Takes the steps of a case where there may be so much.
+/// Takes the steps of a case under `limits`.
 fn take_under<B: Bounds>(
     rt: &impl Abort,
     alloc: Global,

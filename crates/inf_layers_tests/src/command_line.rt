@@ -1,7 +1,7 @@
 use crate::expecting::expect;
 use inf_characters::CharSet;
+use inf_command::command_line::{CommandLine, WordFault, source_name, story_name};
 use inf_settings::setting::Setting;
-use inf_words::command_line::{CommandLine, WordFault, source_name, story_name};
 use std::alloc::Global;
 use std::process::Abort;
 use std::test::Fail;
@@ -28,7 +28,7 @@ const UNKNOWN: [&str; 23] = [
     "-v8x", "-~v5", "-~E1", "-W", "-w~", "-wC", "-~~w", "-v", "-v3", "-C01",
 ];
 
-/// Words that begin with `$`, and are no fit settings.
+/// Words that begin with `$`, and do not set a setting.
 const UNFIT: [&str; 17] = [
     "$",
     "$MAX_CODE",
@@ -71,7 +71,7 @@ fn letters_and_settings_are_refused_whole(rt: HostRuntime) {
     }
 }
 
-/// Words of a command, the character set that they choose, and whether warnings are told.
+/// Words of a command, the character set that they choose, and whether warnings are reported.
 const LETTERS: [(&[&str], CharSet, bool); 14] = [
     (&["t"], CharSet::Latin1, true),
     (&["t", "-C0"], CharSet::Ascii, true),

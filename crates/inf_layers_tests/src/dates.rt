@@ -1,5 +1,5 @@
 use crate::expecting::expect;
-use inf_words::dates::serial;
+use inf_command::dates::serial;
 use jiff::civil::Date;
 use std::test::Fail;
 

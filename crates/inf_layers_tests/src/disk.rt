@@ -1,13 +1,13 @@
 use crate::expecting::expect;
+use inf_devices::files::{Files, OpenFault, ReadFault};
+use inf_devices::sinks::{Sink, SinkFault, write_whole};
 use inf_disk::disk::{DiskFiles, OutputSink, StoryPlace, StorySink};
-use inf_files::files::{Files, OpenFault, ReadFault};
-use inf_sinks::sinks::{Sink, SinkFault, write_whole};
 use std::io::{self, ErrorKind};
 use std::process::Abort;
 use std::rt;
 use std::test::Fail;
 
-/// Names of files that are absent, and why they cannot be opened.
+/// Names of files that are absent, and the reasons why they cannot be opened.
 const ABSENT: [(&str, ErrorKind); 2] = [
     ("/no/such/file", ErrorKind::NotFound),
     ("/dev/null/file", ErrorKind::NotADirectory),
@@ -23,7 +23,7 @@ fn a_missing_file_is_absent(rt: HostRuntime) {
     }
 }
 
-/// Names of files that give no bytes, what a read of one answers, and the reason that it leaves.
+/// Names of files that give no bytes, the result of a read of one, and the reason that it leaves.
 const WITHOUT_BYTES: [(&str, Result<usize, ReadFault>, Option<ErrorKind>); 2] = [
     // A folder.
     ("/", Err(ReadFault::Device), Some(ErrorKind::IsADirectory)),
@@ -65,7 +65,7 @@ fn a_writer_takes_all(rt: HostRuntime) {
     expect(&rt, &"hello", &write_whole(&mut output, b"hello"), &Ok(()));
 }
 
-/// Bytes that are written, what that answers, and the reason that it leaves.
+/// Bytes that are written, the result of writing them, and the reason that it leaves.
 type Written = (&'static [u8], Result<(), usize>, Option<ErrorKind>);
 
 /// Writes a story at this place, the one part behind the other.

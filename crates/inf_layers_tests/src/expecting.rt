@@ -1,8 +1,8 @@
-//! Assertions of what a row of a table wants.
+//! Assertions of the values that the rows of a table want.
 use std::fmt::Debug;
 use std::process::Abort;
 
-/// Asserts that what was found of a row is what is wanted.
+/// Asserts that the value found for a row is the wanted one.
 pub(crate) fn expect<T: Debug + PartialEq>(
     rt: &impl Abort,
     row: &impl Debug,

@@ -1,17 +1,17 @@
 use crate::expecting::expect;
-use inf_cells::Scale;
+use inf_area::Scale;
+use inf_command::command_line::{CommandLine, Options};
+use inf_command::head::Head;
 use inf_settings::setting::Setting;
-use inf_words::command_line::{CommandLine, Options};
-use inf_words::head::Head;
 use std::alloc::Global;
 use std::process::Abort;
 use std::test::Fail;
 
-/// The choices that are compared: the version's scale, whether `Switches` says nothing, how many labels there may be, and the first
-/// directory.
+/// The choices that are compared: the version's scale, whether `Switches` says nothing, the most labels that there may
+/// be, and the first directory.
 type Chosen = (Scale, bool, u32, Option<&'static str>);
 
-/// Words of a head, words of a command, and what they choose together.
+/// Words of a head, words of a command, and the choices that they make together.
 const HEADS: [(&[&str], &[&str], Chosen); 8] = [
     (&[], &["t"], (Scale::Four, false, 1000, None)),
     (
@@ -43,7 +43,7 @@ const HEADS: [(&[&str], &[&str], Chosen); 8] = [
     (&["+\u{e9}"], &["t", "-i"], (Scale::Four, true, 1000, None)),
 ];
 
-/// Asserts what the words of a command choose over those of a head.
+/// Asserts the choices of the words of a command over those of a head.
 fn choose(
     rt: &impl Abort,
     alloc: Global,

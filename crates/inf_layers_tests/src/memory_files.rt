@@ -1,14 +1,14 @@
 ghost use Rattle.std.specs.Prelude.{◌≡◌, ◌<◌, ◌+◌, is_ok, length, if◌then◌else◌};
 
 use crate::expecting::expect;
-use inf_files::files::{Files, OpenFault};
-use inf_files::memory_files::MemoryFiles;
+use inf_devices::files::{Files, OpenFault};
+use inf_devices::memory_files::MemoryFiles;
 use std::alloc::Global;
 use std::collections::BTreeMap;
 use std::process::Abort;
 use std::test::Fail;
 
-/// The source `a` has `one two`, and `b` has nothing.
+/// Returns two sources: `a` has `one two`, and `b` has nothing.
 fn two_sources(alloc: Global) -> Result<MemoryFiles, Fail> {
     let mut sources = BTreeMap::new(alloc);
     sources.insert(
@@ -19,7 +19,7 @@ fn two_sources(alloc: Global) -> Result<MemoryFiles, Fail> {
     Ok(MemoryFiles::new(alloc, sources))
 }
 
-/// Opens a source. Of the openings it states only how many are open.
+/// Opens a source. The contract states of the openings only how many are open.
 fn open(files: &mut MemoryFiles, name: &str) -> Result<(), OpenFault>
     ensures { let depth = length files.old.openings.open_places in
         length files.new.openings.open_places ≡ (if is_ok result then depth + 1 else depth) }
@@ -45,7 +45,8 @@ fn close(files: &mut MemoryFiles)
     files.close();
 }
 
-/// Reads from the innermost source once: how many bytes come to the front of a part, and what the part then is.
+/// Reads from the innermost source once, and asserts the number of bytes that come to the front of `part`, and its
+/// bytes then.
 fn read(rt: &impl Abort, files: &mut MemoryFiles, part: &mut [u8], count: usize, wanted: &[u8])
     requires is_open { 0 < length files.old.openings.open_places }
     requires room { 0 < length part.old }

@@ -1,11 +1,11 @@
 ghost use Rattle.std.specs.Prelude.{None};
 
 use crate::expecting::expect;
-use inf_sinks::memory_sink::MemorySink;
-use inf_sinks::sinks::{Sink, SinkFault, write_whole};
+use inf_devices::memory_sink::MemorySink;
+use inf_devices::sinks::{Sink, SinkFault, write_whole};
 use std::process::Abort;
 
-/// Takes one byte a write.
+/// A sink that takes one byte a write.
 #[derive(Drop)]
 struct Narrow {
     whole: MemorySink,
@@ -21,7 +21,7 @@ impl Sink for Narrow {
     }
 }
 
-/// Takes a few bytes, and then none.
+/// A sink that takes a few bytes, and then none.
 #[derive(Drop)]
 struct Small {
     whole: MemorySink,
@@ -45,10 +45,10 @@ impl Sink for Small {
     }
 }
 
-/// Bytes that are written, and what comes of it.
+/// Bytes that are written, and the result of writing them.
 type Written = (&'static [u8], Result<(), usize>);
 
-/// Writes these, the one behind the other.
+/// Writes `parts`, one behind the other, and asserts their results.
 fn write_all(rt: &impl Abort, sink: &mut impl Sink, parts: &[Written]) {
     for (bytes, wanted) in parts {
         expect(rt, bytes, &write_whole(sink, bytes), wanted);

@@ -2,7 +2,8 @@
 //!
 //! A user of this layer needs no other crate. It shows types and calls of `inf_link` and `inf_story`:
 //!
-//! - `Link::new` takes `Areas`, the places that are filled at the end, the `Targets` that their numbers are looked up in, and `HeaderFields`;
+//! - `Link::new` takes `Areas`, the places that are filled at the end, the `Targets` that their numbers are looked up in, and
+//!   `HeaderFields`;
 //!   `Link::link` answers the `Story` or a `LinkFault`.
 //! - `story` does the same with the code, the strings and the tables of a source.
 //! - `Story::{as_slice, into_bytes, sizes}` give its bytes and `Sizes`.

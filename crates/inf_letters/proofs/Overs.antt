@@ -1,4 +1,4 @@
--- Letters behind others say what they say alone, over those.
+-- Letters behind others choose as they do alone, over the choices of those.
 use Rattle.std.proofs.Common.{◌≡◌, ℕ, List, [], ◌∷◌, Option, Some, None, refl, ap, ◌∙◌}
 use Rattle.std.specs.Option.{option_map}
 use Rattle.inf_letters.specs.declared.letters.Letters.{Letters}
@@ -6,11 +6,11 @@ use Rattle.inf_letters.specs.declared.letters.Said.{Said}
 use Rattle.inf_letters.specs.declared.letters.Said.TheVariants as said
 use Rattle.inf_letters.specs.Letters.{alone, either, followed, none_spoken, paired, spoken, spoken_over, with_letters}
 
--- over nothing, and nothing over what was said
+-- Choices over none are themselves, and none over choices leave them.
 pub none_over : (l : Letters) → spoken_over none_spoken l ≡ l
 none_over l = refl
 
--- one thing more is said of the upper ones
+-- One choice more over others is one more of the upper ones.
 pub spoken-over : (s : Said) (l others : Letters) → spoken s (spoken_over l others) ≡ spoken_over (spoken s l) others
 spoken-over (said.Set set) l others = refl
 spoken-over (said.Scale scale) l others = refl
@@ -21,11 +21,11 @@ spoken-over (said.Ignores ignores) l others = refl
 spoken-over (said.Debugs debugs) l others = refl
 spoken-over said.Nothing l others = refl
 
--- what is over others, if anything
+-- the choices, if there are any, over those of `others`
 abbrev over_all : Letters → Option Letters → Option Letters
 over_all others o = option_map (λ l. spoken_over l others) o
 
--- a thing that is said, or not, before others that keep the law
+-- A choice, or none, before letters that keep the law keeps it, too.
 followed-over : (next : Letters → Option Letters) (l others : Letters) (o : Option Said) →
     ((s : Said) → next (spoken_over (spoken s l) others) ≡ over_all others (next (spoken s l)))
     → followed next (spoken_over l others) o ≡ over_all others (followed next l o)
@@ -38,7 +38,7 @@ either-over : (first upper : Said → Option Letters) (second other : Option Let
 either-over first upper second other others None law rest = rest
 either-over first upper second other others (Some s) law rest = law s
 
--- Letters behind others say what they say alone, over those.
+-- Letters behind others choose as they do alone, over the choices of those.
 pub with_letters-over : (letters : List ℕ) (l others : Letters) →
     with_letters letters (spoken_over l others) ≡ option_map (λ x. spoken_over x others) (with_letters letters l)
 with_letters-over [] l others = refl

@@ -1,21 +1,21 @@
--- The letters of a command, of the head of a source and of `Switches`: what they say matter by matter (Inform Designer's
+-- The letters of a command, of the head of a source and of `Switches`, and their choices, matter by matter (Inform Designer's
 -- Manual, fourth edition, section 39).
 use Rattle.std.specs.Prelude.{ℕ, ◌==◌, Bool, true, false, List, [], ◌∷◌, if◌then◌else◌, Option, Some, None, unwrap_or}
 use Rattle.std.specs.Option.{option_or}
 use Rattle.inf_characters.specs.declared.characters.CharSet.{CharSet}
 use Rattle.inf_characters.specs.declared.characters.CharSet.TheVariants.{Ascii, Latin1}
-use Rattle.inf_cells.specs.declared.scale.Scale.{Scale}
-use Rattle.inf_cells.specs.declared.scale.Scale.TheVariants.{Four, Eight}
+use Rattle.inf_area.specs.declared.scale.Scale.{Scale}
+use Rattle.inf_area.specs.declared.scale.Scale.TheVariants.{Four, Eight}
 use Rattle.inf_letters.specs.declared.letters.Letters.{Letters}
 use Rattle.inf_letters.specs.declared.letters.Said.{Said}
 use Rattle.inf_letters.specs.declared.letters.Said.TheVariants as said
 
--- nothing was said
+-- the choices of no letters
 abbrev pub none_spoken : Letters
 none_spoken =
     record { set = None; scale = None; warns = None; abbreviates = None; counts = None; ignores = None; debugs = None }
 
--- the letters that stand alone: `e`, `s`, `w`, `i` and `D`
+-- the choice of a letter by itself: of `e`, `s`, `w`, `i` and `D`
 abbrev pub alone : ℕ → Option Said
 alone b =
     if b == 101 then Some (said.Abbreviates true)
@@ -25,7 +25,7 @@ alone b =
     else if b == 68 then Some (said.Debugs true)
     else None
 
--- the letters that stand behind `~`: the same, and `S`
+-- the choice of a letter behind `~`: of the same letters, and of `S`
 abbrev pub turned_off : ℕ → Option Said
 turned_off b =
     if b == 101 then Some (said.Abbreviates false)
@@ -53,7 +53,7 @@ paired b c =
     else if b == 69 then (if c == 49 then Some said.Nothing else None)
     else None
 
--- one thing more is the last word on its matter
+-- choices with one more, which is the last on its matter
 abbrev pub spoken : Said → Letters → Letters
 spoken (said.Set set) l = record l { set = Some set }
 spoken (said.Scale scale) l = record l { scale = Some scale }
@@ -64,7 +64,7 @@ spoken (said.Ignores ignores) l = record l { ignores = Some ignores }
 spoken (said.Debugs debugs) l = record l { debugs = Some debugs }
 spoken said.Nothing l = l
 
--- what is said by what follows it, and nothing where it is unknown
+-- the choices of the letters behind a choice, and none where that is unknown
 abbrev pub followed : (Letters → Option Letters) → Letters → Option Said → Option Letters
 followed next l None = None
 followed next l (Some s) = next (spoken s l)
@@ -74,14 +74,15 @@ abbrev pub either : Option Said → (Said → Option Letters) → Option Letters
 either None first second = second
 either (Some s) first second = first s
 
--- Letters behind what was said, from left to right: each stands alone or is one of a pair. One that is unknown has all unheard.
+-- The choices of letters behind others, from left to right: each letter comes alone or is one of a pair. Where one is unknown,
+-- there are none.
 abbrev pub with_letters : List ℕ → Letters → Option Letters
 with_letters [] l = Some l
 with_letters (b ∷ []) l = followed (λ x. Some x) l (alone b)
 with_letters (b ∷ c ∷ letters) l =
     either (alone b) (λ s. with_letters (c ∷ letters) (spoken s l)) (followed (with_letters letters) l (paired b c))
 
--- on each matter what the first ones say, or where they say nothing, what the others do
+-- on each matter the choice of the first, or where they leave it open, that of the others
 abbrev pub spoken_over : Letters → Letters → Letters
 spoken_over l others = record {
   set = option_or l.set others.set;
@@ -101,7 +102,7 @@ set_of l = unwrap_or l.set Latin1
 abbrev pub scale_of : Letters → Scale
 scale_of l = unwrap_or l.scale Four
 
--- whether warnings are told
+-- whether warnings are shown
 abbrev pub warns : Letters → Bool
 warns l = unwrap_or l.warns true
 
@@ -109,11 +110,11 @@ warns l = unwrap_or l.warns true
 abbrev pub abbreviates : Letters → Bool
 abbreviates l = unwrap_or l.abbreviates false
 
--- whether statistics are told
+-- whether statistics are shown
 abbrev pub counts : Letters → Bool
 counts l = unwrap_or l.counts false
 
--- whether `Switches` says nothing
+-- whether `Switches` chooses nothing
 abbrev pub ignores : Letters → Bool
 ignores l = unwrap_or l.ignores false
 

@@ -1,31 +1,31 @@
-//! What letters say, read from left to right.
+//! The matters that letters choose, read from left to right.
 ghost use Rattle.std.specs.Prelude.{◌≡◌};
 ghost use Rattle.inf_letters.specs.Letters.{abbreviates, alone, counts, debugs, ignores, none_spoken, paired, scale_of, set_of, spoken};
 ghost use Rattle.inf_letters.specs.Letters.{spoken_over, turned_off, warns, with_letters};
 
-use inf_cells::Scale;
+use inf_area::Scale;
 use inf_characters::CharSet;
 
-/// What letters said: on each matter the last word, and nothing where none spoke of it.
+/// The choices of letters: on each matter the last letter's, and none where no letter spoke of it.
 #[derive(Clone, Copy, Debug, PartialEq, Eq)]
 pub struct Letters {
-    /// The character set of the sources: `C0` and `C1`.
+    /// The character set of the sources, by `C0` and `C1`.
     pub set: Option<CharSet>,
-    /// The version of the story: `v5` and `v8`.
+    /// The scale of packed addresses, which gives the version of the story: by `v5` and `v8`.
     pub scale: Option<Scale>,
-    /// Whether warnings are told: not by `w`, and by `~w` they are.
+    /// Whether warnings are shown: no by `w`, and yes by `~w`.
     pub warns: Option<bool>,
-    /// Whether texts are abbreviated: by `e`, and not by `~e`.
+    /// Whether texts are abbreviated: yes by `e`, and no by `~e`.
     pub abbreviates: Option<bool>,
-    /// Whether statistics are told: by `s`, and not by `~s`.
+    /// Whether statistics are shown: yes by `s`, and no by `~s`.
     pub counts: Option<bool>,
-    /// Whether `Switches` says nothing: by `i`, and not by `~i`.
+    /// Whether `Switches` chooses nothing: yes by `i`, and no by `~i`.
     pub ignores: Option<bool>,
-    /// Whether the language has the name `DEBUG`: by `D`, and not by `~D`.
+    /// Whether the language has the name `DEBUG`: yes by `D`, and no by `~D`.
     pub debugs: Option<bool>,
 }
 
-/// What one letter says, or two that belong together.
+/// The choice of one letter, or of two that belong together.
 #[derive(Clone, Copy, Debug)]
 pub(crate) enum Said {
     Set(CharSet),
@@ -35,11 +35,11 @@ pub(crate) enum Said {
     Counts(bool),
     Ignores(bool),
     Debugs(bool),
-    /// Nothing that is chosen here, though it is known.
+    /// No choice, by letters that are known.
     Nothing,
 }
 
-/// What a letter says that stands alone, if it can.
+/// Returns the choice of a letter by itself: none but for `e`, `s`, `w`, `i` and `D`.
 fn alone(letter: u8) -> Option<Said>
     ensures { result ≡ alone letter }
 {
@@ -53,7 +53,7 @@ fn alone(letter: u8) -> Option<Said>
     }
 }
 
-/// What a letter says behind `~`, if it can stand there.
+/// Returns the choice of a letter behind `~`: none but for `e`, `s`, `w`, `i`, `D` and `S`.
 fn turned_off(letter: u8) -> Option<Said>
     ensures { result ≡ turned_off letter }
 {
@@ -68,7 +68,7 @@ fn turned_off(letter: u8) -> Option<Said>
     }
 }
 
-/// What two letters say together, if they can.
+/// Returns the choice of two letters together, or `None` where they are no pair.
 fn paired(first: u8, second: u8) -> Option<Said>
     ensures { result ≡ paired first second }
 {
@@ -84,7 +84,7 @@ fn paired(first: u8, second: u8) -> Option<Said>
 }
 
 impl Letters {
-    /// Nothing was said.
+    /// Returns the choices of no letters: none on each matter.
     pub fn none() -> Letters
         ensures { result ≡ none_spoken }
     {
@@ -99,7 +99,7 @@ impl Letters {
         }
     }
 
-    /// What was said with one thing more, which is the last word on its matter.
+    /// Returns these choices with one more, which is the last on its matter.
     fn with(mut self, said: Said) -> Letters
         ensures { result ≡ spoken said self }
     {
@@ -116,11 +116,12 @@ impl Letters {
         self
     }
 
-    /// What was said with `letters` behind it, read from left to right: the last word on a matter holds.
+    /// Returns these choices with those of `letters` behind them, read from left to right: the last choice on a matter
+    /// holds.
     ///
-    /// `e`, `s`, `w`, `i` and `D` stand alone, or behind a `~` that turns them off; `~S` and `E1` choose nothing; `v5` and `v8`
-    /// choose the version, `C0` and `C1` the character set. Letters are told with case. None where there is any other, and then
-    /// none of them was heard.
+    /// `e`, `s`, `w`, `i` and `D` come alone, or behind a `~` that turns them off; `~S` and `E1` choose nothing; `v5`
+    /// and `v8` choose the version, `C0` and `C1` the character set. Upper and lower case are different letters. `None`
+    /// where there is any other letter, and then none of them counts.
     pub fn and(self, letters: &[u8]) -> Option<Letters>
         ensures { result ≡ with_letters letters.now self }
     {
@@ -139,7 +140,7 @@ impl Letters {
         Some(spoken)
     }
 
-    /// What was said here, and on matters of which nothing was said here, what `others` say.
+    /// Returns these choices, and on matters that they leave open those of `others`.
     pub fn over(self, others: Letters) -> Letters
         ensures { result ≡ spoken_over self others }
     {
@@ -154,49 +155,49 @@ impl Letters {
         }
     }
 
-    /// The character set of the sources: ISO Latin-1 where nothing was said.
+    /// Returns the character set of the sources: ISO Latin-1 where none was chosen.
     pub fn set(self) -> CharSet
         ensures { result ≡ set_of self }
     {
         self.set.unwrap_or(CharSet::Latin1)
     }
 
-    /// What packed addresses are multiplied by, which tells the version: that of version 5 where nothing was said.
+    /// Returns the scale of packed addresses, which gives the version: that of version 5 where none was chosen.
     pub fn scale(self) -> Scale
         ensures { result ≡ scale_of self }
     {
         self.scale.unwrap_or(Scale::Four)
     }
 
-    /// Whether warnings are told: they are where nothing was said.
+    /// Returns whether warnings are shown, as they are where nothing was chosen.
     pub fn warns(self) -> bool
         ensures { result ≡ warns self }
     {
         self.warns.unwrap_or(true)
     }
 
-    /// Whether texts are abbreviated: not where nothing was said.
+    /// Returns whether texts are abbreviated: not where nothing was said.
     pub fn abbreviates(self) -> bool
         ensures { result ≡ abbreviates self }
     {
         self.abbreviates.unwrap_or(false)
     }
 
-    /// Whether statistics are told: not where nothing was said.
+    /// Returns whether statistics are shown: not where nothing was chosen.
     pub fn counts(self) -> bool
         ensures { result ≡ counts self }
     {
         self.counts.unwrap_or(false)
     }
 
-    /// Whether `Switches` says nothing: it speaks where nothing was said.
+    /// Returns whether `Switches` says nothing: it speaks where nothing was said.
     pub fn ignores(self) -> bool
         ensures { result ≡ ignores self }
     {
         self.ignores.unwrap_or(false)
     }
 
-    /// Whether the language has the name `DEBUG`: not where nothing was said.
+    /// Returns whether the language has the name `DEBUG`: not where nothing was said.
     pub fn debugs(self) -> bool
         ensures { result ≡ debugs self }
     {

@@ -5,7 +5,7 @@ use Rattle.std.proofs.Common.{sym, ap, subst, ◌∙◌, arith, add-one, drop-co
 use Rattle.std.specs.Prelude.{slice_get, IsSome}
 use Rattle.std.specs.List.{list_any}
 use Rattle.std.proofs.lemmas.Bool.{cond-false, ne_eqb, or_left, or_right, or_cases, le-leb}
-use Rattle.inf_files.specs.Files.{Closes, Opening, Sources, Openings, Rose, opened}
+use Rattle.inf_devices.specs.Files.{Closes, Opening, Sources, Openings, Rose, opened}
 use Rattle.inf_lexer.specs.Entering.{ClosedAgain, Enters, IsEntered, Leaves, first_there, has_one_too_many, is_absent, with_opened}
 use Rattle.inf_lexer.specs.Entering.{with_closed}
 use Rattle.inf_lexer.specs.Names.{Nest, behind_sign, candidates, has_sign, name_beside, name_in, names_in, number_of}
@@ -50,12 +50,12 @@ pub first_here : (sources : Sources) (name found : List ℕ) (names : List (List
     → first_there sources (name ∷ names) ≡ Some found
 first_here sources name found names e = taken_first (is_some (sources name)) name found (first_there sources names) e
 
--- the only one of one name
+-- the only name of one name
 only : (name found : List ℕ) (place : ℕ) → slice_get (name ∷ []) place ≡ Some found → found ≡ name
 only name found zero e = cc
 only name found (suc place) e = cc
 
--- what a list has from a place on
+-- a list from a place on is the item there and the list behind it
 pub from_place : (A : Type 0) (f : A → List ℕ) (xs : List A) (i : ℕ) (d : A) → i < length xs
     → map f (drop i xs) ≡ f (get_or xs i d) ∷ map f (drop (i + 1) xs)
 from_place A f xs i d lt = rw (drop-cons xs i d, add-one) refl
@@ -89,7 +89,7 @@ pub rose_earlier : (start before now : ℕ) → start ≤ before → Rose before
 rose_earlier start before now le (inl less) = inl (omega arith)
 rose_earlier start before now le (inr last) = inr last
 
--- what entering one name says of more names, where that name stands at a place and is the first there
+-- the entering of one name is that of more names, where that name has a place among them and is the first that is there
 pub enters_at : (sources : Sources) (honest : Bool) (names : List (List ℕ)) (name : List ℕ) (i : ℕ) (start before after : Openings)
     (old now new : Nest) (lexer : Reader)
     → slice_get names i ≡ Some name → (IsTrue honest → before ≡ start) → now ≡ old
@@ -140,7 +140,7 @@ absent_after sources known name before after (Err fault.Memory) e l = cc
 absent_after sources known name before after (Err fault.BadName) e l = cc
 absent_after sources known name before after (Err fault.TooDeep) e l = cc
 
--- what entering one of many names says, where none before it is there
+-- the entering of one of many names, where none before it is there
 pub enters_in : {A : Type 0} (sources : Sources) (honest : Bool) (f : A → List ℕ) (xs : List A) (i : ℕ) (d : A) (name : List ℕ)
     (start before after : Openings) (old now new : Nest) (lexer : Reader)
     → i < length xs → name ≡ f (get_or xs i d) → (IsTrue honest → before ≡ start) → now ≡ old
@@ -153,7 +153,7 @@ enters_in {A} sources honest f xs i d name start before after old now new lexer 
     (λ n. first_there sources (n ∷ map f (drop (i + 1) xs))) (sym is)
     ∙ first_here sources name name (map f (drop (i + 1) xs)) found) e
 
--- a source that was opened is closed at once
+-- lists with an item at the end are the same only where their fronts are
 front_same : (xs ys : List ℕ) (x y : ℕ) → xs ++ x ∷ [] ≡ ys ++ y ∷ [] → xs ≡ ys
 front_same [] [] x y e = refl
 front_same [] (b ∷ ys) x y e = absurd (omega (arith, ap length e, length-append ys (y ∷ [])))
@@ -170,7 +170,7 @@ closes_opened name old mid new opens closes =
     (front_same new.open_places old.open_places closes.place (length old.all)
     (sym closes.innermost ∙ ap (λ (o : Openings). o.open_places) opens))
 
--- one that is there and was one too many, likewise
+-- a name that is there, and was one too many, is the first of many names, where none before it is there
 pub closed_in : {A : Type 0} (sources : Sources) (known : List (List ℕ)) (f : A → List ℕ) (xs : List A) (i : ℕ) (d : A) (name : List ℕ)
     (start before after : Openings)
     → i < length xs → name ≡ f (get_or xs i d) → before ≡ start → first_there sources (map f (drop i xs)) ≡ first_there sources (map f xs)

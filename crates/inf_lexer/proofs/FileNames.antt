@@ -22,7 +22,7 @@ not_ascii (b ∷ bs) (suc i) large = and_right (nat_lt b 128) (list_all (λ x. n
 pub not_all_ascii : (bs : List ℕ) → IsNotAscii bs → list_all (λ b. nat_lt b 128) bs ≡ false
 not_all_ascii bs (i, large) = not_ascii bs i large
 
--- a name with a `/` in its back has one
+-- a name with a `/` behind its front has one
 slash_behind : (front back : List ℕ) → has_slash (front ++ 47 ∷ back) ≡ true
 slash_behind [] back = refl
 slash_behind (b ∷ front) back = or_right (b == 47) (has_slash (front ++ 47 ∷ back)) (slash_behind front back)

@@ -1,13 +1,13 @@
--- What the innermost source gives, reading by reading.
+-- The bytes that the innermost source gives, reading by reading.
 use Rattle.std.proofs.Common.{◌≡◌, ℕ, suc, ◌+◌, ◌-◌, ◌≤◌, zero, List, [], ◌∷◌, ◌++◌, length, take, drop, get_or, Bool, true, false, IsTrue}
 use Rattle.std.proofs.Common.{Some, unwrap_or, refl, sym, ap, subst, ◌∙◌, arith, append-nil, append_assoc, length-append}
 use Rattle.std.specs.Prelude.{slice_get, slice_set}
 use Rattle.std.proofs.lemmas.List.{length-set, drop-take, drop-drop, take-append-le}
 use Rattle.std.proofs.Math.Seq.{get_or-append_seam}
-use Rattle.inf_files.specs.Files.{Opening, Openings, Sources, GivesInnermost, opened, after_bytes}
+use Rattle.inf_devices.specs.Files.{Opening, Openings, Sources, GivesInnermost, opened, after_bytes}
 use Rattle.inf_lexer.specs.Unread.{innermost_place, innermost, unread_of, unread, Gave, View, ReadsOn}
 
--- no bytes
+-- a source gave no bytes
 pub gave_nothing : (sources : Sources) (o : Openings) → Gave sources o o []
 gave_nothing sources o = record {
   next = refl;
@@ -18,7 +18,7 @@ gave_nothing sources o = record {
   others = λ i other. refl;
 }
 
--- bytes, and then more
+-- a source gave some bytes, and then more
 pub gave_more : (sources : Sources) (old now new : Openings) (bytes more : List ℕ) → Gave sources old now bytes → Gave sources now new more
     → Gave sources old new (bytes ++ more)
 gave_more sources old now new bytes more g h = record {
@@ -31,7 +31,7 @@ gave_more sources old now new bytes more g h = record {
       λ i other. h.others i (λ e. other (e ∙ ap (λ (places : List ℕ). get_or places (length places - 1) 0) g.places)) ∙ g.others i other;
 }
 
--- the place behind others is the last
+-- the place behind others is the last one
 last_place : (outer : List ℕ) (place : ℕ) → get_or (outer ++ place ∷ []) (length (outer ++ place ∷ []) - 1) 0 ≡ place
 last_place outer place =
     let last : length (outer ++ place ∷ []) - 1 ≡ length outer = omega (arith, length-append outer (place ∷ [])) in
@@ -70,7 +70,7 @@ drop_front : (front back : List ℕ) → drop (length front) (front ++ back) ≡
 drop_front [] back = refl
 drop_front (x ∷ front) back = drop_front front back
 
--- what a reading of the innermost source gives
+-- the bytes that a reading of the innermost source gives
 pub gave_of : (sources : Sources) (old new : Openings) (bytes : List ℕ) → GivesInnermost sources old new bytes → Gave sources old new bytes
 gave_of sources old new bytes g =
     let here : innermost_place old ≡ g.place =
@@ -122,7 +122,7 @@ nothing_left sources old new bytes g none =
       ap (λ (o : Opening). o.is_read_out) is ∙ ap (λ bs. (after_bytes g.before bs).is_read_out) none,
     )
 
--- a window with some bytes less
+-- the bytes in a window that has some taken
 pub window_behind : (n next end : ℕ) (buffer : List ℕ) → next + n ≤ end →
     take (end - (next + n)) (drop (next + n) buffer) ≡ drop n (take (end - next) (drop next buffer))
 window_behind n next end buffer some =
@@ -131,7 +131,7 @@ window_behind n next end buffer some =
     ∙ sym (drop-take n (end - (next + n)) (drop next buffer))
     ∙ ap (λ m. drop n (take m (drop next buffer))) (sym size)
 
--- what a reading into an empty window brings
+-- the bytes that a reading into an empty window brings
 pub reads_first : (is_honest : Bool) (sources : Sources) (old new : Openings) (before after : View) (bytes : List ℕ) → before.left ≡ [] →
     before.is_over ≡ false
     → (IsTrue is_honest → Gave sources old new bytes) → after.left ≡ bytes → after.given ≡ before.given + length bytes → ReadsOn is_honest

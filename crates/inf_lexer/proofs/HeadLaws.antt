@@ -9,8 +9,8 @@ use Rattle.inf_scanner.specs.Lines.{past}
 use Rattle.inf_scanner.specs.Scanning.{Found, Sight, begin, begun, find, marked, step_of, turn_by}
 use Rattle.inf_scanner.specs.declared.lines.Lines.{Lines}
 use Rattle.inf_scanner.specs.declared.scanner.State.TheVariants as state
-use Rattle.inf_scanner.specs.declared.scanner.Step.{Step}
-use Rattle.inf_scanner.specs.declared.scanner.Step.TheVariants as to
+use Rattle.inf_scanner.specs.declared.scanner.ByteStep.{ByteStep}
+use Rattle.inf_scanner.specs.declared.scanner.ByteStep.TheVariants as to
 use Rattle.inf_scanner.specs.declared.scanner.Turn.TheVariants as turn_to
 use Rattle.inf_lexer.specs.Heads.{HeadFound, comment_step, head_found, head_step, is_cut, line_step, place_behind}
 use Rattle.inf_lexer.specs.Heads.{HeadRead, WholeHead, goes_on_at, head_within, is_word, next_head_word, with_head_byte, with_head_word}
@@ -24,7 +24,7 @@ use Rattle.inf_lexer.proofs.Heading.{goes_on_is, words_take}
 eq_of : (m n : ℕ) → (m == n) ≡ true → m ≡ n
 eq_of m n e = grind (arith, nat_tests)
 
--- before a token, where it was thought to begin makes no difference
+-- before a token, the line where it was thought to begin makes no difference
 free : (set : CharSet) (limit : ℕ) (p : HeadPlace) (first : ℕ) (lines : Lines) (bs : List ℕ)
     → find set limit (state_at p) (record { first = first; kept = (begun lines).kept; lines = lines }) bs
     ≡ find set limit (state_at p) (begun lines) bs
@@ -43,7 +43,8 @@ free set limit place.Comment first lines (b ∷ bs) = refl
 free set limit place.Behind first lines [] = refl
 free set limit place.Behind first lines (b ∷ bs) = refl
 
--- what a byte of a head does among tokens: it is passed over, to where the head goes on; where it stops, it does the same behind the head
+-- the step of a byte of a head is the same among tokens: the byte is passed over, to where the head goes on; where the head stops,
+-- the byte does the same as behind the head
 abbrev Passes : CharSet → HeadPlace → ℕ → HeadStep → Type 0
 Passes set p b (step.Pass next) = step_of set (state_at p) b ≡ to.Skip (state_at next)
 Passes set p b step.Keep = step_of set (state_at p) b ≡ to.Skip state.Comment
@@ -128,8 +129,8 @@ passes set place.Word b = word_passes set b (is_cut b || is_line_end b) refl
 passes set place.Comment b = comment_passes set b (is_line_end b) refl
 passes set place.Behind b = refl
 
--- what is found behind a byte that does this
-abbrev turned : CharSet → ℕ → Step → ℕ → Sight → List ℕ → Found
+-- the finding behind a byte that makes the step `x`
+abbrev turned : CharSet → ℕ → ByteStep → ℕ → Sight → List ℕ → Found
 turned set limit x b seen bs =
     let t = turn_by limit x b seen in
     elim t.0 [
@@ -202,7 +203,7 @@ goes_on_free : (b : Bool) → is_word (goes_on_at b) ≡ false
 goes_on_free true = refl
 goes_on_free false = refl
 
--- what is found behind the words of a head that goes on here with less than so many bytes is what is found here
+-- the finding behind the words of a head that goes on here with less than `n` bytes is the finding here
 abbrev FindsSame : CharSet → ℕ → ℕ → Type 0
 FindsSame set limit n = (p : HeadPlace) (lines : Lines) (bytes : List ℕ) → length bytes < n → is_word p ≡ false
     → find set limit state.Gap (begun (head_within n p lines bytes).lines) (head_within n p lines bytes).rest

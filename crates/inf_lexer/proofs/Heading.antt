@@ -1,7 +1,7 @@
--- Where a head ends, and what it takes.
+-- The end of a head, and the bytes that it takes.
 use Rattle.std.proofs.Common.{◌≡◌, ℕ, ◌-◌, ◌≤◌, ◌<◌, ◌⊎◌, ◌||◌, ◌==◌, List, [], ◌∷◌, ◌++◌, length, Bool, true, false, cond, IsTrue}
 use Rattle.std.proofs.Common.{refl, sym, ap, subst, ◌∙◌, arith, append_assoc, length-append}
-use Rattle.inf_files.specs.Files.{Sources, Openings}
+use Rattle.inf_devices.specs.Files.{Sources, Openings}
 use Rattle.inf_characters.specs.Characters.{is_line_end}
 use Rattle.inf_scanner.specs.Lines.{past}
 use Rattle.inf_scanner.specs.declared.lines.Lines.{Lines}
@@ -54,11 +54,11 @@ leads_on place.Word b = of_choice (is_cut b || is_line_end b) step.Stop step.Kee
 leads_on place.Comment b = comment_leads b
 leads_on place.Behind b = refl
 
--- none of them leads behind the head
+-- no byte that is passed over leads behind the head
 pub passes_before : (p next : HeadPlace) (b : ℕ) → head_step p b ≡ step.Pass next → is_behind next ≡ false
 passes_before p next b e = sym (ap leads_behind e) ∙ leads_on p b
 
--- where it goes on behind a call
+-- the place where the head goes on behind a call
 pub goes_on_is : (p : HeadPlace) → place_behind p ≡ goes_on_at (is_word p)
 goes_on_is place.Line = refl
 goes_on_is place.Return = refl
@@ -68,7 +68,7 @@ goes_on_is place.Word = refl
 goes_on_is place.Comment = refl
 goes_on_is place.Behind = refl
 
--- What is found
+-- The end that is found
 
 abbrev after_step : HeadStep → HeadPlace → List ℕ → Lines → ℕ → List ℕ → HeadFound
 after_step s p word lines b bs = elim s [
@@ -84,14 +84,14 @@ step_within (step.Pass next) p word lines b bs h = omega (arith, h next word)
 step_within step.Keep p word lines b bs h = omega (arith, h place.Word (with_head_byte b word))
 step_within step.Stop p word lines b bs h = omega arith
 
--- there is no more behind it than there was
+-- the bytes behind a head are no more than there were
 pub found_within : (p : HeadPlace) (word : List ℕ) (lines : Lines) (bytes : List ℕ)
     → length (head_found p word lines bytes).rest ≤ length bytes
 found_within p word lines [] = omega arith
 found_within p word lines (b ∷ bs) =
     step_within (head_step p b) p word lines b bs (λ q w. found_within q w (past b lines) bs)
 
--- Of some bytes each place takes one at least, but for that behind the head.
+-- Each place takes one at least of some bytes, but for the place behind the head.
 record TakesMore (p : HeadPlace) (word : List ℕ) (lines : Lines) : Type 0 where
   more : List ℕ
   takes : length (head_found p word lines more).rest < length more
@@ -105,7 +105,7 @@ found_more place.Word word lines e = record { more = 65 ∷ []; takes = omega ar
 found_more place.Comment word lines e = record { more = 65 ∷ []; takes = omega arith }
 found_more place.Behind word lines e = absurd (let never : true ≡ false = e in cc)
 
--- a word is found behind a byte of it at least, where none was read before
+-- a word is found behind one of its bytes at least, where none was read before
 word_by : (s : HeadStep) (p : HeadPlace) (word : List ℕ) (lines : Lines) (b : ℕ) (bs : List ℕ) → is_word p ≡ false
     → is_word (after_step s p word lines b bs).place ≡ true → length (after_step s p word lines b bs).rest < length (b ∷ bs)
 word_by (step.Pass next) p word lines b bs none is = omega (arith, found_within next word (past b lines) bs)
@@ -117,7 +117,7 @@ pub words_take : (p : HeadPlace) (word : List ℕ) (lines : Lines) (bytes : List
 words_take p word lines [] none is = absurd (let never : true ≡ false = sym is ∙ none in cc)
 words_take p word lines (b ∷ bs) none is = word_by (head_step p b) p word lines b bs none is
 
--- what was heard of a word tells what it took
+-- a word that was heard took its bytes
 pub took_word : (h : Bool) (s : Sources) (old new : Openings) (before after : View) (from at : HeadPlace) (begun word : List ℕ)
     (was now : Lines)
     → Heard HeadFound h s old new before after (λ rest. record { place = at; word = word; lines = now; rest = rest })

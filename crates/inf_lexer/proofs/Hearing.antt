@@ -1,11 +1,11 @@
--- What a lexer hears of a source, step by step.
+-- The bytes of a source that a lexer hears, step by step.
 use Rattle.std.proofs.Common.{◌≡◌, ℕ, List, [], ◌++◌, Bool, true, false, cond, IsTrue, refl, sym, ap, subst, ◌∙◌, arith, append_assoc}
 use Rattle.std.proofs.Common.{length-append}
-use Rattle.inf_files.specs.Files.{Sources, Openings}
+use Rattle.inf_devices.specs.Files.{Sources, Openings}
 use Rattle.inf_lexer.specs.Unread.{View, ReadsOn, Heard, Along, CanFollow, Ends, StillGives, behind_view, to_come, unread}
 use Rattle.inf_lexer.proofs.Giving.{gave_nothing, gave_more}
 
--- no bytes
+-- no bytes were heard
 pub heard_none : (T : Type 0) (h : Bool) (s : Sources) (o : Openings) (v : View) (now : List ℕ → T) → Heard T h s o o v v now now
 heard_none T h s o v now = record {
   bytes = [];
@@ -15,7 +15,7 @@ heard_none T h s o v now = record {
   same = λ behind can. refl;
 }
 
--- bytes that come into view
+-- bytes that come into view were heard
 pub heard_reads : (T : Type 0) (h : Bool) (s : Sources) (old new : Openings) (before after : View) (now : List ℕ → T)
     → ReadsOn h s old new before after → Heard T h s old new before after now now
 heard_reads T h s old new before after now r = record {
@@ -26,7 +26,7 @@ heard_reads T h s old new before after now r = record {
   same = λ behind can. ap (λ l. now (l ++ behind)) r.left ∙ ap now (append_assoc before.left r.bytes behind);
 }
 
--- what was heard first, and what was heard then
+-- bytes that were heard first, and those that were heard then
 pub heard_then : (T : Type 0) (h : Bool) (s : Sources) (old mid new : Openings) (before between after : View) (now then was : List ℕ → T)
     → Heard T h s old mid before between then was → Heard T h s mid new between after now then → Heard T h s old new before after now was
 heard_then T h s old mid new before between after now then was a b = record {
@@ -40,7 +40,7 @@ heard_then T h s old mid new before between after now then was a b = record {
       ∙ ap (λ bs. was (before.left ++ bs)) (sym (append_assoc a.bytes b.bytes behind));
 }
 
--- bytes in view that are taken
+-- bytes in view that are taken were heard
 pub heard_taken : (T : Type 0) (h : Bool) (s : Sources) (old new : Openings) (before after taken : View) (now next was : List ℕ → T)
     → Heard T h s old new before after now was → taken.given ≡ after.given → taken.is_over ≡ after.is_over
     → ((rest : List ℕ) → CanFollow after rest → next (taken.left ++ rest) ≡ now (after.left ++ rest)) → Heard T h s old new before taken
@@ -55,7 +55,7 @@ heard_taken T h s old new before after taken now next was a given over same = re
       same behind may ∙ a.same behind may;
 }
 
--- what is made of both
+-- a value that is made of the one that was heard
 pub heard_as : (T U : Type 0) (f : T → U) (h : Bool) (s : Sources) (old new : Openings) (before after : View) (now was : List ℕ → T)
     → Heard T h s old new before after now was → Heard U h s old new before after (λ rest. f (now rest)) (λ rest. f (was rest))
 heard_as T U f h s old new before after now was a = record {
@@ -79,7 +79,7 @@ along_of T h s old new before after now was a honest = record { bytes = a.bytes;
 can_follow : (s : Sources) (o : Openings) (v : View) → CanFollow v (behind_view s o v)
 can_follow s o v = λ over. ap (λ b. cond b [] (unread s o)) over
 
--- what follows the view, before and after bytes
+-- the bytes that follow the view, before and after a reading
 follows : (b c : Bool) (before after bytes : List ℕ) → (b ≡ true → (bytes ≡ []) × (c ≡ true)) → before ≡ bytes ++ after →
     (b ≡ false → c ≡ true → after ≡ [])
     → cond b [] before ≡ bytes ++ cond c [] after
@@ -88,7 +88,7 @@ follows true c before after bytes stops next ends =
 follows false true before after bytes stops next ends = next ∙ ap (λ u. bytes ++ u) (ends refl refl)
 follows false false before after bytes stops next ends = next
 
--- With a reader that keeps to its sources, what is made of all that is still to come stays the same.
+-- With a reader that keeps to its sources, the value of all that is still to come stays the same.
 pub heard_source : (T : Type 0) (h : Bool) (s : Sources) (old new : Openings) (before after : View) (now was : List ℕ → T)
     → Heard T h s old new before after now was → IsTrue h → (Ends s old before → Ends s new after) → now (to_come s new after) ≡ was
     (to_come s old before)
@@ -98,7 +98,7 @@ heard_source T h s old new before after now was a honest ends =
     (a.gave honest).next
     (λ going over. (ends (λ is. cc) over).0)))
 
--- bytes that come into view, behind what was heard
+-- bytes that come into view, behind those that were heard
 pub heard_on : (T : Type 0) (h g : Bool) (s t : Sources) (start old new : Openings) (first before after : View) (now was : List ℕ → T)
     → Heard T h s start old first before now was → g ≡ h → t ≡ s → ReadsOn g t old new before after → Heard T h s start new first after now
     was

@@ -1,4 +1,4 @@
--- What is in view: nothing of it, and then the end of a token; or something.
+-- A view in which there is nothing, where the token ends; or a view with bytes in it.
 use Rattle.std.proofs.Common.{◌≡◌, ◌<◌, ℕ, List, [], ◌∷◌, ◌++◌, length, arith, true, false, ◌==◌, refl, sym, ap, ◌∙◌}
 use Rattle.std.proofs.lemmas.Bool.Decides.{nat_tests}
 use Rattle.inf_characters.specs.declared.characters.CharSet.{CharSet}

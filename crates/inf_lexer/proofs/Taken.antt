@@ -1,8 +1,8 @@
--- What each token takes of its source, with any reader.
+-- The bytes that each token takes of its source, with any reader.
 use Rattle.std.proofs.Common.{◌≡◌, ◌⊎◌, inl, inr, ℕ, ◌+◌, ◌<◌, List, [], ◌∷◌, ◌++◌, length, Bool, true, false, refl, sym, ap, ◌∙◌, arith}
 use Rattle.std.proofs.Common.{append-nil, length-append}
 use Rattle.inf_characters.specs.declared.characters.CharSet.{CharSet}
-use Rattle.inf_files.specs.Files.{Sources, Openings}
+use Rattle.inf_devices.specs.Files.{Sources, Openings}
 use Rattle.inf_lexer.specs.Readers.{Took}
 use Rattle.inf_lexer.specs.Unread.{View, Heard}
 use Rattle.inf_scanner.proofs.TokenLaws.{runs_are_short, tokens_take_bytes}
@@ -20,7 +20,7 @@ use Rattle.inf_lexer.proofs.Hearing.{heard_as, heard_taken}
 abbrev read_as : TokenKind → Sight → List ℕ → Read
 read_as k seen rest = record { kind = k; line = seen.first; kept = seen.kept; lines = seen.lines; rest = rest }
 
--- the token of what was found
+-- the token of the finding that was heard
 pub heard_token : (h : Bool) (s : Sources) (old new : Openings) (before after : View) (set : CharSet) (limit : ℕ) (lines : Lines)
     (e : Ending) (seen : Sight) (k : TokenKind)
     → Heard Found h s old new before after (λ rest. record { ending = e; seen = seen; rest = rest })

@@ -2,7 +2,7 @@
 use Rattle.std.proofs.Common.{◌≡◌, ◌⊎◌, inl, inr, ℕ, ◌+◌, ◌-◌, ◌≤◌, ◌<◌, List, [], ◌++◌, length, Bool, true, false, cond, IsTrue, refl}
 use Rattle.std.proofs.Common.{sym, ap, subst, ◌∙◌, arith, append_assoc}
 use Rattle.inf_characters.specs.declared.characters.CharSet.{CharSet}
-use Rattle.inf_files.specs.Files.{Sources, Openings}
+use Rattle.inf_devices.specs.Files.{Sources, Openings}
 use Rattle.inf_scanner.specs.Scanning.{Found, Sight, begun, find, goes_on}
 use Rattle.inf_scanner.specs.declared.lines.Lines.{Lines}
 use Rattle.inf_scanner.specs.declared.scanner.State.{State}
@@ -17,7 +17,7 @@ pub past_of : (before after some : ℕ) → before ≤ 16777216 → after ≡ be
 past_of before after some few is (inl same) = omega (arith, few, is, same)
 past_of before after some few is (inr last) = omega (arith, is, last.0, last.1)
 
--- the end was not read before where it was not read since
+-- the end was not read before, where it was not read since
 pub going_still : (before after : Bool) (bytes : List ℕ) → (before ≡ true → (bytes ≡ []) × (after ≡ true)) → after ≡ false → before ≡ false
 going_still true after bytes stops e = let over : after ≡ true = (stops refl).1 in cc
 going_still false after bytes stops e = refl

@@ -7,7 +7,7 @@ use Rattle.inf_scanner.specs.declared.lines.Lines.{Lines}
 use Rattle.inf_scanner.specs.declared.tokens.Token.{Token}
 use Rattle.inf_lexer.specs.Readers.{Reader, read_out}
 
--- An answer of a lexer: the token, the lexer behind it, and what was still to come then.
+-- An answer of a lexer: the token, the lexer behind it, and the bytes that were still to come then.
 pub record Answer : Type 0 where
   pub token : Token
   pub reader : Reader
@@ -22,7 +22,7 @@ AreAnswers set limit lines rest [] = Unit {0}
 AreAnswers set limit lines rest (a ∷ answers) =
     (told a ≡ next_token set limit lines rest) × AreAnswers set limit a.reader.lines a.to_come answers
 
--- the first tokens of these bytes, so many
+-- the first `n` tokens of some bytes
 abbrev pub first_tokens : ℕ → CharSet → ℕ → Lines → List ℕ → List Read
 first_tokens zero set limit lines rest = []
 first_tokens (suc n) set limit lines rest =

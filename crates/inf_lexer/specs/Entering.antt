@@ -1,8 +1,8 @@
--- What comes of entering a file, with a reader that keeps to its sources.
+-- The sources that are open behind the entering of a file, with a reader that keeps to its sources.
 use Rattle.std.specs.Prelude.{◌≡◌, ℕ, ◌+◌, min, ◌<◌, ◌≤◌, ◌⊎◌, List, [], ◌∷◌, ◌++◌, length, nat_le, Option, Some, None, is_some, slice_get}
 use Rattle.std.specs.Prelude.{Result, Ok, Err, Bool, true, false, IsTrue, if◌then◌else◌}
 use Rattle.std.specs.List.{list_any}
-use Rattle.inf_files.specs.Files.{Sources, Openings, last_count, opened}
+use Rattle.inf_devices.specs.Files.{Sources, Openings, last_count, opened}
 use Rattle.inf_lexer.specs.Names.{Nest, entered, number_of}
 use Rattle.inf_lexer.specs.Readers.{Reader, at_front}
 use Rattle.inf_lexer.specs.declared.enter_faults.EnterFault.{EnterFault}
@@ -12,7 +12,7 @@ use Rattle.inf_lexer.specs.declared.enter_faults.EnterFault.TheVariants as fault
 abbrev pub with_opened : List ℕ → Openings → Openings
 with_opened name o = record { all = o.all ++ opened name ∷ []; open_places = o.open_places ++ length o.all ∷ [] }
 
--- it was closed again at once
+-- the openings where the source was closed again at once
 abbrev pub with_closed : List ℕ → Openings → Openings
 with_closed name o = record { all = o.all ++ opened name ∷ []; open_places = o.open_places }
 
@@ -21,7 +21,7 @@ abbrev pub first_there : Sources → List (List ℕ) → Option (List ℕ)
 first_there sources [] = None
 first_there sources (name ∷ names) = if is_some (sources name) then Some name else first_there sources names
 
--- a lexer at the front of a source that was entered under this name
+-- a lexer at the front of a source that was entered under the name `name`
 abbrev pub IsEntered : List ℕ → Nest → Nest → Reader → Type 0
 IsEntered name old new lexer = (new ≡ entered name old) × (lexer ≡ at_front old.set old.limit (number_of name old.names))
 
@@ -36,7 +36,7 @@ pub record Enters (sources : Sources) (is_honest : Bool) (names : List (List ℕ
   pub is_first : IsTrue is_honest → first_there sources names ≡ Some name
   pub is_opened : IsTrue is_honest → after ≡ with_opened name before
 
--- whether 65,535 others of the known names come before one of these
+-- whether 65,535 other known names come before one of `names`
 abbrev pub has_one_too_many : List (List ℕ) → List (List ℕ) → Bool
 has_one_too_many known names = list_any (λ name. nat_le 65535 (number_of name known)) names
 
@@ -55,7 +55,7 @@ pub record WasTooMany (sources : Sources) (is_honest : Bool) (known names : List
   pub counted : min (count_before + 1) last_count ≤ count_now
   pub is_closed : IsTrue is_honest → ClosedAgain sources known names before after
 
--- what an honest reader's openings are where no source of these names was entered
+-- the openings of an honest reader where no source of these names was entered
 abbrev pub Leaves : Sources → List (List ℕ) → List (List ℕ) → Openings → Openings → Result Reader EnterFault → Type 0
 Leaves sources known names before after (Ok lexer) = Unit {0}
 Leaves sources known names before after (Err fault.Absent) = (first_there sources names ≡ None) × (after ≡ before)

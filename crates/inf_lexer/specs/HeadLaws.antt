@@ -9,20 +9,20 @@ use Rattle.inf_lexer.specs.Heads.{next_head_word, whole_head}
 use Rattle.inf_lexer.specs.declared.head.HeadPlace.{HeadPlace}
 use Rattle.inf_lexer.specs.declared.head.HeadPlace.TheVariants as place
 
--- what is being read at a place of a head where tokens are read: a comment, but for the front of a line
+-- the state of a scanner of tokens at a place of a head: in a comment, but for the front of a line
 abbrev pub state_at : HeadPlace → State
 state_at place.Line = state.Gap
 state_at place.Return = state.Gap
 state_at place.Behind = state.Gap
 state_at _ = state.Comment
 
--- Where a word of a head was read, or its end was, the next token is the one that it was before. So the tokens of a source are those behind
--- its head, since both its front and what is behind its head are the front of a line.
+-- Where a word of a head was read, or its end was, the next token is the same as before. So the tokens of a source are those behind
+-- its head, since both the head's front and the bytes behind the head are the front of a line.
 abbrev pub HeadsHaveNoTokens : Type 0
 HeadsHaveNoTokens = (set : CharSet) (limit : ℕ) (p : HeadPlace) (lines : Lines) (bytes : List ℕ) → let r = next_head_word p lines bytes in
     find set limit (state_at r.place) (begun r.lines) r.rest ≡ find set limit (state_at p) (begun lines) bytes
 
--- The tokens of a source are those behind its head: the next one is the one that it was at the front.
+-- The tokens of a source are those behind its head: the next token there is the one at the source's front.
 abbrev pub WholeHeadsHaveNoTokens : Type 0
 WholeHeadsHaveNoTokens = (set : CharSet) (limit : ℕ) (lines : Lines) (bytes : List ℕ) → let h = whole_head lines bytes in
     find set limit state.Gap (begun h.lines) h.rest ≡ find set limit state.Gap (begun lines) bytes

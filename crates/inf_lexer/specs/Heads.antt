@@ -14,21 +14,21 @@ use Rattle.inf_lexer.specs.declared.head.HeadTurn.TheVariants as turn
 abbrev pub is_cut : ℕ → Bool
 is_cut b = b == 32 || b == 9
 
--- the first byte of a line
+-- the step of a byte at the front of a line
 abbrev pub line_step : ℕ → HeadStep
 line_step b = if b == 33 then step.Pass place.Sign else step.Stop
 
--- a byte of a line that begins with `!` and is none of the head
+-- the step of a byte in a line that begins with `!` and is no line of the head
 abbrev pub comment_step : ℕ → HeadStep
 comment_step b = if is_line_end b then step.Stop else step.Pass place.Comment
 
--- a byte behind `!%` or behind a word; a line ends with CR, LF or CR LF
+-- the step of a byte behind `!%` or behind a word; a line ends with CR, LF or CR LF
 abbrev pub gap_step : ℕ → HeadStep
 gap_step b =
     if is_cut b then step.Pass place.Gap else if b == 13 then step.Pass place.Return else
     if b == 10 then step.Pass place.Line else step.Keep
 
--- what a byte does
+-- the step of a byte at a place
 abbrev pub head_step : HeadPlace → ℕ → HeadStep
 head_step place.Line b = line_step b
 head_step place.Return b = if b == 10 then step.Pass place.Line else line_step b
@@ -38,18 +38,18 @@ head_step place.Word b = if is_cut b || is_line_end b then step.Stop else step.K
 head_step place.Comment b = comment_step b
 head_step place.Behind b = step.Stop
 
--- one byte more of a word, of which 256 are kept
+-- a word with one byte more, of which 256 are kept
 abbrev pub with_head_byte : ℕ → List ℕ → List ℕ
 with_head_byte b word = if nat_lt (length word) 256 then word ++ b ∷ [] else word
 
--- Where a head stops: the place, what is kept of the word, and the lines and the bytes behind it.
+-- The end of a part of a head: the place, the bytes that are kept of the word, and the lines and the bytes behind it.
 pub record HeadFound : Type 0 where
   pub place : HeadPlace
   pub word : List ℕ
   pub lines : Lines
   pub rest : List ℕ
 
--- what is found of a head that goes on with these bytes
+-- the end of a part of a head that goes on with some bytes
 abbrev pub head_found : HeadPlace → List ℕ → Lines → List ℕ → HeadFound
 head_found p word lines [] = record { place = p; word = word; lines = lines; rest = [] }
 head_found p word lines (b ∷ bs) = elim (head_step p b) [
@@ -58,7 +58,7 @@ head_found p word lines (b ∷ bs) = elim (head_step p b) [
   | step.Stop ↦ record { place = p; word = word; lines = lines; rest = b ∷ bs }
 ]
 
--- what is found behind some bytes of which this came
+-- the end of a part of a head, behind bytes whose taking ended with a turn
 abbrev pub head_after : HeadTurn → List ℕ → Lines → List ℕ → HeadFound
 head_after (turn.On p) word lines bs = head_found p word lines bs
 head_after (turn.Stopped p) word lines bs = record { place = p; word = word; lines = lines; rest = bs }
@@ -67,7 +67,7 @@ abbrev pub is_head_on : HeadTurn → Bool
 is_head_on (turn.On p) = true
 is_head_on _ = false
 
--- where bytes were taken up to
+-- the place up to which bytes were taken
 abbrev pub turn_place : HeadTurn → HeadPlace
 turn_place (turn.On p) = p
 turn_place (turn.Stopped p) = p
@@ -85,11 +85,12 @@ abbrev pub place_behind : HeadPlace → HeadPlace
 place_behind place.Word = place.Gap
 place_behind _ = place.Behind
 
--- the same, by whether there was a word
+-- the place where the head goes on, by whether there was a word
 abbrev pub goes_on_at : Bool → HeadPlace
 goes_on_at is_word = if is_word then place.Gap else place.Behind
 
--- What a call reads of a head: whether there was a word, where the head goes on, what is kept of the word, and what is behind it.
+-- The part of a head that a call reads: whether there was a word, where the head goes on, the bytes that are kept of the word, and
+-- the lines and the bytes behind it.
 pub record HeadRead : Type 0 where
   pub is_word : Bool
   pub place : HeadPlace
@@ -101,11 +102,11 @@ abbrev pub head_read_of : HeadFound → HeadRead
 head_read_of f =
     record { is_word = is_word f.place; place = place_behind f.place; word = f.word; lines = f.lines; rest = f.rest }
 
--- the next word of a head that goes on here with these bytes
+-- the next word of a head that goes on at a place with some bytes
 abbrev pub next_head_word : HeadPlace → Lines → List ℕ → HeadRead
 next_head_word p lines bytes = head_read_of (head_found p [] lines bytes)
 
--- What a head says and what is behind it: its words, of each at most the first 256 bytes, and the lines and the bytes that come then.
+-- A whole head and the rest behind it: its words, of each at most the first 256 bytes, and the lines and the bytes that come then.
 pub record WholeHead : Type 0 where
   pub words : List (List ℕ)
   pub lines : Lines
@@ -114,7 +115,7 @@ pub record WholeHead : Type 0 where
 abbrev pub with_head_word : List ℕ → WholeHead → WholeHead
 with_head_word word h = record h { words = word ∷ h.words }
 
--- what a head that goes on here says with at most n words, read one after another
+-- the part of a head that goes on at a place, up to `n` words, read one after another
 abbrev pub head_within : ℕ → HeadPlace → Lines → List ℕ → WholeHead
 head_within zero p lines bytes = record { words = []; lines = lines; rest = bytes }
 head_within (suc n) p lines bytes =
@@ -122,6 +123,6 @@ head_within (suc n) p lines bytes =
     if r.is_word then with_head_word r.word (head_within n r.place r.lines r.rest)
     else record { words = []; lines = r.lines; rest = r.rest }
 
--- the head of a source that has these bytes from this line on: each of its words has a byte at least
+-- the whole head of a source that has these bytes from this line on: each of its words has a byte at least
 abbrev pub whole_head : Lines → List ℕ → WholeHead
 whole_head lines bytes = head_within (suc (length bytes)) place.Line lines bytes

@@ -1,17 +1,17 @@
--- What a reader of files has not given yet of its innermost source.
+-- The bytes of the innermost source that a reader of files has not given yet.
 use Rattle.std.specs.Prelude.{◌≡◌, ℕ, ◌+◌, ◌-◌, List, [], ◌++◌, length, drop, get_or, unwrap_or, slice_get, Bool, true, false, IsTrue}
 use Rattle.std.specs.Prelude.{if◌then◌else◌}
-use Rattle.inf_files.specs.Files.{Sources, Opening, Openings, opened}
+use Rattle.inf_devices.specs.Files.{Sources, Opening, Openings, opened}
 
 -- the place of the innermost source among the openings
 abbrev pub innermost_place : Openings → ℕ
 innermost_place o = get_or o.open_places (length o.open_places - 1) 0
 
--- its opening
+-- the opening of the innermost source
 abbrev pub innermost : Openings → Opening
 innermost o = get_or o.all (innermost_place o) (opened [])
 
--- its bytes behind those that were given
+-- the bytes of a source behind those that were given
 abbrev pub unread_of : Sources → Opening → List ℕ
 unread_of sources o = drop (length o.given) (unwrap_or (sources o.name) [])
 
@@ -27,15 +27,15 @@ pub record Gave (sources : Sources) (old new : Openings) (bytes : List ℕ) : Ty
   pub count : length new.all ≡ length old.all
   pub others : (i : ℕ) → (i ≡ innermost_place old → ⊥) → slice_get new.all i ≡ slice_get old.all i
 
--- What is seen of a source: the bytes that were given and not taken yet, how many were given in all, and whether the end was
--- read. Behind the end nothing is read any more.
+-- A view of a source: the bytes that were given and not taken yet, the number of all that were given, and whether the end was read.
+-- Behind the end nothing is read any more.
 pub record View : Type 0 where
   pub left : List ℕ
   pub given : ℕ
   pub is_over : Bool
 
--- Between two moments these bytes came into view, and none behind the end. Of a reader that keeps to its sources they are the
--- next of the innermost one.
+-- Between two moments these bytes came into view, and none behind the end. Of a reader that keeps to its sources they are the next
+-- bytes of the innermost source.
 pub record ReadsOn (is_honest : Bool) (sources : Sources) (old new : Openings) (before after : View) : Type 0 where
   pub bytes : List ℕ
   pub left : after.left ≡ before.left ++ bytes
@@ -43,12 +43,12 @@ pub record ReadsOn (is_honest : Bool) (sources : Sources) (old new : Openings) (
   pub stops : before.is_over ≡ true → (bytes ≡ []) × (after.is_over ≡ true)
   pub gave : IsTrue is_honest → Gave sources old new bytes
 
--- what can follow what is in view: behind the end that was read nothing, and any bytes before
+-- the bytes that can follow those in view: none behind the end that was read, and any before
 abbrev pub CanFollow : View → List ℕ → Type 0
 CanFollow view behind = view.is_over ≡ true → behind ≡ []
 
--- Between two moments these bytes were given, and none behind the end. Of a reader that keeps to its sources they are the next of
--- the innermost one. What all that is still to come is now, it was before, whatever follows these bytes.
+-- Between two moments these bytes were given, and none behind the end. Of a reader that keeps to its sources they are the next bytes
+-- of the innermost source. The value `now` of all that is still to come is the value `was` before, whatever follows these bytes.
 pub record Heard (T : Type 0) (is_honest : Bool) (sources : Sources) (old new : Openings) (before after : View) (now was : List ℕ → T) :
     Type 0 where
   pub bytes : List ℕ
@@ -57,11 +57,11 @@ pub record Heard (T : Type 0) (is_honest : Bool) (sources : Sources) (old new : 
   pub gave : IsTrue is_honest → Gave sources old new bytes
   pub same : (behind : List ℕ) → CanFollow after behind → now (after.left ++ behind) ≡ was (before.left ++ (bytes ++ behind))
 
--- what a source has behind what is in view: nothing where its end was read
+-- the bytes of a source behind those in view: none where its end was read
 abbrev pub behind_view : Sources → Openings → View → List ℕ
 behind_view sources o view = if view.is_over then [] else unread sources o
 
--- all that is still to come: what is in view, and what was not given
+-- all bytes that are still to come: those in view, and those that were not given
 abbrev pub to_come : Sources → Openings → View → List ℕ
 to_come sources o view = view.left ++ behind_view sources o view
 
@@ -69,7 +69,7 @@ to_come sources o view = view.left ++ behind_view sources o view
 abbrev pub Ends : Sources → Openings → View → Type 0
 Ends sources o view = view.is_over ≡ true → (unread sources o ≡ []) × ((innermost o).is_read_out ≡ true)
 
--- Where it was not, it is known that the source was not read to its end.
+-- Where the end was not read, it is known that the source was not read to its end.
 abbrev pub StillGives : Openings → View → Type 0
 StillGives o view = view.is_over ≡ false → (innermost o).is_read_out ≡ false
 
@@ -77,7 +77,7 @@ StillGives o view = view.is_over ≡ false → (innermost o).is_read_out ≡ fal
 abbrev pub IsAtEnd : View → Type 0
 IsAtEnd view = (view.left ≡ []) × (view.is_over ≡ true)
 
--- Between two moments, in which so many bytes and then so many were given to a lexer, the innermost source gave just those in between.
+-- Between two moments, in which `before` and then `after` bytes were given to a lexer, the innermost source gave just those in between.
 pub record Along (sources : Sources) (old new : Openings) (before after : ℕ) : Type 0 where
   pub bytes : List ℕ
   pub gave : Gave sources old new bytes

@@ -1,7 +1,7 @@
 //! Why a file was not entered.
 ghost use Rattle.std.specs.Prelude.{◌≡◌};
 
-use inf_files::files::OpenFault;
+use inf_devices::files::OpenFault;
 use std::alloc::AllocError;
 use thiserror::Error;
 

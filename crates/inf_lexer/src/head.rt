@@ -7,10 +7,10 @@ ghost use Rattle.inf_lexer.specs.Heads.{with_head_byte};
 use arrayvec::ArrayVec;
 use inf_scanner::Lines;
 
-/// How many bytes of a word are kept.
+/// Number of bytes that are kept of a word.
 const MOST_WORD_BYTES: usize = 256;
 
-/// Where a head is read.
+/// The place in a head up to which bytes were taken.
 #[derive(Clone, Copy, Debug, PartialEq, Eq)]
 pub enum HeadPlace {
     /// Before the first byte of a line.
@@ -29,27 +29,27 @@ pub enum HeadPlace {
     Behind,
 }
 
-/// What a byte does.
+/// The step that one byte makes in a head.
 #[derive(Clone, Copy)]
 pub enum HeadStep {
-    /// It is passed over.
+    /// The byte is passed over.
     Pass(HeadPlace),
-    /// It is one of a word.
+    /// The byte belongs to a word.
     Keep,
-    /// It stands behind the word, or behind the head.
+    /// The byte is behind the word, or behind the head.
     Stop,
 }
 
-/// What came of some bytes.
+/// The end of taking some bytes.
 #[derive(Clone, Copy)]
 pub enum HeadTurn {
-    /// All were taken.
+    /// All bytes were taken.
     On(HeadPlace),
-    /// One stands behind the word, or behind the head.
+    /// A byte is behind the word, or behind the head.
     Stopped(HeadPlace),
 }
 
-/// The first byte of a line.
+/// Returns the step of a byte at the front of a line.
 fn line_step(byte: u8) -> HeadStep
     ensures { result ≡ head_step HeadPlace.Line byte }
 {
@@ -59,7 +59,7 @@ fn line_step(byte: u8) -> HeadStep
     }
 }
 
-/// A byte of a comment that ends the head.
+/// Returns the step of a byte in a comment that ends the head.
 fn comment_step(byte: u8) -> HeadStep
     ensures { result ≡ head_step HeadPlace.Comment byte }
 {
@@ -69,7 +69,7 @@ fn comment_step(byte: u8) -> HeadStep
     }
 }
 
-/// A byte between words.
+/// Returns the step of a byte between words.
 fn gap_step(byte: u8) -> HeadStep
     ensures { result ≡ head_step HeadPlace.Gap byte }
 {
@@ -81,7 +81,7 @@ fn gap_step(byte: u8) -> HeadStep
     }
 }
 
-/// What a byte does.
+/// Returns the step of `byte` at `place`.
 fn head_step(place: HeadPlace, byte: u8) -> HeadStep
     ensures { result ≡ head_step place byte }
 {
@@ -98,7 +98,7 @@ fn head_step(place: HeadPlace, byte: u8) -> HeadStep
     }
 }
 
-/// Goes past a byte.
+/// Counts the line that `byte` ends, if it ends one.
 fn pass(lines: &mut Lines, byte: u8)
     requires { lines.old.line + 1 < 2 ^ 32 }
     ensures past { lines.new ≡ past byte lines.old }
@@ -110,7 +110,7 @@ fn pass(lines: &mut Lines, byte: u8)
     lines.after_return = byte == b'\r';
 }
 
-/// Keeps a byte of a word, as long as there is room.
+/// Appends `byte` to `word`, as long as there is room.
 fn keep(word: &mut ArrayVec<u8, MOST_WORD_BYTES>, byte: u8)
     ensures { word.new.items ≡ with_head_byte byte word.old.items }
 {
@@ -119,7 +119,7 @@ fn keep(word: &mut ArrayVec<u8, MOST_WORD_BYTES>, byte: u8)
     }
 }
 
-/// Takes bytes of a head up to the end of a word or of the head, or all of them. Answers how many.
+/// Takes bytes of a head up to the end of a word or of the head, or all of them. Returns the number of those that were taken.
 #[tactic(auto, using(crate::proofs::Heading::passes_before))]
 pub(crate) fn take_head(
     from: HeadPlace,
@@ -152,7 +152,7 @@ pub(crate) fn take_head(
     (taken, HeadTurn::On(place))
 }
 
-/// Where the head goes on behind a word, or at its end.
+/// Returns the place where the head goes on behind a word; the place behind the head where there was no word.
 pub(crate) fn place_behind(place: HeadPlace) -> HeadPlace
     ensures { result ≡ place_behind place }
 {
@@ -162,7 +162,7 @@ pub(crate) fn place_behind(place: HeadPlace) -> HeadPlace
     }
 }
 
-/// Whether a word ends there.
+/// Returns whether a word ends at `place`.
 pub(crate) fn is_word(place: HeadPlace) -> bool
     ensures { result ≡ is_word place }
 {

@@ -1,4 +1,4 @@
-//! The names that the text of an inclusion stands for.
+//! The names of files that the text of an inclusion may mean.
 ghost use Rattle.std.specs.Prelude.{◌≡◌, IfOk, false, if◌then◌else◌};
 ghost use Rattle.std.specs.Option.{option_copied};
 ghost use Rattle.std.specs.String.{string_bytes};
@@ -6,7 +6,7 @@ ghost use Rattle.inf_lexer.specs.Names.{behind_sign, directory_of, has_dot, has_
 
 use std::alloc::{AllocError, Global};
 
-/// Whether a text has the sign `>` at its front, and the name behind that.
+/// Returns whether `text` has the sign `>` at its front, and the name behind the sign.
 pub(crate) fn without_sign(text: &[u8]) -> (bool, &[u8])
     ensures sign { result.0 ≡ has_sign text.now }
     ensures name { result.1.now ≡ behind_sign text.now }
@@ -17,7 +17,7 @@ pub(crate) fn without_sign(text: &[u8]) -> (bool, &[u8])
     }
 }
 
-/// A file's name as text: none where it is empty or has a byte over 127.
+/// Returns a file's name as text; `None` where it is empty or has a byte over 127.
 pub(crate) fn fit_name(name: &[u8]) -> Option<&str>
     ensures { option_copied result ≡ (if is_fit name.now then Some name.now else None) }
 {
@@ -30,7 +30,7 @@ pub(crate) fn fit_name(name: &[u8]) -> Option<&str>
     }
 }
 
-/// Whether the last part of a name has a `.`.
+/// Returns whether the last part of a name has a `.`.
 fn has_extension(name: &[u8]) -> bool
     ensures { result ≡ has_dot false name.now }
 {
@@ -41,7 +41,7 @@ fn has_extension(name: &[u8]) -> bool
     dot
 }
 
-/// Adds a file to its directory, with `.h` where it has no extension.
+/// Appends the file `file` to the name of its directory, with `.h` where it has no extension.
 fn push_file(name: &mut String, file: &str) -> Result<(), AllocError>
     ensures { IfOk result (λ _. string_bytes name.new ≡ placed (string_bytes name.old) file.now) }
 {
@@ -52,7 +52,7 @@ fn push_file(name: &mut String, file: &str) -> Result<(), AllocError>
     Ok(())
 }
 
-/// The name in a directory, or by itself where that is empty.
+/// Returns the name of `file` in `directory`, or `file` by itself where `directory` is empty, with `.h` where it has no extension.
 pub(crate) fn name_in(alloc: Global, directory: &str, file: &str) -> Result<String, AllocError>
     ensures { IfOk result (λ name. string_bytes name ≡ name_in directory.now file.now) }
 {
@@ -64,7 +64,7 @@ pub(crate) fn name_in(alloc: Global, directory: &str, file: &str) -> Result<Stri
     Ok(name)
 }
 
-/// The name in the directory of another file.
+/// Returns the name of `file` in the directory of the file `other`, with `.h` where it has no extension.
 pub(crate) fn name_beside(alloc: Global, other: &str, file: &str) -> Result<String, AllocError>
     ensures { IfOk result (λ name. string_bytes name ≡ name_beside other.now file.now) }
 {
@@ -73,7 +73,7 @@ pub(crate) fn name_beside(alloc: Global, other: &str, file: &str) -> Result<Stri
     Ok(name)
 }
 
-/// A name up to its last `/`.
+/// Returns `name` up to its last `/`, which is its directory; nothing where it has no `/`.
 fn directory_of(alloc: Global, name: &str) -> Result<String, AllocError>
     ensures { IfOk result (λ directory. string_bytes directory ≡ directory_of name.now) }
 {

@@ -1,7 +1,7 @@
 //! The tokens of an open source, one after another.
 ghost use Rattle.std.specs.Prelude.{◌≡◌, ◌+◌, ◌-◌, ◌<◌, ◌≤◌, ◌⊎◌, [], false, true, length, min, is_err, IsTrue, IsErrOf, IfOk, OnOk, Err};
 ghost use Rattle.std.specs.Prelude.{IsErr, IfErr, OnErr};
-ghost use Rattle.inf_files.specs.Files.{Rose, last_count};
+ghost use Rattle.inf_devices.specs.Files.{Rose, last_count};
 ghost use Rattle.inf_lexer.specs.Heads.{HeadFound, HeadRead, goes_on_at, head_found, is_behind, next_head_word};
 ghost use Rattle.inf_lexer.specs.Unread.{Along, Ends, Heard, StillGives, to_come, unread};
 ghost use Rattle.inf_scanner.specs.Scanning.{Found, begun, find, is_quoted, sight};
@@ -12,14 +12,14 @@ use crate::faults::LexFault;
 use crate::head::{HeadPlace, HeadTurn, is_word, place_behind, take_head};
 use crate::window::Window;
 use arrayvec::ArrayVec;
-use inf_files::files::Files;
+use inf_devices::files::Files;
 use inf_scanner::{Ending, Lines, Place, Seen, State, Token, Turn, kind_of};
 use inf_text::CharSet;
 use std::alloc::{AllocError, Global};
 use std::marker::Model;
 use std::mem;
 
-/// Reads the bytes of the next token.
+/// Reads the bytes of the next token into `seen`, and returns how the token ends.
 fn scan<F: Files>(
     set: CharSet,
     limit: u32,
@@ -78,7 +78,7 @@ fn scan<F: Files>(
     }
 }
 
-/// Reads the bytes of a head up to the end of its next word, or to its own end, and tells where that is.
+/// Reads the bytes of a head up to the end of its next word, or to its own end, and returns the place up to which it read.
 fn scan_head<F: Files>(
     from: HeadPlace,
     window: &mut Window,
@@ -135,8 +135,8 @@ fn scan_head<F: Files>(
 
 /// Reads the tokens of the source that was opened last.
 ///
-/// It has at most 4,096 bytes of the source in view, and keeps of the token at hand at most 32 bytes, or
-/// of a quoted one as many as its limit.
+/// A lexer has at most 4,096 bytes of the source in view, and keeps of the token at hand at most 32 bytes, or of a quoted one as
+/// many as its limit.
 #[derive(Drop)]
 pub struct Lexer {
     alloc: Global,
@@ -169,8 +169,8 @@ impl Model for Lexer {
 }
 
 impl Lexer {
-    /// At the front of a source that has this number, of which nothing was read yet. A quoted token may
-    /// have `limit` bytes between its quotes.
+    /// Returns a lexer at the front of the source with the number `file`, of which nothing was read yet. A quoted token may have
+    /// `limit` bytes between its quotes.
     pub(crate) fn new(
         alloc: Global,
         set: CharSet,
@@ -190,21 +190,21 @@ impl Lexer {
         })
     }
 
-    /// The next token; at the source's end that is the end, again and again. The lexer's source is the one
+    /// Reads the next token and returns it; at the source's end that is the end, again and again. The lexer's source is the one
     /// that was opened last and is not closed.
     ///
-    /// `Read` comes where the source could not be read, or has more than 16,777,216 bytes, and after
-    /// every refusal; `Memory` where there is no room for a quoted token, and for no other.
+    /// Fails with `Read` where the source could not be read, or has more than 16,777,216 bytes, and after every refusal; with
+    /// `Memory` where there is no room for a quoted token, and for no other token.
     pub fn next<F: Files>(&mut self, files: &mut F) -> Result<Token, LexFault>
         requires { 0 < F.depth files.old }
 
-        // With an honest reader it is the next token of what is still to come.
+        // With an honest reader the result is the next token of all that is still to come.
         ensures token { IsTrue (F.is_honest files.old) → IfOk result (λ token.
             read_out token self.new (to_come (F.sources files.old) (F.openings files.new) self.new.window)
             ≡ next_token self.old.set self.old.limit self.old.lines
             (to_come (F.sources files.old) (F.openings files.old) self.old.window)) }
 
-        // With any reader it is the next token of what is in view and the bytes that were given, whatever follows
+        // With any reader the result is the next token of the bytes that are in view and those that were given, whatever follows
         // them, and nothing is read any more once the reader told the end.
         ensures heard { IfOk result (λ token. Heard Read (F.is_honest files.old) (F.sources files.old)
             (F.openings files.old) (F.openings files.new) self.old.window self.new.window
@@ -217,7 +217,7 @@ impl Lexer {
         ensures file { IfOk result (λ token. token.place.file ≡ self.old.file) }
         ensures same { (self.new.set ≡ self.old.set) × (self.new.limit ≡ self.old.limit) × (self.new.file ≡ self.old.file) }
 
-        // What it was given: at most 4,096 bytes behind the token, each once.
+        // At most 4,096 bytes behind the token were given to the lexer, each once.
         ensures window { length self.new.window.left ≤ 4096 }
         ensures gave { IsTrue (F.is_honest files.old) → Along (F.sources files.old)
             (F.openings files.old) (F.openings files.new) self.old.window.given self.new.window.given }
@@ -225,7 +225,7 @@ impl Lexer {
             ≤ F.given files.new }
         ensures few { OnOk result (self.new.window.given ≤ 16777216) }
 
-        // A refusal has its cause, and is the last answer but `Read`.
+        // A refusal has its cause, and each answer behind it is `Read`.
         ensures cause { IsErrOf result LexFault.Read → (self.old.has_failed ≡ true)
             ⊎ (Rose (F.faults files.old) (F.faults files.new) ⊎ (16777216 < self.new.window.given)) }
         ensures unfinished { self.old.has_failed ≡ false → IsErrOf result LexFault.Read → IsTrue (F.is_honest files.old) →
@@ -266,14 +266,15 @@ impl Lexer {
         })
     }
 
-    /// Reads the next word of the head of the source into `word`, of which at most 256 bytes are kept, and tells whether there was one.
+    /// Reads the next word of the head of the source into `word`, of which at most 256 bytes are kept, and returns whether there
+    /// was one.
     ///
-    /// The head is the source's lines, from its first byte on, that begin with `!%`; lines end with CR, LF or CR LF. What follows `!%` is
-    /// words, which are cut at spaces and tabs alone. `place` tells where the head goes on: `HeadPlace::Line` before the first call, and
-    /// from then on what the call before left. Behind the last word the answer is false, and the source goes on behind the head, but for a
-    /// comment that ends it. The lexer's source is the one that was opened last and is not closed.
+    /// The head is the source's lines, from its first byte on, that begin with `!%`; lines end with CR, LF or CR LF. Words follow
+    /// `!%`, which are cut at spaces and tabs alone. `place` is where the head goes on: `HeadPlace::Line` before the first call,
+    /// and from then on the place that the call before left. Behind the last word the result is false, and the source goes on
+    /// behind the head, but for a comment that ends it. The lexer's source is the one that was opened last and is not closed.
     ///
-    /// `Read` comes where the source could not be read, or has more than 16,777,216 bytes, and after every refusal.
+    /// Fails with `Read` where the source could not be read, or has more than 16,777,216 bytes, and after every refusal.
     #[tactic(auto, using(crate::proofs::Heading::goes_on_is))]
     pub fn next_head_word<F: Files>(
         &mut self,
@@ -283,12 +284,12 @@ impl Lexer {
     ) -> Result<bool, LexFault>
         requires { 0 < F.depth files.old }
 
-        // With an honest reader it is the next word of what is still to come.
+        // With an honest reader the result is the next word of all that is still to come.
         ensures word { IsTrue (F.is_honest files.old) → IfOk result (λ is_word.
             head_out is_word place.new word.new.items self.new (to_come (F.sources files.old) (F.openings files.new) self.new.window)
             ≡ next_head_word place.old self.old.lines (to_come (F.sources files.old) (F.openings files.old) self.old.window)) }
 
-        // With any reader it is the next word of what is in view and the bytes that were given, whatever follows them.
+        // With any reader the result is the next word of the bytes that are in view and those that were given, whatever follows them.
         ensures heard { IfOk result (λ is_word. Heard HeadRead (F.is_honest files.old) (F.sources files.old)
             (F.openings files.old) (F.openings files.new) self.old.window self.new.window
             (head_out is_word place.new word.new.items self.new) (next_head_word place.old self.old.lines)) }
@@ -301,7 +302,7 @@ impl Lexer {
         ensures same { (self.new.set ≡ self.old.set) × (self.new.limit ≡ self.old.limit) × (self.new.file ≡ self.old.file) }
         ensures kept { self.new.kept ≡ self.old.kept }
 
-        // What it was given: at most 4,096 bytes behind the word, each once.
+        // At most 4,096 bytes behind the word were given to the lexer, each once.
         ensures window { length self.new.window.left ≤ 4096 }
         ensures gave { IsTrue (F.is_honest files.old) → Along (F.sources files.old)
             (F.openings files.old) (F.openings files.new) self.old.window.given self.new.window.given }
@@ -309,8 +310,8 @@ impl Lexer {
             ≤ F.given files.new }
         ensures few { OnOk result (self.new.window.given ≤ 16777216) }
 
-        // A refusal has its cause, leaves the place, and is the last answer but `Read`. What was given then ends neither the word nor the
-        // head.
+        // A refusal has its cause, leaves the place, and each answer behind it is `Read`. The bytes that were given end neither the
+        // word nor the head then.
         ensures read { IfErr result (λ fault. fault ≡ LexFault.Read) }
         ensures cause { IsErr result → (self.old.has_failed ≡ true)
             ⊎ (Rose (F.faults files.old) (F.faults files.new) ⊎ (16777216 < self.new.window.given)) }
@@ -337,7 +338,7 @@ impl Lexer {
         Ok(is_word(last))
     }
 
-    /// The character set that is read by.
+    /// Returns the character set by which the source is read.
     pub fn characters(&self) -> CharSet
         ensures { result ≡ self.now.set }
     {
@@ -359,8 +360,8 @@ impl Lexer {
         self.limit = limit;
     }
 
-    /// The bytes of the token that was read last: of a text or quote those between its quotes, and of a token
-    /// that is too long its front. A byte that begins no token, and the end, have none.
+    /// Returns the bytes of the token that was read last: of a text or quote those between its quotes, and of a token that is too
+    /// long those at its front. A byte that begins no token, and the end, have no bytes.
     pub fn spelling(&self) -> &[u8]
         ensures { result.now ≡ self.now.kept.bytes }
     {

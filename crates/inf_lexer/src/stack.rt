@@ -3,7 +3,7 @@ ghost use Rattle.std.specs.Prelude.{◌≡◌, ◌+◌, ◌<◌, ◌≤◌, ◌�
 ghost use Rattle.std.specs.Prelude.{is_ok, IsTrue, IsErrOf, IfOk, OnErr, Err};
 ghost use Rattle.std.specs.Option.{option_copied};
 ghost use Rattle.std.specs.String.{string_bytes};
-ghost use Rattle.inf_files.specs.Files.{Rose, Closes, last_count};
+ghost use Rattle.inf_devices.specs.Files.{Rose, Closes, last_count};
 ghost use Rattle.inf_lexer.specs.Names.{can_name, candidates, innermost_name, left, name_in, number_of};
 ghost use Rattle.inf_lexer.specs.Entering.{Enters, Leaves, WasTooMany, is_absent, is_of_opening};
 
@@ -12,18 +12,18 @@ use crate::include_names::{fit_name, name_beside, name_in, without_sign};
 use crate::lexer::Lexer;
 use arrayvec::ArrayVec;
 use indexmap::IndexSet;
-use inf_files::files::{Files, OpenFault};
+use inf_devices::files::{Files, OpenFault};
 use inf_text::CharSet;
 use std::alloc::Global;
 use std::marker::Model;
 
-/// How many files may be open.
+/// Number of files that may be open.
 const MOST_OPEN: usize = 16;
 
-/// How many different names may be opened.
+/// Number of different names that may be opened.
 const MOST_NAMES: usize = 65_535;
 
-/// Whether no file had the name.
+/// Returns whether `answer` is that no file had the name.
 fn is_absent(answer: &Result<Lexer, EnterFault>) -> bool
     ensures { result ≡ is_absent answer.now }
 {
@@ -56,7 +56,7 @@ impl Model for Stack {
 }
 
 impl Stack {
-    /// No file is open. Files are in this character set; a quoted token of theirs may have `limit` bytes.
+    /// Returns a stack of no open files. Files are read by the character set `set`; a quoted token of theirs may have `limit` bytes.
     pub fn new(alloc: Global, set: CharSet, limit: u32) -> Stack
         ensures { result ≡ record { set = set; limit = limit; names = []; open_files = [] } }
     {
@@ -84,7 +84,7 @@ impl Stack {
         self.limit = limit;
     }
 
-    /// Enters the main source, by its whole name; it is then the innermost file.
+    /// Enters the main source, by its whole name, and returns its lexer; it is then the innermost file.
     ///
     /// The faults, in the order of their checks: `BadName` for an empty name; `TooDeep` where 16 files are
     /// open, and then nothing is opened; `Absent` and `Device` of the reader, `Device` also where 65,535
@@ -121,7 +121,7 @@ impl Stack {
         self.open_named(files, name)
     }
 
-    /// Enters the file that the text of an inclusion names; it is then the innermost file.
+    /// Enters the file that the text of an inclusion names, and returns its lexer; it is then the innermost file.
     ///
     /// Behind the sign `>` the text is a name in the directory of the innermost file. Without it the file is the first that
     /// is there in these directories, in their order; where there are none, or a directory is empty, it is looked for by
@@ -178,14 +178,14 @@ impl Stack {
         self.open_first(files, directories, file)
     }
 
-    /// Whether as many files are open as may be.
+    /// Returns whether 16 files are open, the most that may be.
     fn is_full(&self) -> bool
         ensures { result ≡ nat_le 16 (length self.now.open_files) }
     {
         self.open_files.len() >= MOST_OPEN
     }
 
-    /// Opens the file in the first of these directories that has it.
+    /// Opens the file in the first of `directories` that has it. The faults are those of `enter` from `Absent` on.
     fn open_first<F: Files>(
         &mut self,
         files: &mut F,
@@ -220,7 +220,7 @@ impl Stack {
         Err(EnterFault::Absent)
     }
 
-    /// Opens the file of this name.
+    /// Opens the file with the name `name`. The faults are those of `enter` from `Absent` on.
     fn open_named<F: Files>(&mut self, files: &mut F, name: String) -> Result<Lexer, EnterFault>
         requires { length self.old.open_files < 16 }
         ensures ok { IfOk result (λ lexer. Enters (F.sources files.old) (F.is_honest files.old) (string_bytes name ∷ [])
@@ -258,14 +258,14 @@ impl Stack {
         Ok(lexer)
     }
 
-    /// How many names came before this one.
+    /// Returns the number of the name `name`: how many names came before it.
     fn number_of(&self, name: &str) -> usize
         ensures { result ≡ number_of name.now self.now.names }
     {
         self.names.get_index_of(name).unwrap_or(self.names.len())
     }
 
-    /// The name of the file of this number.
+    /// Returns the name of the file with the number `file`, if there is one.
     pub fn name(&self, file: u16) -> Option<&str>
         ensures { option_copied result ≡ slice_get self.now.names file }
     {
@@ -275,7 +275,7 @@ impl Stack {
         }
     }
 
-    /// The name of the innermost file: nothing where none is open.
+    /// Returns the name of the innermost file; an empty one where no file is open.
     pub fn innermost(&self) -> &str
         ensures { result.now ≡ innermost_name self.now }
     {

@@ -1,20 +1,20 @@
 //! A source seen through a window.
 ghost use Rattle.std.specs.Prelude.{◌≡◌, ◌+◌, ◌-◌, ◌<◌, ◌≤◌, ◌^◌, ◌⊎◌, ◌∷◌, [], drop, length, min, false, true, IsTrue, IsErr, IfOk, IfErr};
-ghost use Rattle.inf_files.specs.Files.{Rose, last_count};
+ghost use Rattle.inf_devices.specs.Files.{Rose, last_count};
 ghost use Rattle.inf_lexer.specs.Unread.{Ends, ReadsOn, StillGives};
 
 use crate::faults::LexFault;
-use inf_files::files::Files;
+use inf_devices::files::Files;
 use std::marker::Model;
 
 /// The most bytes that a source may have.
 const MOST_SOURCE_BYTES: usize = 16_777_216;
 
-/// How many bytes are in view at most.
+/// Number of bytes that are in view at most.
 const SIZE: usize = 4096;
 
-/// The bytes of a source that were given and not taken yet, at most 4,096, how many were given in all, and whether
-/// the end was read. Behind the end nothing is read any more.
+/// The bytes of a source that were given and not taken yet, at most 4,096, the number of all that were given, and whether the
+/// end was read. Behind the end nothing is read any more.
 #[derive(Drop)]
 pub(crate) struct Window {
     buffer: [u8; SIZE],
@@ -36,7 +36,7 @@ impl Model for Window {
 }
 
 impl Window {
-    /// Nothing was given yet.
+    /// Returns a window of a source of which nothing was given yet.
     pub(crate) fn new() -> Window
         ensures { result ≡ record { left = []; given = 0; is_over = false } }
     {
@@ -49,7 +49,8 @@ impl Window {
         }
     }
 
-    /// Reads once where nothing is in view, unless the end was read.
+    /// Reads once from the source where nothing is in view, unless the end was read. Fails with `Read` where the source cannot
+    /// be read or has more bytes than it may have.
     pub(crate) fn refill<F: Files>(&mut self, files: &mut F) -> Result<(), LexFault>
         requires is_open { 0 < F.depth files.old }
         requires given { self.old.given ≤ 16777216 }
@@ -86,15 +87,15 @@ impl Window {
         self.fill(files)
     }
 
-    /// The bytes in view.
+    /// Returns the bytes in view.
     pub(crate) fn left(&self) -> &[u8]
         ensures { result.now ≡ self.now.left }
     {
         &self.buffer[self.next..self.end]
     }
 
-    /// Reads once into a window in which nothing is left: no byte past as many as a source may have, but for one that tells that
-    /// it has more.
+    /// Reads once into a window in which nothing is left. No byte is read past as many as a source may have, but for one that
+    /// shows that the source has more. Fails with `Read` where the source cannot be read or has more.
     fn fill<F: Files>(&mut self, files: &mut F) -> Result<(), LexFault>
         requires is_open { 0 < F.depth files.old }
         requires given { self.old.given ≤ 16777216 }

@@ -1,42 +1,42 @@
 //! A reader of files that gives few bytes, pauses, fails or does not end.
 ghost use Rattle.std.specs.Prelude.{◌≡◌, ◌<◌, ◌≤◌, None, [], false, length, IfOk};
 
-use inf_files::failures::Failures;
-use inf_files::files::{Files, OpenFault, ReadFault};
-use inf_files::given_bytes::GivenBytes;
-use inf_files::memory_files::MemoryFiles;
+use inf_devices::failures::Failures;
+use inf_devices::files::{Files, OpenFault, ReadFault};
+use inf_devices::given_bytes::GivenBytes;
+use inf_devices::memory_files::MemoryFiles;
 
-/// How a reader gives its bytes.
+/// The pace at which a reader gives its bytes.
 #[derive(Clone, Copy)]
 pub(crate) struct Pace {
-    /// The most bytes of a read, by turns: where it is none, the read tells an end.
+    /// The most bytes of a read, by turns: where they are none, the read is an end.
     pub(crate) most: [usize; 2],
-    /// Behind so many reads each fails.
+    /// The number of reads behind which each fails.
     pub(crate) reads: usize,
     /// Whether spaces follow a source, without end.
     pub(crate) is_endless: bool,
 }
 
-/// Gives the bytes of files in memory at a pace, and counts what it did.
+/// Files in memory whose bytes are given at a pace, with counts of the calls.
 #[derive(Drop)]
 pub(crate) struct Metered {
     whole: MemoryFiles,
     pace: Pace,
     failures: Failures,
     counted: GivenBytes,
-    /// How many files are open.
+    /// The number of open files.
     pub(crate) depth: usize,
-    /// How many files were opened.
+    /// The number of files that were opened.
     pub(crate) opened: usize,
-    /// How many reads were asked for.
+    /// The number of reads that were asked for.
     pub(crate) reads: usize,
-    /// How many bytes were given.
+    /// The number of bytes that were given.
     pub(crate) given: usize,
     ghost in_step: { depth ≡ length whole.openings.open_places },
 }
 
 impl Metered {
-    /// Files of which none was opened yet.
+    /// Makes a reader of files of which none was opened yet.
     pub(crate) fn new(whole: MemoryFiles, pace: Pace) -> Metered
         requires { whole.openings.open_places ≡ [] }
     {

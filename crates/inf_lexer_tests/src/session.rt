@@ -1,7 +1,7 @@
-//! What commands do.
+//! The commands of a line, and their answers.
 use crate::metered::{Metered, Pace};
 use crate::words::{bytes_of, number, word};
-use inf_files::memory_files::MemoryFiles;
+use inf_devices::memory_files::MemoryFiles;
 use inf_lexer::{EnterFault, LexFault, Lexer, Stack, Token, TokenKind};
 use inf_text::CharSet;
 use std::alloc::{AllocError, Global};
@@ -18,14 +18,14 @@ pub(crate) struct Session {
     lexers: Vec<Lexer>,
 }
 
-/// What gives all bytes at once, up to the end.
+/// The pace that gives all bytes at once, up to the end.
 const AT_ONCE: Pace = Pace {
     most: [usize::MAX, usize::MAX],
     reads: usize::MAX,
     is_endless: false,
 };
 
-/// The pace that a command asks for.
+/// Returns the pace that a command asks for.
 fn pace_of(command: &str) -> Pace {
     Pace {
         most: [number(command, 3), number(command, 4)],
@@ -34,7 +34,7 @@ fn pace_of(command: &str) -> Pace {
     }
 }
 
-/// A piece so many times, and a text behind them.
+/// Returns `count` times a piece, and a text behind them.
 fn source_of(alloc: Global, count: usize, piece: &str, text: &str) -> Result<Vec<u8>, AllocError> {
     let piece = bytes_of(alloc, piece)?;
     let mut source = Vec::new(alloc);
@@ -45,7 +45,7 @@ fn source_of(alloc: Global, count: usize, piece: &str, text: &str) -> Result<Vec
     Ok(source)
 }
 
-/// The directories that stand in a word with commas between them, or none.
+/// Returns the directories of a word with commas between them, or none.
 fn directories_of(alloc: Global, word: Option<&str>) -> Result<Vec<&str>, AllocError> {
     let mut directories = Vec::new(alloc);
     if let Some(word) = word {
@@ -57,7 +57,7 @@ fn directories_of(alloc: Global, word: Option<&str>) -> Result<Vec<&str>, AllocE
 }
 
 impl Session {
-    /// With an empty folder.
+    /// Makes a session with an empty folder.
     pub(crate) fn new(alloc: Global) -> Session {
         let empty = MemoryFiles::new(alloc, BTreeMap::new(alloc));
         Session {
@@ -69,7 +69,7 @@ impl Session {
         }
     }
 
-    /// Obeys the commands of a line, and answers what comes of each.
+    /// Obeys the commands of a line, and returns the answer of each.
     pub(crate) fn answer(&mut self, line: &str) -> Result<String, AllocError> {
         let mut answer = String::new(self.alloc);
         for command in line.split(" | ") {
@@ -81,7 +81,7 @@ impl Session {
         Ok(answer)
     }
 
-    /// Obeys a command, and answers what comes of it.
+    /// Obeys a command, and returns its answer: its name, unless it asks for more.
     fn obey(&mut self, command: &str) -> Result<String, AllocError> {
         let name = word(command, 0);
         match name {
@@ -102,7 +102,7 @@ impl Session {
         String::from_str(self.alloc, name)
     }
 
-    /// What comes of a command that has something to tell.
+    /// Obeys a command that asks for an answer, and returns that.
     fn told(&mut self, name: &str, command: &str) -> Result<String, AllocError> {
         match name {
             "main" => self.enter_main(word(command, 1)),
@@ -120,12 +120,12 @@ impl Session {
         }
     }
 
-    /// A number as it is told.
+    /// Returns a number in decimal digits.
     fn number(&self, number: usize) -> Result<String, AllocError> {
         format!(in self.alloc; "{number}")
     }
 
-    /// Puts a source into the folder: a piece so many times, and a text behind them.
+    /// Puts a source into the folder: `count` times a piece, and a text behind them.
     fn add_source(
         &mut self,
         name: &str,
@@ -139,7 +139,7 @@ impl Session {
         Ok(())
     }
 
-    /// Puts so many empty sources into the folder, which have numbers for names.
+    /// Puts `count` empty sources into the folder, which have numbers for names.
     fn add_numbers(&mut self, count: usize) -> Result<(), AllocError> {
         for number in 0..count {
             let name = format!(in self.alloc; "{number}")?;
@@ -201,7 +201,7 @@ impl Session {
         }
     }
 
-    /// The next token of the innermost file.
+    /// Reads the next token of the innermost file.
     fn token(&mut self) -> Result<Token, LexFault> {
         if self.files.depth == 0 {
             return Err(LexFault::Read);
@@ -212,7 +212,7 @@ impl Session {
         }
     }
 
-    /// The spelling of the token that was read last.
+    /// Returns the spelling of the token that was read last.
     fn spelling(&self) -> &str {
         match self.lexers.last() {
             Some(lexer) => str::from_utf8(lexer.spelling()).unwrap_or("not ASCII"),
@@ -220,7 +220,7 @@ impl Session {
         }
     }
 
-    /// Reads a token, and tells its place and its spelling.
+    /// Reads a token, and returns its kind, its place and its spelling.
     fn next(&mut self) -> Result<String, AllocError> {
         match self.token() {
             Ok(Token { kind, place }) => {
@@ -235,7 +235,8 @@ impl Session {
         }
     }
 
-    /// Reads a token, and tells its line. The end is the last of them, and so is a fault.
+    /// Reads a token, and returns its kind and its line, and whether it is the last one: the end,
+    /// or a fault.
     fn line_of_next(&mut self) -> Result<(String, bool), AllocError> {
         match self.token() {
             Ok(token) => {
@@ -247,7 +248,7 @@ impl Session {
         }
     }
 
-    /// Reads all tokens that are left of the innermost file, and tells their lines.
+    /// Reads all tokens that are left of the innermost file, and returns their kinds and lines.
     fn rest(&mut self) -> Result<String, AllocError> {
         let mut all = String::new(self.alloc);
         for _ in 0..u64::MAX {
@@ -261,7 +262,7 @@ impl Session {
         Ok(all)
     }
 
-    /// Reads all tokens of a text.
+    /// Reads all tokens of a text, and returns their kinds and lines.
     fn tokens(&mut self, command: &str) -> Result<String, AllocError> {
         self.add_source("t.inf", 0, "", word(command, 3))?;
         self.begin(word(command, 1), word(command, 2), AT_ONCE)?;
@@ -269,7 +270,8 @@ impl Session {
         self.rest()
     }
 
-    /// Reads names of one length, and tells whether at most so many bytes are given ahead.
+    /// Reads names of one length, and returns whether no more bytes than the command allows are
+    /// ever given ahead.
     fn ahead(&mut self, command: &str) -> Result<String, AllocError> {
         let (length, most) = (number(command, 2), number(command, 3));
         let mut end: usize = 0;
@@ -297,7 +299,7 @@ impl Session {
         String::from_str(self.alloc, "entered")
     }
 
-    /// The name of a file.
+    /// Returns the name of a file.
     fn name(&self, number: &str) -> Result<String, AllocError> {
         let name = match number.parse() {
             Ok(file) => self.stack.name(file),

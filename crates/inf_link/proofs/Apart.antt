@@ -1,4 +1,4 @@
--- Fixups that do not overlap are filled in any order.
+-- Fixups that do not overlap may be filled in any order.
 use Rattle.std.proofs.Common.{◌≡◌, ◌∙◌, ℕ, zero, suc, ◌+◌, ◌/◌, ◌%◌, ◌<◌, ◌≤◌, ◌≢◌, ◌⊎◌, inl, inr, List, [], ◌∷◌, Bool, true, false}
 use Rattle.std.proofs.Common.{if◌then◌else◌, length, set, refl, ap, sym, subst, arith, nat_lt, ◌==◌, slice_index_or}
 use Rattle.std.proofs.lemmas.List.{set_comm}
@@ -77,7 +77,7 @@ with_number-comm bytes p q m n far =
       both false true = refl
       both false false = refl
 
--- what is done to bytes or not
+-- bytes after a change that is made or not
 abbrev chosen : Bool → (List ℕ → List ℕ) → List ℕ → List ℕ
 chosen b f bytes = if b then f bytes else bytes
 
@@ -88,7 +88,7 @@ chosen-comm true false f g bytes same = refl
 chosen-comm false true f g bytes same = refl
 chosen-comm false false f g bytes same = refl
 
--- one fixup is filled
+-- the areas where one fixup is filled
 abbrev pub step : (Target → ℕ) → Fixup → Areas (List ℕ) → Areas (List ℕ)
 step number fixup contents = with_filled fixup.area fixup.place (number fixup.target) contents
 
@@ -98,7 +98,7 @@ pub area_of-step : (number : Target → ℕ) (fixup : Fixup) (contents : Areas (
 area_of-step number fixup contents name =
     area_of-by_name (λ n. chosen (rank fixup.area == rank n) (with_number fixup.place (number fixup.target)) (area_of n contents)) name
 
--- two that do not overlap
+-- two fixups that do not overlap may be filled in either order
 step-comm : (number : Target → ℕ) (fixup other : Fixup) (contents : Areas (List ℕ)) → AreApart fixup other
     → step number other (step number fixup contents) ≡ step number fixup (step number other contents)
 step-comm number fixup other contents apart = by_name-same (two fixup other) (two other fixup) same where
@@ -118,12 +118,12 @@ step-comm number fixup other contents apart = by_name-same (two fixup other) (tw
       (eqb-true (rank other.area) (rank name) there)))))
       ∙ ap (does fixup name) (sym (area_of-step number other contents name))
 
--- that a list has a fixup
+-- Tells whether a list has a fixup.
 abbrev pub IsIn : Fixup → List Fixup → Type 0
 IsIn fixup [] = ⊥
 IsIn fixup (other ∷ others) = (other ≡ fixup) ⊎ IsIn fixup others
 
--- that no two overlap
+-- Tells whether no two fixups of a list overlap.
 abbrev pub Apart : List Fixup → Type 0
 Apart [] = Unit {0}
 Apart (fixup ∷ fixups) = ((other : Fixup) → IsIn other fixups → AreApart fixup other) × Apart fixups
@@ -190,7 +190,7 @@ filled-any_order number (fixup ∷ fixups) others contents apart apart_others to
       | inr x ↦ x
     ])
 
--- the same in the words of the law
+-- a fixup of a list is in it, and fixups are apart, in the words of the law
 is_in : (fixups : List Fixup) (fixup : Fixup) (k : ℕ) → k < length fixups → slice_index_or fixups k fixup ≡ fixup → IsIn fixup fixups
 is_in [] fixup k lt e = absurd (omega (arith, lt))
 is_in (other ∷ others) fixup zero lt e = inl e

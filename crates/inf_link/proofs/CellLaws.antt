@@ -1,4 +1,4 @@
--- Areas that were written as cells come out with the cells' numbers.
+-- Areas that were written as cells get the cells' numbers.
 use Rattle.std.proofs.Common.{◌≡◌, ◌∙◌, ℕ, ◌+◌, ◌/◌, ◌%◌, ◌<◌, ◌≤◌, ◌≢◌, ◌⊎◌, inl, inr, List, [], ◌∷◌, ◌++◌, Bool, true, false}
 use Rattle.std.proofs.Common.{if◌then◌else◌, length, set, refl, ap, sym, arith, append_assoc, length-append, ◌==◌}
 use Rattle.std.proofs.lemmas.Bool.{eqb-true, eq-eqb, lt-ltb}
@@ -9,10 +9,10 @@ use Rattle.inf_area.specs.declared.targets.AreaName.{AreaName}
 use Rattle.inf_area.specs.declared.targets.AreaName.TheVariants as name
 use Rattle.inf_area.specs.declared.targets.Target.{Target}
 use Rattle.inf_area.specs.Words.{with_word, word}
-use Rattle.inf_cells.specs.declared.cells.Cell.{Cell}
-use Rattle.inf_cells.specs.declared.cells.Cell.TheVariants as cell
-use Rattle.inf_cells.specs.Cells.{bytes_of, fixups_of, size_of}
-use Rattle.inf_cells.proofs.Joining.{length-bytes_of}
+use Rattle.inf_area.specs.declared.cells.Cell.{Cell}
+use Rattle.inf_area.specs.declared.cells.Cell.TheVariants as cell
+use Rattle.inf_area.specs.Cells.{bytes_of, fixups_of, size_of}
+use Rattle.inf_area.proofs.Joining.{length-bytes_of}
 use Rattle.inf_link.specs.declared.areas.Areas.{Areas}
 use Rattle.inf_link.specs.Areas.{area_of, by_name, lengths, order, rank}
 use Rattle.inf_link.specs.Filling.{filled, with_number}
@@ -95,7 +95,7 @@ filled_area-cells number area place front ((cell.Later target) ∷ cells) at =
     (omega (arith, length-append front (word (number target)), at))
     ∙ append_assoc front (word (number target)) (numbered number cells)
 
--- where the fixups of cells are
+-- the places of the fixups of cells
 in_cells : (area : AreaName) (place : ℕ) (cells : List Cell) (fixup : Fixup) → IsIn fixup (fixups_of area place cells) →
     (fixup.area ≡ area) × (place ≤ fixup.place)
 in_cells area place [] fixup is = elim is [ ]
@@ -186,7 +186,7 @@ order_rises = (
   ),
 )
 
--- whether an area is among some
+-- whether an area is in a list
 abbrev has : AreaName → List AreaName → Bool
 has area [] = false
 has area (other ∷ names) = if rank other == rank area then true else has area names
@@ -242,7 +242,7 @@ filled_area-areas number cells area from (other ∷ names) rises is =
           ))))
           ∙ rest found
 
--- areas of cells, with the fixups of all
+-- areas of cells where the fixups of all are filled
 filled-cells : (number : Target → ℕ) (cells : Areas (List Cell)) →
     filled number (cells_fixups cells) (cells_contents cells) ≡ by_name (λ area. numbered number (area_of area cells))
 filled-cells number cells =
@@ -262,7 +262,7 @@ length-numbered number [] = refl
 length-numbered number ((cell.Byte byte) ∷ cells) = omega (arith, length-numbered number cells)
 length-numbered number ((cell.Later target) ∷ cells) = omega (arith, length-numbered number cells)
 
--- what is known later takes as many bytes as was kept for it
+-- numbers that are known later take as many bytes as were kept for them
 pub sizes-numbered : (number : Target → ℕ) (cells : Areas (List Cell)) →
     lengths (by_name (λ name. numbered number (area_of name cells))) ≡ cells_sizes cells
 sizes-numbered number cells =
@@ -270,7 +270,7 @@ sizes-numbered number cells =
     (λ area. size_of (area_of area cells))
     (λ area. ap length (area_of-by_name (λ name. numbered number (area_of name cells)) area) ∙ length-numbered number (area_of area cells))
 
--- with their fixups in the order of the cells
+-- areas of cells give their story, with the fixups in the order of the cells
 pub cells_in_order : (cells : Areas (List Cell)) (targets : Lookup) (fields : HeaderFields) →
     story (cells_contents cells) (cells_fixups cells) targets fields ≡ cells_story cells targets fields
 unfolding filled_areas

@@ -1,4 +1,4 @@
--- What fixups come to, in whatever order they are filled.
+-- The effect of fixups, in whatever order they are filled.
 use Rattle.std.proofs.Common.{ap}
 use Rattle.inf_link.specs.Areas.{lengths}
 use Rattle.inf_link.specs.FillingLaws.{FixupsAreFilledInAnyOrder}

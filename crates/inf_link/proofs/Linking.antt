@@ -1,4 +1,4 @@
--- A story of what its parts are.
+-- A story by its parts.
 use Rattle.std.proofs.Common.{◌≡◌, ◌∙◌, ◌++◌, ℕ, List, length, ap, sym}
 use Rattle.inf_area.specs.declared.fixups.Fixup.{Fixup}
 use Rattle.inf_link.specs.declared.areas.Areas.{Areas}
@@ -14,7 +14,7 @@ use Rattle.inf_link.specs.Stories.{filled_areas, sizes, story, story_of}
 use Rattle.inf_link.specs.Targets.{Lookup, number_of}
 use Rattle.inf_link.proofs.Fillings.{lengths-filled}
 
--- areas, filled, where they lie as this map tells
+-- filled areas, at the places of this map
 pub filled-map : (contents areas : Areas (List ℕ)) (fixups : List Fixup) (targets : Lookup) (fields : HeaderFields) (sizes : Areas ℕ)
     (map : MemoryMap)
     → sizes ≡ lengths contents → map ≡ map_of sizes fields.scale → areas ≡ filled (number_of targets fields.scale map.bases) fixups contents
@@ -46,7 +46,7 @@ story-parts contents areas fixups targets fields sizes map behind are_sizes is_m
     ∙ ap (λ s. header fields (map_of s fields.scale).bases behind ++ behind) same
     ∙ ap (λ bytes. header fields (map_of (lengths done) fields.scale).bases bytes ++ bytes) whole
 
--- how many bytes the parts have
+-- the numbers of bytes of the parts
 pub sizes-parts : (contents areas : Areas (List ℕ)) (fixups : List Fixup) (targets : Lookup) (fields : HeaderFields) (measured : Areas ℕ)
     (map : MemoryMap) (bytes : List ℕ) (code strings story : ℕ)
     → measured ≡ lengths contents → map ≡ map_of measured fields.scale → areas ≡ filled_areas contents fixups targets fields

@@ -1,4 +1,4 @@
--- What targets are does not depend on the order of the words.
+-- The numbers of targets do not depend on the order of the words.
 use Rattle.std.proofs.Common.{◌≡◌, ◌∙◌, ℕ, ◌+◌, ◌*◌, ◌%◌, Option, Some, None, refl, ap, slice_get}
 use Rattle.inf_area.specs.declared.targets.AreaName.{AreaName}
 use Rattle.inf_area.specs.declared.targets.AreaName.TheVariants as name
@@ -9,10 +9,10 @@ use Rattle.inf_area.specs.declared.targets.Target.TheVariants as target
 use Rattle.inf_area.specs.declared.targets.Value.{Value}
 use Rattle.inf_area.specs.declared.targets.Value.TheVariants as value
 use Rattle.inf_link.specs.declared.areas.Areas.{Areas}
-use Rattle.inf_cells.specs.declared.scale.Scale.{Scale}
+use Rattle.inf_area.specs.declared.scale.Scale.{Scale}
 use Rattle.inf_link.specs.Targets.{Lookup, Text, direct_number, number_of, part_of, place_found, rank_of, system_number, value_found}
 
--- that two have the same lists, and words of the same ranks
+-- Tells whether two tables have the same lists, and words of the same ranks.
 pub record AreAlike (targets others : Lookup) : Type 0 where
   pub names : others.names ≡ targets.names
   pub property_tables : others.property_tables ≡ targets.property_tables

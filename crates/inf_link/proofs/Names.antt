@@ -1,4 +1,4 @@
--- What there is one of for each area, by its name.
+-- Values for each area, by their names.
 use Rattle.std.proofs.Common.{◌≡◌, refl}
 use Rattle.inf_area.specs.declared.targets.AreaName.{AreaName}
 use Rattle.inf_area.specs.declared.targets.AreaName.TheVariants as name
@@ -21,7 +21,7 @@ area_of-by_name f name.Dictionary = refl
 area_of-by_name f name.Code = refl
 area_of-by_name f name.Strings = refl
 
--- what is the same by each name is the same
+-- values that are equal for each name are equal
 pub by_name-same : {T : Type 0} (f g : AreaName → T) → ((name : AreaName) → f name ≡ g name) → by_name f ≡ by_name g
 by_name-same f g same = cc (
   same name.LowStrings,

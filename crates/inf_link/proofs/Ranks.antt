@@ -17,7 +17,7 @@ cmp = slice_cmp nat_cmp
 order : IsTotalOrder cmp
 order = lists_total nat_cmp_total
 
--- what is not below another, and is itself below a third, leaves that other below the third
+-- a text `x` is below `z` where `y` is below `z` and not below `x`
 below_too : (x y z : Text) → is_below y x ≡ false → is_below y z ≡ true → is_below x z ≡ true
 below_too x y z not_below below = go (cmp y x) refl where
   less : (o : Ordering) → is_lt o ≡ true → o ≡ Less

@@ -1,4 +1,4 @@
--- What a story tells of itself, and where its areas stand.
+-- The length and the sum that a story's header says, and the places of its areas.
 use Rattle.std.proofs.Common.{◌≡◌, ◌∙◌, ℕ, ◌+◌, ◌/◌, ◌%◌, List, [], ◌∷◌, ◌++◌, Bool, true, false, if◌then◌else◌, length, take, drop, sum}
 use Rattle.std.proofs.Common.{refl, ap, sym, subst, arith, append_assoc, length-append, replicate}
 use Rattle.std.proofs.lemmas.List.{length-replicate, take_at, drop_at}
@@ -7,18 +7,18 @@ use Rattle.inf_area.specs.declared.targets.AreaName.TheVariants as name
 use Rattle.inf_area.specs.Words.{word}
 use Rattle.inf_link.specs.declared.areas.Areas.{Areas}
 use Rattle.inf_link.specs.declared.header.HeaderFields.{HeaderFields}
-use Rattle.inf_cells.specs.declared.scale.Scale.{Scale}
-use Rattle.inf_cells.specs.declared.scale.Scale.TheVariants as scale
+use Rattle.inf_area.specs.declared.scale.Scale.{Scale}
+use Rattle.inf_area.specs.declared.scale.Scale.TheVariants as scale
 use Rattle.inf_link.specs.Areas.{area_of, is_packed, lengths, order, rank}
 use Rattle.inf_link.specs.Bodies.{body, joined, padded, up_to}
 use Rattle.inf_link.specs.Header.{header, header_back, header_front, header_size, number_bytes}
 use Rattle.inf_link.specs.MemoryMaps.{base_of, begin, end_of, map_of}
-use Rattle.inf_cells.specs.Scales.{aligned, gap, scale_number}
+use Rattle.inf_area.specs.Scales.{aligned, gap, scale_number}
 use Rattle.inf_link.specs.Stories.{story_of}
 use Rattle.inf_link.specs.StoryLaws.{AreasStandAtTheirBases, HasAt, StoriesTellThemselves, TellsItself}
 use Rattle.inf_link.proofs.Names.{area_of-by_name}
 
--- places in the story and behind the header are as far from the next packed address
+-- places in the story and behind the header have the same distance from the next packed address
 gap-behind : (s : Scale) (n : ℕ) → gap s (64 + n) ≡ gap s n
 gap-behind scale.Four n = omega arith
 gap-behind scale.Eight n = omega arith
@@ -50,7 +50,7 @@ length-with_area s contents area bytes =
     let size : area_of area (lengths contents) ≡ length (area_of area contents) = area_of-by_name (λ n. length (area_of n contents)) area in
     omega (arith, length-append (up_to s area bytes) (area_of area contents), length-up_to s area bytes, size)
 
--- how long the bytes behind the header are
+-- the length of the bytes behind the header
 length-joined : (s : Scale) (contents : Areas (List ℕ)) (names : List AreaName) (bytes : List ℕ)
     → 64 + length (joined s contents names bytes) ≡ aligned s (end_of (lengths contents) s (64 + length bytes) names)
 length-joined s contents [] bytes = ap (λ n. 64 + n) (length-padded s bytes) ∙ sym (aligned-behind s (length bytes))
@@ -58,7 +58,7 @@ length-joined s contents (area ∷ names) bytes =
     length-joined s contents names (with_area s contents area bytes)
     ∙ ap (λ n. aligned s (end_of (lengths contents) s n names)) (length-with_area s contents area bytes)
 
--- areas come behind what is there
+-- areas are joined behind the bytes before them
 joined-front : (s : Scale) (contents : Areas (List ℕ)) (names : List AreaName) (bytes : List ℕ) →
     (rest : List ℕ) × (joined s contents names bytes ≡ bytes ++ rest)
 joined-front s contents [] bytes = (replicate (gap s (length bytes)) 0, refl)
@@ -121,7 +121,7 @@ stands-body s contents area =
     subst (λ names. Stands s contents area (base_of (lengths contents) s area) (joined s contents names [])) (in_order area)
     (stands s contents area (take (rank area) order) (drop (rank area + 1) order) [])
 
--- what holds with any six digits holds with a list of six
+-- a statement about any six digits holds for a list of six
 with_six : (P : List ℕ → Type 0) → ((a b c d e f : ℕ) → P (a ∷ b ∷ c ∷ d ∷ e ∷ f ∷ [])) → (serial : List ℕ) → length serial ≡ 6 → P serial
 with_six P all (a ∷ b ∷ c ∷ d ∷ e ∷ f ∷ []) six = all a b c d e f
 with_six P all [] six = absurd (omega arith)
@@ -138,7 +138,7 @@ unfolding header_front header_back
 length-header fields bases bytes six =
     with_six (λ serial. length (header (record fields { serial = serial }) bases bytes) ≡ 64) (λ a b c d e f. refl) fields.serial six
 
--- what the header says of the length and the sum of what is behind it
+-- the length and the sum of the bytes behind the header, as the header says them
 header_words : (fields : HeaderFields) (bases : Areas ℕ) (bytes : List ℕ) → length fields.serial ≡ 6
     → HasAt 0x1A (header fields bases bytes ++ bytes) (number_bytes ((64 + length bytes) / scale_number fields.scale)) × HasAt 0x1C
     (header fields bases bytes ++ bytes) (number_bytes (sum bytes % 65536))

@@ -4,7 +4,7 @@ use Rattle.inf_area.specs.declared.targets.AreaName.{AreaName}
 use Rattle.inf_area.specs.declared.targets.AreaName.TheVariants as name
 use Rattle.inf_link.specs.declared.areas.Areas.{Areas}
 
--- that of the area with a name
+-- the value of the area with a name
 abbrev pub area_of : {T : Type 0} → AreaName → Areas T → T
 area_of name.LowStrings areas = areas.low_strings
 area_of name.Abbreviations areas = areas.abbreviations
@@ -22,7 +22,7 @@ area_of name.Dictionary areas = areas.dictionary
 area_of name.Code areas = areas.code
 area_of name.Strings areas = areas.strings
 
--- one for each area, by its name
+-- a value for each area, by its name
 abbrev pub by_name : {T : Type 0} → (AreaName → T) → Areas T
 by_name f = record {
   low_strings = f name.LowStrings;
@@ -42,14 +42,14 @@ by_name f = record {
   strings = f name.Strings;
 }
 
--- the areas behind the header, in the order in which they stand (section 1.1)
+-- the areas behind the header, in their order (section 1.1)
 abbrev pub order : List AreaName
 order =
     name.LowStrings ∷ name.Abbreviations ∷ name.PropertyDefaults ∷ name.Objects ∷ name.PropertyTables ∷ name.ClassNumbers
     ∷ name.IndividualTables ∷ name.Globals ∷ name.Arrays ∷ name.Grammar ∷ name.Actions ∷ name.ParsingRoutines ∷ name.Dictionary
     ∷ name.Code ∷ name.Strings ∷ []
 
--- how many areas stand before one
+-- the number of areas before one
 abbrev pub rank : AreaName → ℕ
 rank name.LowStrings = 0
 rank name.Abbreviations = 1
@@ -67,14 +67,14 @@ rank name.Dictionary = 12
 rank name.Code = 13
 rank name.Strings = 14
 
--- whether what stands in an area has packed addresses, so that the area begins at a multiple of what they are multiplied by
--- (section 1.2.3)
+-- whether the contents of an area have packed addresses, which makes the area begin at a multiple of their scale (section
+-- 1.2.3)
 abbrev pub is_packed : AreaName → Bool
 is_packed name.Code = true
 is_packed name.Strings = true
 is_packed other = false
 
--- the bytes of areas, of which each has bytes
+-- the bytes of areas, each of which has bytes
 abbrev pub contents : {A : Type 0} → (A → List ℕ) → Areas A → Areas (List ℕ)
 contents bytes areas = by_name (λ name. bytes (area_of name areas))
 

@@ -2,16 +2,16 @@
 use Rattle.std.specs.Prelude.{ℕ, List, [], ◌∷◌, ◌++◌, length, replicate, if◌then◌else◌}
 use Rattle.inf_area.specs.declared.targets.AreaName.{AreaName}
 use Rattle.inf_link.specs.declared.areas.Areas.{Areas}
-use Rattle.inf_cells.specs.declared.scale.Scale.{Scale}
+use Rattle.inf_area.specs.declared.scale.Scale.{Scale}
 use Rattle.inf_link.specs.Areas.{area_of, is_packed, order}
-use Rattle.inf_cells.specs.Scales.{gap}
+use Rattle.inf_area.specs.Scales.{gap}
 
--- Bytes with zeros behind them up to the next place that has a packed address. They stand behind a header of 64 bytes, which is a
+-- Bytes with zeros behind them up to the next place that has a packed address. They follow a header of 64 bytes, which is a
 -- multiple of 4 and of 8.
 abbrev pub padded : Scale → List ℕ → List ℕ
 padded scale bytes = bytes ++ replicate (gap scale (length bytes)) 0
 
--- bytes up to where an area begins
+-- bytes with zeros up to the place where an area begins
 abbrev pub up_to : Scale → AreaName → List ℕ → List ℕ
 up_to scale name bytes = if is_packed name then padded scale bytes else bytes
 

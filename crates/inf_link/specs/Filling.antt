@@ -16,8 +16,8 @@ abbrev pub with_filled : AreaName → ℕ → ℕ → Areas (List ℕ) → Areas
 with_filled area place number contents = by_name (λ name.
     if rank area == rank name then with_number place number (area_of name contents) else area_of name contents)
 
--- The numbers of fixups in their places, one after the other. That the order does not matter where no two overlap, and that what
--- comes of cells are the bytes of the cells, is told by laws.
+-- The numbers of fixups in their places, one after the other. Laws show that the order does not matter where no two
+-- overlap, and that areas written as cells get the bytes of the cells.
 abbrev pub filled : (Target → ℕ) → List Fixup → Areas (List ℕ) → Areas (List ℕ)
 filled number [] contents = contents
 filled number (fixup ∷ fixups) contents = filled number fixups (with_filled fixup.area fixup.place (number fixup.target) contents)

@@ -1,12 +1,12 @@
--- What fixups come to, in whatever order they are filled.
+-- The effect of fixups, in whatever order they are filled.
 use Rattle.std.specs.Prelude.{◌≡◌, ℕ, ◌+◌, ◌≤◌, ◌⊎◌, ◌↔◌, List, [], ◌∷◌, ◌++◌}
 use Rattle.std.specs.List.{AllPairs, Contains, flat_map}
 use Rattle.inf_area.specs.declared.fixups.Fixup.{Fixup}
 use Rattle.inf_area.specs.declared.targets.Target.{Target}
 use Rattle.inf_area.specs.Words.{word}
-use Rattle.inf_cells.specs.declared.cells.Cell.{Cell}
-use Rattle.inf_cells.specs.declared.cells.Cell.TheVariants as cell
-use Rattle.inf_cells.specs.Cells.{bytes_of, fixups_of, size_of}
+use Rattle.inf_area.specs.declared.cells.Cell.{Cell}
+use Rattle.inf_area.specs.declared.cells.Cell.TheVariants as cell
+use Rattle.inf_area.specs.Cells.{bytes_of, fixups_of, size_of}
 use Rattle.inf_link.specs.declared.areas.Areas.{Areas}
 use Rattle.inf_link.specs.declared.header.HeaderFields.{HeaderFields}
 use Rattle.inf_link.specs.Areas.{area_of, by_name, order}
@@ -14,21 +14,21 @@ use Rattle.inf_link.specs.MemoryMaps.{map_of}
 use Rattle.inf_link.specs.Stories.{story, story_of}
 use Rattle.inf_link.specs.Targets.{Lookup, number_of}
 
--- that two fixups do not overlap
+-- Tells whether two fixups do not overlap.
 abbrev pub AreApart : Fixup → Fixup → Type 0
 AreApart fixup other = fixup.area ≡ other.area → (fixup.place + 2 ≤ other.place) ⊎ (other.place + 2 ≤ fixup.place)
 
--- that lists have the same fixups
+-- Tells whether lists have the same fixups.
 abbrev pub HaveSameFixups : List Fixup → List Fixup → Type 0
 HaveSameFixups fixups others = (fixup : Fixup) → Contains fixups fixup ↔ Contains others fixup
 
--- fixups of which no two overlap give the same story in each order
+-- Fixups of which no two overlap give the same story in each order.
 abbrev pub FixupsAreFilledInAnyOrder : Type 0
 FixupsAreFilledInAnyOrder = (contents : Areas (List ℕ)) (fixups others : List Fixup) (targets : Lookup) (fields : HeaderFields)
     → AllPairs AreApart fixups → AllPairs AreApart others → HaveSameFixups fixups others
     → story contents others targets fields ≡ story contents fixups targets fields
 
--- areas of cells: their bytes, with zeros for what is known later, and their fixups
+-- areas of cells: their bytes, with zeros for numbers that are known later, and their fixups
 abbrev pub cells_contents : Areas (List Cell) → Areas (List ℕ)
 cells_contents cells = by_name (λ name. bytes_of (area_of name cells))
 
@@ -44,13 +44,14 @@ numbered number [] = []
 numbered number (cell.Byte byte ∷ cells) = byte ∷ numbered number cells
 numbered number (cell.Later target ∷ cells) = word (number target) ++ numbered number cells
 
--- the story of areas of cells: by their sizes it is known where each begins, by that the number of each cell, and by that the bytes
+-- The story of areas of cells: their sizes determine where each begins, this determines the number of each cell, and the
+-- numbers determine the bytes.
 abbrev pub cells_story : Areas (List Cell) → Lookup → HeaderFields → List ℕ
 cells_story cells targets fields =
     let number = number_of targets fields.scale (map_of (cells_sizes cells) fields.scale).bases in
     story_of (by_name (λ name. numbered number (area_of name cells))) fields
 
--- areas that were written as cells give the story of the cells, in whatever order their fixups are filled
+-- Areas that were written as cells give the story of the cells, in whatever order their fixups are filled.
 abbrev pub CellsComeOutAsNumbers : Type 0
 CellsComeOutAsNumbers = (cells : Areas (List Cell)) (fixups : List Fixup) (targets : Lookup) (fields : HeaderFields)
     → AllPairs AreApart fixups → HaveSameFixups (cells_fixups cells) fixups

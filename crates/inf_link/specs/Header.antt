@@ -4,10 +4,10 @@ use Rattle.std.specs.List.{flat_map}
 use Rattle.inf_area.specs.Words.{word}
 use Rattle.inf_link.specs.declared.areas.Areas.{Areas}
 use Rattle.inf_link.specs.declared.header.HeaderFields.{HeaderFields}
-use Rattle.inf_cells.specs.declared.scale.Scale.{Scale}
-use Rattle.inf_cells.specs.Scales.{scale_number, version}
+use Rattle.inf_area.specs.declared.scale.Scale.{Scale}
+use Rattle.inf_area.specs.Scales.{scale_number, version}
 
--- the header's size, where the areas begin
+-- the size of the header, behind which the areas begin
 abbrev pub header_size : ℕ
 header_size = 64
 
@@ -28,12 +28,13 @@ header_front fields bases =
     fields.release ∷ bases.code ∷ (bases.code + 1) ∷ bases.dictionary ∷ bases.property_defaults ∷ bases.globals ∷ bases.grammar ∷ 0 ∷ [])
     ++ fields.serial
 
--- From $18 on: abbreviations, the length of the story, divided as packed addresses are, checksum; all else 0.
+-- From $18 on: abbreviations, the length of the story, divided as packed addresses are, and the checksum; all other bytes
+-- are 0.
 unfoldable pub header_back : Scale → ℕ → List ℕ → List ℕ
 header_back scale abbreviations body =
     flat_map number_bytes (abbreviations ∷ ((header_size + length body) / scale_number scale) ∷ checksum body ∷ [])
     ++ replicate 34 0
 
--- the header of a story with these bytes behind it, whose areas begin at these places
+-- the header of a story with the given bytes behind it, whose areas begin at the given places
 abbrev pub header : HeaderFields → Areas ℕ → List ℕ → List ℕ
 header fields bases body = header_front fields bases ++ header_back fields.scale bases.abbreviations body

@@ -1,29 +1,29 @@
--- Where the areas of a story begin, by the sizes of those before them. Z-Machine Standard 1.1, section 1.1.
+-- The places where the areas of a story begin, by the sizes of those before them. Z-Machine Standard 1.1, section 1.1.
 use Rattle.std.specs.Prelude.{ℕ, ◌+◌, List, [], ◌∷◌, take, if◌then◌else◌, nat_lt, Option, Some, None}
 use Rattle.inf_area.specs.declared.targets.AreaName.{AreaName}
 use Rattle.inf_link.specs.declared.areas.Areas.{Areas}
-use Rattle.inf_cells.specs.declared.scale.Scale.{Scale}
+use Rattle.inf_area.specs.declared.scale.Scale.{Scale}
 use Rattle.inf_link.specs.declared.link.LinkFault.{LinkFault}
 use Rattle.inf_link.specs.declared.link.LinkFault.TheVariants as link_fault
 use Rattle.inf_link.specs.declared.memory_map.MemoryMap.{MemoryMap}
 use Rattle.inf_link.specs.Areas.{area_of, by_name, is_packed, order, rank}
 use Rattle.inf_link.specs.Header.{header_size}
-use Rattle.inf_cells.specs.Scales.{aligned, most_bytes}
+use Rattle.inf_area.specs.Scales.{aligned, most_bytes}
 
--- where an area begins behind so many bytes
+-- the place where an area begins behind `at` bytes
 abbrev pub begin : Scale → AreaName → ℕ → ℕ
 begin scale name at = if is_packed name then aligned scale at else at
 
--- where areas of these lengths end that stand behind so many bytes
+-- the place where areas of the given lengths end behind `at` bytes
 abbrev pub end_of : Areas ℕ → Scale → ℕ → List AreaName → ℕ
 end_of lengths scale at [] = at
 end_of lengths scale at (name ∷ names) = end_of lengths scale (begin scale name at + area_of name lengths) names
 
--- where an area begins: behind the header and the areas before it
+-- the place where an area begins: behind the header and the areas before it
 abbrev pub base_of : Areas ℕ → Scale → AreaName → ℕ
 base_of lengths scale name = begin scale name (end_of lengths scale header_size (take (rank name) order))
 
--- where each area begins, and where the story ends
+-- the places where each area begins, and where the story ends
 abbrev pub map_of : Areas ℕ → Scale → MemoryMap
 map_of lengths scale = record {
   bases = by_name (base_of lengths scale);
@@ -34,7 +34,7 @@ map_of lengths scale = record {
 abbrev pub most_readable : ℕ
 most_readable = 65534
 
--- why areas of these lengths make no story, if they make none
+-- the reason why areas of the given lengths make no story, if there is one
 abbrev pub too_long : Areas ℕ → Scale → Option LinkFault
 too_long lengths scale =
     let map = map_of lengths scale in

@@ -13,7 +13,7 @@ use Rattle.inf_link.specs.Header.{header}
 use Rattle.inf_link.specs.MemoryMaps.{map_of}
 use Rattle.inf_link.specs.Targets.{Lookup, number_of}
 
--- a story's bytes, and how many of them are what
+-- a story: its bytes, and the numbers of bytes of its parts
 pub record Linked : Type 0 where
   pub bytes : List ℕ
   pub sizes : Sizes
@@ -33,7 +33,7 @@ story_of contents fields =
 abbrev pub story : Areas (List ℕ) → List Fixup → Lookup → HeaderFields → List ℕ
 story contents fixups targets fields = story_of (filled_areas contents fixups targets fields) fields
 
--- how many bytes it and its parts have
+-- the numbers of bytes of the story and of its parts
 abbrev pub sizes : Areas (List ℕ) → HeaderFields → List ℕ → Sizes
 sizes contents fields bytes = record {
   code = length contents.code;
@@ -42,7 +42,7 @@ sizes contents fields bytes = record {
   story = length bytes;
 }
 
--- what is told where this is why there is no story
+-- the fault where there is no story: `fault`, or else want of memory
 abbrev pub refusal : Option LinkFault → LinkFault
 refusal None = link_fault.Memory
 refusal (Some fault) = fault

@@ -1,5 +1,5 @@
--- What the numbers are that are known once a story is laid out.
--- Z-Machine Standard 1.1, sections 1.2.2 and 1.2.3; Designer's Manual, fourth edition, section 39.
+-- Numbers that are known once a story is laid out. Z-Machine Standard 1.1, sections 1.2.2 and 1.2.3; Designer's Manual,
+-- fourth edition, section 39.
 use Rattle.std.specs.Prelude.{ℕ, ◌+◌, ◌*◌, ◌/◌, ◌%◌, List, [], ◌∷◌, if◌then◌else◌, Bool, Option, Some, None, slice_get}
 use Rattle.std.specs.Ordering.{nat_cmp, is_lt}
 use Rattle.std.specs.Cmp.Lexicographic.{slice_cmp}
@@ -12,17 +12,17 @@ use Rattle.inf_area.specs.declared.targets.Target.TheVariants as target
 use Rattle.inf_area.specs.declared.targets.Value.{Value}
 use Rattle.inf_area.specs.declared.targets.Value.TheVariants as value
 use Rattle.inf_link.specs.declared.areas.Areas.{Areas}
-use Rattle.inf_cells.specs.declared.scale.Scale.{Scale}
+use Rattle.inf_area.specs.declared.scale.Scale.{Scale}
 use Rattle.inf_link.specs.declared.targets.Targets.{Targets}
 use Rattle.inf_link.specs.Areas.{area_of}
-use Rattle.inf_cells.specs.Scales.{scale_number}
+use Rattle.inf_area.specs.Scales.{scale_number}
 
 -- the text of a word: six bytes
 abbrev pub Text : Type 0
 Text = List ℕ
 
--- What targets are looked up in: what each name of the source stands for, where the parts of areas begin, the texts of the
--- words, and the number of the last object.
+-- The table in which targets are looked up: the value of each name of the source, the places where the parts of areas
+-- begin, the texts of the words, and the number of the last object.
 pub record Lookup : Type 0 where
   pub names : List Value
   pub property_tables : List ℕ
@@ -44,12 +44,12 @@ lookup targets = record {
 abbrev pub is_below : Text → Text → Bool
 is_below a b = is_lt (slice_cmp nat_cmp a b)
 
--- how many words have texts below this one: the place of the word with this text where they stand in rising order
+-- the number of words with texts below a text: the place of the word with this text, where words are in rising order
 abbrev pub rank_of : Text → List Text → ℕ
 rank_of text [] = 0
 rank_of text (word ∷ words) = if is_below word text then rank_of text words + 1 else rank_of text words
 
--- What the address of a place is divided by: low strings have addresses in words, code and strings packed ones
+-- the number that the address of a place is divided by: low strings have addresses in words, code and strings packed ones
 abbrev pub divisor : Scale → AreaName → ℕ
 divisor scale name.LowStrings = 2
 divisor scale name.Code = scale_number scale
@@ -59,7 +59,7 @@ divisor scale other = 1
 abbrev pub place_number : Scale → Areas ℕ → AreaName → ℕ → ℕ
 place_number scale bases area place = (area_of area bases + place) / divisor scale area
 
--- where the parts of an area begin, in bytes from its front
+-- the places where the parts of an area begin, in bytes from its front
 abbrev pub part_of : Lookup → AreaName → List ℕ
 part_of targets name.PropertyTables = targets.property_tables
 part_of targets name.IndividualTables = targets.individual_tables
@@ -78,12 +78,12 @@ system_number targets scale bases constant.CodeOffset = bases.code / scale_numbe
 system_number targets scale bases constant.StringsOffset = bases.strings / scale_number scale
 system_number targets scale bases constant.HighestObjectNumber = targets.last_object
 
--- what is at a place, if it is there
+-- the number of a place in an area, if there is one
 abbrev pub place_found : Scale → Areas ℕ → AreaName → Option ℕ → ℕ
 place_found scale bases area None = 0
 place_found scale bases area (Some place) = place_number scale bases area place
 
--- What a target is that is no name. The dictionary's words begin behind 7 bytes and have 9 each (section 13.2).
+-- The number of a target that is no name. The dictionary's words begin behind 7 bytes and have 9 each (section 13.2).
 abbrev pub direct_number : Lookup → Scale → Areas ℕ → Target → ℕ
 direct_number targets scale bases (target.Name number) = 0
 direct_number targets scale bases (target.Place area place) = place_number scale bases area place
@@ -91,13 +91,13 @@ direct_number targets scale bases (target.Part area part) = place_found scale ba
 direct_number targets scale bases (target.Word text) = bases.dictionary + 7 + 9 * rank_of text targets.words
 direct_number targets scale bases (target.System asked) = system_number targets scale bases asked
 
--- what stands for a name, if there is such a name
+-- the number of the value of a name, if there is one
 abbrev pub value_found : Lookup → Scale → Areas ℕ → Option Value → ℕ
 value_found targets scale bases None = 0
 value_found targets scale bases (Some (value.Known number)) = number
 value_found targets scale bases (Some (value.Later target)) = direct_number targets scale bases target
 
--- the number of a target, where areas begin at these places
+-- the number of a target, where areas begin at `bases`
 abbrev pub number_of : Lookup → Scale → Areas ℕ → Target → ℕ
 number_of targets scale bases (target.Name number) = value_found targets scale bases (slice_get targets.names number) % 65536
 number_of targets scale bases other = direct_number targets scale bases other % 65536

@@ -1,10 +1,11 @@
-//! What there is one of for each area of a story.
+//! A value for each area of a story.
 ghost use Rattle.std.specs.Prelude.{◌≡◌};
 ghost use Rattle.inf_link.specs.Areas.{area_of, contents, lengths};
 
 use inf_area::{Area, AreaName};
 
-/// One of each area of a story, in the order in which they stand in it: the area itself, its length, or where it begins.
+/// A value for each area of a story, in the order of the areas in it: the area itself, its length, or the place where it
+/// begins.
 #[derive(Clone, Copy, Debug, Drop, PartialEq, Eq)]
 pub struct Areas<T> {
     pub low_strings: T,
@@ -25,7 +26,7 @@ pub struct Areas<T> {
 }
 
 impl<T> Areas<T> {
-    /// That of the area with a name.
+    /// Returns the value of the area `name`.
     pub fn get(&self, name: AreaName) -> &T
         ensures { result.now ≡ area_of name self.now }
     {
@@ -50,7 +51,7 @@ impl<T> Areas<T> {
 }
 
 impl<A: Area> Areas<A> {
-    /// How many bytes each area has.
+    /// Returns the number of bytes of each area.
     pub fn lengths(&self) -> Areas<usize>
         ensures { result ≡ lengths (contents A.bytes self.now) }
     {

@@ -4,8 +4,7 @@ ghost use Rattle.inf_link.specs.Areas.{contents};
 ghost use Rattle.inf_link.specs.Bodies.{body, joined, padded};
 
 use crate::areas::Areas;
-use inf_area::Area;
-use inf_cells::Scale;
+use inf_area::{Area, Scale};
 use std::alloc::{AllocError, Global};
 
 /// Appends the bytes of an area.
@@ -18,8 +17,8 @@ fn append_area<A: Area>(out: &mut Vec<u8>, area: &A) -> Result<(), AllocError>
     Ok(())
 }
 
-/// Appends zeros up to the next place that has a packed address. What is filled up stands behind a header, whose length is a multiple
-/// of what such an address is multiplied by.
+/// Appends zeros up to the next place that has a packed address. The bytes follow a header, whose length is a multiple of
+/// the scale of these addresses.
 fn fill_up(out: &mut Vec<u8>, scale: Scale) -> Result<(), AllocError>
     ensures { OnOk result (out.new.items ≡ padded scale out.old.items) }
 {
@@ -31,7 +30,7 @@ fn fill_up(out: &mut Vec<u8>, scale: Scale) -> Result<(), AllocError>
     Ok(())
 }
 
-/// The bytes behind the header of a story with these areas, which have `len` bytes.
+/// Returns the bytes behind the header of a story of `areas`, of which there are `len`. It fails for want of memory alone.
 pub fn body<A: Area>(
     alloc: Global,
     len: usize,

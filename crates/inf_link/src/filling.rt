@@ -1,4 +1,4 @@
-//! The fixups of areas are filled with their numbers.
+//! The numbers of fixups in their areas.
 ghost use Rattle.std.specs.Prelude.{◌≡◌, List, ℕ};
 ghost use Rattle.std.specs.Ordering.{nat_cmp};
 ghost use Rattle.std.specs.Cmp.Lexicographic.{slice_cmp};
@@ -9,8 +9,7 @@ ghost use Rattle.inf_link.specs.Filling.{filled, with_filled, with_number};
 
 use crate::areas::Areas;
 use crate::targets::Targets;
-use inf_area::{Area, AreaName, Fixup};
-use inf_cells::Scale;
+use inf_area::{Area, AreaName, Fixup, Scale};
 
 /// Writes a number over the two bytes at a place of an area, if both lie within.
 fn fill_at<A: Area>(area: &mut A, place: usize, number: u16)
@@ -23,7 +22,7 @@ fn fill_at<A: Area>(area: &mut A, place: usize, number: u16)
 }
 
 impl<A: Area> Areas<A> {
-    /// Writes a number over the two bytes at a place of the area with a name, if both lie within.
+    /// Writes a number over the two bytes at `place` of the area `name`, if both lie within.
     fn fill(&mut self, name: AreaName, place: usize, number: u16)
         ensures { contents A.bytes self.new ≡ with_filled name place number (contents A.bytes self.old) }
     {
@@ -46,7 +45,7 @@ impl<A: Area> Areas<A> {
         }
     }
 
-    /// Writes the numbers of fixups over their bytes, where areas begin at these places and the words of the targets are in
+    /// Writes the numbers of fixups over their bytes, where areas begin at `bases` and the words of the targets are in
     /// rising order.
     pub fn fill_all(
         &mut self,

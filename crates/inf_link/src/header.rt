@@ -4,17 +4,16 @@ ghost use Rattle.std.specs.List.{flat_map};
 ghost use Rattle.inf_link.specs.Header.{checksum, header, header_back, header_front, number_bytes};
 
 use crate::areas::Areas;
-use inf_area::word_bytes;
-use inf_cells::Scale;
+use inf_area::{Scale, word_bytes};
 use std::alloc::AllocError;
 
-/// The number of bytes of a header, behind which the areas stand.
+/// The number of bytes of a header, behind which the areas begin.
 pub const HEADER_SIZE: usize = 64;
 
 /// The bytes of a header behind the checksum, all of which are 0.
 const HEADER_REST: [u8; 34] = [0; 34];
 
-/// What a header tells beside the places of areas, the length and the checksum.
+/// The parts of a header beside the places of areas, the length and the checksum.
 #[derive(Clone, Copy, Debug, PartialEq, Eq)]
 pub struct HeaderFields {
     pub release: u16,
@@ -23,7 +22,7 @@ pub struct HeaderFields {
     pub scale: Scale,
 }
 
-/// The sum of the bytes modulo 65536.
+/// Returns the sum of the bytes modulo 65536.
 fn checksum(bytes: &[u8]) -> u16
     ensures { result ≡ checksum bytes.now }
 {
@@ -44,7 +43,7 @@ fn append_numbers(out: &mut Vec<u8>, numbers: &[usize]) -> Result<(), AllocError
     Ok(())
 }
 
-/// Appends the header up to the serial number of a story whose areas begin at these places.
+/// Appends the header up to the serial number, of a story whose areas begin at `bases`.
 #[tactic(auto, unfolding(crate::specs::Header::header_front))]
 fn append_front(
     out: &mut Vec<u8>,
@@ -71,7 +70,8 @@ fn append_front(
     out.extend_from_slice(&fields.serial)
 }
 
-/// Appends the header behind the serial number of a story with these bytes behind it, whose abbreviations begin at this place.
+/// Appends the header behind the serial number, of a story with the bytes `body` behind it, whose abbreviations begin at
+/// `abbreviations`.
 #[tactic(auto, unfolding(crate::specs::Header::header_back))]
 fn append_back(
     out: &mut Vec<u8>,
@@ -86,7 +86,7 @@ fn append_back(
     out.extend_from_slice(&HEADER_REST)
 }
 
-/// Appends the header of a story with these bytes behind it, whose areas begin at these places.
+/// Appends the header of a story with the bytes `body` behind it, whose areas begin at `bases`.
 pub fn append_header(
     out: &mut Vec<u8>,
     fields: HeaderFields,

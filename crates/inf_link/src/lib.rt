@@ -1,4 +1,4 @@
-//! The story: areas that are laid out one behind the other, with the numbers in them that are known then, and its header
+//! The story: areas that are laid out one behind the other, with the numbers in them that are then known, and its header
 //! (Z-Machine Standard 1.1, sections 1 and 11).
 #![tactic(auto)]
 
@@ -13,7 +13,7 @@ mod targets;
 
 pub use areas::Areas;
 pub use header::HeaderFields;
-pub use inf_cells::Scale;
+pub use inf_area::Scale;
 pub use laws::{
     areas_stand_at_their_bases, cells_come_out_as_numbers, fixups_are_filled_in_any_order,
     stories_tell_themselves,

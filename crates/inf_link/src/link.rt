@@ -1,4 +1,4 @@
-//! A story is made of its areas.
+//! A story from its areas.
 ghost use Rattle.std.specs.Prelude.{◌≡◌, ◌⊎◌, None, Some, IfOk, MatchResult};
 ghost use Rattle.inf_link.specs.Areas.{contents, lengths};
 ghost use Rattle.inf_link.specs.Filling.{filled};
@@ -11,12 +11,11 @@ use crate::bytes::body;
 use crate::header::{HEADER_SIZE, HeaderFields, append_header};
 use crate::memory_map::MemoryMap;
 use crate::targets::Targets;
-use inf_area::{Area, Refs};
-use inf_cells::Scale;
+use inf_area::{Area, Refs, Scale};
 use std::alloc::{AllocError, Global};
 use std::marker::Model;
 
-/// Why there is no story.
+/// Reasons why there is no story.
 #[derive(Clone, Copy, Debug, PartialEq, Eq)]
 pub enum LinkFault {
     /// Code would begin at an address over 65,534.
@@ -36,17 +35,17 @@ impl From<AllocError> for LinkFault {
     }
 }
 
-/// How many bytes a story and its parts have.
+/// Numbers of bytes of a story and of its parts.
 #[derive(Clone, Copy, Debug, PartialEq, Eq)]
 pub struct Sizes {
     pub code: usize,
     pub strings: usize,
-    /// What stands before the code.
+    /// Number of bytes before the code.
     pub readable: usize,
     pub story: usize,
 }
 
-/// A story that is done.
+/// A finished story.
 #[derive(Debug, Drop)]
 pub struct Story {
     bytes: Vec<u8>,
@@ -62,21 +61,21 @@ impl Model for Story {
 }
 
 impl Story {
-    /// Its bytes, in order.
+    /// Returns the bytes of the story, in order.
     pub fn as_slice(&self) -> &[u8]
         ensures { result.now ≡ self.now.bytes }
     {
         self.bytes.as_slice()
     }
 
-    /// Its bytes.
+    /// Returns the bytes of the story.
     pub fn into_bytes(self) -> Vec<u8>
         ensures { result.items ≡ self.bytes }
     {
         self.bytes
     }
 
-    /// How many bytes it and its parts have.
+    /// Returns the numbers of bytes of the story and of its parts.
     pub fn sizes(&self) -> Sizes
         ensures { result ≡ self.now.sizes }
     {
@@ -84,8 +83,8 @@ impl Story {
     }
 }
 
-/// What a story is made of: its areas, with two zeros at each fixup; the fixups of all areas, in any order; what these are looked
-/// up in; and what its header tells.
+/// The parts of a story: its areas, with two zeros at each fixup; the fixups of all areas, in any order; the table in which
+/// their targets are looked up; and the fields of its header.
 #[derive(Debug, Drop)]
 pub struct Link<A> {
     pub alloc: Global,
@@ -99,7 +98,7 @@ impl<A: Area + Drop> Link<A> {
     ghost use Rattle.inf_link.specs.Stories.{refusal, sizes, story};
     ghost use Rattle.inf_link.specs.Targets.{lookup};
 
-    /// What a story is made of. It takes no memory.
+    /// Creates the parts of a story. It takes no memory.
     pub fn new(
         alloc: Global,
         areas: Areas<A>,
@@ -118,8 +117,9 @@ impl<A: Area + Drop> Link<A> {
         }
     }
 
-    /// The story. Refuses first where code would begin at an address over 65,534, then where the story would be longer than one of
-    /// its version may be, then where no memory is left. A fixup that does not lie within its area is left out.
+    /// Returns the story. The call is refused first where code would begin at an address over 65,534, then where the story
+    /// would be longer than one of its version may be, then for want of memory. A fixup that does not lie within its area
+    /// is left out.
     pub fn link(self) -> Result<Story, LinkFault>
         ensures bytes { IfOk result (λ s. s.bytes ≡ story (contents A.bytes self.areas) self.refs.list (lookup self.targets) self.fields) }
         ensures sizes { IfOk result (λ s. s.sizes ≡ sizes (contents A.bytes self.areas) self.fields s.bytes) }
@@ -149,7 +149,7 @@ impl<A: Area + Drop> Link<A> {
     }
 }
 
-/// Areas whose fixups are filled, where they begin at these places.
+/// Returns areas whose fixups are filled, where they begin at `bases`.
 fn filled<A: Area>(
     areas: Areas<A>,
     refs: Refs,

@@ -1,24 +1,24 @@
-//! Where the areas of a story begin (Z-Machine Standard 1.1, section 1.1).
+//! The places where the areas of a story begin (Z-Machine Standard 1.1, section 1.1).
 ghost use Rattle.std.specs.Prelude.{◌≡◌, ◌+◌, ◌<◌, ◌≤◌, ◌^◌, None, Some, MatchResult};
-ghost use Rattle.inf_cells.specs.Scales.{aligned, most_bytes};
+ghost use Rattle.inf_area.specs.Scales.{aligned, most_bytes};
 ghost use Rattle.inf_link.specs.MemoryMaps.{map_of, too_long};
 
 use crate::areas::Areas;
 use crate::header::HEADER_SIZE;
 use crate::link::LinkFault;
-use inf_cells::Scale;
+use inf_area::Scale;
 
-/// The last address at which code may begin, since what stands before it is read by addresses of two bytes.
+/// The last address at which code may begin, since the bytes before it are read by addresses of two bytes.
 const MOST_READABLE: u128 = 65_534;
 
-/// Where areas begin and where the story ends, in bytes from its front.
+/// The places where areas begin and where the story ends, in bytes from its front.
 #[derive(Clone, Copy, Debug, PartialEq, Eq)]
 pub struct MemoryMap {
     pub bases: Areas<usize>,
     pub end: usize,
 }
 
-/// The next place that has a packed address.
+/// Returns the next place that has a packed address.
 fn aligned(scale: Scale, at: u128) -> u128
     requires { at < 2 ^ 100 }
     ensures value { result ≡ aligned scale at }
@@ -31,8 +31,8 @@ fn aligned(scale: Scale, at: u128) -> u128
 impl MemoryMap {
     ghost use Rattle.inf_link.specs.MemoryMaps.{map_of, too_long};
 
-    /// Lays areas of these lengths out. Refuses first where code begins too far, then where the story would be longer than
-    /// one of its version may be.
+    /// Lays areas of the given lengths out. The call is refused first where code would begin too far, then where the story
+    /// would be longer than one of its version may be.
     pub fn of(lengths: Areas<usize>, scale: Scale) -> Result<MemoryMap, LinkFault>
         ensures map { let long = too_long lengths scale in
             MatchResult result (λ map. (map ≡ map_of lengths scale) × (long ≡ None)) (λ fault. long ≡ Some fault) }

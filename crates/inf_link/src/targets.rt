@@ -1,4 +1,4 @@
-//! What the numbers are that are known once a story is laid out.
+//! Numbers that are known once a story is laid out.
 ghost use Rattle.std.specs.Prelude.{◌≡◌, ◌%◌, ◌<◌, ◌≤◌, IfSome, is_none, None, length, slice_get};
 ghost use Rattle.std.specs.Ordering.{nat_cmp};
 ghost use Rattle.std.specs.Cmp.Lexicographic.{slice_cmp};
@@ -7,27 +7,26 @@ ghost use Rattle.inf_link.specs.Targets.{direct_number, divisor, is_below, looku
 ghost use Rattle.inf_link.specs.Targets.{system_number};
 
 use crate::areas::Areas;
-use inf_area::{AreaName, SystemConstant, Target, Value};
-use inf_cells::Scale;
+use inf_area::{AreaName, Scale, SystemConstant, Target, Value};
 
-/// Where the words of the dictionary begin in it, in bytes (Z-Machine Standard 1.1, section 13.2).
+/// The place where the words of the dictionary begin in it, in bytes (Z-Machine Standard 1.1, section 13.2).
 const FIRST_WORD: u128 = 7;
 
-/// How many bytes the entry of a word has.
+/// Number of bytes of a word's entry.
 const WORD_SIZE: u128 = 9;
 
-/// What the targets of a story are looked up in. A number that is not there is told as 0.
+/// The table in which the targets of a story are looked up. A number that is not found is 0.
 #[derive(Debug, Drop)]
 pub struct Targets {
-    /// What each name of the source stands for, by its number. What stands for a name is itself no name.
+    /// The value of each name of the source, by its number. This value is itself no name.
     pub names: Vec<Value>,
-    /// Where the property tables of the objects begin, in bytes from the front of their area, in order.
+    /// The places where the property tables of the objects begin, in bytes from the front of their area, in order.
     pub property_tables: Vec<usize>,
-    /// Where the individual tables begin, likewise.
+    /// The places where the individual tables begin, in bytes from the front of their area, in order.
     pub individual_tables: Vec<usize>,
-    /// Where the lines of the verbs begin, in bytes from the front of the grammar, in order.
+    /// The places where the lines of the verbs begin, in bytes from the front of the grammar, in order.
     pub verbs: Vec<usize>,
-    /// The texts of the words of the dictionary, in any order. A word is looked up by how many of them are below its own.
+    /// The texts of the words of the dictionary, in any order. A word is looked up by the number of texts below its own.
     pub words: Vec<[u8; 6]>,
     /// The number of the last object.
     pub last_object: u16,
@@ -39,7 +38,7 @@ fn is_below(a: &[u8; 6], b: &[u8; 6]) -> bool
     a.cmp(b).is_lt()
 }
 
-/// How many of some texts, which are in rising order, are below one.
+/// Returns the number of texts below `text`, where `words` are in rising order.
 fn rank(words: &[[u8; 6]], text: [u8; 6]) -> usize
     requires sorted { IsSorted (slice_cmp nat_cmp) words.now }
     ensures { result ≡ rank_of text words.now }
@@ -51,7 +50,7 @@ fn rank(words: &[[u8; 6]], text: [u8; 6]) -> usize
     )
 }
 
-/// What the address of a place in an area is divided by.
+/// Returns the number that the address of a place in an area is divided by.
 fn divisor(scale: Scale, area: AreaName) -> u128
     ensures value { result ≡ divisor scale area }
     ensures positive { 0 < result }
@@ -63,7 +62,7 @@ fn divisor(scale: Scale, area: AreaName) -> u128
     }
 }
 
-/// The number that stands for a place in an area, before it is taken modulo 65536.
+/// Returns the number of a place in an area, before it is taken modulo 65536.
 fn place_number(scale: Scale, bases: &Areas<usize>, area: AreaName, place: usize) -> u128
     ensures { result ≡ place_number scale bases.now area place }
 {
@@ -72,7 +71,7 @@ fn place_number(scale: Scale, bases: &Areas<usize>, area: AreaName, place: usize
 }
 
 impl Targets {
-    /// The places of the parts of an area.
+    /// Returns the places of the parts of an area.
     fn parts(&self, area: AreaName) -> &[usize]
         ensures { result.now ≡ part_of (lookup self.now) area }
     {
@@ -84,7 +83,7 @@ impl Targets {
         }
     }
 
-    /// What the story as a whole is asked for.
+    /// Returns a constant of the story as a whole.
     fn system_number(&self, scale: Scale, bases: &Areas<usize>, constant: SystemConstant) -> u128
         ensures { result ≡ system_number (lookup self.now) scale bases.now constant }
     {
@@ -102,7 +101,7 @@ impl Targets {
         }
     }
 
-    /// The number of a part of an area.
+    /// Returns the number of a part of an area.
     fn part_number(&self, scale: Scale, bases: &Areas<usize>, area: AreaName, part: usize) -> u128
         ensures { result ≡ direct_number (lookup self.now) scale bases.now (Target.Part area part) }
     {
@@ -112,7 +111,7 @@ impl Targets {
         }
     }
 
-    /// The number of a target that is no name.
+    /// Returns the number of a target that is no name.
     fn direct_number(&self, scale: Scale, bases: &Areas<usize>, target: Target) -> u128
         requires sorted { IsSorted (slice_cmp nat_cmp) self.now.words.items }
         ensures { result ≡ direct_number (lookup self.now) scale bases.now target }
@@ -129,7 +128,7 @@ impl Targets {
         }
     }
 
-    /// The number of a target, where areas begin at these places and the words are in rising order.
+    /// Returns the number of a target, where areas begin at `bases` and the words are in rising order.
     pub fn number(&self, scale: Scale, bases: &Areas<usize>, target: Target) -> u16
         requires sorted { IsSorted (slice_cmp nat_cmp) self.now.words.items }
         ensures { result ≡ number_of (lookup self.now) scale bases.now target }

@@ -1,10 +1,10 @@
-//! Stories as a script makes them.
+//! Stories made by a script.
 use crate::spelled::{area, fields, number, part, target, text, value};
 use inf_area::{Area, AreaName, Fixup, FlatArea, PagedArea, Refs, Target};
 use inf_link::{Areas, HeaderFields, Link, LinkFault, Story, Targets};
 use std::alloc::{AllocError, Global};
 
-/// What a word puts behind an area.
+/// A thing that is put behind an area.
 #[derive(Clone, Copy, Debug, PartialEq, Eq)]
 enum Put {
     One(u8),
@@ -12,7 +12,7 @@ enum Put {
     Later(Target),
 }
 
-/// What is put behind an area so many times.
+/// A thing that is put behind an area, and how often.
 #[derive(Clone, Copy, Debug, PartialEq, Eq)]
 struct Piece {
     area: AreaName,
@@ -20,16 +20,16 @@ struct Piece {
     count: usize,
 }
 
-/// What a story is made of, so far.
+/// The parts of a story so far.
 #[derive(Drop)]
 pub(crate) struct Script {
     pieces: Vec<Piece>,
-    // Those for which no bytes are put.
+    // The fixups for which no bytes are put.
     fixups: Vec<Fixup>,
     targets: Targets,
 }
 
-/// Areas with no bytes.
+/// Returns flat areas with no bytes.
 fn flat_areas(alloc: Global) -> Areas<FlatArea> {
     Areas {
         low_strings: FlatArea::new(alloc),
@@ -50,7 +50,7 @@ fn flat_areas(alloc: Global) -> Areas<FlatArea> {
     }
 }
 
-/// Areas with no bytes.
+/// Returns paged areas with no bytes.
 fn paged_areas(alloc: Global) -> Areas<PagedArea> {
     Areas {
         low_strings: PagedArea::new(alloc),
@@ -71,7 +71,7 @@ fn paged_areas(alloc: Global) -> Areas<PagedArea> {
     }
 }
 
-/// Puts bytes behind the area with a name.
+/// Appends bytes to the area of this name.
 fn append<A: Area>(areas: &mut Areas<A>, name: AreaName, bytes: &[u8]) -> Result<(), AllocError> {
     match name {
         AreaName::LowStrings => areas.low_strings.append(bytes),
@@ -92,7 +92,7 @@ fn append<A: Area>(areas: &mut Areas<A>, name: AreaName, bytes: &[u8]) -> Result
     }
 }
 
-/// The same targets again.
+/// Returns a copy of `targets`.
 fn copy_of(alloc: Global, targets: &Targets) -> Result<Targets, AllocError> {
     Ok(Targets {
         names: Vec::from_slice(alloc, &targets.names)?,
@@ -104,7 +104,7 @@ fn copy_of(alloc: Global, targets: &Targets) -> Result<Targets, AllocError> {
     })
 }
 
-/// Puts something behind an area once.
+/// Appends `put` to an area once.
 fn put_once<A: Area>(
     areas: &mut Areas<A>,
     fixups: &mut Vec<Fixup>,
@@ -126,7 +126,7 @@ fn put_once<A: Area>(
     }
 }
 
-/// Puts pieces behind areas.
+/// Appends `pieces` to areas.
 fn put_all<A: Area>(
     areas: &mut Areas<A>,
     fixups: &mut Vec<Fixup>,
@@ -140,7 +140,7 @@ fn put_all<A: Area>(
     Ok(())
 }
 
-/// Fixups in order, or in reverse.
+/// Returns `fixups` as references, in order or in reverse.
 fn refs_of(alloc: Global, fixups: &[Fixup], is_reversed: bool) -> Result<Refs, AllocError> {
     let mut refs = Refs::new(alloc, fixups.len());
     for place in 0..fixups.len() {
@@ -156,7 +156,7 @@ fn refs_of(alloc: Global, fixups: &[Fixup], is_reversed: bool) -> Result<Refs, A
     Ok(refs)
 }
 
-/// Puts all of a script into areas, and gives its fixups.
+/// Appends all of a script to areas, and returns its fixups.
 fn prepared<A: Area>(
     alloc: Global,
     areas: &mut Areas<A>,
@@ -168,7 +168,7 @@ fn prepared<A: Area>(
     refs_of(alloc, &fixups, is_reversed)
 }
 
-/// The story of a script in these areas, or why there is none.
+/// Returns the story of a script in these areas, or the reason why there is none.
 fn linked<A: Area + Drop>(
     alloc: Global,
     areas: Areas<A>,
@@ -185,7 +185,7 @@ fn linked<A: Area + Drop>(
     }
 }
 
-/// Adds what tells of two bytes that stand so many times.
+/// Appends the digits of two bytes that come `count` times.
 fn add_run(alloc: Global, told: &mut String, pair: u16, count: usize) -> Result<(), AllocError> {
     let run = if count == 1 {
         format!(in alloc; " {pair:04X}")?
@@ -195,7 +195,7 @@ fn add_run(alloc: Global, told: &mut String, pair: u16, count: usize) -> Result<
     told.push_str(run.as_str())
 }
 
-/// Bytes, two by two.
+/// Returns the digits of bytes, two by two.
 fn bytes_of(alloc: Global, bytes: &[u8]) -> Result<String, AllocError> {
     let mut told = String::new(alloc);
     let mut count: usize = 0;
@@ -215,7 +215,7 @@ fn bytes_of(alloc: Global, bytes: &[u8]) -> Result<String, AllocError> {
     Ok(told)
 }
 
-/// What is told of a story, or why there is none.
+/// Returns the answer for a story, or for the reason why there is none.
 fn told(alloc: Global, linked: &Result<Story, LinkFault>) -> Result<String, AllocError> {
     match linked {
         Ok(story) => {
@@ -230,21 +230,21 @@ fn told(alloc: Global, linked: &Result<Story, LinkFault>) -> Result<String, Allo
     }
 }
 
-/// What comes of a script in flat areas.
+/// Returns the answer for a script in flat areas.
 fn told_flat(alloc: Global, script: &Script, fields: HeaderFields) -> Result<String, AllocError> {
     let targets = copy_of(alloc, &script.targets)?;
     let linked = linked(alloc, flat_areas(alloc), script, targets, fields, false);
     told(alloc, &linked)
 }
 
-/// What comes of a script in paged areas, with its fixups in reverse.
+/// Returns the answer for a script in paged areas, with its fixups in reverse.
 fn told_paged(alloc: Global, script: &Script, fields: HeaderFields) -> Result<String, AllocError> {
     let targets = copy_of(alloc, &script.targets)?;
     let linked = linked(alloc, paged_areas(alloc), script, targets, fields, true);
     told(alloc, &linked)
 }
 
-/// What a word puts behind an area.
+/// Returns the thing that a word puts behind an area.
 fn put_of(spelled: &str) -> Put {
     if let Some(later) = spelled.strip_prefix('@') {
         return Put::Later(target(later));
@@ -259,7 +259,7 @@ fn put_of(spelled: &str) -> Put {
 }
 
 impl Script {
-    /// Nothing yet.
+    /// Returns a script of no lines yet.
     pub(crate) fn new(alloc: Global) -> Script {
         Script {
             pieces: Vec::new(alloc),
@@ -305,7 +305,7 @@ impl Script {
         Ok(())
     }
 
-    /// Adds one of the things of a line with this first word.
+    /// Adds the thing that `word` spells, of a line with this first word.
     fn add_word(&mut self, first: &str, word: &str) -> Result<(), AllocError> {
         match first {
             "names" => self.targets.names.push(value(word))?,
@@ -316,7 +316,7 @@ impl Script {
         Ok(())
     }
 
-    /// Adds parts of an area.
+    /// Adds the places of the parts of an area.
     fn add_parts(&mut self, line: &str) -> Result<(), AllocError> {
         let area = area(part(line, ' ', 1));
         for word in line.split(' ').skip(2) {
@@ -325,7 +325,7 @@ impl Script {
         Ok(())
     }
 
-    /// Adds what a line has.
+    /// Adds the parts of a story that a line has.
     pub(crate) fn add(&mut self, line: &str) -> Result<(), AllocError> {
         let first = part(line, ' ', 0);
         match first {
@@ -340,7 +340,8 @@ impl Script {
         Ok(())
     }
 
-    /// What comes of the story with a header of these fields.
+    /// Returns the answer for the story, whose header has the fields that are `spelled`. It has both answers where
+    /// those in flat and in paged areas differ.
     pub(crate) fn link(&self, alloc: Global, spelled: &str) -> Result<String, AllocError> {
         let fields = fields(spelled);
         let flat = told_flat(alloc, self, fields)?;

@@ -1,18 +1,18 @@
-//! What the words of a script spell.
+//! The values that the words of a script spell.
 use inf_area::{AreaName, SystemConstant, Target, Value};
 use inf_link::{HeaderFields, Scale};
 
-/// The part at a place of a word, or an empty one.
+/// Returns the part of `word` at a place, or an empty one.
 pub(crate) fn part(word: &str, between: char, place: usize) -> &str {
     word.split(between).nth(place).unwrap_or("")
 }
 
-/// A number, or 0.
+/// Returns a number, or 0.
 pub(crate) fn number(word: &str) -> usize {
     word.parse().unwrap_or(0)
 }
 
-/// An area by its name, or the last.
+/// Returns an area by its name, or the last.
 pub(crate) fn area(name: &str) -> AreaName {
     match name {
         "LowStrings" => AreaName::LowStrings,
@@ -33,7 +33,7 @@ pub(crate) fn area(name: &str) -> AreaName {
     }
 }
 
-/// What the story as a whole is asked for, or the last of it.
+/// Returns the constant of the story as a whole of this name, or the last one.
 fn constant(name: &str) -> SystemConstant {
     match name {
         "GrammarTable" => SystemConstant::GrammarTable,
@@ -49,14 +49,14 @@ fn constant(name: &str) -> SystemConstant {
     }
 }
 
-/// The text of a word.
+/// Returns the text of a dictionary word, by its digits.
 pub(crate) fn text(digits: &str) -> [u8; 6] {
     let number: u64 = u64::from_str_radix(digits, 16).unwrap_or(0);
     let [_, _, a, b, c, d, e, f] = number.to_be_bytes();
     [a, b, c, d, e, f]
 }
 
-/// A target, behind its mark.
+/// Returns a target by its spelling behind the mark.
 pub(crate) fn target(spelled: &str) -> Target {
     let second = part(spelled, ':', 1);
     match part(spelled, ':', 0) {
@@ -68,7 +68,7 @@ pub(crate) fn target(spelled: &str) -> Target {
     }
 }
 
-/// What stands for a name.
+/// Returns the value of a name, by its spelling.
 pub(crate) fn value(spelled: &str) -> Value {
     match spelled.strip_prefix('@') {
         Some(later) => Value::Later(target(later)),
@@ -79,7 +79,7 @@ pub(crate) fn value(spelled: &str) -> Value {
     }
 }
 
-/// What a header tells: version, release and serial number.
+/// Returns the fields of a header: version, release and serial number.
 pub(crate) fn fields(spelled: &str) -> HeaderFields {
     let scale = if part(spelled, ' ', 0) == "8" {
         Scale::Eight

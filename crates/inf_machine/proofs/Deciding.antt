@@ -1,4 +1,4 @@
--- Where one token decides, the machine takes what the grammar takes.
+-- Where one token decides, the machine takes the tokens that the grammar takes.
 use Rattle.std.proofs.Common.{◌≡◌, ℕ, ◌+◌, ◌<◌, ◌≤◌, List, [], ◌∷◌, ◌++◌, Bool, true, false, ◌&&◌, ◌||◌, ◌==◌, refl, sym, ◌∙◌, ap, arith}
 use Rattle.std.proofs.Common.{bit_and, if◌then◌else◌, nat_lt}
 use Rattle.std.proofs.lemmas.Bool.{eqb-true, ltb-true, and_parts, false_from_ne_true, both_ways}
@@ -12,7 +12,7 @@ use Rattle.inf_machine.proofs.Sets.{has_zero, has_and, has_within}
 use Rattle.inf_machine.proofs.Rows.{fits_is_begun}
 
 module _ {A : Type 0} where
-  -- What is computed of a rule
+  -- The parts of the property that is computed of a rule
 
   pub record Decided (g : Grammar A) (k : Known) (rule : ℕ) : Type 0 where
     pub whole : all_beginnings g k (g.rows_of rule) ≡ k.begins rule
@@ -57,7 +57,7 @@ module _ {A : Type 0} where
       let one = and_parts p f two.0 in
       record { preferred = one.0; followed = one.1; fewer = ltb-true (steps_through k r.parts) (k.steps rule) two.1 }
 
-  -- an atom before which a row is not taken, where it begins the rule or may follow it
+  -- an atom that begins a row is none of those before which the row is not taken
   pub unless_of_begun : (g : Grammar A) (k : Known) (atom rule : ℕ) (r : Row A) → is_preferred g k rule r ≡ true →
       fits g k atom r.parts ≡ true → has r.unless atom ≡ false
   unless_of_begun g k atom rule r p f = by_end (can_end k r.parts) (r.unless == 0) refl p
@@ -96,7 +96,7 @@ module _ {A : Type 0} where
           false_from_ne_true (has r.unless atom) (λ u. both_ways (has (k.begins rule) atom) f
           (has_within r.unless (k.begins rule) atom one.1 u))
 
-  -- A row that can be empty is not taken before what both begins its rule and may follow it.
+  -- The atoms before which a row that can be empty is not taken include each that both begins its rule and may follow it.
   pub unless_of_both : (g : Grammar A) (k : Known) (atom rule : ℕ) (r : Row A) → is_preferred g k rule r ≡ true → can_end k r.parts ≡ true →
       has (k.begins rule) atom ≡ true → has (k.follows rule) atom ≡ true → has r.unless atom ≡ true
   unless_of_both g k atom rule r p ends b f = by_end (can_end k r.parts) (r.unless == 0) ends p
@@ -118,7 +118,7 @@ module _ {A : Type 0} where
 
   -- Steps
 
-  -- an atom that fits the front of a stack is found within the steps through it
+  -- an atom that fits the front of a stack is found within the steps through the front
   pub work_within : (g : Grammar A) (k : Known) (atom : ℕ) (xs ys : List (Symbol A)) → fits g k atom xs ≡ true →
       work k atom (xs ++ ys) ≤ steps_through k xs
   work_within g k atom [] ys f = cc
@@ -134,7 +134,7 @@ module _ {A : Type 0} where
       by_cases false true false q w = cc
       by_cases false false i q w = cc
 
-  -- past what can be empty it takes no more steps than through it and from there on
+  -- past symbols that can be empty it takes no more steps than those through them and those from there on
   pub work_past : (k : Known) (atom : ℕ) (xs ys : List (Symbol A)) → can_end k xs ≡ true →
       work k atom (xs ++ ys) ≤ steps_through k xs + work k atom ys
   work_past k atom [] ys e = omega arith

@@ -1,4 +1,4 @@
--- Where reading may end.
+-- The places where reading may end.
 use Rattle.std.proofs.Common.{◌≡◌, ℕ, zero, suc, ◌+◌, ◌≤◌, List, [], ◌∷◌, ◌++◌, Bool, true, false, ◌&&◌, Some, refl, sym, ◌∙◌, ap, arith}
 use Rattle.std.proofs.Common.{if◌then◌else◌}
 use Rattle.std.proofs.lemmas.Bool.{and_parts, and_from, cond-true}
@@ -38,7 +38,7 @@ module _ {A : Type 0} where
       by_empty true q w = omega arith
       by_empty false q w = cc
 
-  -- what can be empty is empty
+  -- symbols that can be empty lead to no symbols without a token
   ends : (g : Grammar A) (k : Known) → IsDecided g k → (n : ℕ) (symbols : List (Symbol A)) → steps_through k symbols ≤ n →
       can_end k symbols ≡ true → (events : List (Event A)) × Leads g symbols [] events []
   ends g k d n [] l e = ([], here)
@@ -63,7 +63,7 @@ module _ {A : Type 0} where
       (can_end_append k r.row.parts symbols ∙ and_from (can_end k r.row.parts) (can_end k symbols) r.ends both.1) in
       (on.0, row {events = on.0} r.one tt on.1)
 
-  -- what is empty can be
+  -- symbols that lead to no symbols without a token can be empty
   ended : (g : Grammar A) (k : Known) → IsDecided g k → {symbols : List (Symbol A)} {events : List (Event A)} →
       Leads g symbols [] events [] → can_end k symbols ≡ true
   ended g k d here = refl

@@ -1,4 +1,4 @@
--- What stands behind a rule is left as it is where an atom opens the rule.
+-- The symbols behind a rule stay as they are where an atom opens the rule.
 use Rattle.std.proofs.Common.{◌≡◌, ℕ, zero, suc, ◌+◌, ◌≤◌, List, [], ◌∷◌, ◌++◌, true, false, ◌&&◌, refl, sym, ◌∙◌, ap, arith}
 use Rattle.std.proofs.lemmas.Bool.{or_left, cond-true}
 use Rattle.std.proofs.lemmas.List.{append_assoc}
@@ -10,7 +10,7 @@ use Rattle.inf_machine.specs.Laws.{IsDecided}
 use Rattle.inf_machine.proofs.Taking.{chosen_fits, chosen_less, some_work}
 
 module _ {A : Type 0} where
-  -- with these symbols behind what is left
+  -- the result of taking a token with these symbols behind those that are left
   abbrev pub before : Taken A → List (Symbol A) → Taken A
   before t symbols = record { actions = t.actions; left = t.left ++ symbols }
 
@@ -25,7 +25,7 @@ module _ {A : Type 0} where
       ap (stepped g k atom n) (sym (append_assoc row xs symbols))
       ∙ stepped_before g k d atom n (row ++ xs) symbols (chosen_fits g k d atom rule xs f) (omega (arith, chosen_less g k d atom rule xs f))
 
-  -- a rule that an atom begins
+  -- an atom opens a rule that it begins before any symbols as it opens the rule alone
   pub opened_on : (g : Grammar A) (k : Known) → IsDecided g k → (atom rule : ℕ) (symbols : List (Symbol A)) →
       has (k.begins rule) atom ≡ true → taken g k atom (Rule rule ∷ symbols) ≡ before (opened g k rule atom) symbols
   opened_on g k d atom rule symbols b =

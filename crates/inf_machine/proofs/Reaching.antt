@@ -1,4 +1,4 @@
--- Walking down a stack to a token: what is passed over on the way is left out, and its actions come first.
+-- Walking down a stack to a token: the symbols that are passed over on the way are left out, and their actions come first.
 use Rattle.std.proofs.Common.{◌≡◌, ℕ, zero, suc, ◌-◌, ◌<◌, ◌≤◌, List, [], ◌∷◌, ◌++◌, Bool, true, false, ◌&&◌, ◌||◌, refl, sym, ◌∙◌, ap}
 use Rattle.std.proofs.Common.{arith, reverse, take, length, get_or}
 use Rattle.std.proofs.lemmas.Bool.{or_left}
@@ -34,7 +34,7 @@ module _ {A : Type 0} where
 
   -- The walk
 
-  -- what is taken from here, behind what was done, is what is taken from the start, if anything
+  -- the walk at the symbols `here`: the token taken from here on, behind the actions `now`, gives the result of taking it from the start
   pub record IsOn (g : Grammar A) (k : Known) (atom : ℕ) (all here : List (Symbol A)) (first now : List A) : Type 0 where
     pub same : fits g k atom here ≡ fits g k atom all
     pub actions : fits g k atom all ≡ true → now ++ (taken g k atom here).actions ≡ first ++ (taken g k atom all).actions
@@ -43,7 +43,7 @@ module _ {A : Type 0} where
   pub on_start : (g : Grammar A) (k : Known) (atom : ℕ) (all : List (Symbol A)) (first : List A) → IsOn g k atom all all first first
   on_start g k atom all first = record { same = refl; actions = λ f. refl; left = λ f. refl }
 
-  -- past an action
+  -- the walk goes on past an action
   pub on_act : (g : Grammar A) (k : Known) (atom : ℕ) (a : A) (all here rest : List (Symbol A)) (first now : List A) → here ≡ Act a ∷ rest →
       IsOn g k atom all here first now → IsOn g k atom all rest first (now ++ (a ∷ []))
   on_act g k atom a all here rest first now e on =
@@ -54,7 +54,7 @@ module _ {A : Type 0} where
         left = λ f. ap (λ s. (taken g k atom s).left) (sym e) ∙ on.left f;
       }
 
-  -- past a rule that can be empty
+  -- the walk goes on past a rule that can be empty
   pub on_passed : (g : Grammar A) (k : Known) → IsDecided g k → (atom rule : ℕ) (all here rest : List (Symbol A)) (first now : List A) →
       here ≡ Rule rule ∷ rest → has (k.begins rule) atom ≡ false → k.is_empty rule ≡ true →
       are_acts (passed_row g k (g.rows_of rule)) ≡ true → IsOn g k atom all here first now →
@@ -86,19 +86,19 @@ module _ {A : Type 0} where
           ∙ sym (way_on g k d atom rule rest fits_it).same
           ∙ ap (taken g k atom) (sym e)
 
-  -- Its end
+  -- The end of the walk
 
   pub record Ends (g : Grammar A) (k : Known) (atom : ℕ) (all left : List (Symbol A)) (first now : List A) : Type 0 where
     pub fits_it : true ≡ fits g k atom all
     pub left_is : left ≡ (taken g k atom all).left
     pub actions : now ≡ first ++ (taken g k atom all).actions
 
-  -- whether a token at hand fits
+  -- a token at hand decides whether the atom fits
   pub token_fits : (g : Grammar A) (k : Known) (atom class : ℕ) (all here rest : List (Symbol A)) (first now : List A) →
       here ≡ Token class ∷ rest → IsOn g k atom all here first now → has (g.atoms_of class) atom ≡ fits g k atom all
   token_fits g k atom class all here rest first now e on = ap (fits g k atom) (sym e) ∙ on.same
 
-  -- at a token that fits
+  -- the walk ends at a token that fits
   pub at_token : (g : Grammar A) (k : Known) (atom class : ℕ) (all here rest : List (Symbol A)) (first now : List A) →
       here ≡ Token class ∷ rest → IsOn g k atom all here first now → has (g.atoms_of class) atom ≡ true → Ends g k atom all rest first now
   at_token g k atom class all here rest first now e on h =
@@ -110,7 +110,7 @@ module _ {A : Type 0} where
         actions = sym (append-nil now) ∙ ap (λ s. now ++ (taken g k atom s).actions) (sym e) ∙ on.actions f;
       }
 
-  -- at a rule that the token begins
+  -- the walk ends at a rule that the atom begins
   pub at_rule : (g : Grammar A) (k : Known) → IsDecided g k → (atom rule : ℕ) (all here rest : List (Symbol A)) (first now : List A) →
       here ≡ Rule rule ∷ rest → has (k.begins rule) atom ≡ true → IsOn g k atom all here first now →
       Ends g k atom all ((opened g k rule atom).left ++ rest) first (now ++ (opened g k rule atom).actions)
@@ -125,7 +125,7 @@ module _ {A : Type 0} where
         actions = ap (λ t. now ++ t.actions) same ∙ on.actions whole;
       }
 
-  -- at a rule that it does not begin and that cannot be empty
+  -- the atom does not fit at a rule that it does not begin and that cannot be empty
   pub at_other : (g : Grammar A) (k : Known) (atom rule : ℕ) (all here rest : List (Symbol A)) (first now : List A) →
       here ≡ Rule rule ∷ rest → has (k.begins rule) atom ≡ false → k.is_empty rule ≡ false → IsOn g k atom all here first now →
       false ≡ fits g k atom all
@@ -137,7 +137,7 @@ module _ {A : Type 0} where
       neither false true f e n = cc
       neither false false f e n = refl
 
--- the top of a stack whose top is last
+-- the top of a stack that is stored with its top last
 pub top_is : {X : Type 0} (xs : List X) (below : ℕ) (x : X) → 0 < below → below ≤ length xs → x ≡ get_or xs (below - 1) x →
     reverse (take below xs) ≡ x ∷ reverse (take (below - 1) xs)
 top_is xs zero x p l e = absurd (omega arith)
@@ -147,7 +147,7 @@ top_is xs (suc n) x p l e =
     ∙ reverse-append (take n xs) (x ∷ [])
     ∙ ap (λ m. x ∷ reverse (take m xs)) (sym down)
 
--- what stood in front stays there
+-- the front of a list stays as it is where more is appended
 pub take_on : {X : Type 0} (first now more : List X) → take (length first) now ≡ first → take (length first) (now ++ more) ≡ first
 take_on [] now more e = refl
 take_on (x ∷ first) [] more e = cc

@@ -1,11 +1,11 @@
--- What the grammar's machine reads of tokens in two parts.
+-- The machine reads tokens in two parts as it reads them at once.
 use Rattle.std.proofs.Common.{◌≡◌, ℕ, List, [], ◌∷◌, ◌++◌, Bool, true, false, Option, Some, None, refl, sym, ◌∙◌, ap, append_assoc, cond}
 use Rattle.inf_machine.specs.declared.symbols.Symbol.{Symbol}
 use Rattle.inf_machine.specs.Grammar.{Grammar, Event}
 use Rattle.inf_machine.specs.Machine.{Known, Taken, fits, taken, events_of, read, Read, behind}
 
 module _ {A : Type 0} where
-  -- the tokens behind those that were read
+  -- the result of reading more tokens behind those that were read
   abbrev pub read_on : Grammar A → Known → Option (Read A) → List ℕ → Option (Read A)
   read_on g k None atoms = None
   read_on g k (Some r) atoms = behind r.events (read g k r.left atoms)
@@ -19,7 +19,7 @@ module _ {A : Type 0} where
   behind_none None = refl
   behind_none (Some r) = refl
 
-  -- behind what is read of the first part the machine reads the second
+  -- events in front of the first part are in front of the result of both parts
   behind_read : (g : Grammar A) (k : Known) (events : List (Event A)) (o : Option (Read A)) (atoms : List ℕ) →
       behind events (read_on g k o atoms) ≡ read_on g k (behind events o) atoms
   behind_read g k events None atoms = refl
@@ -42,7 +42,7 @@ module _ {A : Type 0} where
       by_fit true e = ap (behind es) e ∙ behind_read g k es (read g k left first) second
       by_fit false e = refl
 
-  -- one token more, where it fits
+  -- a token that fits is read behind those that were read
   pub record OneMore (g : Grammar A) (k : Known) (symbols : List (Symbol A)) (atoms : List ℕ) (left : List (Symbol A)) : Type 0 where
     pub r : Read A
     pub is_read : read g k symbols atoms ≡ Some r
@@ -65,7 +65,7 @@ module _ {A : Type 0} where
       fits_there : fits g k atom o.r.left ≡ true
       fits_there = ap (fits g k atom) o.leaves ∙ f
 
-  -- and where it does not
+  -- a token that does not fit is not read
   pub reads_none : (g : Grammar A) (k : Known) (symbols : List (Symbol A)) (atoms : List ℕ) (atom : ℕ) (left : List (Symbol A)) →
       OneMore g k symbols atoms left → fits g k atom left ≡ false → read g k symbols (atoms ++ atom ∷ []) ≡ None
   reads_none g k symbols atoms atom left o f =

@@ -1,4 +1,4 @@
--- What begins some symbols, and which row of a rule an atom chooses.
+-- The atoms that begin symbols, and the row of a rule that an atom chooses.
 use Rattle.std.proofs.Common.{◌≡◌, ℕ, ◌≤◌, List, [], ◌∷◌, ◌++◌, Bool, true, false, ◌&&◌, ◌||◌, ◌==◌, refl, sym, ◌∙◌, ap, arith, bit_or}
 use Rattle.std.proofs.Common.{bit_and, if◌then◌else◌, inl, inr}
 use Rattle.std.proofs.lemmas.Bool.{eqb-true, or_left, or_right, or_cases, or_parts, and_parts, cond-true, cond-false, false_from_ne_true}
@@ -34,7 +34,7 @@ module _ {A : Type 0} where
       by_empty true b s = sym (has_or b s atom)
       by_empty false b s = sym (or_false (has b atom))
 
-  -- what fits two lists of symbols
+  -- an atom fits two lists of symbols if it fits the first, or the second where the first can be empty
   pub fits_append : (g : Grammar A) (k : Known) (atom : ℕ) (xs ys : List (Symbol A)) →
       fits g k atom (xs ++ ys) ≡ (fits g k atom xs || (can_end k xs && fits g k atom ys))
   fits_append g k atom [] ys = refl
@@ -80,7 +80,7 @@ module _ {A : Type 0} where
       cond-false (fits g k atom y.parts) y.parts (row_for g k atom other rows) not_here
       ∙ begun_is_chosen g k atom (bit_or seen (beginning g k y.parts)) other rows r m here.1 h
 
-  -- what begins a row begins them all
+  -- an atom that begins a row is among those that begin the rows
   pub begins_all : (g : Grammar A) (k : Known) (atom : ℕ) (rows : List (Row A)) (r : Row A) → IsOneOf r rows →
       fits g k atom r.parts ≡ true → has (all_beginnings g k rows) atom ≡ true
   begins_all g k atom [] r m h = elim m [ ]
@@ -91,7 +91,7 @@ module _ {A : Type 0} where
       has_or (beginning g k y.parts) (all_beginnings g k rows) atom
       ∙ or_right (has (beginning g k y.parts) atom) (has (all_beginnings g k rows) atom) (begins_all g k atom rows r m h)
 
-  -- an atom that begins none chooses the other row
+  -- an atom that begins no row chooses the other one
   pub none_chooses_other : (g : Grammar A) (k : Known) (atom : ℕ) (other : List (Symbol A)) (rows : List (Row A)) →
       has (all_beginnings g k rows) atom ≡ false → row_for g k atom other rows ≡ other
   none_chooses_other g k atom other [] h = refl
@@ -101,7 +101,7 @@ module _ {A : Type 0} where
       cond-false (fits g k atom r.parts) r.parts (row_for g k atom other rows) (fits_is_begun g k atom r.parts ∙ parts.0)
       ∙ none_chooses_other g k atom other rows parts.1
 
-  -- the row that an atom begins is the same whatever the other one is
+  -- the row that an atom begins is chosen whatever the other row is
   pub begun_whatever : (g : Grammar A) (k : Known) (atom : ℕ) (one other : List (Symbol A)) (rows : List (Row A)) →
       has (all_beginnings g k rows) atom ≡ true → row_for g k atom one rows ≡ row_for g k atom other rows
   begun_whatever g k atom one other [] h = absurd (both_ways (has 0 atom) (has_zero atom) h)
@@ -124,14 +124,14 @@ module _ {A : Type 0} where
           ∙ in_rest (rest e)
           ∙ sym (cond-false (fits g k atom r.parts) r.parts (row_for g k atom other rows) e)
 
-  -- a row with what it is chosen for
+  -- a row that an atom chooses since it begins the row
   pub record Begun (g : Grammar A) (k : Known) (atom : ℕ) (rows : List (Row A)) (parts : List (Symbol A)) : Type 0 where
     pub row : Row A
     pub one : IsOneOf row rows
     pub is : parts ≡ row.parts
     pub fits_it : fits g k atom row.parts ≡ true
 
-  -- an atom that begins one chooses one that it begins
+  -- an atom that begins one of the rows chooses a row that it begins
   pub some_is_begun : (g : Grammar A) (k : Known) (atom : ℕ) (other : List (Symbol A)) (rows : List (Row A)) →
       has (all_beginnings g k rows) atom ≡ true → Begun g k atom rows (row_for g k atom other rows)
   some_is_begun g k atom other [] h = absurd (both_ways (has 0 atom) (has_zero atom) h)
@@ -157,7 +157,7 @@ module _ {A : Type 0} where
             fits_it = b.fits_it;
           }
 
-  -- a row that can be empty counts
+  -- a row that can be empty is counted among those that can
   pub empty_counts : (k : Known) (rows : List (Row A)) (r : Row A) → IsOneOf r rows → can_end k r.parts ≡ true → 1 ≤ empty_rows k rows
   empty_counts k [] r m h = elim m [ ]
   empty_counts k (r ∷ rows) r' first h = omega (arith, cond-true {A = ℕ} (can_end k r.parts) 1 0 h)
@@ -179,7 +179,7 @@ module _ {A : Type 0} where
     pub is : parts ≡ row.parts
     pub ends : can_end k row.parts ≡ true
 
-  -- where a row can be empty, the empty row is one that can
+  -- where a row can be empty the empty row is one that can
   pub some_is_empty : (k : Known) (rows : List (Row A)) → 1 ≤ empty_rows k rows → Empty k rows (empty_row k rows)
   some_is_empty k [] n = absurd (omega arith)
   some_is_empty k (r ∷ rows) n = by_test (λ e. some_is_empty k rows e) (can_end k r.parts) refl

@@ -35,7 +35,7 @@ pub has_and : (x y atom : ℕ) → has (bit_and x y) atom ≡ (has x atom && has
 has_and x y atom =
     ap (λ b. b == 1) (bit_at_and x y atom) ∙ both_of_two (bit_at x atom) (bit_at y atom) (bit_at-lt x atom) (bit_at-lt y atom)
 
--- what is in a set is in one that it lies within
+-- an atom of a set is in each set of which the set is a part
 pub has_within : (inner outer atom : ℕ) → is_within inner outer ≡ true → has inner atom ≡ true → has outer atom ≡ true
 has_within inner outer atom w h =
     ap (λ s. has s atom) (sym (eqb-true (bit_or inner outer) outer w)) ∙ has_or inner outer atom

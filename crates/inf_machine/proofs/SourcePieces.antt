@@ -21,7 +21,7 @@ and_false true = refl
 and_false false = refl
 
 module _ {A : Type 0} where
-  -- What ends with a token
+  -- Symbols that end with a token
 
   abbrev pub Closed : Grammar A → List (Symbol A) → Type 0
   Closed g symbols = (n : ℕ) × (closes g (last_symbol symbols) n ≡ true)
@@ -74,7 +74,7 @@ module _ {A : Type 0} where
   closed_is_open : (g : Grammar A) (k : Known) → IsDecided g k → (symbols : List (Symbol A)) → Closed g symbols → can_end k symbols ≡ false
   closed_is_open g k d symbols c = not_ended g k c.0 (rule_not_empty g k d c.0) symbols c.1
 
-  -- what is left behind a token ends with a token too, or is nothing
+  -- the symbols that are left behind a token end with a token too, or there are none
   closed_left : (g : Grammar A) (k : Known) → IsDecided g k → (atom n : ℕ) (symbols : List (Symbol A)) → fits g k atom symbols ≡ true →
       Closed g symbols → ((stepped g k atom n symbols).left ≡ []) ⊎ Closed g (stepped g k atom n symbols).left
   closed_left g k d atom zero symbols f c = inr c
@@ -88,7 +88,7 @@ module _ {A : Type 0} where
       closed_left g k d atom n (chosen g k atom rule ++ symbols) (chosen_fits g k d atom rule symbols f)
       (subst (λ parts. Closed g (parts ++ symbols)) (sym o.is) (closed_row g rule o.row symbols o.one c))
 
-  -- Reading one token more
+  -- Reading one more token
 
   pub record OneMore (g : Grammar A) (k : Known) (symbols : List (Symbol A)) (atoms : List ℕ) (atom : ℕ) (left : List (Symbol A)) : Type 0
     where

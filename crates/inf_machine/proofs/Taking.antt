@@ -1,4 +1,4 @@
--- Where one token decides, the machine takes what the grammar takes, and with the same events.
+-- Where one token decides, the machine takes the tokens that the grammar takes, with the same events.
 use Rattle.std.proofs.Common.{◌≡◌, ℕ, zero, suc, ◌<◌, ◌≤◌, List, [], ◌∷◌, ◌++◌, Bool, true, false, ◌&&◌, ◌||◌, refl, sym, ◌∙◌, ap, subst}
 use Rattle.std.proofs.Common.{arith, bit_or, if◌then◌else◌, inl, inr}
 use Rattle.std.proofs.lemmas.Bool.{or_left, or_right, or_cases, and_parts, and_from, cond-true, cond-false, false_from_ne_true, both_ways}
@@ -75,7 +75,7 @@ module _ {A : Type 0} where
             less = omega (arith, w, s.fewer, here_on);
           }
 
-  -- the same of the chosen row
+  -- an atom that fits a rule fits the row that it chooses
   pub chosen_fits : (g : Grammar A) (k : Known) → IsDecided g k → (atom rule : ℕ) (symbols : List (Symbol A)) →
       fits g k atom (Rule rule ∷ symbols) ≡ true → fits g k atom (chosen g k atom rule ++ symbols) ≡ true
   chosen_fits g k d atom rule symbols f =
@@ -92,7 +92,7 @@ module _ {A : Type 0} where
 
   -- Steps
 
-  -- a token that fits takes at least one
+  -- a token that fits takes at least one step
   pub some_work : (g : Grammar A) (k : Known) → IsDecided g k → (atom : ℕ) (symbols : List (Symbol A)) → fits g k atom symbols ≡ true →
       0 < work k atom symbols
   some_work g k d atom [] f = cc
@@ -100,7 +100,7 @@ module _ {A : Type 0} where
   some_work g k d atom (Act a ∷ symbols) f = omega arith
   some_work g k d atom (Rule rule ∷ symbols) f = omega (arith, chosen_less g k d atom rule symbols f)
 
-  -- more than enough change nothing
+  -- more steps than enough change nothing
   pub enough : (g : Grammar A) (k : Known) → IsDecided g k → (atom n m : ℕ) (symbols : List (Symbol A)) → fits g k atom symbols ≡ true →
       work k atom symbols ≤ n → work k atom symbols ≤ m → stepped g k atom n symbols ≡ stepped g k atom m symbols
   enough g k d atom zero m symbols f p q = absurd (omega (arith, some_work g k d atom symbols f))
@@ -123,7 +123,7 @@ module _ {A : Type 0} where
       go (suc n) l = enough g k d atom n (work k atom (chosen g k atom rule ++ symbols)) (chosen g k atom rule ++ symbols)
           (chosen_fits g k d atom rule symbols f) (omega arith) (omega arith)
 
-  -- What the machine takes is taken by the grammar
+  -- The machine takes only tokens that the grammar takes
 
   pub leads_on : (g : Grammar A) (k : Known) → IsDecided g k → (atom n : ℕ) (symbols : List (Symbol A)) → work k atom symbols ≤ n →
       fits g k atom symbols ≡ true → {atoms : List ℕ} {events : List (Event A)} {left : List (Symbol A)} →
@@ -141,9 +141,9 @@ module _ {A : Type 0} where
       (subst (λ parts. Leads g (parts ++ symbols) (atom ∷ atoms)
       (events_of (stepped g k atom n (chosen g k atom rule ++ symbols)).actions atom ++ events) left) c.is on)
 
-  -- What the grammar takes is taken by the machine
+  -- The machine takes each token that the grammar takes
 
-  -- a stack goes on behind a row as it did behind the row's rule
+  -- a row may be followed by the symbols that may follow its rule
   spaced_row : (g : Grammar A) (k : Known) (next : ℕ) (parts symbols : List (Symbol A)) → is_followed g k next parts ≡ true →
       ((atom : ℕ) → fits g k atom symbols ≡ true → has next atom ≡ true) → IsSpaced g k symbols → IsSpaced g k (parts ++ symbols)
   spaced_row g k next [] symbols e h s = s
@@ -253,7 +253,7 @@ module _ {A : Type 0} where
         leads = subst (λ t. Leads g t.left atoms on.rest left) same on.leads;
       }
 
-  -- what is left is spaced too
+  -- the symbols that are left are spaced too
   pub spaced_left : (g : Grammar A) (k : Known) → IsDecided g k → (atom n : ℕ) (symbols : List (Symbol A)) → fits g k atom symbols ≡ true →
       IsSpaced g k symbols → IsSpaced g k (stepped g k atom n symbols).left
   spaced_left g k d atom zero symbols f s = s

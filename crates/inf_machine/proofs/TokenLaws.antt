@@ -10,7 +10,7 @@ use Rattle.inf_machine.specs.Laws.{IsDecided, IsSpaced, BadTokensBeginNothing, T
 use Rattle.inf_machine.proofs.Taking.{leads_on, leads_only, spaced_left}
 
 module _ {A : Type 0} where
-  -- what is left when a text's tokens are all taken
+  -- the symbols that are left once the tokens of a text are all taken
   pub record AllTaken (g : Grammar A) (k : Known) (symbols : List (Symbol A)) (atoms : List ℕ) (events : List (Event A))
       (left : List (Symbol A)) : Type 0 where
     pub r : Read A
@@ -19,7 +19,7 @@ module _ {A : Type 0} where
     pub same : events ≡ r.events ++ rest
     pub leads : Leads g r.left [] rest left
 
-  -- what the grammar takes is taken
+  -- tokens that the grammar takes are taken by the machine
   pub takes_all : (g : Grammar A) (k : Known) → IsDecided g k → (symbols : List (Symbol A)) (atoms : List ℕ) → IsSpaced g k symbols →
       {events : List (Event A)} {left : List (Symbol A)} → Leads g symbols atoms events left → AllTaken g k symbols atoms events left
   takes_all g k d symbols [] s {events} {left} l =
@@ -37,7 +37,7 @@ module _ {A : Type 0} where
         leads = on.leads;
       }
 
-  -- what is taken is taken by the grammar
+  -- tokens that the machine takes are taken by the grammar
   pub all_lead : (g : Grammar A) (k : Known) → IsDecided g k → (symbols : List (Symbol A)) (atoms : List ℕ) (r : Read A) →
       read g k symbols atoms ≡ Some r → {rest : List (Event A)} {left : List (Symbol A)} → Leads g r.left [] rest left →
       Leads g symbols atoms (r.events ++ rest) left

@@ -1,4 +1,5 @@
--- What the machine puts in place of a rule leads where the rule's row does: a rule that is passed over without an action can be left out.
+-- The symbols that the machine puts in place of a rule lead where the rule's row does: a rule that is passed over without an
+-- action can be left out.
 use Rattle.std.proofs.Common.{◌≡◌, ℕ, zero, suc, ◌<◌, ◌≤◌, List, [], ◌∷◌, ◌++◌, Bool, true, false, ◌&&◌, refl, sym, ◌∙◌, ap, arith, bit_or}
 use Rattle.std.proofs.Common.{if◌then◌else◌, inl, inr}
 use Rattle.std.proofs.lemmas.Bool.{or_right, or_cases, or_parts, and_parts, and_from, cond-true, cond-false, false_from_ne_true, both_ways}
@@ -14,7 +15,7 @@ use Rattle.inf_machine.proofs.Deciding.{Decided, decided_parts, sound_parts}
 use Rattle.inf_machine.proofs.Taking.{chosen_fits, chosen_less, taken_row}
 
 module _ {A : Type 0} where
-  -- a rule that can be empty, before an atom that does not begin it
+  -- the facts about a rule that can be empty, before an atom that does not begin it
   record Passed (g : Grammar A) (k : Known) (atom rule : ℕ) : Type 0 where
     is : chosen g k atom rule ≡ empty_row k (g.rows_of rule)
     ends : can_end k (empty_row k (g.rows_of rule)) ≡ true
@@ -69,13 +70,13 @@ module _ {A : Type 0} where
       ∙ silent_passes g k d atom n empty (symbols ++ rest) still.0 p.ends p.not_begun fits_behind
       ∙ silent_passes g k d atom (suc n) symbols rest still.1 ends.1 none.1 f
 
-  -- what is put in place of a rule before an atom that fits
+  -- the facts about the symbols that are put in place of a rule before an atom that fits
   pub record Way (g : Grammar A) (k : Known) (atom rule : ℕ) (symbols : List (Symbol A)) : Type 0 where
     pub fits_on : fits g k atom (way g k atom rule ++ symbols) ≡ true
     pub less : work k atom (way g k atom rule ++ symbols) < work k atom (Rule rule ∷ symbols)
     pub same : taken g k atom (Rule rule ∷ symbols) ≡ taken g k atom (way g k atom rule ++ symbols)
 
-  -- the chosen row itself
+  -- the chosen row can take the place of its rule
   as_chosen : (g : Grammar A) (k : Known) → IsDecided g k → (atom rule : ℕ) (symbols : List (Symbol A)) →
       fits g k atom (Rule rule ∷ symbols) ≡ true → way g k atom rule ≡ chosen g k atom rule → Way g k atom rule symbols
   as_chosen g k d atom rule symbols f e =
@@ -87,7 +88,7 @@ module _ {A : Type 0} where
         same = taken_row g k d atom rule symbols f ∙ ap (λ parts. taken g k atom (parts ++ symbols)) (sym e);
       }
 
-  -- nothing
+  -- nothing can take the place of a rule that is passed over without an action
   as_nothing : (g : Grammar A) (k : Known) → IsDecided g k → (atom rule : ℕ) (symbols : List (Symbol A)) →
       fits g k atom (Rule rule ∷ symbols) ≡ true → has (k.begins rule) atom ≡ false →
       is_silent g k depth (empty_row k (g.rows_of rule)) ≡ true → way g k atom rule ≡ [] → Way g k atom rule symbols
@@ -138,7 +139,7 @@ module _ {A : Type 0} where
           by_silent e (none_chooses_other g k atom (passed_row g k rows) rows (ap (λ s. has s atom) of_rule.whole ∙ e))
           (is_silent g k depth (empty_row k rows)) refl
 
-  -- before an atom that does not begin the rule it is what stands for the rule passed over
+  -- before an atom that does not begin the rule its way is the row of the rule passed over
   pub way_past : (g : Grammar A) (k : Known) → IsDecided g k → (atom rule : ℕ) → has (k.begins rule) atom ≡ false →
       passed_row g k (g.rows_of rule) ≡ way g k atom rule
   way_past g k d atom rule e =

@@ -6,7 +6,7 @@ use Rattle.inf_machine.specs.Grammar.{Grammar, Row, Event, IsText, Begins}
 use Rattle.inf_machine.specs.Machine.{Known}
 use Rattle.inf_machine.specs.Laws.{IsDecided}
 
--- What stands in a source: a whole piece; tokens with a bad one behind them and those behind it that are skipped; tokens that the
+-- A piece of a source: a whole one; tokens with a bad one behind them and those behind it that are skipped; or tokens that the
 -- end of the source cuts off.
 pub data Piece : Type 0 where
   Whole : (atoms : List ℕ) → Piece
@@ -17,12 +17,12 @@ pub data Piece : Type 0 where
 abbrev pub IsPiece : {A : Type 0} → Grammar A → ℕ → List ℕ → Type 0
 IsPiece {A} g rule atoms = (events : List (Event A)) × IsText g (Rule rule ∷ []) atoms events
 
--- the tokens begin a text of the rule, and are none yet
+-- the tokens begin a text of the rule, and are not one yet
 abbrev pub IsOpen : {A : Type 0} → Grammar A → ℕ → List ℕ → Type 0
 IsOpen g rule front = Begins g (Rule rule ∷ []) front × (IsPiece g rule front → ⊥)
 
--- The pieces of some tokens. A piece ends with the first token that makes it a text. The bad token is the first with which the
--- tokens begin no text; behind it so many tokens are skipped as `further` tells of those before it, of it, and of those behind it.
+-- The pieces of tokens. A piece ends with the first token that makes it a text. The bad token is the first with which the tokens
+-- begin no text; behind it as many tokens are skipped as `further` gives for the tokens before it, it, and the tokens behind it.
 pub data ArePieces {A : Type 0} (g : Grammar A) (rule : ℕ) (further : List ℕ → ℕ → List ℕ → ℕ) : List Piece → List ℕ → Type 0 where
   ended : ArePieces g rule further [] []
   whole : (front : List ℕ) (last : ℕ) (rest : List ℕ) {pieces : List Piece} → IsOpen g rule front → IsPiece g rule (front ++ last ∷ []) →
@@ -32,7 +32,7 @@ pub data ArePieces {A : Type 0} (g : Grammar A) (rule : ℕ) (further : List ℕ
       ArePieces g rule further (Bad front token (take (further front token rest) rest) ∷ pieces) (front ++ token ∷ rest)
   cut : {first : ℕ} {front : List ℕ} → IsOpen g rule (first ∷ front) → ArePieces g rule further (Cut (first ∷ front) ∷ []) (first ∷ front)
 
--- That a rule's texts end with a token and not behind it: a property of a table that is computed
+-- The property of a table by which all texts of a rule end with a token; it is computed.
 
 abbrev pub last_symbol : {A : Type 0} → List (Symbol A) → Option (Symbol A)
 last_symbol [] = None
@@ -43,7 +43,7 @@ abbrev pub all_rows : {A : Type 0} → (List (Symbol A) → Bool) → List (Row 
 all_rows test [] = true
 all_rows test (row ∷ rows) = test row.parts && all_rows test rows
 
--- whether a symbol is a token, or a rule whose rows all end with one, so many rules deep
+-- tells whether a symbol is a token, or a rule whose rows all end with one, as far as `n` rules deep shows it
 abbrev pub closes : {A : Type 0} → Grammar A → Option (Symbol A) → ℕ → Bool
 closes g None n = false
 closes g (Some (Token class)) n = true

@@ -9,10 +9,10 @@ use crate::table::Table;
 use std::alloc::{AllocError, Global};
 use std::marker::Model;
 
-/// What is still to be read: in contracts a list of symbols, the one at hand first.
+/// A machine with the symbols that are still to be read: in contracts a list, the symbol at hand first.
 #[derive(Drop)]
 pub struct Machine<T: Table> {
-    /// The symbol at hand last.
+    /// The symbols that are still to be read, the one at hand last.
     symbols: Vec<Symbol<T::Action>>,
     openings: Openings<T>,
 }
@@ -27,7 +27,7 @@ impl<T: Table> Model for Machine<T> {
 }
 
 impl<T: Table> Machine<T> {
-    /// Nothing is to be read. It takes no memory until `start`.
+    /// Returns a machine for which nothing is to be read. It takes no memory until `start`.
     pub fn new(alloc: Global) -> Machine<T>
         ensures { result ≡ [] }
     {
@@ -37,7 +37,7 @@ impl<T: Table> Machine<T> {
         }
     }
 
-    /// A text of a rule is to be read next. Where memory runs out, what is to be read is as it was.
+    /// Notes that a text of this rule is to be read next. Where memory runs out nothing changes.
     pub fn start(&mut self, rule: u8) -> Result<(), AllocError>
         ensures ok { OnOk result (self.new ≡ Symbol.Rule rule ∷ self.old) }
         ensures err { OnErr result (self.new ≡ self.old) }
@@ -46,44 +46,44 @@ impl<T: Table> Machine<T> {
         Ok(())
     }
 
-    /// Whether nothing is to be read.
+    /// Returns whether nothing is to be read.
     pub fn is_done(&self) -> bool
         ensures { IsTrue result ↔ (self.now ≡ []) }
     {
         self.symbols.is_empty()
     }
 
-    /// Whether what is to be read can be empty: whether the source may end here.
+    /// Returns whether the symbols that are to be read can be empty: whether the source may end here.
     pub fn can_end(&self) -> bool
         ensures { result ≡ can_end T.known self.now }
     {
         reading::can_end::<T>(&self.symbols)
     }
 
-    /// What is to be read, the symbol at hand last.
+    /// Returns the symbols that are to be read, the one at hand last.
     pub fn symbols(&self) -> &[Symbol<T::Action>]
         ensures { reverse result.now ≡ self.now }
     {
         &self.symbols
     }
 
-    /// Gives up what is to be read.
+    /// Gives up the symbols that are to be read.
     pub fn clear(&mut self)
         ensures { self.new ≡ [] }
     {
         self.symbols.clear();
     }
 
-    /// Whether a token fits: whether it begins what is to be read.
+    /// Returns whether a token fits: whether it begins the symbols that are to be read.
     pub fn fits(&self, atom: u8) -> bool
         ensures { result ≡ fits T.grammar T.known atom self.now }
     {
         reading::fits::<T>(&self.symbols, atom)
     }
 
-    /// Takes a token that fits. The actions on the way to it are put behind `actions`, in order; the token is taken behind them.
+    /// Takes a token that fits. The actions on the way to it are appended to `actions`, in order; the token is taken behind them.
     ///
-    /// Where memory runs out, what is to be read and the actions are as they were.
+    /// Where memory runs out the symbols that are to be read and the actions stay as they were.
     pub fn take(&mut self, atom: u8, actions: &mut Vec<T::Action>) -> Result<(), AllocError>
         requires { fits T.grammar T.known atom self.old ≡ true }
         ensures left { OnOk result (self.new ≡ (taken T.grammar T.known atom self.old).left) }
@@ -95,9 +95,9 @@ impl<T: Table> Machine<T> {
         Ok(())
     }
 
-    /// Whether a token fits; where it does, it is taken as `take` does.
+    /// Takes a token if it fits, as `take` does, and returns whether it fits.
     ///
-    /// Where it does not fit and where memory runs out, what is to be read and the actions are as they were.
+    /// Where it does not fit, and where memory runs out, the symbols that are to be read and the actions stay as they were.
     pub fn read(&mut self, atom: u8, actions: &mut Vec<T::Action>) -> Result<bool, AllocError>
         ensures fits { IfOk result (λ fits_now. fits_now ≡ fits T.grammar T.known atom self.old) }
         ensures left { IfOk result (λ fits_now. fits_now ≡ true → self.new ≡ (taken T.grammar T.known atom self.old).left) }
@@ -117,8 +117,8 @@ impl<T: Table> Machine<T> {
     }
 }
 
-/// Goes on to behind a token that fits, with the actions on the way to it; tells whether it does. Until that is known no symbol
-/// is taken off.
+/// Walks down the stack to a token that fits and takes it, appending the actions on the way; returns whether it fits. Until that
+/// is known no symbol is taken off. Where the token does not fit actions may have been appended.
 fn reach<T: Table>(
     symbols: &mut Vec<Symbol<T::Action>>,
     openings: &mut Openings<T>,
@@ -159,7 +159,7 @@ fn reach<T: Table>(
     Ok(false)
 }
 
-/// Puts actions behind others. They are few, so each is put there by itself.
+/// Appends actions to others, one by one, since they are few.
 fn add_all<A: Copy>(actions: &mut Vec<A>, others: &[A]) -> Result<(), AllocError>
     ensures ok { OnOk result (actions.new.items ≡ actions.old.items ++ others.now) }
     ensures before { take (vec_len actions.old) actions.new.items ≡ actions.old.items }
@@ -170,7 +170,7 @@ fn add_all<A: Copy>(actions: &mut Vec<A>, others: &[A]) -> Result<(), AllocError
     Ok(())
 }
 
-/// Puts symbols in place of those from a place on. They are few, so each is put there by itself.
+/// Replaces the symbols from place `below` on by others, which are put there one by one, since they are few.
 fn replace<A: Copy>(
     symbols: &mut Vec<Symbol<A>>,
     below: usize,
@@ -187,7 +187,7 @@ fn replace<A: Copy>(
     Ok(())
 }
 
-/// Puts the actions of a row behind others. The row is given with its last part first.
+/// Appends the actions of a row to others. The row is given with its last part first.
 fn act<A: Copy>(row: &[Symbol<A>], actions: &mut Vec<A>) -> Result<(), AllocError>
     ensures actions { OnOk result (actions.new.items ≡ actions.old.items ++ acts_of (reverse row.now)) }
     ensures before { take (vec_len actions.old) actions.new.items ≡ actions.old.items }

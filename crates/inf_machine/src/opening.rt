@@ -1,4 +1,4 @@
-//! How an atom opens a rule that it begins.
+//! The openings of rules by the atoms that begin them.
 ghost use Rattle.std.specs.Prelude.{◌≡◌, [], ◌∷◌, ◌↔◌, ◌++◌, IsTrue, IfOk, OnOk, reverse, true};
 ghost use Rattle.inf_machine.specs.Grammar.{has};
 ghost use Rattle.inf_machine.specs.Machine.{fits, taken, opened};
@@ -9,14 +9,15 @@ use crate::table::Table;
 use std::alloc::{AllocError, Global};
 use std::marker::Model;
 
-/// What taking an atom does to a rule that it begins. Contracts see the rule and the atom.
+/// The opening of a rule by an atom that begins it: the actions and the symbols that taking the atom gives. Contracts see the
+/// rule and the atom.
 #[derive(Drop)]
 pub(crate) struct Opening<T: Table> {
     rule: u8,
     atom: u8,
     /// The actions on the way to the token.
     actions: Vec<T::Action>,
-    /// What of the rule is still to be read behind it, the symbol at hand last.
+    /// The symbols of the rule that are still to be read behind the token, the one at hand last.
     left: Vec<Symbol<T::Action>>,
 }
 
@@ -32,7 +33,7 @@ impl<T: Table> Model for Opening<T> {
 }
 
 impl<T: Table> Opening<T> {
-    /// How an atom opens a rule that it begins.
+    /// Returns the opening of `rule` by `atom`, which begins it.
     pub(crate) fn of(alloc: Global, rule: u8, atom: u8) -> Result<Opening<T>, AllocError>
         requires { has (T.known.begins rule) atom ≡ true }
         ensures { IfOk result (λ opening. opening ≡ (rule, atom)) }
@@ -49,21 +50,21 @@ impl<T: Table> Opening<T> {
         })
     }
 
-    /// Whether it is that of a rule by an atom.
+    /// Returns whether this is the opening of `rule` by `atom`.
     pub(crate) fn is_of(&self, rule: u8, atom: u8) -> bool
         ensures { IsTrue result ↔ (self.now ≡ (rule, atom)) }
     {
         self.rule == rule && self.atom == atom
     }
 
-    /// The actions on the way to the token.
+    /// Returns the actions on the way to the token.
     pub(crate) fn actions(&self) -> &[T::Action]
         ensures { result.now ≡ (opened T.grammar T.known self.now.0 self.now.1).actions }
     {
         &self.actions
     }
 
-    /// What of the rule is still to be read behind the token, the symbol at hand last.
+    /// Returns the symbols of the rule that are still to be read behind the token, the one at hand last.
     pub(crate) fn left(&self) -> &[Symbol<T::Action>]
         ensures { reverse result.now ≡ (opened T.grammar T.known self.now.0 self.now.1).left }
     {
@@ -71,7 +72,7 @@ impl<T: Table> Opening<T> {
     }
 }
 
-/// Goes on to behind a token that fits, with the actions on the way to it, rule by rule.
+/// Takes a token that fits from the stack, rule by rule, and appends the actions on the way to it.
 fn reach<T: Table>(
     stack: &mut Stack<T::Action>,
     atom: u8,

@@ -1,4 +1,4 @@
-//! The openings that were met.
+//! The openings that were met so far.
 ghost use Rattle.std.specs.Prelude.{◌≡◌, ◌<◌, IfOk, OnOk, Some, vec_len, true};
 ghost use Rattle.inf_machine.specs.Grammar.{has};
 
@@ -6,23 +6,23 @@ use crate::opening::Opening;
 use crate::table::Table;
 use std::alloc::{AllocError, Global};
 
-/// How many openings are kept at most.
+/// The greatest number of openings that are kept.
 const PLACES: usize = 4096;
 
-/// The openings that were met, each at the place of its rule and atom. One that is met takes the place of another.
+/// The openings that were met, each at the place of its rule and atom. A new one replaces another at its place.
 #[derive(Drop)]
 pub(crate) struct Openings<T: Table> {
     alloc: Global,
     places: Vec<Option<Opening<T>>>,
 }
 
-/// The place of an opening. Those that come often in a source have places of their own.
+/// Returns the place of an opening. Openings that come often in a source have places of their own.
 fn place_of(rule: u8, atom: u8) -> usize {
     (rule as usize * 211 + atom as usize) % PLACES
 }
 
 impl<T: Table> Openings<T> {
-    /// None was met. It takes no memory until one is.
+    /// Returns the list of no openings, which takes no memory until one is met.
     pub(crate) fn new(alloc: Global) -> Openings<T> {
         Openings {
             alloc,
@@ -30,7 +30,7 @@ impl<T: Table> Openings<T> {
         }
     }
 
-    /// How an atom opens a rule that it begins.
+    /// Returns the opening of `rule` by `atom`, which begins it; it is made where it is not kept yet.
     pub(crate) fn find(&mut self, rule: u8, atom: u8) -> Result<&Opening<T>, AllocError>
         requires { has (T.known.begins rule) atom ≡ true }
         ensures { IfOk result (λ opening. opening.now ≡ (rule, atom)) }
@@ -54,7 +54,7 @@ impl<T: Table> Openings<T> {
     }
 }
 
-/// Makes places up to one.
+/// Makes all places up to `place`.
 #[cold]
 #[inline(never)]
 fn make_places<T: Table>(
@@ -69,7 +69,7 @@ fn make_places<T: Table>(
     Ok(())
 }
 
-/// Puts how an atom opens a rule that it begins in a place.
+/// Makes the opening of `rule` by `atom` and puts it in a place.
 #[cold]
 #[inline(never)]
 fn fill<T: Table>(

@@ -1,4 +1,4 @@
-//! What a stack of symbols answers by a grammar.
+//! Questions about a stack of symbols, which the table of a grammar answers.
 ghost use Rattle.std.specs.Prelude.{◌≡◌, ◌∷◌, ◌&&◌, List, reverse, unwrap_or};
 ghost use Rattle.inf_machine.specs.Machine.{fits, can_end};
 ghost use Rattle.inf_machine.specs.declared.symbols.Symbol.{Symbol};
@@ -6,7 +6,7 @@ ghost use Rattle.inf_machine.specs.declared.symbols.Symbol.{Symbol};
 use crate::symbols::Symbol;
 use crate::table::Table;
 
-/// Whether an atom fits a stack, the top last.
+/// Returns whether an atom fits a stack, which has its top last.
 pub(crate) fn fits<T: Table>(stack: &[Symbol<T::Action>], atom: u8) -> bool
     ensures { result ≡ fits T.grammar T.known atom (reverse stack.now) }
 {
@@ -20,7 +20,7 @@ pub(crate) fn fits<T: Table>(stack: &[Symbol<T::Action>], atom: u8) -> bool
     false
 }
 
-/// Whether an atom fits a symbol, whatever stands behind it: nothing where that is what decides.
+/// Returns whether an atom fits a symbol, or `None` where the symbols behind it decide that.
 fn fit<T: Table>(symbol: Symbol<T::Action>, atom: u8) -> Option<bool>
     ensures { (rest : List (Symbol T.Action)) →
         fits T.grammar T.known atom (symbol ∷ rest) ≡ unwrap_or result (fits T.grammar T.known atom rest) }
@@ -34,7 +34,7 @@ fn fit<T: Table>(symbol: Symbol<T::Action>, atom: u8) -> Option<bool>
     }
 }
 
-/// Whether a stack, the top last, can be empty.
+/// Returns whether a stack, which has its top last, can be empty.
 pub(crate) fn can_end<T: Table>(stack: &[Symbol<T::Action>]) -> bool
     ensures { result ≡ can_end T.known (reverse stack.now) }
 {
@@ -48,7 +48,7 @@ pub(crate) fn can_end<T: Table>(stack: &[Symbol<T::Action>]) -> bool
     true
 }
 
-/// Whether a symbol can be empty.
+/// Returns whether a symbol can be empty.
 fn can_be_empty<T: Table>(symbol: Symbol<T::Action>) -> bool
     ensures { (rest : List (Symbol T.Action)) → can_end T.known (symbol ∷ rest) ≡ (result && can_end T.known rest) }
 {

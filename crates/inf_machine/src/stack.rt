@@ -5,10 +5,10 @@ use crate::symbols::Symbol;
 use std::alloc::{AllocError, Global};
 use std::marker::Model;
 
-/// A stack of symbols. Contracts see what is on it, the top first.
+/// A stack of symbols. In contracts it is the list of its symbols, the top first.
 #[derive(Drop)]
 pub(crate) struct Stack<A> {
-    /// What is on it, the top last.
+    /// The symbols on the stack, the top last.
     symbols: Vec<Symbol<A>>,
 }
 
@@ -22,7 +22,7 @@ impl<A> Model for Stack<A> {
 }
 
 impl<A: Copy> Stack<A> {
-    /// An empty stack.
+    /// Returns an empty stack.
     pub(crate) fn new(alloc: Global) -> Stack<A>
         ensures { result ≡ [] }
     {
@@ -31,7 +31,7 @@ impl<A: Copy> Stack<A> {
         }
     }
 
-    /// Puts a symbol on it.
+    /// Puts a symbol on the stack.
     pub(crate) fn push(&mut self, symbol: Symbol<A>) -> Result<(), AllocError>
         ensures ok { OnOk result (self.new ≡ symbol ∷ self.old) }
         ensures err { OnErr result (self.new ≡ self.old) }
@@ -40,14 +40,14 @@ impl<A: Copy> Stack<A> {
         Ok(())
     }
 
-    /// Takes the symbol at the top.
+    /// Takes the top symbol off the stack, if there is one.
     pub(crate) fn pop(&mut self) -> Option<Symbol<A>>
         ensures { MatchOption result (self.old ≡ []) (λ symbol. self.old ≡ symbol ∷ self.new) }
     {
         self.symbols.pop()
     }
 
-    /// Puts some symbols on it, of which the last is the new top.
+    /// Puts symbols on the stack, of which the last is the new top.
     pub(crate) fn add_all(&mut self, symbols: &[Symbol<A>]) -> Result<(), AllocError>
         ensures ok { OnOk result (self.new ≡ reverse symbols.now ++ self.old) }
         ensures err { OnErr result (self.new ≡ self.old) }
@@ -55,7 +55,7 @@ impl<A: Copy> Stack<A> {
         self.symbols.extend_from_slice(symbols)
     }
 
-    /// What is on it, the top last, as its own.
+    /// Returns the symbols on the stack, the top last.
     pub(crate) fn into_symbols(self) -> Vec<Symbol<A>>
         ensures { reverse result.items ≡ self }
     {

@@ -1,4 +1,4 @@
-//! What the rows of a grammar are made of.
+//! The parts of the rows of a grammar.
 
 /// A part of a row, whose actions are of a type `A`.
 #[derive(Clone, Copy, Debug, PartialEq, Eq)]

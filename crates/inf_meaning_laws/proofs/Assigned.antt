@@ -7,8 +7,8 @@ use Rattle.inf_opcode.specs.declared.instructions.Label.{Label}
 use Rattle.inf_opcode.specs.declared.opcodes.Opcode.TheVariants as opcode
 use Rattle.inf_expressions.specs.declared.operators.Operand.{Operand}
 use Rattle.inf_expressions.specs.declared.operators.Operand.TheVariants as operand
-use Rattle.inf_expressions.specs.declared.operators.Step.{Step}
-use Rattle.inf_expressions.specs.declared.operators.Step.TheVariants as step
+use Rattle.inf_expressions.specs.declared.operators.Direction.{Direction}
+use Rattle.inf_expressions.specs.declared.operators.Direction.TheVariants as step
 use Rattle.inf_expressions.specs.declared.operators.Unary.TheVariants as unary
 use Rattle.inf_expressions.specs.declared.operators.Binary.TheVariants as binary
 use Rattle.inf_expressions.specs.Trees.{Leaf}
@@ -17,15 +17,16 @@ use Rattle.inf_templates.specs.Parts.{Part, call_routine, evaluated, is, load, o
 use Rattle.inf_templates.specs.Parts.{simple}
 use Rattle.inf_templates.specs.Meaning.{Meaning, InMemory, meaning, part}
 use Rattle.inf_templates.specs.Meaning as code
-use Rattle.inf_meaning_laws.specs.Machine.{World, Store, State, Place, ◌then◌, given, with_variable}
+use Rattle.inf_interpreter.specs.Machine.{World, Store, State, Place, ◌then◌, given, with_variable}
 use Rattle.inf_meaning_laws.specs.Values.{forgotten, Width, Bytes, Words, Properties, Named, Element, Arg, Sense, Taker, answer, arg}
 use Rattle.inf_meaning_laws.specs.Values.{is_own, leaf_value, nobody, number, sense}
 use Rattle.inf_meaning_laws.specs.Values as values
-use Rattle.inf_meaning_laws.specs.Laws.{Claim, Comes, Kept, GivesNothing, GivesValue, state, taken, taker}
-use Rattle.inf_meaning_laws.proofs.Laying.{Always, so, then_}
-use Rattle.inf_meaning_laws.proofs.Running.{given_taken, comes_then, kept_here, none_some, opened, same_some}
+use Rattle.inf_interpreter.specs.Claims.{Comes, Kept, state}
+use Rattle.inf_meaning_laws.specs.Laws.{GivesNothing, GivesValue, taken, taker}
+use Rattle.inf_interpreter.proofs.Laying.{Always, so, then_}
+use Rattle.inf_interpreter.proofs.Running.{comes_then, kept_here, none_some, opened, same_some}
 use Rattle.inf_meaning_laws.proofs.Working.{AreParts, IsPart}
-use Rattle.inf_meaning_laws.proofs.Instructions.{left_as, finish, load_, step_, writes_, without}
+use Rattle.inf_meaning_laws.proofs.Instructions.{given_taken, left_as, finish, load_, step_, writes_}
 use Rattle.inf_meaning_laws.proofs.Meant.{memory_of, part_of, leaf_put, leaf_alone, simple_part, valued_means, Means}
 use Rattle.inf_meaning_laws.proofs.Groups.{same_length}
 use Rattle.inf_meaning_laws.proofs.Supplying.{supplied_means, writes_property}
@@ -70,7 +71,7 @@ assigned_alone {keeps} w limits v false own m a h =
     (r.0, subst (λ u. Comes w at from (state stack temp s) to (state stack r.0 u)) (ap (λ x. x.1) (same_some o.2) ∙ same_some f.2) r.2))
     (h.value v)
 
--- what has no meaning may be laid as anything
+-- Anything may be laid for an expression without a meaning.
 pub silent : {keeps : Bool} (w : World) (limits : Limits) (value : Taker → Store → Option (ℕ × Store)) (c : ℕ → Code) (alone : Code) →
     ((d : ℕ) → Always w (c d) (GivesValue keeps w value d)) → Always w alone (GivesNothing w (forgotten value)) →
     Means keeps w limits (code.valued limits c alone) values.no_value
@@ -115,7 +116,7 @@ are_joined keeps w [] (b ∷ args) qs others h k = absurd h
 are_joined keeps w (p ∷ ps) [] qs others h k = absurd h
 are_joined keeps w (p ∷ ps) (b ∷ args) qs others h k = (h.0, are_joined keeps w ps args qs others h.1 k)
 
-joined_length : (args others : List Arg) → length (args ++ others) ≡ length args + length others
+pub joined_length : (args others : List Arg) → length (args ++ others) ≡ length args + length others
 joined_length [] others = omega arith
 joined_length (a ∷ args) others = let e = joined_length args others in omega (arith, e)
 
@@ -165,8 +166,8 @@ element_means keeps w limits width args n b e two m a k h =
       branch = c.branch;
     }))
 
--- how much a step is, and whether it answers the new value
-by_part : {keeps : Bool} (w : World) (how : Step) → IsPart keeps w (is (code.by how)) (number (values.step_by how))
+-- the size of a step, and whether it answers the new value
+by_part : {keeps : Bool} (w : World) (how : Direction) → IsPart keeps w (is (code.by how)) (number (values.step_by how))
 by_part w step.Up = simple_part w (operand.Known 1) (λ s. Some (1, s))
 by_part w step.Down = simple_part w (operand.Known 65535) (λ s. Some (65535, s))
 
@@ -178,7 +179,7 @@ new_part : {keeps : Bool} (w : World) (before : Bool) → IsPart keeps w (is (co
 new_part w true = simple_part w (operand.Known 1) (λ s. Some (1, s))
 new_part w false = simple_part w (operand.Known 0) (λ s. Some (0, s))
 
-pub element_steps : (keeps : Bool) (w : World) (limits : Limits) (before : Bool) (how : Step) (width : Width) (args : List Arg)
+pub element_steps : (keeps : Bool) (w : World) (limits : Limits) (before : Bool) (how : Direction) (width : Width) (args : List Arg)
     (n : Meaning) (b : Sense) → b.aim ≡ Element width args → length args ≡ 2 → Means keeps w limits n b →
     Means false w limits (code.stepped limits before how n) (values.element_stepped w (new_of before) how width args)
 unfolding code.step_value code.step_alone
@@ -199,12 +200,12 @@ element_steps keeps w limits before how width args n b e two k =
     (supplied_means keeps w limits (values.stepper width) ps all are few))
 
 -- Steps
-pub before_valued : (w : World) (how : Step) (v : ℕ) (own : Bool) →
+pub before_valued : (w : World) (how : Direction) (v : ℕ) (own : Bool) →
     values.valued (values.stepped_before w how (values.aim_at v own)).value ≡ values.stepped_before w how (values.aim_at v own)
 before_valued w how v true = refl
 before_valued w how v false = refl
 
-pub behind_valued : (w : World) (how : Step) (v : ℕ) (own : Bool) →
+pub behind_valued : (w : World) (how : Direction) (v : ℕ) (own : Bool) →
     values.valued (values.stepped_behind w how (values.aim_at v own)).value ≡ values.stepped_behind w how (values.aim_at v own)
 behind_valued w how v true = refl
 behind_valued w how v false = refl
@@ -212,10 +213,10 @@ behind_valued w how v false = refl
 pub same_number : (n : ℕ) → (n == n) ≡ true
 same_number n = eq-eqb n n refl
 
-pub stepped_is : (how : Step) (v : ℕ) (s : Store) → (values.with_step how v s).variables v ≡ values.next how v s
+pub stepped_is : (how : Direction) (v : ℕ) (s : Store) → (values.with_step how v s).variables v ≡ values.next how v s
 stepped_is how v s = ap (λ b. if b then values.next how v s else s.variables v) (same_number v)
 
-pub before_value : {keeps : Bool} (w : World) (limits : Limits) (how : Step) (v : ℕ) (own : Bool) → is_own v ≡ own → (d : ℕ) →
+pub before_value : {keeps : Bool} (w : World) (limits : Limits) (how : Direction) (v : ℕ) (own : Bool) → is_own v ≡ own → (d : ℕ) →
     Always w (code.stepping limits how v ▸ load limits v d) (GivesValue keeps w (values.stepped_before w how (values.aim_at v own)).value d)
 before_value {keeps} w limits how v true own d =
     so (λ at from to p stack temp s n t e. none_some e) (then_ (step_ w limits how v) (load_ w limits v d))
@@ -233,7 +234,7 @@ taken_by x y d n stack left s =
     if x || y then (if x then state (n ∷ stack) left s else if y then state stack n s else state stack left (with_variable d n s))
     else state stack left s
 
-pub step_taken_by : (x y : Bool) (how : Step) (v : ℕ) (d n : ℕ) (stack : List ℕ) (left : ℕ) (s : Store) →
+pub step_taken_by : (x y : Bool) (how : Direction) (v : ℕ) (d n : ℕ) (stack : List ℕ) (left : ℕ) (s : Store) →
     (record (taken_by x y d n stack left s) { store = values.with_step how v (taken_by x y d n stack left s).store })
     ≡ taken_by x y d n stack left (if (x || y) || not (x || y) then values.with_step how v s else s)
 step_taken_by true y how v d n stack left s = refl
@@ -244,14 +245,14 @@ pub always_left : (z : Bool) (a b : Store) → (if z || not z then a else b) ≡
 always_left true a b = refl
 always_left false a b = refl
 
-pub step_taken : (how : Step) (v : ℕ) (d n : ℕ) (stack : List ℕ) (left : ℕ) (s : Store) →
+pub step_taken : (how : Direction) (v : ℕ) (d n : ℕ) (stack : List ℕ) (left : ℕ) (s : Store) →
     (record (taken d n stack left s) { store = values.with_step how v (taken d n stack left s).store })
     ≡ taken d n stack left (values.with_step how v s)
 step_taken how v d n stack left s =
     step_taken_by (d == 0) (d == 255) how v d n stack left s
     ∙ ap (λ t. taken d n stack left t) (always_left (is_own d) (values.with_step how v s) s)
 
-pub behind_value : {keeps : Bool} (w : World) (limits : Limits) (how : Step) (v : ℕ) (own : Bool) → is_own v ≡ own → (d : ℕ) →
+pub behind_value : {keeps : Bool} (w : World) (limits : Limits) (how : Direction) (v : ℕ) (own : Bool) → is_own v ≡ own → (d : ℕ) →
     Always w (load limits v d ▸ code.stepping limits how v) (GivesValue keeps w (values.stepped_behind w how (values.aim_at v own)).value d)
 behind_value {keeps} w limits how v true own d =
     so (λ at from to p stack temp s n t e. none_some e) (then_ (load_ w limits v d) (step_ w limits how v))
@@ -267,7 +268,7 @@ behind_value {keeps} w limits how v false own d =
     ))
     (then_ (load_ w limits v d) (step_ w limits how v))
 
-pub step_alone : (w : World) (limits : Limits) (how : Step) (v : ℕ) (own : Bool) → is_own v ≡ own →
+pub step_alone : (w : World) (limits : Limits) (how : Direction) (v : ℕ) (own : Bool) → is_own v ≡ own →
     Always w (code.stepping limits how v) (GivesNothing w (forgotten (values.stepped_before w how (values.aim_at v own)).value))
 step_alone w limits how v true own = so (λ at from to p stack temp s t e. none_some e) (step_ w limits how v)
 step_alone w limits how v false own =
@@ -275,7 +276,7 @@ step_alone w limits how v false own =
     (temp, subst (λ u. Comes w at from (state stack temp s) to (state stack temp u)) (same_some e) (p (state stack temp s) own)))
     (step_ w limits how v)
 
-pub step_alone_behind : (w : World) (limits : Limits) (how : Step) (v : ℕ) (own : Bool) → is_own v ≡ own →
+pub step_alone_behind : (w : World) (limits : Limits) (how : Direction) (v : ℕ) (own : Bool) → is_own v ≡ own →
     Always w (code.stepping limits how v) (GivesNothing w (forgotten (values.stepped_behind w how (values.aim_at v own)).value))
 step_alone_behind w limits how v true own = so (λ at from to p stack temp s t e. none_some e) (step_ w limits how v)
 step_alone_behind w limits how v false own =
@@ -283,7 +284,7 @@ step_alone_behind w limits how v false own =
     (temp, subst (λ u. Comes w at from (state stack temp s) to (state stack temp u)) (same_some e) (p (state stack temp s) own)))
     (step_ w limits how v)
 
-pub before_means : {keeps : Bool} (w : World) (limits : Limits) (how : Step) (x : Operand) →
+pub before_means : {keeps : Bool} (w : World) (limits : Limits) (how : Direction) (x : Operand) →
     Means keeps w limits (code.one limits (unary.Before how) (meaning limits (Leaf x))) (values.one w (unary.Before how) (sense w (Leaf x)))
 unfolding code.step_value code.step_alone
 before_means {keeps} w limits how (operand.Variable v) =
@@ -298,7 +299,7 @@ before_means {keeps} w limits how (operand.Later n) = silent_leaf w limits (oper
 before_means {keeps} w limits how (operand.Function n) = silent_leaf w limits (operand.Function n)
 before_means {keeps} w limits how operand.Unknown = silent_leaf w limits operand.Unknown
 
-pub behind_means : {keeps : Bool} (w : World) (limits : Limits) (how : Step) (x : Operand) →
+pub behind_means : {keeps : Bool} (w : World) (limits : Limits) (how : Direction) (x : Operand) →
     Means keeps w limits (code.one limits (unary.Behind how) (meaning limits (Leaf x))) (values.one w (unary.Behind how) (sense w (Leaf x)))
 unfolding code.step_value code.step_alone
 behind_means {keeps} w limits how (operand.Variable v) =

@@ -1,11 +1,13 @@
 -- Calls of routines.
-use Rattle.std.proofs.Common.{arith, ◌≡◌, ◌≤◌, ℕ, zero, suc, List, [], ◌∷◌, Option, Some, None, Bool, false, refl, ap, sym, subst}
+use Rattle.std.proofs.Common.{arith, ◌≡◌, ◌≤◌, ℕ, zero, suc, List, [], ◌∷◌, Option, Some, None, Bool, true, false, refl, ap, sym, subst}
 use Rattle.std.specs.Prelude.{length, take}
 use Rattle.inf_settings.specs.Bounds.{Limits}
 use Rattle.inf_expressions.specs.declared.operators.Operand.TheVariants as operand
 use Rattle.inf_expressions.specs.declared.operators.Operation.{Operation}
 use Rattle.inf_expressions.specs.declared.operators.Operation.TheVariants as operation
 use Rattle.inf_expressions.specs.declared.operators.PropertyPart.TheVariants as property
+use Rattle.inf_expressions.specs.declared.operators.Single.TheVariants as single
+use Rattle.inf_expressions.specs.declared.operators.Direction.{Direction}
 use Rattle.inf_expressions.specs.declared.operators.Unary.{Unary}
 use Rattle.inf_expressions.specs.declared.operators.Unary.TheVariants as unary
 use Rattle.inf_expressions.specs.declared.operators.Binary.TheVariants as binary
@@ -15,15 +17,14 @@ use Rattle.inf_output.specs.Output.{instruction, ◌▸◌}
 use Rattle.inf_templates.specs.Parts.{Part, call, operand_of, call_opcode, calling, evaluated, operands}
 use Rattle.inf_templates.specs.Meaning.{Meaning, meaning, part}
 use Rattle.inf_templates.specs.Meaning as code
-use Rattle.inf_meaning_laws.specs.Machine.{World}
-use Rattle.inf_meaning_laws.specs.Values.{forgotten, Arg}
+use Rattle.inf_interpreter.specs.Machine.{World}
+use Rattle.inf_meaning_laws.specs.Values.{Aim, Arg, Bytes, Element, Named, Nowhere, Properties, Sense, Words, arg, forgotten, is_own, sense}
 use Rattle.inf_meaning_laws.specs.Values as values
-use Rattle.inf_meaning_laws.specs.Covered.{IsCalled}
 use Rattle.inf_meaning_laws.specs.Laws.{GivesNothing, GivesValue}
-use Rattle.inf_meaning_laws.proofs.Laying.{Always}
+use Rattle.inf_interpreter.proofs.Laying.{Always}
 use Rattle.inf_meaning_laws.proofs.Working.{AreParts}
 use Rattle.inf_meaning_laws.proofs.Instructions.{calls_, calls_alone, call_acts, call_value}
-use Rattle.inf_meaning_laws.proofs.Meant.{valued_means, Means}
+use Rattle.inf_meaning_laws.proofs.Meant.{valued_means, part_of, Means}
 
 -- Calls: with up to seven arguments all operands are laid
 
@@ -54,7 +55,11 @@ calls_means keeps w limits p ps args h few =
     (subst (λ c. Always w c (GivesNothing w (forgotten (call_value w args)))) (call_code limits p ps few None)
     (calls_alone keeps w limits (call_opcode None (length (operands ps))) (p ∷ ps) args (call_acts w None (length (operands ps))) h))
 
--- What is no property is called as a value.
+-- An expression that is no property is called as a value.
+abbrev pub IsCalled : Tree → Type 0
+IsCalled (Two (binary.Property property.Value) a b) = ⊥
+IsCalled f = Unit {0}
+
 abbrev pub IsCall : Limits → Meaning → Type 0
 IsCall limits m = (ps : List Part) (store : Option ℕ) → code.called_by limits m.target m ps store ≡ call limits (part m) ps store
 
@@ -101,17 +106,103 @@ is_call limits (Two binary.Call a b) h ps store = refl
 is_call limits (Two binary.Then a b) h ps store = refl
 is_call limits (Two binary.To a b) h ps store = refl
 
-called_as : (limits : Limits) (f : Tree) → IsCalled f → (ps : List Part) (store : Option ℕ) →
+called_alike : (limits : Limits) (f : Tree) → IsCalled f → (ps : List Part) (store : Option ℕ) →
     call limits (part (meaning limits f)) ps store ≡ code.call_of limits (meaning limits f) ps store
 unfolding code.call_of
-called_as limits f h ps store = sym (is_call limits f h ps store)
+called_alike limits f h ps store = sym (is_call limits f h ps store)
 
-pub call_of_means : (keeps : Bool) (w : World) (limits : Limits) (f : Tree) → IsCalled f → (ps : List Part) (args : List Arg) →
-    AreParts keeps w (part (meaning limits f) ∷ ps) args → length ps ≤ 7 →
-    Means false w limits (code.called limits (code.call_of limits (meaning limits f) ps)) (values.calls w args)
-call_of_means keeps w limits f called ps args h few =
-    subst (λ c. Means false w limits (code.called limits c) (values.calls w args)) (called_as_all)
-    (calls_means keeps w limits (part (meaning limits f)) ps args h few)
+-- The meaning of a call goes by the same cases.
+abbrev pub IsCallMeant : World → Sense → Type 0
+IsCallMeant w e = (arguments : List Arg) → values.called_as w e.aim e arguments ≡ values.calls w (arg e ∷ arguments)
+
+aimless_meant : (w : World) (e : Sense) → e.aim ≡ Nowhere → IsCallMeant w e
+aimless_meant w e aimless arguments = ap (λ aim. values.called_as w aim e arguments) aimless
+
+variable_meant : (w : World) (v : ℕ) (own : Bool) (e : Sense) (arguments : List Arg) →
+    values.called_as w (values.aim_at v own) e arguments ≡ values.calls w (arg e ∷ arguments)
+variable_meant w v true e arguments = refl
+variable_meant w v false e arguments = refl
+
+called_aim : (w : World) (aim : Aim) (e : Sense) (arguments : List Arg) → (values.called_as w aim e arguments).aim ≡ Nowhere
+called_aim w Nowhere e arguments = refl
+called_aim w (Named v) e arguments = refl
+called_aim w (Element Bytes parts) e arguments = refl
+called_aim w (Element Words parts) e arguments = refl
+called_aim w (Element Properties parts) e arguments = refl
+
+assigned_aim : (w : World) (aim : Aim) (e : Sense) → (values.assigned w aim e).aim ≡ Nowhere
+assigned_aim w Nowhere e = refl
+assigned_aim w (Named v) e = refl
+assigned_aim w (Element width parts) e = refl
+
+before_aim : (w : World) (how : Direction) (aim : Aim) → (values.stepped_before w how aim).aim ≡ Nowhere
+before_aim w how Nowhere = refl
+before_aim w how (Named v) = refl
+before_aim w how (Element width parts) = refl
+
+behind_aim : (w : World) (how : Direction) (aim : Aim) → (values.stepped_behind w how aim).aim ≡ Nowhere
+behind_aim w how Nowhere = refl
+behind_aim w how (Named v) = refl
+behind_aim w how (Element width parts) = refl
+
+one_aim : (w : World) (op : Unary) (e : Sense) → (values.one w op e).aim ≡ Nowhere
+one_aim w unary.Negate e = refl
+one_aim w unary.Not e = refl
+one_aim w (unary.Single single.Complement) e = refl
+one_aim w (unary.Single single.Parent) e = refl
+one_aim w (unary.Single single.Random) e = refl
+one_aim w (unary.Before how) e = before_aim w how e.aim
+one_aim w (unary.Behind how) e = behind_aim w how e.aim
+one_aim w (unary.Relative how) e = refl
+one_aim w unary.Children e = refl
+one_aim w unary.Call e = called_aim w e.aim e []
+one_aim w unary.Indirect e = refl
+
+operation_meant : (w : World) (o : Operation) (a b : Sense) → IsCallMeant w (values.two w (binary.Operation o) a b)
+operation_meant w operation.Add a b arguments = refl
+operation_meant w operation.Subtract a b arguments = refl
+operation_meant w operation.Multiply a b arguments = refl
+operation_meant w operation.Divide a b arguments = refl
+operation_meant w operation.Remainder a b arguments = refl
+operation_meant w operation.BitAnd a b arguments = refl
+operation_meant w operation.BitOr a b arguments = refl
+operation_meant w operation.Byte a b arguments = refl
+operation_meant w operation.Word a b arguments = refl
+
+is_meant : (w : World) (f : Tree) → IsCalled f → IsCallMeant w (sense w f)
+is_meant w (Leaf (operand.Known n)) h arguments = refl
+is_meant w (Leaf (operand.Variable v)) h arguments = variable_meant w v (is_own v) (sense w (Leaf (operand.Variable v))) arguments
+is_meant w (Leaf (operand.Later n)) h arguments = refl
+is_meant w (Leaf (operand.Function n)) h arguments = refl
+is_meant w (Leaf operand.Unknown) h arguments = refl
+is_meant w (One op a) h arguments = aimless_meant w (sense w (One op a)) (one_aim w op (sense w a)) arguments
+is_meant w (Two (binary.Operation o) a b) h arguments = operation_meant w o (sense w a) (sense w b) arguments
+is_meant w (Two (binary.Property property.Value) a b) h arguments = absurd h
+is_meant w (Two (binary.Property property.Address) a b) h arguments = refl
+is_meant w (Two (binary.Property property.Length) a b) h arguments = refl
+is_meant w (Two (binary.Test t) a b) h arguments = refl
+is_meant w (Two (binary.Fails t) a b) h arguments = refl
+is_meant w (Two binary.Assign a b) h arguments =
+    aimless_meant w (sense w (Two binary.Assign a b)) (assigned_aim w (sense w a).aim (sense w b)) arguments
+is_meant w (Two binary.Comma a b) h arguments = refl
+is_meant w (Two binary.And a b) h arguments = refl
+is_meant w (Two binary.Or a b) h arguments = refl
+is_meant w (Two binary.Call a b) h arguments =
+    aimless_meant w (sense w (Two binary.Call a b)) (called_aim w (sense w a).aim (sense w a) (values.args (sense w b))) arguments
+is_meant w (Two binary.Then a b) h arguments = refl
+is_meant w (Two binary.To a b) h arguments = refl
+
+pub call_of_means : (keeps : Bool) (w : World) (limits : Limits) (f : Tree) → IsCalled f →
+    Means keeps w limits (meaning limits f) (sense w f) → (ps : List Part) (arguments : List Arg) → AreParts keeps w ps arguments →
+    length ps ≤ 7 →
+    Means false w limits (code.called limits (code.call_of limits (meaning limits f) ps))
+    (values.called_as w (sense w f).aim (sense w f) arguments)
+call_of_means keeps w limits f called k ps arguments h few =
+    subst (λ e. Means false w limits (code.called limits (code.call_of limits (meaning limits f) ps)) e)
+    (sym (is_meant w f called arguments))
+    (subst (λ c. Means false w limits (code.called limits c) (values.calls w (arg (sense w f) ∷ arguments))) called_alike_all
+    (calls_means keeps w limits (part (meaning limits f)) ps (arg (sense w f) ∷ arguments)
+    (part_of w limits (meaning limits f) (sense w f) k, h) few))
   where
-    called_as_all : call limits (part (meaning limits f)) ps ≡ code.call_of limits (meaning limits f) ps
-    called_as_all = λ i store. called_as limits f called ps store i
+    called_alike_all : call limits (part (meaning limits f)) ps ≡ code.call_of limits (meaning limits f) ps
+    called_alike_all = λ i store. called_alike limits f called ps store i

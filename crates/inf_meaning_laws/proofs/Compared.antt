@@ -1,6 +1,6 @@
 -- Tests, with one alternative or more.
-use Rattle.std.proofs.Common.{◌≡◌, ℕ, List, [], ◌∷◌, Option, Some, None, Bool, refl, ◌∙◌, ap, subst, true}
-use Rattle.std.specs.Prelude.{not, if◌then◌else◌, map}
+use Rattle.std.proofs.Common.{◌≡◌, ◌≤◌, ℕ, List, [], ◌∷◌, Option, Some, None, Bool, refl, ◌∙◌, ap, sym, subst, true, false}
+use Rattle.std.specs.Prelude.{◌==◌, not, if◌then◌else◌, length, map}
 use Rattle.inf_settings.specs.Bounds.{Limits}
 use Rattle.inf_opcode.specs.declared.opcodes.Opcode.{Opcode}
 use Rattle.inf_expressions.specs.declared.operators.Operand.TheVariants as operand
@@ -11,23 +11,28 @@ use Rattle.inf_opcode.specs.declared.opcodes.Opcode.TheVariants as opcode
 use Rattle.inf_expressions.specs.declared.operators.Test.{Test}
 use Rattle.inf_expressions.specs.declared.operators.Test.TheVariants as test
 use Rattle.inf_expressions.specs.Numbers.{same, truth}
-use Rattle.inf_templates.specs.Parts.{Part, TEMP, is, evaluated, operands}
+use Rattle.inf_output.specs.declared.veneer.Veneer.{Veneer}
+use Rattle.inf_output.specs.declared.veneer.Veneer.TheVariants as veneer
+use Rattle.inf_templates.specs.Parts.{Part, SP, TEMP, call_routine, is, evaluated, operands}
 use Rattle.inf_templates.specs.Meaning as code
 use Rattle.inf_output.specs.Operands.{written}
 use Rattle.inf_opcode.specs.Instructions.{Parts}
 use Rattle.inf_output.specs.declared.items.Item.TheVariants.{Instruction}
-use Rattle.inf_meaning_laws.specs.Values.{number, Worked, worked_all, Arg, settled_all, Reads}
-use Rattle.inf_meaning_laws.specs.Machine.{first_is_any, less, test_of_two, World, Store, Place, ◌then◌, and_first, action_of, branched}
-use Rattle.inf_meaning_laws.specs.Machine.{acted, Tests}
+use Rattle.inf_interpreter.specs.Supplied.{supplied, told}
+use Rattle.inf_meaning_laws.specs.Values.{answer, is_not_zero, nobody, number, supplied_value, Worked, worked_all, Arg, settled_all, Reads}
+use Rattle.inf_interpreter.specs.Machine.{first_is_any, less, of_two, test_of_two, World, Store, Place, ◌then◌, and_first, action_of}
+use Rattle.inf_interpreter.specs.Machine.{acted, branched, Tests}
 use Rattle.inf_meaning_laws.specs.Values as values
-use Rattle.inf_meaning_laws.specs.Covered.{IsDirect}
-use Rattle.inf_meaning_laws.specs.Laws.{Branches, Comes, state, Claim, Kept}
-use Rattle.inf_meaning_laws.proofs.Laying.{Always, so, then_, nothing_, instruction_}
-use Rattle.inf_meaning_laws.proofs.Running.{none_some, opened, same_some, comes_then, stepping}
+use Rattle.inf_meaning_laws.specs.Covered.{CoversTest}
+use Rattle.inf_interpreter.specs.Claims.{Comes, state, Claim, Kept}
+use Rattle.inf_meaning_laws.specs.Laws.{Branches}
+use Rattle.inf_interpreter.proofs.Laying.{Always, so, then_, nothing_, instruction_}
+use Rattle.inf_interpreter.proofs.Running.{none_some, opened, same_some, comes_then, stepping}
 use Rattle.inf_meaning_laws.proofs.Working.{AreParts, looks}
-use Rattle.inf_meaning_laws.proofs.Instructions.{same_not, moved, tested_of, tests_, goes}
+use Rattle.inf_meaning_laws.proofs.Instructions.{same_not, moved, tested_of, tests_, goes, zero_tested}
+use Rattle.inf_meaning_laws.proofs.Supplying.{supplies_value}
 
--- A branch of which the truth depends on what variable 255 has at the beginning
+-- A branch, by a truth that depends on the number that variable 255 has at the beginning
 abbrev pub BranchesBy : Bool → World → (ℕ → Store → Option (Bool × Store)) → Bool → Label → Claim
 BranchesBy keeps w truth sense label at from to =
     (stack : List ℕ) (temp : ℕ) (s : Store) (b : Bool) (t : Store) → truth temp s ≡ Some (b, t) →
@@ -56,14 +61,14 @@ opposite_tests keeps w h args label sense at from to k stack temp s b t e =
           (moved (ap (λ z. if z then at label else to) (same_not c.0 sense ∙ ap (λ z. same z sense) c.2)) r.2),
     )
 
--- What a test of some operands does follows from what each opcode of a test does with them.
+-- The effect of a test of some operands follows from the effect of each opcode of a test on them.
 abbrev pub Instructs : Bool → World → Limits → List Part → (ℕ → List Arg) → Type 0
 Instructs keeps w limits ps args =
     (op : Opcode) (g : Store → List ℕ → Option Bool) → action_of w op ≡ Tests g → (sense : Bool) (label : Label) →
     Always w (evaluated ps ▸ instruction limits op (operands ps) None (to sense label))
     (BranchesBy keeps w (λ temp. tested_of w g (args temp)) sense label)
 
-pub instructed : (keeps : Bool) (w : World) (limits : Limits) (t : Test) → IsDirect t → (ps : List Part) (args : ℕ → List Arg) →
+pub instructed : (keeps : Bool) (w : World) (limits : Limits) (t : Test) → CoversTest true t → (ps : List Part) (args : ℕ → List Arg) →
     Instructs keeps w limits ps args → (sense : Bool) (label : Label) →
     Always w (code.tested limits t ps sense label) (BranchesBy keeps w (λ temp. values.tested w t (args temp)) sense label)
 instructed keeps w limits test.Equal d ps args h sense label = h opcode.Je (λ s. first_is_any) refl sense label
@@ -75,17 +80,55 @@ instructed keeps w limits test.AtLeast d ps args h sense label =
     so (opposite_tests keeps w (λ a b. less a b) args label sense) (h opcode.Jl (λ s. test_of_two (λ a b. less a b)) refl (not sense) label)
 instructed keeps w limits test.Has d ps args h sense label = h opcode.TestAttr (λ s. test_of_two (λ a b. w.has s a b)) refl sense label
 instructed keeps w limits test.In d ps args h sense label = h opcode.Jin (λ s. test_of_two (λ a b. w.inside s a b)) refl sense label
-instructed keeps w limits test.OfClass d ps args h sense label = absurd d
-instructed keeps w limits test.Provides d ps args h sense label = absurd d
+instructed keeps w limits test.OfClass d ps args h sense label = absurd (cc d)
+instructed keeps w limits test.Provides d ps args h sense label = absurd (cc d)
+
+-- A supplied routine tests some operands: its answer is pushed, and compared with 0.
+not_zero_truth : (b : Bool) → not (truth b == 0) ≡ b
+not_zero_truth true = refl
+not_zero_truth false = refl
+
+truth_told : (f : Store → ℕ → ℕ → Bool) (ns : List ℕ) (s : Store) (b : Bool) → test_of_two (f s) ns ≡ Some b →
+    is_not_zero (told (λ u. of_two (λ x y. Some (truth (f u x y)))) ns s then λ r. answer nobody r.0 r.1) ≡ Some (b, s)
+truth_told f [] s b e = none_some e
+truth_told f (x ∷ []) s b e = none_some e
+truth_told f (x ∷ y ∷ []) s b e = ap (λ c. Some (c, s)) (not_zero_truth (f s x y) ∙ same_some e)
+truth_told f (x ∷ y ∷ z ∷ ns) s b e = none_some e
+
+asked_is : (w : World) (v : Veneer) (f : Store → ℕ → ℕ → Bool) →
+    supplied w v ≡ told (λ u. of_two (λ x y. Some (truth (f u x y)))) → (args : List Arg) (s : Store) (b : Bool) (t : Store) →
+    tested_of w (λ u. test_of_two (f u)) args s ≡ Some (b, t) → is_not_zero (supplied_value w v args nobody s) ≡ Some (b, t)
+asked_is w v f tells args s b t e =
+    let o = opened (values.values w args s) (λ p. test_of_two (f p.1) p.0 then λ b. Some (b, p.1)) (b, t) e in
+    let q = opened (test_of_two (f o.0.1) o.0.0) (λ b. Some (b, o.0.1)) (b, t) o.2 in
+    ap (λ m. is_not_zero (m then λ p. supplied w v p.0 p.1 then λ r. answer nobody r.0 r.1)) o.1
+    ∙ ap (λ (g : List ℕ → Store → Option (ℕ × Store)). is_not_zero (g o.0.0 o.0.1 then λ r. answer nobody r.0 r.1)) tells
+    ∙ truth_told f o.0.0 o.0.1 q.0 q.1 ∙ q.2
+
+asks_ : (keeps : Bool) (w : World) (limits : Limits) (v : Veneer) (f : Store → ℕ → ℕ → Bool) →
+    supplied w v ≡ told (λ u. of_two (λ x y. Some (truth (f u x y)))) → (ps : List Part) (args : List Arg) → AreParts keeps w ps args →
+    length ps ≤ 7 → (sense : Bool) (label : Label) →
+    Always w (evaluated ps ▸ code.asking limits v (operands ps) sense label)
+    (Branches false w (tested_of w (λ u. test_of_two (f u)) args) sense label)
+asks_ keeps w limits v f tells ps args h few sense label =
+    so (λ at from to k stack temp s b t e. k stack temp s b t (asked_is w v f tells args s b t e))
+    (zero_tested {keeps = false} w limits (supplied_value w v args) (call_routine limits v ps (Some SP))
+    (supplies_value keeps w limits v ps args h few SP) sense label)
 
 -- operands that are parts
-pub compares : {keeps : Bool} (w : World) (limits : Limits) (t : Test) → IsDirect t → (ps : List Part) (args : List Arg) →
-    AreParts keeps w ps args → (sense : Bool) (label : Label) →
+pub compares : {keeps : Bool} (w : World) (limits : Limits) (t : Test) → CoversTest keeps t → (ps : List Part) (args : List Arg) →
+    AreParts keeps w ps args → length ps ≤ 7 → (sense : Bool) (label : Label) →
     Always w (code.tested limits t ps sense label) (Branches keeps w (values.tested w t args) sense label)
-compares {keeps} w limits t d ps args h sense label =
-    instructed keeps w limits t d ps (λ temp. args) (λ op g act how l. tests_ w limits op g ps args act h how l) sense label
+compares {keeps} w limits test.OfClass d ps args h few sense label =
+    subst (λ k. Always w (code.tested limits test.OfClass ps sense label) (Branches k w (values.tested w test.OfClass args) sense label))
+    (sym d) (asks_ keeps w limits veneer.OfClass w.of_class refl ps args h few sense label)
+compares {keeps} w limits test.Provides d ps args h few sense label =
+    subst (λ k. Always w (code.tested limits test.Provides ps sense label) (Branches k w (values.tested w test.Provides args) sense label))
+    (sym d) (asks_ keeps w limits veneer.Provides w.provides refl ps args h few sense label)
+compares {keeps} w limits t d ps args h few sense label =
+    instructed keeps w limits t tt ps (λ temp. args) (λ op g act how l. tests_ w limits op g ps args act h how l) sense label
 
--- Variable 255 as the first operand: it stands for the number that it has
+-- Variable 255 as the first operand: it is the number that it has
 abbrev with_store : Store → List ℕ → Option (List ℕ × Store)
 with_store s ns = Some (ns, s)
 

@@ -10,12 +10,13 @@ use Rattle.inf_output.specs.Output.{◌▸◌}
 use Rattle.inf_templates.specs.Meaning.{Meaning}
 use Rattle.inf_templates.specs.Meaning as code
 use Rattle.inf_templates.specs.Parts.{SP}
-use Rattle.inf_meaning_laws.specs.Machine.{World, Store, State, Place, ◌then◌}
+use Rattle.inf_interpreter.specs.Machine.{World, Store, State, Place, ◌then◌}
 use Rattle.inf_meaning_laws.specs.Values.{Sense, opposite, sense}
 use Rattle.inf_meaning_laws.specs.Values as values
-use Rattle.inf_meaning_laws.specs.Laws.{Kept, Branches, Comes, state, taker}
-use Rattle.inf_meaning_laws.proofs.Laying.{Always, Marks, labelled, marked_, so, then_}
-use Rattle.inf_meaning_laws.proofs.Running.{kept_here, kept_then, comes_then, opened, same_some, not_kept}
+use Rattle.inf_interpreter.specs.Claims.{Kept, Comes, state}
+use Rattle.inf_meaning_laws.specs.Laws.{Branches, taker}
+use Rattle.inf_interpreter.proofs.Laying.{Always, Marks, labelled, marked_, so, then_}
+use Rattle.inf_interpreter.proofs.Running.{kept_here, kept_then, comes_then, opened, same_some, not_kept}
 use Rattle.inf_meaning_laws.proofs.Instructions.{pass, moved, opposed, zero_tested}
 use Rattle.inf_meaning_laws.proofs.Meant.{stored_means, condition_means, Means, part_of, no_element}
 

@@ -1,4 +1,4 @@
--- How many members a list has: as many parts of the code as parts of the tree.
+-- The number of a list's members: the code has as many parts as the tree.
 use Rattle.std.proofs.Common.{◌≡◌, ◌≤◌, ℕ, suc, Bool, true, refl, ◌∙◌, ap, sym, subst, arith}
 use Rattle.std.proofs.lemmas.Bool.{ltb-true}
 use Rattle.std.specs.Prelude.{length, nat_lt}
@@ -9,7 +9,7 @@ use Rattle.inf_expressions.specs.declared.operators.Binary.TheVariants as binary
 use Rattle.inf_expressions.specs.Trees.{Tree, Leaf, One, Two}
 use Rattle.inf_templates.specs.Meaning.{Meaning, meaning, parts}
 use Rattle.inf_templates.specs.Meaning as code
-use Rattle.inf_meaning_laws.specs.Machine.{World}
+use Rattle.inf_interpreter.specs.Machine.{World}
 use Rattle.inf_meaning_laws.specs.Values.{args, sense}
 use Rattle.inf_meaning_laws.specs.Covered.{count}
 use Rattle.inf_meaning_laws.proofs.Meant.{Means}

@@ -9,7 +9,7 @@ use Rattle.inf_expressions.specs.declared.operators.Operand.TheVariants as opera
 use Rattle.inf_expressions.specs.declared.operators.Operation.TheVariants as operation
 use Rattle.inf_expressions.specs.declared.operators.PropertyPart.TheVariants as property
 use Rattle.inf_expressions.specs.declared.operators.Single.TheVariants as single
-use Rattle.inf_expressions.specs.declared.operators.Step.{Step}
+use Rattle.inf_expressions.specs.declared.operators.Direction.{Direction}
 use Rattle.inf_expressions.specs.declared.operators.Unary.{Unary}
 use Rattle.inf_expressions.specs.declared.operators.Unary.TheVariants as unary
 use Rattle.inf_expressions.specs.declared.operators.Binary.{Binary}
@@ -23,19 +23,20 @@ use Rattle.inf_templates.specs.Meaning as code
 use Rattle.inf_expressions.specs.declared.operators.Relative.{Relative}
 use Rattle.inf_expressions.specs.declared.operators.Relative.TheVariants as relative
 use Rattle.inf_expressions.specs.declared.operators.Test.{Test}
-use Rattle.inf_meaning_laws.specs.Machine.{World}
+use Rattle.inf_interpreter.specs.Machine.{World}
 use Rattle.inf_meaning_laws.specs.Values.{Arg, Element, Sense, Width, Bytes, Words, Properties, arg, number, opposite, sense, together}
 use Rattle.inf_meaning_laws.specs.Values as values
-use Rattle.inf_meaning_laws.specs.Covered.{Covered, CoversOne, CoversTwo, Fits, IsElement, IsLeaf, IsDirect}
+use Rattle.inf_meaning_laws.specs.Covered.{Covered, CoversOne, CoversTest, CoversTwo, Fits, IsElement, IsLeaf, most_arguments}
 use Rattle.inf_meaning_laws.specs.Laws.{BranchesAreTaken, EffectsAreDone, ValuesAreComputed, GivesValue, Branches}
-use Rattle.inf_meaning_laws.proofs.Laying.{so, Always, labelled}
+use Rattle.inf_interpreter.proofs.Laying.{so, Always, labelled}
 use Rattle.inf_meaning_laws.proofs.Instructions.{opposed, computed_of, finds_, drawn_value, draws_}
 use Rattle.inf_meaning_laws.proofs.Assigned.{assign_means, element_means, element_steps, before_means, behind_means}
 use Rattle.inf_meaning_laws.proofs.Counting.{few_of, none_more}
 use Rattle.inf_meaning_laws.proofs.Conditions.{then_means, comma_means, not_means, and_branches, or_branches}
 use Rattle.inf_meaning_laws.proofs.Meant.{part_of, simple_part, leaf_means, condition_means, computed_means, operation_means, Means}
 use Rattle.inf_meaning_laws.proofs.Meant.{no_leaf, stored_means}
-use Rattle.inf_meaning_laws.proofs.Called.{calls_means, call_of_means}
+use Rattle.inf_meaning_laws.proofs.Called.{calls_means}
+use Rattle.inf_meaning_laws.proofs.Messages.{call_means}
 use Rattle.inf_meaning_laws.proofs.Supplying.{property_means, supplied_means}
 use Rattle.inf_meaning_laws.proofs.Groups.{test_means}
 use Rattle.inf_meaning_laws.proofs.Working.{AreParts}
@@ -101,7 +102,7 @@ assigned_element keeps w limits v b none h k l =
     (values.assigned w aim (sense w b))) (sym p.2)
     (element_means keeps w limits p.0 p.1 (meaning limits v) (sense w v) p.2 p.3 (meaning limits b) (sense w b) k l))
 
-before_element : (keeps : Bool) (w : World) (limits : Limits) (how : Step) (v : Tree) → keeps ≡ false → IsElement v →
+before_element : (keeps : Bool) (w : World) (limits : Limits) (how : Direction) (v : Tree) → keeps ≡ false → IsElement v →
     Means keeps w limits (meaning limits v) (sense w v) →
     Means keeps w limits (code.one limits (unary.Before how) (meaning limits v)) (values.one w (unary.Before how) (sense w v))
 before_element keeps w limits how v none h k =
@@ -111,7 +112,7 @@ before_element keeps w limits how v none h k =
     (subst (λ aim. Means false w limits (code.stepped limits true how (meaning limits v)) (values.stepped_before w how aim)) (sym p.2)
     (element_steps keeps w limits true how p.0 p.1 (meaning limits v) (sense w v) p.2 p.3 k))
 
-behind_element : (keeps : Bool) (w : World) (limits : Limits) (how : Step) (v : Tree) → keeps ≡ false → IsElement v →
+behind_element : (keeps : Bool) (w : World) (limits : Limits) (how : Direction) (v : Tree) → keeps ≡ false → IsElement v →
     Means keeps w limits (meaning limits v) (sense w v) →
     Means keeps w limits (code.one limits (unary.Behind how) (meaning limits v)) (values.one w (unary.Behind how) (sense w v))
 behind_element keeps w limits how v none h k =
@@ -158,8 +159,8 @@ one_means {keeps} w limits unary.Children a h k =
     (supplied_means keeps w limits veneer.Children (part (meaning limits a) ∷ []) (arg (sense w a) ∷ [])
     (part_of w limits (meaning limits a) (sense w a) k, tt) (omega arith))
 one_means {keeps} w limits unary.Call a h k =
-    unkept {keeps = keeps} w limits (code.one limits unary.Call (meaning limits a)) (values.one w unary.Call (sense w a)) h.0
-    (call_of_means keeps w limits a h.1 [] (arg (sense w a) ∷ []) (part_of w limits (meaning limits a) (sense w a) k, tt) (omega arith))
+    unkept {keeps = keeps} w limits (code.one limits unary.Call (meaning limits a)) (values.one w unary.Call (sense w a)) h
+    (call_means keeps w limits a [] [] k tt (omega arith))
 one_means {keeps} w limits unary.Indirect a h k =
     unkept {keeps = keeps} w limits (code.one limits unary.Indirect (meaning limits a)) (values.one w unary.Indirect (sense w a)) h.0
     (calls_means keeps w limits (meaning limits a).first (meaning limits a).others (values.args (sense w a)) (k.first, k.others)
@@ -180,7 +181,8 @@ leaf_has_none w (Leaf x) h e = no_leaf e
 leaf_has_none w (One op a) h e = absurd h
 leaf_has_none w (Two op a b) h e = absurd h
 
-fitting_means : {keeps : Bool} (w : World) (limits : Limits) (t : Test) (a b : Tree) → IsDirect t → Fits keeps t a b (Covered true b) →
+fitting_means : {keeps : Bool} (w : World) (limits : Limits) (t : Test) (a b : Tree) → CoversTest keeps t →
+    Fits keeps t a b (Covered true b) →
     Means keeps w limits (meaning limits a) (sense w a) → Means keeps w limits (meaning limits b) (sense w b) →
     (Covered true b → Means true w limits (meaning limits b) (sense w b)) → (how : Bool) (label : Label) →
     Always w (code.test_branch limits t (meaning limits a) (meaning limits b) how label)
@@ -189,10 +191,10 @@ fitting_means {keeps} w limits t a b d fits k l kept how label =
     test_means {keeps = keeps} w limits t d (meaning limits a) (meaning limits b) (sense w a) (sense w b) k l (calm fits) how label
   where
     calm : Fits keeps t a b (Covered true b) → (sense w a).leaf ≡ None → nat_lt (together t) (length (values.args (sense w b))) ≡ true →
-        (keeps ≡ false) × Means true w limits (meaning limits b) (sense w b)
+        (keeps ≡ false) × CoversTest true t × Means true w limits (meaning limits b) (sense w b)
     calm (inl few) none more = none_more {keeps = keeps} w limits b l (together t) few more
     calm (inr (inl leaf)) none more = leaf_has_none w a leaf none
-    calm (inr (inr c)) none more = (c.0, kept c.1)
+    calm (inr (inr c)) none more = (c.0, c.1, kept c.2)
 
 two_means : {keeps : Bool} (w : World) (limits : Limits) (op : Binary) (a b : Tree) → CoversTwo keeps op a b (Covered true b) →
     Means keeps w limits (meaning limits a) (sense w a) → Means keeps w limits (meaning limits b) (sense w b) →
@@ -230,8 +232,8 @@ two_means {keeps} w limits binary.Or a b h k l kept =
 two_means {keeps} w limits binary.Call a b h k l kept =
     unkept {keeps = keeps} w limits (code.two limits binary.Call (meaning limits a) (meaning limits b)) (values.two w binary.Call
     (sense w a) (sense w b)) h.0
-    (call_of_means keeps w limits a h.1 (parts (meaning limits b)) (arg (sense w a) ∷ values.args (sense w b))
-    (part_of w limits (meaning limits a) (sense w a) k, (l.first, l.others)) (few_of limits b 7 h.2))
+    (call_means keeps w limits a (parts (meaning limits b)) (values.args (sense w b)) k (l.first, l.others)
+    (few_of limits b (most_arguments a) h.1))
 two_means {keeps} w limits binary.Then a b h k l kept =
     then_means {keeps = keeps} w limits (meaning limits a) (meaning limits b) (sense w a) (sense w b) k l
 two_means w limits binary.To a b h k l kept = absurd h

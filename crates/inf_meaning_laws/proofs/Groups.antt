@@ -14,14 +14,15 @@ use Rattle.inf_output.specs.Output.{marked, Code, ◌▸◌}
 use Rattle.inf_templates.specs.Parts.{Part, TEMP, is, simple, evaluated, operands}
 use Rattle.inf_templates.specs.Meaning.{Meaning, part}
 use Rattle.inf_templates.specs.Meaning as code
-use Rattle.inf_meaning_laws.specs.Machine.{State, World, Store, Place, ◌then◌}
+use Rattle.inf_interpreter.specs.Machine.{State, World, Store, Place, ◌then◌}
 use Rattle.inf_meaning_laws.specs.Values.{Arg, Sense, arg, nobody, either, compares_three, together, by_threes, one_by_one}
 use Rattle.inf_meaning_laws.specs.Values.{in_groups, number}
 use Rattle.inf_meaning_laws.specs.Values as values
-use Rattle.inf_meaning_laws.specs.Covered.{IsDirect}
-use Rattle.inf_meaning_laws.specs.Laws.{Branches, Comes, state, Claim, Kept}
-use Rattle.inf_meaning_laws.proofs.Laying.{Always, labelled, marked_, so, then_}
-use Rattle.inf_meaning_laws.proofs.Running.{opened, same_some, comes_then, kept_then, not_kept}
+use Rattle.inf_meaning_laws.specs.Covered.{CoversTest}
+use Rattle.inf_interpreter.specs.Claims.{Comes, state, Claim, Kept}
+use Rattle.inf_meaning_laws.specs.Laws.{Branches}
+use Rattle.inf_interpreter.proofs.Laying.{Always, labelled, marked_, so, then_}
+use Rattle.inf_interpreter.proofs.Running.{opened, same_some, comes_then, kept_then, not_kept}
 use Rattle.inf_meaning_laws.proofs.Working.{AreParts, leaf_simple}
 use Rattle.inf_meaning_laws.proofs.Instructions.{pass, moved}
 use Rattle.inf_meaning_laws.proofs.Meant.{part_of, Means, simple_part}
@@ -30,25 +31,26 @@ use Rattle.inf_meaning_laws.proofs.Compared.{BranchesBy, instructed, compares, k
 
 -- Groups of alternatives to a first operand, in front of a label that those which hold jump to where they decide that nothing is branched
 
--- the first operand `x` stands for a part, which may be what variable 255 has
+-- the first operand `x` has the value of a part, which may be the number of variable 255
 pub record Stays (keeps : Bool) (w : World) (limits : Limits) (x : Simple) (a : ℕ → Arg) : Type 0 where
   pub same : (temp left : ℕ) → Kept keeps temp left → a left ≡ a temp
-  pub tests : (t : Test) → IsDirect t → (ps : List Part) (args : List Arg) → AreParts keeps w ps args → (sense : Bool) (label : Label) →
+  pub tests : (t : Test) → CoversTest keeps t → (ps : List Part) (args : List Arg) → AreParts keeps w ps args → length ps ≤ 3 →
+      (sense : Bool) (label : Label) →
       Always w (code.tested limits t (is x ∷ ps) sense label) (BranchesBy keeps w (λ temp. values.tested w t (a temp ∷ args)) sense label)
 
 leaf_stays : (keeps : Bool) (w : World) (limits : Limits) (x : Operand) (value : Store → Option (ℕ × Store)) →
     Stays keeps w limits (simple x) (λ temp. record { leaf = Some x; value = value })
 leaf_stays keeps w limits x value = record {
   same = λ temp left k. refl;
-  tests = λ t d ps args h sense label.
+  tests = λ t d ps args h few sense label.
       compares {keeps = keeps} w limits t d (is (simple x) ∷ ps) (record { leaf = Some x; value = value } ∷ args)
-      (simple_part {keeps = keeps} w x value, h) sense label;
+      (simple_part {keeps = keeps} w x value, h) (omega (arith, few)) sense label;
 }
 
 temp_stays : (w : World) (limits : Limits) → Stays true w limits (Variable TEMP) number
 temp_stays w limits = record {
   same = λ temp left k. ap number (k.same refl);
-  tests = λ t d ps args h sense label.
+  tests = λ t d ps args h few sense label.
       instructed true w limits t d (is (Variable TEMP) ∷ ps) (λ temp. number temp ∷ args) (kept_instructs w limits ps args h) sense label;
 }
 
@@ -113,21 +115,22 @@ unfolding code.triple_tests
 threes_ {keeps} w limits x a g p [] (b ∷ []) h sense label over =
     last_group {keeps = keeps} w limits (code.tested limits test.Equal (is x ∷ p ∷ []) sense label) (λ temp. by_threes w (a temp)
     (b ∷ [])) sense label over
-    (g.tests test.Equal tt (p ∷ []) (b ∷ []) h sense label)
+    (g.tests test.Equal tt (p ∷ []) (b ∷ []) h (omega arith) sense label)
 threes_ {keeps} w limits x a g p (p1 ∷ []) (b ∷ b1 ∷ []) h sense label over =
     last_group {keeps = keeps} w limits (code.tested limits test.Equal (is x ∷ p ∷ p1 ∷ []) sense label) (λ temp. by_threes w (a temp)
     (b ∷ b1 ∷ []))
-    sense label over (g.tests test.Equal tt (p ∷ p1 ∷ []) (b ∷ b1 ∷ []) h sense label)
+    sense label over (g.tests test.Equal tt (p ∷ p1 ∷ []) (b ∷ b1 ∷ []) h (omega arith) sense label)
 threes_ {keeps} w limits x a g p (p1 ∷ p2 ∷ []) (b ∷ b1 ∷ b2 ∷ []) h sense label over =
     last_group {keeps = keeps} w limits (code.tested limits test.Equal (is x ∷ p ∷ p1 ∷ p2 ∷ []) sense label)
     (λ temp. by_threes w (a temp) (b ∷ b1 ∷ b2 ∷ [])) sense label over (g.tests test.Equal tt (p ∷ p1 ∷ p2 ∷ [])
-    (b ∷ b1 ∷ b2 ∷ []) h sense label)
+    (b ∷ b1 ∷ b2 ∷ []) h (omega arith) sense label)
 threes_ {keeps} w limits x a g p (p1 ∷ p2 ∷ p3 ∷ others) (b ∷ b1 ∷ b2 ∷ b3 ∷ args) h sense label over =
     two_groups {keeps = keeps} w limits (code.tested limits test.Equal (is x ∷ p ∷ p1 ∷ p2 ∷ []) true (if sense then label else over))
     (code.triple_tests limits x (p3 ∷ others) sense label (if sense then label else over) ▸ marked limits over)
     (λ temp. values.tested w test.Equal (a temp ∷ b ∷ b1 ∷ b2 ∷ [])) (λ temp. by_threes w (a temp) (b3 ∷ args)) sense label over
     (λ temp left k. ap (λ y. by_threes w y (b3 ∷ args)) (g.same temp left k))
-    (g.tests test.Equal tt (p ∷ p1 ∷ p2 ∷ []) (b ∷ b1 ∷ b2 ∷ []) (h.0, (h.1.0, (h.1.1.0, tt))) true (if sense then label else over))
+    (g.tests test.Equal tt (p ∷ p1 ∷ p2 ∷ []) (b ∷ b1 ∷ b2 ∷ []) (h.0, (h.1.0, (h.1.1.0, tt))) (omega arith) true
+    (if sense then label else over))
     (threes_ {keeps = keeps} w limits x a g p3 others (b3 ∷ args) h.1.1.1 sense label over)
 threes_ w limits x a g p others [] h sense label over = absurd h
 threes_ w limits x a g p [] (b ∷ b1 ∷ args) h sense label over = absurd h.1
@@ -137,7 +140,8 @@ threes_ w limits x a g p (p1 ∷ p2 ∷ others) (b ∷ b1 ∷ []) h sense label 
 threes_ w limits x a g p (p1 ∷ p2 ∷ []) (b ∷ b1 ∷ b2 ∷ b3 ∷ args) h sense label over = absurd h.1.1.1
 threes_ w limits x a g p (p1 ∷ p2 ∷ p3 ∷ others) (b ∷ b1 ∷ b2 ∷ []) h sense label over = absurd h.1.1.1
 
-ones_ : {keeps : Bool} (w : World) (limits : Limits) (t : Test) → IsDirect t → (x : Simple) (a : ℕ → Arg) → Stays keeps w limits x a →
+ones_ : {keeps : Bool} (w : World) (limits : Limits) (t : Test) → CoversTest keeps t → (x : Simple) (a : ℕ → Arg) →
+    Stays keeps w limits x a →
     (p : Part) (others : List Part) (args : List Arg) → AreParts keeps w (p ∷ others) args → (sense : Bool) (label over : Label) →
     Always w (code.single_tests limits t x (p ∷ others) sense label (if sense then label else over) ▸ marked limits over)
     (Over over (BranchesBy keeps w (λ temp. one_by_one w t (a temp) args) sense label))
@@ -145,13 +149,13 @@ unfolding code.single_tests
 ones_ {keeps} w limits t d x a g p [] (b ∷ []) h sense label over =
     last_group {keeps = keeps} w limits (code.tested limits t (is x ∷ p ∷ []) sense label) (λ temp. one_by_one w t (a temp)
     (b ∷ [])) sense label over
-    (g.tests t d (p ∷ []) (b ∷ []) h sense label)
+    (g.tests t d (p ∷ []) (b ∷ []) h (omega arith) sense label)
 ones_ {keeps} w limits t d x a g p (p1 ∷ others) (b ∷ b1 ∷ args) h sense label over =
     two_groups {keeps = keeps} w limits (code.tested limits t (is x ∷ p ∷ []) true (if sense then label else over))
     (code.single_tests limits t x (p1 ∷ others) sense label (if sense then label else over) ▸ marked limits over)
     (λ temp. values.tested w t (a temp ∷ b ∷ [])) (λ temp. one_by_one w t (a temp) (b1 ∷ args)) sense label over
     (λ temp left k. ap (λ y. one_by_one w t y (b1 ∷ args)) (g.same temp left k))
-    (g.tests t d (p ∷ []) (b ∷ []) (h.0, tt) true (if sense then label else over))
+    (g.tests t d (p ∷ []) (b ∷ []) (h.0, tt) (omega arith) true (if sense then label else over))
     (ones_ {keeps = keeps} w limits t d x a g p1 others (b1 ∷ args) h.1 sense label over)
 ones_ w limits t d x a g p others [] h sense label over = absurd h
 ones_ w limits t d x a g p [] (b ∷ b1 ∷ args) h sense label over = absurd h.1
@@ -168,7 +172,8 @@ three_is_equal test.In = refl
 three_is_equal test.OfClass = refl
 three_is_equal test.Provides = refl
 
-groups_ : {keeps : Bool} (w : World) (limits : Limits) (t : Test) → IsDirect t → (x : Simple) (a : ℕ → Arg) → Stays keeps w limits x a →
+groups_ : {keeps : Bool} (w : World) (limits : Limits) (t : Test) → CoversTest keeps t → (x : Simple) (a : ℕ → Arg) →
+    Stays keeps w limits x a →
     (p : Part) (others : List Part) (args : List Arg) → AreParts keeps w (p ∷ others) args → (sense : Bool) (label over : Label) →
     Always w (code.tests limits t x (p ∷ others) sense label (if sense then label else over) ▸ marked limits over)
     (Over over (BranchesBy keeps w (λ temp. in_groups (compares_three t) w t (a temp) args) sense label))
@@ -187,8 +192,10 @@ groups_ {keeps} w limits test.Has d x a g p others args h how label over =
     ones_ {keeps = keeps} w limits test.Has d x a g p others args h how label over
 groups_ {keeps} w limits test.In d x a g p others args h how label over =
     ones_ {keeps = keeps} w limits test.In d x a g p others args h how label over
-groups_ w limits test.OfClass d x a g p others args h how label over = absurd d
-groups_ w limits test.Provides d x a g p others args h how label over = absurd d
+groups_ {keeps} w limits test.OfClass d x a g p others args h how label over =
+    ones_ {keeps = keeps} w limits test.OfClass d x a g p others args h how label over
+groups_ {keeps} w limits test.Provides d x a g p others args h how label over =
+    ones_ {keeps = keeps} w limits test.Provides d x a g p others args h how label over
 
 -- A value that is no leaf: one instruction takes all alternatives, or it is kept in variable 255.
 pub same_length : (keeps : Bool) (w : World) (ps : List Part) (args : List Arg) → AreParts keeps w ps args → length args ≡ length ps
@@ -211,14 +218,20 @@ most_is test.In = refl
 most_is test.OfClass = refl
 most_is test.Provides = refl
 
-at_once : {keeps : Bool} (w : World) (limits : Limits) (t : Test) → IsDirect t → (m : Meaning) (a : Sense) → Means keeps w limits m a →
+few_together : (b : Bool) → (if b then 3 else 1) ≤ 3
+few_together true = omega arith
+few_together false = omega arith
+
+at_once : {keeps : Bool} (w : World) (limits : Limits) (t : Test) → CoversTest keeps t → (m : Meaning) (a : Sense) →
+    Means keeps w limits m a →
     (ps : List Part) (args : List Arg) → AreParts keeps w ps args → length ps ≤ together t → (sense : Bool) (label : Label) →
     Always w (code.tested_at_once limits t (part m) ps sense label) (Branches keeps w (values.tested w t (arg a ∷ args)) sense label)
 at_once {keeps} w limits t d m a h ps args k few sense label =
     subst (λ l. Always w (evaluated (part m ∷ ps) ▸ code.compared limits t l sense label) (Branches keeps w (values.tested w t
     (arg a ∷ args)) sense label))
     (sym (taken_whole (operands (part m ∷ ps)) (code.most_compared t) (fits)))
-    (compares {keeps = keeps} w limits t d (part m ∷ ps) (arg a ∷ args) (part_of w limits m a h, k) sense label)
+    (compares {keeps = keeps} w limits t d (part m ∷ ps) (arg a ∷ args) (part_of w limits m a h, k)
+    (let most : together t ≤ 3 = few_together (compares_three t) in omega (arith, most, few)) sense label)
   where
     fits : length (operands (part m ∷ ps)) ≤ code.most_compared t
     fits =
@@ -234,8 +247,9 @@ passed {keeps} w limits c holds how label over h =
     (q.0, q.1, pass w at from p.0 to over label (state stack temp s) (state stack q.0 u) (same r how) p.2 q.2))
     (then_ h (marked_ limits over))
 
--- the value is put into variable 255, which all alternatives keep
-kept_tests_ : {keeps : Bool} (w : World) (limits : Limits) (t : Test) → IsDirect t → (m : Meaning) (a : Sense) → Means keeps w limits m a →
+-- the value is put into variable 255, which the test and all alternatives keep
+kept_tests_ : {keeps : Bool} (w : World) (limits : Limits) (t : Test) → CoversTest true t → (m : Meaning) (a : Sense) →
+    Means keeps w limits m a →
     (p : Part) (others : List Part) (args : List Arg) → AreParts true w (p ∷ others) args → (sense : Bool) (label over : Label) →
     Always w (code.kept_tests limits true t m (p ∷ others) sense label (if sense then label else over) ▸ marked limits over)
     (Branches false w (values.worked_first true w t a args) sense label)
@@ -252,9 +266,10 @@ kept_tests_ {keeps} w limits t d m a h p others args k sense label over =
     regrouped : {P : Claim} (c d : Code) (l : Label) → Always w (c ▸ (d ▸ marked limits l)) P → Always w ((c ▸ d) ▸ marked limits l) P
     regrouped c d l f = f
 
-worked_by : {keeps : Bool} (w : World) (limits : Limits) (t : Test) → IsDirect t → (m : Meaning) (a : Sense) → Means keeps w limits m a →
+worked_by : {keeps : Bool} (w : World) (limits : Limits) (t : Test) → CoversTest keeps t → (m : Meaning) (a : Sense) →
+    Means keeps w limits m a →
     (p : Part) (others : List Part) (args : List Arg) → AreParts keeps w (p ∷ others) args → (z : Bool) →
-    nat_lt (together t) (length args) ≡ z → (z ≡ true → (keeps ≡ false) × AreParts true w (p ∷ others) args) →
+    nat_lt (together t) (length args) ≡ z → (z ≡ true → (keeps ≡ false) × CoversTest true t × AreParts true w (p ∷ others) args) →
     (sense : Bool) (label over : Label) →
     Always w (code.kept_tests limits z t m (p ∷ others) sense label (if sense then label else over) ▸ marked limits over)
     (Branches keeps w (values.worked_first z w t a args) sense label)
@@ -262,16 +277,17 @@ worked_by {keeps} w limits t d m a h p others args k true e calm sense label ove
     let c = calm refl in
     subst (λ x. Always w (code.kept_tests limits true t m (p ∷ others) sense label (if sense then label else over) ▸ marked limits over)
     (Branches x w (values.worked_first true w t a args) sense label)) (sym c.0)
-    (kept_tests_ {keeps = keeps} w limits t d m a h p others args c.1 sense label over)
+    (kept_tests_ {keeps = keeps} w limits t c.1 m a h p others args c.2 sense label over)
 worked_by {keeps} w limits t d m a h p others args k false e calm sense label over =
     passed {keeps = keeps} w limits (code.tested_at_once limits t (part m) (p ∷ others) sense label) (values.tested w t
     (arg a ∷ args)) sense label over
     (at_once {keeps = keeps} w limits t d m a h (p ∷ others) args k
     (subst (λ n. n ≤ together t) (same_length keeps w (p ∷ others) args k) (ltb-false (together t) (length args) e)) sense label)
 
-compared_by : {keeps : Bool} (w : World) (limits : Limits) (t : Test) → IsDirect t → (m : Meaning) (a : Sense) → Means keeps w limits m a →
+compared_by : {keeps : Bool} (w : World) (limits : Limits) (t : Test) → CoversTest keeps t → (m : Meaning) (a : Sense) →
+    Means keeps w limits m a →
     (p : Part) (others : List Part) (args : List Arg) → AreParts keeps w (p ∷ others) args → (leaf : Option Operand) →
-    (leaf ≡ None → nat_lt (together t) (length args) ≡ true → (keeps ≡ false) × AreParts true w (p ∷ others) args) →
+    (leaf ≡ None → nat_lt (together t) (length args) ≡ true → (keeps ≡ false) × CoversTest true t × AreParts true w (p ∷ others) args) →
     (sense : Bool) (label over : Label) →
     Always w (code.tests_by limits (leaf_simple leaf) t m (p ∷ others) sense label (if sense then label else over) ▸ marked limits over)
     (Branches keeps w (values.compared w t leaf a args) sense label)
@@ -287,9 +303,10 @@ compared_by {keeps} w limits t d m a h p others args k None calm sense label ove
     (worked_by {keeps = keeps} w limits t d m a h p others args k (nat_lt (together t) (length args)) refl (calm refl) sense label over)
 
 -- every test of an expression that is covered
-pub test_means : {keeps : Bool} (w : World) (limits : Limits) (t : Test) → IsDirect t → (m n : Meaning) (a b : Sense) →
+pub test_means : {keeps : Bool} (w : World) (limits : Limits) (t : Test) → CoversTest keeps t → (m n : Meaning) (a b : Sense) →
     Means keeps w limits m a → Means keeps w limits n b →
-    (a.leaf ≡ None → nat_lt (together t) (length (values.args b)) ≡ true → (keeps ≡ false) × Means true w limits n b) →
+    (a.leaf ≡ None → nat_lt (together t) (length (values.args b)) ≡ true →
+    (keeps ≡ false) × CoversTest true t × Means true w limits n b) →
     (how : Bool) (label : Label) →
     Always w (code.test_branch limits t m n how label) (Branches keeps w (values.compared w t a.leaf a (values.args b)) how label)
 unfolding code.test_branch
@@ -298,4 +315,4 @@ test_means {keeps} w limits t d m n a b h k calm how label =
     subst (λ o. Always w (code.tests_by limits o t m (n.first ∷ n.others) how label (if how then label else over) ▸ marked limits over)
     (Branches keeps w (values.compared w t a.leaf a (values.args b)) how label)) (sym h.operand)
     (compared_by {keeps = keeps} w limits t d m a h n.first n.others (values.args b) (k.first, k.others) a.leaf
-    (λ none more. let c = calm none more in (c.0, (c.1.first, c.1.others))) how label over)
+    (λ none more. let c = calm none more in (c.0, c.1, (c.2.first, c.2.others))) how label over)

@@ -7,8 +7,8 @@ use Rattle.inf_opcode.specs.declared.instructions.Destination.TheVariants.{To}
 use Rattle.inf_opcode.specs.declared.opcodes.Opcode.{Opcode}
 use Rattle.inf_opcode.specs.declared.opcodes.Opcode.TheVariants as opcode
 use Rattle.inf_opcode.specs.Instructions.{Parts}
-use Rattle.inf_expressions.specs.declared.operators.Step.{Step}
-use Rattle.inf_expressions.specs.declared.operators.Step.TheVariants as step
+use Rattle.inf_expressions.specs.declared.operators.Direction.{Direction}
+use Rattle.inf_expressions.specs.declared.operators.Direction.TheVariants as step
 use Rattle.inf_expressions.specs.Numbers.{same, truth}
 use Rattle.inf_output.specs.declared.items.Item.TheVariants.{Instruction, Mark}
 use Rattle.inf_output.specs.declared.operands.Simple.{Simple}
@@ -17,15 +17,16 @@ use Rattle.inf_output.specs.Operands.{written}
 use Rattle.inf_output.specs.Output.{Code, instruction, marked, naming, to, ◌▸◌}
 use Rattle.inf_templates.specs.Parts.{Part, SP, TEMP, call_opcode, evaluated, jump_zero, load, operands, put, worked}
 use Rattle.inf_templates.specs.Meaning as code
-use Rattle.inf_meaning_laws.specs.Machine.{Calls, Writes, World, Store, State, Place, Computes, Tests, ◌then◌, acted, action_of, branched}
-use Rattle.inf_meaning_laws.specs.Machine.{called, delivered, first_put, given, goes_by, named, operand_value, operand_values, put_in}
-use Rattle.inf_meaning_laws.specs.Machine.{pushed, with_top, and_first, with_variable}
-use Rattle.inf_meaning_laws.specs.Machine as machine
+use Rattle.inf_interpreter.specs.Machine.{Calls, Writes, World, Store, State, Place, Computes, Tests, ◌then◌, acted, action_of, branched}
+use Rattle.inf_interpreter.specs.Machine.{called, delivered, first_put, given, goes_by, named, operand_value, operand_values, put_in}
+use Rattle.inf_interpreter.specs.Machine.{pushed, with_top, and_first, with_variable}
+use Rattle.inf_interpreter.specs.Machine as machine
 use Rattle.inf_meaning_laws.specs.Values.{forgotten, Arg, Taker, answer, is_not_zero, is_own, nobody, opposite, values, with_step, sense}
-use Rattle.inf_meaning_laws.specs.Laws.{Branches, Claim, Comes, GivesNothing, GivesValue, Kept, state, taken, taker}
-use Rattle.inf_meaning_laws.proofs.Laying.{Always, Lies, Marks, instruction_, instruction_of, jump_to, jumped_, labelled, marked_}
-use Rattle.inf_meaning_laws.proofs.Laying.{naming_, naming_of, so, then_}
-use Rattle.inf_meaning_laws.proofs.Running.{comes_then, given_taken, opened, same_some, stepping, not_kept}
+use Rattle.inf_interpreter.specs.Claims.{Claim, Comes, Kept, state}
+use Rattle.inf_meaning_laws.specs.Laws.{Branches, GivesNothing, GivesValue, taken, taker}
+use Rattle.inf_interpreter.proofs.Laying.{Always, Lies, Marks, instruction_, instruction_of, jump_to, jumped_, labelled, marked_}
+use Rattle.inf_interpreter.proofs.Laying.{naming_, naming_of, so, then_}
+use Rattle.inf_interpreter.proofs.Running.{comes_then, opened, same_some, stepping, not_kept}
 use Rattle.inf_meaning_laws.proofs.Working.{AreParts, looks}
 
 pub same_not : (a b : Bool) → same a (not b) ≡ same (not a) b
@@ -46,6 +47,20 @@ pub left_as : {w : World} {at : Label → Place} {from to : Place} {s t t' : Sta
     Comes w at from s to t'
 left_as {w} {at} {from} {to} {s} {t} {t'} e c = subst (λ u. Comes w at from s to u) e c
 
+-- writing a variable, and a state that has taken the value
+
+pub given_taken : (d n : ℕ) (stack : List ℕ) (temp : ℕ) (s : Store) → given d n (state stack temp s) ≡ taken d n stack temp (taker d n s)
+given_taken d n stack temp s = go (d == 0) (d == 255)
+  where
+    go : (x y : Bool) →
+        (if x then state (n ∷ stack) temp s else if y then state stack n s else state stack temp (with_variable d n s))
+        ≡ (let t = (if x || y then nobody else with_variable d) n s in
+        if x || y then (if x then state (n ∷ stack) temp t else if y then state stack n t else state stack temp (with_variable d n t))
+        else state stack temp t)
+    go true y = refl
+    go false true = refl
+    go false false = refl
+
 -- a value that was put where it goes is taken
 pub finish : (keeps : Bool) (w : World) (at : Label → Place) (from to : Place) (start : State) (d n m : ℕ) (stack : List ℕ) (temp left : ℕ)
     (s t : Store) → Kept keeps temp left → Comes w at from start to (given d n (state stack left s)) → answer (taker d) n s ≡ Some (m, t) →
@@ -63,7 +78,7 @@ abbrev pub Puts : World → Simple → ℕ → Claim
 Puts w x d at from to =
     (s : State) (n : ℕ) → operand_value w (written x) s ≡ Some (n, s) → Comes w at from s to (given d n s)
 
-one_value : (w : World) (x : Simple) (s t : State) (n : ℕ) → operand_value w (written x) s ≡ Some (n, t) →
+pub one_value : (w : World) (x : Simple) (s t : State) (n : ℕ) → operand_value w (written x) s ≡ Some (n, t) →
     operand_values w (map written (x ∷ [])) s ≡ Some (n ∷ [], t)
 one_value w x s t n e = ap (λ m. m then λ p. and_first p.0 (operand_values w [] p.1)) e
 
@@ -118,10 +133,10 @@ load_ w limits v d =
     stepping w at (naming_of opcode.Load v [] (Some d) None) from to s (to, given d (s.store.variables v) s) place
     (ap (λ m. m then λ n. delivered (Some d) n to s) (named_is v s own))) (naming_ limits opcode.Load v [] (Some d) None)
 
-abbrev pub MakesStep : World → Step → ℕ → Claim
+abbrev pub MakesStep : World → Direction → ℕ → Claim
 MakesStep w how v at from to = (s : State) → is_own v ≡ false → Comes w at from s to (record s { store = with_step how v s.store })
 
-pub step_ : (w : World) (limits : Limits) (how : Step) (v : ℕ) → Always w (code.stepping limits how v) (MakesStep w how v)
+pub step_ : (w : World) (limits : Limits) (how : Direction) (v : ℕ) → Always w (code.stepping limits how v) (MakesStep w how v)
 step_ w limits step.Up v =
     so (λ at from to place s own.
     stepping w at (naming_of opcode.Inc v [] None None) from to s (to, record s { store = with_step step.Up v s.store }) place
@@ -290,7 +305,7 @@ truth_ {keeps} w limits holds branch h d =
     (then_ (h false fails) (then_ (put_ w limits (Known 1) d) (then_ (jumped_ limits last) (then_ (marked_ limits fails) (then_
     (put_ w limits (Known 0) d) (marked_ limits last))))))
 
--- An object that an instruction finds: it is stored, and the branch leads to what follows in any case.
+-- An object that an instruction finds: it is stored, and the branch leads to the next instruction in any case.
 abbrev pub found_of : World → (Store → ℕ → ℕ) → List Arg → Taker → Store → Option (ℕ × Store)
 found_of w f args take s = values w args s then λ p. machine.found_one (f p.1) p.0 then λ n. answer take n p.1
 

@@ -5,10 +5,8 @@ mod Conditions
 mod Counting
 pub mod Expressions
 mod Groups
-mod Instructions
-pub mod Laying
+pub mod Instructions
 mod Meant
-mod Naming
-mod Running
+mod Messages
 mod Supplying
-mod Working
+pub mod Working

@@ -18,14 +18,15 @@ use Rattle.inf_templates.specs.Meaning.{Meaning, InMemory, meaning, part}
 use Rattle.inf_templates.specs.Meaning as code
 use Rattle.inf_templates.specs.declared.tasks.Memory.{Memory}
 use Rattle.inf_templates.specs.declared.tasks.Memory.TheVariants as memory
-use Rattle.inf_meaning_laws.specs.Machine.{World, Store, State, Computes, ◌then◌, action_of}
+use Rattle.inf_interpreter.specs.Machine.{World, Store, State, Computes, ◌then◌, action_of}
 use Rattle.inf_meaning_laws.specs.Values.{forgotten, Width, Bytes, Words, Properties, Aim, Nowhere, Named, Element, Arg, Sense, Taker}
 use Rattle.inf_meaning_laws.specs.Values.{answer, arg}
 use Rattle.inf_meaning_laws.specs.Values.{is_not_zero, is_own, leaf_value, nobody, read, sense}
 use Rattle.inf_meaning_laws.specs.Values as values
-use Rattle.inf_meaning_laws.specs.Laws.{Branches, Comes, GivesNothing, GivesValue, state, taker}
-use Rattle.inf_meaning_laws.proofs.Laying.{Always, jumped_, nothing_, so}
-use Rattle.inf_meaning_laws.proofs.Running.{here, kept_here, none_some, opened, same_some}
+use Rattle.inf_interpreter.specs.Claims.{Comes, state}
+use Rattle.inf_meaning_laws.specs.Laws.{Branches, GivesNothing, GivesValue, taker}
+use Rattle.inf_interpreter.proofs.Laying.{Always, jumped_, nothing_, so}
+use Rattle.inf_interpreter.proofs.Running.{here, kept_here, none_some, opened, same_some}
 use Rattle.inf_meaning_laws.proofs.Working.{AreParts, IsPart, leaf_simple, looked_up}
 use Rattle.inf_meaning_laws.proofs.Instructions.{computed_of, computes_, finish, jump_comes, jump_zero_, moved, put_, truth_, truth_value}
 use Rattle.inf_meaning_laws.proofs.Instructions.{without, zero_tested}
@@ -35,7 +36,7 @@ memory_of Bytes = memory.Byte
 memory_of Words = memory.Word
 memory_of Properties = memory.Property
 
--- What is proved of the code and the meaning of a tree together, use by use.
+-- The claims about the code and the meaning of a tree together, use by use.
 pub record Means (keeps : Bool) (w : World) (limits : Limits) (m : Meaning) (e : Sense) : Type 0 where
   pub operand : m.operand ≡ leaf_simple e.leaf
   pub first : IsPart keeps w m.first e.first

@@ -1,8 +1,7 @@
 -- Calls of routines that the compiler supplies.
-use Rattle.std.proofs.Common.{arith, ◌≡◌, ◌≤◌, ℕ, List, [], ◌∷◌, ◌++◌, Option, Some, None, Bool, false, refl, ◌∙◌, ap, sym, subst}
+use Rattle.std.proofs.Common.{arith, ◌≡◌, ◌≤◌, ℕ, List, [], ◌∷◌, Option, Some, None, Bool, false, refl, ◌∙◌, ap, sym, subst}
 use Rattle.std.specs.Prelude.{length, map}
 use Rattle.inf_settings.specs.Bounds.{Limits}
-use Rattle.inf_opcode.specs.declared.instructions.Label.{Label}
 use Rattle.inf_opcode.specs.Instructions.{Parts}
 use Rattle.inf_expressions.specs.declared.operators.PropertyPart.{PropertyPart}
 use Rattle.inf_expressions.specs.declared.operators.PropertyPart.TheVariants as property
@@ -16,15 +15,16 @@ use Rattle.inf_output.specs.Output.{instruction}
 use Rattle.inf_templates.specs.Parts.{Part, call_opcode, call_routine, calling, calling_routine, operands}
 use Rattle.inf_templates.specs.Meaning.{InMemory, Meaning, part}
 use Rattle.inf_templates.specs.Meaning as code
-use Rattle.inf_meaning_laws.specs.Machine.{World, Store, State, Place, ◌then◌, acted, and_first, called, given, operand_values}
-use Rattle.inf_meaning_laws.specs.Machine.{write_of_three}
-use Rattle.inf_meaning_laws.specs.Machine as machine
-use Rattle.inf_meaning_laws.specs.Supplied.{supplied, wrote}
+use Rattle.inf_interpreter.specs.Machine.{World, Store, State, Place, ◌then◌, acted, and_first, called, given, operand_values}
+use Rattle.inf_interpreter.specs.Machine.{write_of_three}
+use Rattle.inf_interpreter.specs.Machine as machine
+use Rattle.inf_interpreter.specs.Supplied.{supplied, wrote}
 use Rattle.inf_meaning_laws.specs.Values.{Arg, Element, Properties, Sense, Width, answer, arg, forgotten, nobody, supplied_value, values}
 use Rattle.inf_meaning_laws.specs.Values as meant
-use Rattle.inf_meaning_laws.specs.Laws.{Claim, Comes, GivesNothing, GivesValue, state, taker}
-use Rattle.inf_meaning_laws.proofs.Laying.{Always, Supplied, instruction_, routined, so, then_}
-use Rattle.inf_meaning_laws.proofs.Running.{comes_then, none_some, not_kept, opened, same_some, stepping}
+use Rattle.inf_interpreter.specs.Claims.{Claim, Comes, state}
+use Rattle.inf_meaning_laws.specs.Laws.{GivesNothing, GivesValue, taker}
+use Rattle.inf_interpreter.proofs.Laying.{Always, Supplied, instruction_, routined, so, then_}
+use Rattle.inf_interpreter.proofs.Running.{comes_then, none_some, not_kept, opened, same_some, stepping}
 use Rattle.inf_meaning_laws.proofs.Working.{AreParts, looks}
 use Rattle.inf_meaning_laws.proofs.Instructions.{call_acts, finish}
 use Rattle.inf_meaning_laws.proofs.Called.{operands_length, taken_whole}
@@ -113,7 +113,7 @@ supplied_means keeps w limits v ps args h few =
     valued_means w limits (supplied_value w v args) (λ d. call_routine limits v ps (Some d)) (call_routine limits v ps None)
     (supplies_value keeps w limits v ps args h few) (supplies_alone keeps w limits v ps args h few)
 
--- a written value, with what the routine that writes it answers
+-- A routine that writes a value does that, and answers some number.
 wrote_as : (f : ℕ → ℕ → ℕ → Store → Store) (ns : List ℕ) (s t : Store) → write_of_three f ns s ≡ Some t →
     (n : ℕ) × (wrote f ns s ≡ Some (n, t))
 wrote_as f [] s t e = none_some e
@@ -133,7 +133,7 @@ writes_property keeps w limits ps args h few =
     (c.0, comes_then l.5 c.1))
     (then_ (looks {keeps = keeps} w ps args h) (calling_ w limits veneer.WriteProperty (operands ps) (few_operands ps few) None))
 
--- what is asked of a property
+-- The routine for a question about a property is the one of its meaning.
 reader_is : (p : PropertyPart) → code.reader p ≡ meant.asked p
 reader_is property.Value = refl
 reader_is property.Address = refl

@@ -10,11 +10,11 @@ use Rattle.inf_output.specs.declared.operands.Simple.TheVariants.{Variable}
 use Rattle.inf_output.specs.Operands.{written}
 use Rattle.inf_output.specs.Output.{Code}
 use Rattle.inf_templates.specs.Parts.{Part, SP, evaluated, evaluated_by, operand_by, operands, simple, worked_out}
-use Rattle.inf_meaning_laws.specs.Machine.{World, Store, State, Place, ◌then◌, and_first, operand_value, operand_values, popped}
+use Rattle.inf_interpreter.specs.Machine.{World, Store, State, Place, ◌then◌, and_first, operand_value, operand_values, popped}
 use Rattle.inf_meaning_laws.specs.Values.{Arg, Worked, Is, Reads, is_own, read, settled, settled_all, values, worked_all, worked_by}
-use Rattle.inf_meaning_laws.specs.Laws.{Claim, Comes, Kept, state}
-use Rattle.inf_meaning_laws.proofs.Laying.{Always, nothing_, so, then_}
-use Rattle.inf_meaning_laws.proofs.Running.{comes_then, here, kept_here, kept_then, none_some, opened, same_some}
+use Rattle.inf_interpreter.specs.Claims.{Claim, Comes, Kept, state}
+use Rattle.inf_interpreter.proofs.Laying.{Always, nothing_, so, then_}
+use Rattle.inf_interpreter.proofs.Running.{comes_then, here, kept_here, kept_then, none_some, opened, same_some}
 
 abbrev pub leaf_simple : Option Operand → Option Simple
 leaf_simple None = None
@@ -93,7 +93,7 @@ works_all {keeps} w (p ∷ parts) (a ∷ args) h =
     ))
     (then_ (works_all {keeps = keeps} w parts args h.1) (works {keeps = keeps} w p a h.0))
 
--- Operands: what is read for each part
+-- Operands: the simple operand of each part
 
 abbrev pub simple_of : Worked → Simple
 simple_of (Is n) = Variable SP
@@ -155,7 +155,7 @@ first_looked_up : (w : World) (a : Worked) (stack : List ℕ) (temp : ℕ) (s : 
 first_looked_up w (Is m) stack temp s n e = ap (λ k. Some (k, state stack temp s)) (same_some e)
 first_looked_up w (Reads x) stack temp s n e = looked_up w x (state stack temp s) n e
 
--- all operands are read in the order of the parts, and what they pushed is taken away
+-- All operands are read in the order of the parts, and the numbers that they pushed are taken away.
 pub all_looked_up : (w : World) (all : List Worked) (stack : List ℕ) (temp : ℕ) (s : Store) (ns : List ℕ) → settled_all w all s ≡ Some ns →
     operand_values w (map written (map simple_of all)) (state (with_all_worked all stack) temp s) ≡ Some (ns, state stack temp s)
 all_looked_up w [] stack temp s ns e = ap (λ k. Some (k, state stack temp s)) (same_some e)

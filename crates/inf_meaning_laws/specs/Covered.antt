@@ -11,15 +11,16 @@ use Rattle.inf_expressions.specs.declared.operators.Binary.TheVariants as binary
 use Rattle.inf_expressions.specs.Trees.{Tree, Leaf, One, Two}
 use Rattle.inf_meaning_laws.specs.Values.{together}
 
--- how many members a list has
+-- the number of a list's members
 abbrev pub count : Tree → ℕ
 count (Two binary.Then a b) = suc (count b)
 count b = 1
 
--- A tree that can be called by its value. A call of a property is a message, which a supplied routine sends, and is not covered.
-abbrev pub IsCalled : Tree → Type 0
-IsCalled (Two (binary.Property property.Value) a b) = ⊥
-IsCalled f = Unit {0}
+-- A routine takes seven arguments at most. A call of a property is a message: the routine that sends it takes the object and the property
+-- as two of them.
+abbrev pub most_arguments : Tree → ℕ
+most_arguments (Two (binary.Property property.Value) a b) = 5
+most_arguments f = 7
 
 -- An element of an array or a property of an object: where its value is assigned or stepped, a supplied routine does it.
 abbrev pub IsElement : Tree → Type 0
@@ -35,29 +36,29 @@ CoversOne keeps (unary.Before s) a = (keeps ≡ false) × IsElement a
 CoversOne keeps (unary.Behind s) (Leaf x) = Unit {0}
 CoversOne keeps (unary.Behind s) a = (keeps ≡ false) × IsElement a
 CoversOne keeps unary.Children a = keeps ≡ false
-CoversOne keeps unary.Call f = (keeps ≡ false) × IsCalled f
+CoversOne keeps unary.Call f = keeps ≡ false
 CoversOne keeps unary.Indirect list = (keeps ≡ false) × (count list ≤ 8)
 CoversOne keeps op a = Unit {0}
 
--- what an instruction tests, without a supplied routine
-abbrev pub IsDirect : Test → Type 0
-IsDirect test.OfClass = ⊥
-IsDirect test.Provides = ⊥
-IsDirect t = Unit {0}
+-- A test by an instruction keeps variable 255, and one by a supplied routine keeps nothing.
+abbrev pub CoversTest : Bool → Test → Type 0
+CoversTest keeps test.OfClass = keeps ≡ false
+CoversTest keeps test.Provides = keeps ≡ false
+CoversTest keeps t = Unit {0}
 
 abbrev pub IsLeaf : Tree → Type 0
 IsLeaf (Leaf x) = Unit {0}
 IsLeaf a = ⊥
 
--- Alternatives: as many as are worked out together, or of a leaf. Another value waits in variable 255, which all alternatives have to
--- keep.
+-- Alternatives: as many as are worked out together, or of a leaf. Another value waits in variable 255, which the test and all alternatives
+-- have to keep.
 abbrev pub Fits : Bool → Test → Tree → Tree → Type 0 → Type 0
-Fits keeps t a b AreKept = (count b ≤ together t) ⊎ (IsLeaf a ⊎ ((keeps ≡ false) × AreKept))
+Fits keeps t a b AreKept = (count b ≤ together t) ⊎ (IsLeaf a ⊎ ((keeps ≡ false) × CoversTest true t × AreKept))
 
 abbrev pub CoversTwo : Bool → Binary → Tree → Tree → Type 0 → Type 0
 CoversTwo keeps (binary.Operation o) a b AreKept = Unit {0}
-CoversTwo keeps (binary.Test t) a b AreKept = IsDirect t × Fits keeps t a b AreKept
-CoversTwo keeps (binary.Fails t) a b AreKept = IsDirect t × Fits keeps t a b AreKept
+CoversTwo keeps (binary.Test t) a b AreKept = CoversTest keeps t × Fits keeps t a b AreKept
+CoversTwo keeps (binary.Fails t) a b AreKept = CoversTest keeps t × Fits keeps t a b AreKept
 CoversTwo keeps binary.Assign (Leaf x) b AreKept = Unit {0}
 CoversTwo keeps binary.Assign a b AreKept = (keeps ≡ false) × IsElement a
 CoversTwo keeps (binary.Property p) a b AreKept = keeps ≡ false
@@ -65,7 +66,7 @@ CoversTwo keeps binary.Comma a b AreKept = keeps ≡ false
 CoversTwo keeps binary.And a b AreKept = Unit {0}
 CoversTwo keeps binary.Or a b AreKept = Unit {0}
 CoversTwo keeps binary.Then a b AreKept = Unit {0}
-CoversTwo keeps binary.Call f b AreKept = (keeps ≡ false) × IsCalled f × (count b ≤ 7)
+CoversTwo keeps binary.Call f b AreKept = (keeps ≡ false) × (count b ≤ most_arguments f)
 CoversTwo keeps _ a b AreKept = ⊥
 
 abbrev pub Covered : Bool → Tree → Type 0

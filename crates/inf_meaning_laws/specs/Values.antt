@@ -1,4 +1,4 @@
--- The meaning of an expression, by its tree: what its value is in a store, whether it is true, and how it changes the store.
+-- The meaning of an expression, by its tree: its value in a store, whether it is true, and the change that it makes to the store.
 -- The parts of an operator are worked out from right to left. A part that is a variable or a constant is read behind all others, so
 -- `x + (x = 5)` is 10. An assignment is made as soon as its value is known: in `x = x++` the step comes behind it, and `x` is one more.
 use Rattle.std.specs.Prelude.{ℕ, ◌+◌, ◌-◌, ◌*◌, ◌%◌, nat_lt, ◌==◌, ◌||◌, not, Bool, true, false, List, [], ◌∷◌, ◌++◌, length, bit_and}
@@ -10,8 +10,8 @@ use Rattle.inf_expressions.specs.declared.operators.Operation.{Operation}
 use Rattle.inf_expressions.specs.declared.operators.Operation.TheVariants as operation
 use Rattle.inf_expressions.specs.declared.operators.Test.{Test}
 use Rattle.inf_expressions.specs.declared.operators.Test.TheVariants as test
-use Rattle.inf_expressions.specs.declared.operators.Step.{Step}
-use Rattle.inf_expressions.specs.declared.operators.Step.TheVariants as step
+use Rattle.inf_expressions.specs.declared.operators.Direction.{Direction}
+use Rattle.inf_expressions.specs.declared.operators.Direction.TheVariants as step
 use Rattle.inf_expressions.specs.declared.operators.Single.{Single}
 use Rattle.inf_expressions.specs.declared.operators.Single.TheVariants as single
 use Rattle.inf_expressions.specs.declared.operators.Relative.{Relative}
@@ -26,10 +26,10 @@ use Rattle.inf_expressions.specs.Numbers.{negated, truth}
 use Rattle.inf_expressions.specs.Trees.{Tree, Leaf, One, Two}
 use Rattle.inf_output.specs.declared.veneer.Veneer.{Veneer}
 use Rattle.inf_output.specs.declared.veneer.Veneer.TheVariants as veneer
-use Rattle.inf_meaning_laws.specs.Machine.{World, Store, called, ◌then◌, byte_at, divided, first_is_any, left_over, less, of_one, of_two}
-use Rattle.inf_meaning_laws.specs.Machine.{test_of_two}
-use Rattle.inf_meaning_laws.specs.Supplied.{supplied}
-use Rattle.inf_meaning_laws.specs.Machine.{drawn, found_one, with_byte, with_variable, with_word, word_at, write_of_three}
+use Rattle.inf_interpreter.specs.Machine.{World, Store, called, ◌then◌, byte_at, divided, first_is_any, left_over, less, of_one, of_two}
+use Rattle.inf_interpreter.specs.Machine.{test_of_two}
+use Rattle.inf_interpreter.specs.Supplied.{supplied}
+use Rattle.inf_interpreter.specs.Machine.{drawn, found_one, with_byte, with_variable, with_word, word_at, write_of_three}
 
 -- The value of a leaf. The stack and variable 255 are none that an expression may name, and a name that is wrong has no value.
 abbrev pub is_own : ℕ → Bool
@@ -94,7 +94,7 @@ pub data Aim : Type 0 where
   Named : ℕ → Aim
   Element : Width → List Arg → Aim
 
--- The meaning of an expression in each of its uses: as a leaf, as what is assigned to, as a list of members, with its value, as a
+-- The meaning of an expression in each of its uses: as a leaf, as the aim of an assignment, as a list of members, with its value, as a
 -- statement, and as a condition.
 pub record Sense : Type 0 where
   pub leaf : Option Operand
@@ -183,7 +183,7 @@ abbrev pub relative_of : World → Relative → Store → List ℕ → Option �
 relative_of w relative.Child s = found_one (w.child s)
 relative_of w relative.Sibling s = found_one (w.sibling s)
 
--- a random number between 1 and another one, or what the standard says of other numbers
+-- a random number between 1 and another one, or for other numbers the outcome that the standard says
 abbrev pub drawn_of : World → List Arg → Sense
 drawn_of w parts = valued (λ take s. values w parts s then λ p. drawn w p.0 p.1 then λ r. answer take r.0 r.1)
 
@@ -194,7 +194,7 @@ number n = record { leaf = Some (operand.Known n); value = λ s. Some (n, s) }
 abbrev pub truth_found : Bool → Store → Option (Bool × Store)
 truth_found b s = Some (b, s)
 
--- what a supplied routine is asked for
+-- the value that a call of a supplied routine has
 abbrev pub supplied_value : World → Veneer → List Arg → Taker → Store → Option (ℕ × Store)
 supplied_value w v parts take s = values w parts s then λ p. supplied w v p.0 p.1 then λ r. answer take r.0 r.1
 
@@ -220,8 +220,8 @@ test_of w test.AtMost s = test_of_two (λ a b. not (less b a))
 test_of w test.AtLeast s = test_of_two (λ a b. not (less a b))
 test_of w test.Has s = test_of_two (λ a b. w.has s a b)
 test_of w test.In s = test_of_two (λ a b. w.inside s a b)
-test_of w test.OfClass s = λ ns. None
-test_of w test.Provides s = λ ns. None
+test_of w test.OfClass s = test_of_two (λ a b. w.of_class s a b)
+test_of w test.Provides s = test_of_two (λ a b. w.provides s a b)
 
 abbrev pub tested : World → Test → List Arg → Store → Option (Bool × Store)
 tested w t parts s = values w parts s then λ p. test_of w t p.1 p.0 then λ b. Some (b, p.1)
@@ -295,26 +295,26 @@ assigned w (Named v) a = valued (λ take s. a.value (with_variable v) s then λ 
 assigned w (Element width parts) a =
     record (supplied_by w (setter width) (parts ++ arg a ∷ [])) { alone = element_assigned w width (parts ++ arg a ∷ []) }
 
-abbrev pub step_by : Step → ℕ
+abbrev pub step_by : Direction → ℕ
 step_by step.Up = 1
 step_by step.Down = 65535
 
-abbrev pub next : Step → ℕ → Store → ℕ
+abbrev pub next : Direction → ℕ → Store → ℕ
 next how v s = (s.variables v + step_by how) % 65536
 
-abbrev pub with_step : Step → ℕ → Store → Store
+abbrev pub with_step : Direction → ℕ → Store → Store
 with_step how v s = with_variable v (next how v s) s
 
 -- By a supplied routine, a step answers the new value or the one before.
-abbrev pub element_stepped : World → ℕ → Step → Width → List Arg → Sense
+abbrev pub element_stepped : World → ℕ → Direction → Width → List Arg → Sense
 element_stepped w new how width parts = supplied_by w (stepper width) (parts ++ number (step_by how) ∷ number new ∷ [])
 
-abbrev pub stepped_before : World → Step → Aim → Sense
+abbrev pub stepped_before : World → Direction → Aim → Sense
 stepped_before w how Nowhere = no_value
 stepped_before w how (Element width parts) = element_stepped w 1 how width parts
 stepped_before w how (Named v) = valued (λ take s. answer take (next how v s) (with_step how v s))
 
-abbrev pub stepped_behind : World → Step → Aim → Sense
+abbrev pub stepped_behind : World → Direction → Aim → Sense
 stepped_behind w how Nowhere = no_value
 stepped_behind w how (Element width parts) = element_stepped w 0 how width parts
 stepped_behind w how (Named v) = valued (λ take s. Some (s.variables v, with_step how v (take (s.variables v) s)))
@@ -331,6 +331,15 @@ element_of _ parts = Nowhere
 abbrev pub calls : World → List Arg → Sense
 calls w parts = valued (λ take s. values w parts s then λ p. called w p.0 p.1 then λ r. answer take r.0 r.2)
 
+-- A call of a property is a message: a supplied routine sends it, and takes the object and the property in front of the arguments. What
+-- else is called is a routine.
+abbrev pub called_as : World → Aim → Sense → List Arg → Sense
+called_as w Nowhere a arguments = calls w (arg a ∷ arguments)
+called_as w (Named v) a arguments = calls w (arg a ∷ arguments)
+called_as w (Element Bytes parts) a arguments = calls w (arg a ∷ arguments)
+called_as w (Element Words parts) a arguments = calls w (arg a ∷ arguments)
+called_as w (Element Properties parts) a arguments = supplied_by w veneer.CallProperty (parts ++ arguments)
+
 -- The meaning of each operator, by that of its parts
 
 abbrev pub one : World → Unary → Sense → Sense
@@ -342,7 +351,7 @@ one w (unary.Relative how) a = computed w (relative_of w how) (arg a ∷ [])
 one w (unary.Before how) a = stepped_before w how a.aim
 one w (unary.Behind how) a = stepped_behind w how a.aim
 one w unary.Children a = supplied_by w veneer.Children (arg a ∷ [])
-one w unary.Call a = calls w (arg a ∷ [])
+one w unary.Call a = called_as w a.aim a []
 one w unary.Indirect a = calls w (args a)
 
 abbrev pub two : World → Binary → Sense → Sense → Sense
@@ -355,7 +364,7 @@ two w binary.Comma a b = in_order a b
 two w binary.And a b = condition (both a.truth b.truth)
 two w binary.Or a b = condition (either a.truth b.truth)
 two w binary.Then a b = record (valued a.value) { first = arg a; others = args b; alone = a.alone }
-two w binary.Call a b = calls w (arg a ∷ args b)
+two w binary.Call a b = called_as w a.aim a (args b)
 two w _ a b = no_value
 
 abbrev pub sense : World → Tree → Sense

@@ -8,7 +8,7 @@ use Rattle.std.proofs.lemmas.List.{drop-drop, drop-map, drop-replicate, drop_at,
 use Rattle.std.proofs.lemmas.Slice.Eq.{bytes_eq-Decides}
 use Rattle.inf_names.specs.Keys.{padded}
 
--- a test that holds where two lists are the same
+-- a test of two lists that holds exactly where they are the same
 pub same_truth : (t : Bool) (a b : List ℕ) → (t ≡ true → a ≡ b) → (a ≡ b → t ≡ true) → t ≡ bytes_eq a b
 same_truth t a b to from = go t (bytes_eq a b) to from (bytes_eq-Decides a b).0 (bytes_eq-Decides a b).1
   where
@@ -37,7 +37,7 @@ all_same a b la lb p q r s t =
     let end : drop 40 a ≡ drop 40 b = none_a ∙ sym none_b in
     one 0 a b p (one 8 a b q (one 16 a b r (one 24 a b s (one 32 a b t end))))
 
--- of all bytes, by the five words
+-- all bytes are the same where the five words are
 pub same_words : (a b : List ℕ) (p q r s t : Bool) → length a ≡ 40 → length b ≡ 40 → (IsTrue p ↔ (take 8 (drop 0 a) ≡ take 8 (drop 0 b))) →
     (IsTrue q ↔ (take 8 (drop 8 a) ≡ take 8 (drop 8 b))) → (IsTrue r ↔ (take 8 (drop 16 a) ≡ take 8 (drop 16 b))) →
     (IsTrue s ↔ (take 8 (drop 24 a) ≡ take 8 (drop 24 b))) → (IsTrue t ↔ (take 8 (drop 32 a) ≡ take 8 (drop 32 b))) →
@@ -57,7 +57,7 @@ same_words a b p q r s t la lb wp wq wr ws wt = (
   )),
 )
 
--- zeros stand behind the name
+-- a key is the name and the zeros behind it
 pub whole : (bytes : List ℕ) (n : ℕ) → drop n bytes ≡ replicate (40 - n) 0 → bytes ≡ take n bytes ++ replicate (40 - n) 0
 whole bytes n zeros = sym (take-append-drop n bytes) ∙ ap (λ rest. take n bytes ++ rest) zeros
 
@@ -73,7 +73,7 @@ padded_is bytes n l le zeros =
     let long : length (take n bytes) ≡ n = length-take n bytes ∙ omega (arith, l) in
     whole bytes n zeros ∙ ap (λ k. take n bytes ++ replicate (40 - k) 0) (sym long)
 
--- five writes
+-- five writes hash the five words
 pub hashed : {S : Type 0} (write : S → List ℕ → S) (bytes all v w x y z : List ℕ) (s s1 s2 s3 s4 s5 : S) → bytes ≡ all →
     v ≡ take 8 (drop 0 bytes) → w ≡ take 8 (drop 8 bytes) → x ≡ take 8 (drop 16 bytes) → y ≡ take 8 (drop 24 bytes) →
     z ≡ take 8 (drop 32 bytes) →

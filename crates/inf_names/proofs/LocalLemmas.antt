@@ -1,4 +1,4 @@
--- What the code does with its locals is what the definitions do with the list of locals.
+-- The code does with its locals as the definitions do with the list of locals.
 use Rattle.std.proofs.Common.{◌≡◌, ◌<◌, ◌≤◌, ℕ, suc, ◌+◌, Bool, true, false, cond, not, List, [], ◌∷◌, length, get_or, set, map, None, Some}
 use Rattle.std.proofs.Common.{refl, ap, ◌∙◌, arith}
 use Rattle.std.specs.List.{position_or_len}

@@ -1,4 +1,4 @@
--- What the answer of a search says of the first place that passes.
+-- The place that a search answers is the first one that passes.
 use Rattle.std.proofs.Common.{◌≡◌, ◌≤◌, ℕ, Bool, true, false, cond, ltb, None, Some, refl, arith}
 use Rattle.std.proofs.lemmas.Bool.Decides.{nat_tests}
 
@@ -10,7 +10,7 @@ found_place n place len is = go (ltb place len) is
     go true is = cc
     go false is = cc
 
--- where none was found, there is none within
+-- where no place was found, there is none within the list
 pub no_place : (place len : ℕ) → None ≡ cond (ltb place len) (Some place) None → len ≤ place
 no_place place len is = go (ltb place len) refl is
   where

@@ -1,4 +1,4 @@
--- What the code does with its map is what the definitions do with the list of names.
+-- The code does with its map as the definitions do with the list of names.
 use Rattle.std.proofs.Common.{◌≡◌, ◌≤◌, ℕ, ◌+◌, Bool, true, false, cond, not, ltb, List, [], ◌∷◌, length, map, Option, None, Some, refl}
 use Rattle.std.proofs.Common.{sym, ◌∙◌, ap, arith, zero, suc}
 use Rattle.std.specs.Prelude.{is_some, nat_le, position, slice_get, option_map, if◌then◌else◌}
@@ -19,7 +19,7 @@ use Rattle.inf_names.specs.declared.symbols.Entry.{Entry}
 abbrev pub Key : Type 0
 Key = ArrayVec ℕ 35 Unit
 
--- whether a stored name is this one
+-- whether a stored name is `key`
 abbrev pub has : List ℕ → Key → Bool
 has key k = bytes_eq key k.items
 
@@ -72,13 +72,13 @@ index_of-absent key (n ∷ names) is = go (bytes_eq key n.name) is (index_of-abs
     go true is later = cc
     go false is later = omega (arith, later is)
 
--- whether nothing that is declared is known
+-- whether a name's state is not that of a declared one
 abbrev pub is_open : {P : Type 0} → Option (Standing P) → Bool
 is_open None = true
 is_open (Some (IsUsed spelling place)) = true
 is_open (Some (IsDeclared number meaning place)) = false
 
--- one more is declared
+-- the count of declared names grows by one where a name is declared
 pub declarations-declared : {P : Type 0} (key : List ℕ) (number : ℕ) (meaning : Meaning) (place : P) (names : List (Named P)) →
     is_open (standing_of key names) ≡ true → declarations (put key (IsDeclared number meaning place) names) ≡ 1 + declarations names
 declarations-declared key number meaning place [] is = refl
@@ -95,7 +95,7 @@ declarations-declared {P} key number meaning place (n ∷ names) is =
     go false (IsUsed spelling place) is later = later is
     go false (IsDeclared number meaning place) is later = omega (arith, later is)
 
--- and none where a new name is used
+-- the count of declared names stays where a new name is used
 pub declarations-used : {P : Type 0} (key spelling : List ℕ) (place : P) (names : List (Named P)) →
     is_some (standing_of key names) ≡ false → declarations (put key (IsUsed spelling place) names) ≡ declarations names
 declarations-used key spelling place [] is = refl
@@ -124,7 +124,7 @@ pub standing-copied : {P : Type 0} (r : Option (Bor (Entry P))) → option_map (
 standing-copied None = refl
 standing-copied (Some e) = refl
 
--- one more name, if it is new
+-- the count of names grows by one where a name is new
 pub length-put : {P : Type 0} (key : List ℕ) (s : Standing P) (names : List (Named P)) →
     length (put key s names) ≡ length names + cond (is_some (standing_of key names)) 0 1
 length-put key s [] = refl
@@ -136,7 +136,7 @@ length-put key s (n ∷ names) = go (bytes_eq key n.name) (length-put key s name
     go true later = omega arith
     go false later = omega (arith, later)
 
--- what is known where nothing is wrong with a declaration
+-- where a name has no fault it was not declared
 pub open_where_fit : {P : Type 0} (system : Option Meaning) (s : Option (Standing P)) (full : Bool) →
     declare_fault_by (found_as system s) full ≡ None → is_open s ≡ true
 open_where_fit system None full is = refl
@@ -150,7 +150,7 @@ room_where_fit None None true is absent = cc
 room_where_fit (Some meaning) None full is absent = cc
 room_where_fit system (Some s) full is absent = cc
 
--- a name that is known is used again
+-- the names stay where a name that is known is used again
 module _ {P : Type 0} (name : List ℕ) (place : P) (t : Table P) where
   pub known_used : (system : Option Meaning) (s : Option (Standing P)) → is_some s ≡ true →
       with_used_by (found_as system s) name place t ≡ t
@@ -164,7 +164,7 @@ module _ {P : Type 0} (name : List ℕ) (place : P) (t : Table P) where
   known_number system (Some (IsUsed spelling first)) is = refl
   known_number system (Some (IsDeclared number meaning first)) is = refl
 
-  -- or a new one
+  -- a new name that is used is put among the names
   pub new_used : (system : Option Meaning) (s : Option (Standing P)) → is_some system ≡ false → is_some s ≡ false →
       with_used_by (found_as system s) name place t ≡ record t { names = put (folded name) (IsUsed name place) t.names }
   new_used None None free absent = refl
@@ -183,7 +183,7 @@ known_fault system None full is = cc
 known_fault system (Some (IsUsed spelling first)) full is = refl
 known_fault system (Some (IsDeclared number meaning first)) full is = refl
 
--- what a number that was found says
+-- a number that was found is the number of a name
 module _ {P : Type 0} (key : List ℕ) (names : List (Named P)) where
   pub numbered : (n : ℕ) → Some n ≡ number_among key names → (is_some (standing_of key names) ≡ true) × (n ≡ index_of key names)
   numbered n is = go (is_some (standing_of key names)) is
@@ -228,7 +228,7 @@ number_of_place {P} key es r is same = go r is same
         ap Some (found_place n _ _ is ∙ sym (index_of-place key es))
         ∙ sym (ap (λ t. cond t (Some (index_of key names)) None) (known ∙ sym same))
 
--- as many names as there may be, at most, where a new one comes only if there is room
+-- there are at most as many names as there may be, where a new one comes only if there is room
 pub fits_behind : (limit len new : ℕ) (known : Bool) → len ≤ limit → new ≡ len + cond known 0 1 →
     (known ≡ false → nat_le limit len ≡ false) → new ≤ limit
 fits_behind limit len new true within is room = omega (arith, within, is)
@@ -236,7 +236,7 @@ fits_behind limit len new false within is room =
     let below : nat_le limit len ≡ false = room refl in
     grind (arith, nat_tests, below, is)
 
--- what is known of a name stands at its number
+-- the state of a name is found at its number
 standing_at-index : {P : Type 0} (key : List ℕ) (names : List (Named P)) → is_some (standing_of key names) ≡ true →
     standing_at (index_of key names) names ≡ standing_of key names
 standing_at-index key [] is = cc

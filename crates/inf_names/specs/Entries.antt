@@ -1,4 +1,4 @@
--- What the code's map of names stands for.
+-- The names that the code's map stands for.
 use Rattle.std.specs.Prelude.{ℕ}
 use Rattle.arrayvec.specs.declared.array_vec.ArrayVec.{ArrayVec}
 use Rattle.inf_names.specs.Symbols.{Named, Standing, IsDeclared, IsUsed}

@@ -1,4 +1,4 @@
--- What the code's locals stand for.
+-- The list of locals that the code's locals stand for.
 use Rattle.std.specs.Prelude.{ℕ, ◌-◌, ◌%◌, List, get_or, length, map, option_map}
 use Rattle.inf_names.specs.Spellings.{as_name}
 use Rattle.inf_names.specs.Locals.{Local, Repeated, Headed}
@@ -19,6 +19,6 @@ repeated r = record { name = as_name r.name; first = r.first }
 abbrev pub headed : CodeHeaded → Headed
 headed h = record { locals = listed h.locals; repeated = option_map repeated h.repeated; are_too_many = h.are_too_many }
 
--- the last letter of a name as a number that is the same in any case: 0 where it has none
+-- the last letter of a name as a number that is the same in any case: 0 where the name is empty
 abbrev pub last_letter : List ℕ → ℕ
 last_letter name = get_or name (length name - 1) 0 % 32

@@ -10,16 +10,16 @@ pub record Local : Type 0 where
   pub place : Place
   pub is_named : Bool
 
--- the most that a routine has
+-- the most locals that a routine has
 abbrev pub most_locals : ℕ
 most_locals = 15
 
--- the local of this name, in any case
+-- the local with a name, in any case
 abbrev pub local_of : List ℕ → List Local → Option Local
 local_of name [] = None
 local_of name (l ∷ locals) = if str_eq_ignore_ascii_case l.name name then Some l else local_of name locals
 
--- its number: locals are the variables from 1 on (section 4.2.2)
+-- the number of the local with a name, in any case: locals are the variables from 1 on (section 4.2.2)
 abbrev pub number_from : ℕ → List ℕ → List Local → Option ℕ
 number_from n name [] = None
 number_from n name (l ∷ locals) = if str_eq_ignore_ascii_case l.name name then Some n else number_from (n + 1) name locals
@@ -27,7 +27,7 @@ number_from n name (l ∷ locals) = if str_eq_ignore_ascii_case l.name name then
 abbrev pub number_of : List ℕ → List Local → Option ℕ
 number_of name locals = number_from 1 name locals
 
--- the locals after a statement has named this one, if it is one
+-- the locals after a statement has named `name`, if it is one of them
 abbrev pub with_named : List ℕ → List Local → List Local
 with_named name [] = []
 with_named name (l ∷ locals) =
@@ -38,7 +38,7 @@ abbrev pub with_all_named : List Name → List Local → List Local
 with_all_named [] locals = locals
 with_all_named (n ∷ names) locals = with_all_named names (with_named n.bytes locals)
 
--- A name that a header gives again, and where it stands first.
+-- A name that a header gives again, and its first place there.
 pub record Repeated : Type 0 where
   pub name : Name
   pub first : Place
@@ -52,7 +52,7 @@ pub record Headed : Type 0 where
 abbrev pub no_locals : Headed
 no_locals = record { locals = []; repeated = None; are_too_many = false }
 
--- the first of two
+-- the first of two repeated names
 abbrev pub earlier : Option Repeated → Repeated → Option Repeated
 earlier None later = Some later
 earlier (Some first) later = Some first
@@ -64,7 +64,7 @@ with_local_by n None h =
     then record h { locals = h.locals ++ record { name = n.bytes; place = n.place; is_named = false } ∷ [] }
     else record h { are_too_many = true }
 
--- one name more
+-- the locals of a header with one name more
 abbrev pub with_local : Name → Headed → Headed
 with_local n h = with_local_by n (local_of n.bytes h.locals) h
 

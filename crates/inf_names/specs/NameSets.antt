@@ -8,6 +8,6 @@ use Rattle.inf_names.specs.Symbols.{folded}
 abbrev pub is_among : List ℕ → List (List ℕ) → Bool
 is_among name names = list_any (bytes_eq (folded name)) names
 
--- these and one more, unless it is one of them
+-- the names and one more, unless it is one of them
 abbrev pub with_name : List ℕ → List (List ℕ) → List (List ℕ)
 with_name name names = if is_among name names then names else names ++ folded name ∷ []

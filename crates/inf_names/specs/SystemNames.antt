@@ -1,4 +1,4 @@
--- The names that the language has from the start, and what they stand for (Inform Designer's Manual, fourth edition).
+-- The names that the language has from the start, and their meanings (Inform Designer's Manual, fourth edition).
 use Rattle.std.specs.Prelude.{ℕ, ◌-◌, Bool, true, ◌&&◌, List, [], ◌∷◌, Option, Some, None, find, codes, get_or, length, nat_eq}
 use Rattle.std.specs.Prelude.{if◌then◌else◌}
 use Rattle.std.specs.Char.{to_ascii_lowercase}
@@ -10,7 +10,7 @@ use Rattle.inf_names.specs.declared.meanings.Meaning.TheVariants as meaning
 use Rattle.inf_names.specs.declared.system_names.SystemName.{SystemName}
 use Rattle.inf_names.specs.declared.system_names.SystemName.TheVariants as name
 
--- how each is spelled
+-- the spelling of each name
 abbrev pub name_of : SystemName → List ℕ
 name_of name.True = codes "true"
 name_of name.False = codes "false"
@@ -35,8 +35,8 @@ name_of name.SwitchVariable = codes "sw__var"
 name_of name.TemporaryGlobal = codes "temp_global"
 name_of name.Debug = codes "debug"
 
--- what each stands for: numbers; the first property, which is additive; the first four objects, which are classes; functions;
--- and variables
+-- The meaning of each name: numbers; the first property, which is additive; the first four objects, which are classes;
+-- functions; and variables.
 abbrev pub meaning_of : SystemName → Meaning
 meaning_of name.True = meaning.Number 1
 meaning_of name.False = meaning.Number 0
@@ -67,14 +67,14 @@ system_names =
     name.Object ∷ name.Routine ∷ name.String ∷ name.Child ∷ name.Parent ∷ name.Sibling ∷ name.Children ∷ name.Random ∷
     name.Indirect ∷ name.OwnObject ∷ name.Sender ∷ name.SwitchVariable ∷ name.TemporaryGlobal ∷ name.Debug ∷ []
 
--- whether a name is spelled so, in any case
+-- whether a name is spelled `spelling`, in any case
 abbrev pub has_name : List ℕ → SystemName → Bool
 has_name spelling known = str_eq_ignore_ascii_case spelling (name_of known)
 
 abbrev pub named : List ℕ → Option SystemName
 named spelling = find (has_name spelling) system_names
 
--- the first and last letters of the names that have a size
+-- the first and last letters of the names that have `size` letters
 abbrev pub ends_of : ℕ → List (ℕ × ℕ)
 ends_of size =
     if nat_eq size 4 then (116, 101) ∷ (110, 108) ∷ (110, 101) ∷ (115, 102) ∷ [] else
@@ -85,11 +85,11 @@ ends_of size =
     if nat_eq size 11 then (116, 108) ∷ [] else
     if nat_eq size 12 then (116, 101) ∷ [] else []
 
--- whether one of them has these ends
+-- whether one pair of ends is `first` and `last`
 abbrev pub has_ends : List (ℕ × ℕ) → ℕ → ℕ → Bool
 has_ends ends first last = list_any (λ (e : ℕ × ℕ). nat_eq e.0 first && nat_eq e.1 last) ends
 
--- whether some name has the size and the ends of this one, in any case
+-- whether some name of the language has the size and the ends of `spelling`, in any case
 abbrev pub may_be_known : List ℕ → Bool
 may_be_known spelling =
     has_ends (ends_of (length spelling)) (to_ascii_lowercase (get_or spelling 0 0))
@@ -104,6 +104,6 @@ abbrev pub meaning_if : Bool → Option SystemName → Option Meaning
 meaning_if debugging None = None
 meaning_if debugging (Some known) = if is_known debugging known then Some (meaning_of known) else None
 
--- what a name stands for from the start
+-- the meaning that a name has from the start
 abbrev pub system_meaning : Bool → List ℕ → Option Meaning
 system_meaning debugging spelling = meaning_if debugging (named spelling)

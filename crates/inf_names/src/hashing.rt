@@ -2,15 +2,15 @@
 
 use std::hash::{BuildHasher, FoldHasher, Hasher};
 
-/// How names are hashed: behind some bytes, by which no source can be made whose names all fall together unless it is known what they are.
+/// The hashing of names behind some bytes: unless these are known, no source can be made whose names all fall together.
 #[derive(Clone, Copy)]
 pub struct NameHashing {
-    /// What has seen these bytes already.
+    /// The hasher that has taken these bytes already.
     seeded: FoldHasher,
 }
 
 impl NameHashing {
-    /// Behind these bytes, of which 16 that nobody knows are enough.
+    /// Returns the hashing behind the bytes `secret`, of which 16 that nobody knows are enough.
     pub fn new(secret: &[u8]) -> NameHashing {
         let mut seeded = FoldHasher::default();
         seeded.write(secret);

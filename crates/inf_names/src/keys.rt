@@ -1,4 +1,4 @@
-//! Names without case, by which the map has what is known of them.
+//! Names without case, the keys of the map in which the entries of names are.
 ghost use Rattle.std.specs.Prelude.{◌≡◌, ◌+◌, ◌≤◌, ◌↔◌, IsTrue, drop, length, take};
 ghost use Rattle.std.specs.Int.{from_le_bytes, to_le_bytes, w64};
 ghost use Rattle.std.specs.Str.{bytes_eq};
@@ -12,7 +12,7 @@ ghost use Rattle.inf_names.specs.Symbols.{folded};
 use std::hash::{Hash, Hasher};
 use std::marker::Model;
 
-/// A name without case. Zeros stand behind it, so that it is compared and hashed in whole words.
+/// A name without case. It is filled up with zeros, and so is compared and hashed in whole words.
 #[derive(Drop)]
 pub(crate) struct Key {
     bytes: [u8; 40],
@@ -33,7 +33,7 @@ impl Model for Key {
     ghost invariant = { λ k. (k.size ≤ 40) × (drop k.size k.bytes ≡ replicate (40 - k.size) 0) };
 }
 
-/// The eight bytes from a place on, as one number.
+/// Returns the eight bytes from `at` on, as one number.
 fn word(bytes: &[u8; 40], at: usize) -> u64
     requires { at + 8 ≤ 40 }
     ensures bytes { to_le_bytes w64 result ≡ take 8 (drop at bytes.now) }
@@ -51,7 +51,7 @@ fn word(bytes: &[u8; 40], at: usize) -> u64
     ])
 }
 
-/// Whether the eight bytes from a place on are the same.
+/// Returns whether the eight bytes from `at` on are the same in `a` and `b`.
 fn same_at(a: &[u8; 40], b: &[u8; 40], at: usize) -> bool
     requires { at + 8 ≤ 40 }
     ensures { IsTrue result ↔ (take 8 (drop at a.now) ≡ take 8 (drop at b.now)) }
@@ -59,7 +59,7 @@ fn same_at(a: &[u8; 40], b: &[u8; 40], at: usize) -> bool
     word(a, at) == word(b, at)
 }
 
-/// Whether all bytes are the same.
+/// Returns whether all bytes of `a` and `b` are the same.
 fn same(a: &[u8; 40], b: &[u8; 40]) -> bool
     ensures { result ≡ bytes_eq a.now b.now }
 {
@@ -67,7 +67,7 @@ fn same(a: &[u8; 40], b: &[u8; 40]) -> bool
 }
 
 impl Key {
-    /// The key of a name of at most 40 bytes.
+    /// Returns the key of a name of at most 40 bytes.
     pub(crate) fn of(name: &[u8]) -> Key
         requires { length name.now ≤ 40 }
         ensures { result.items ≡ folded name.now }
@@ -96,7 +96,7 @@ impl Eq for Key {
     ghost laws = { on_equiv (λ k. k.items) nat_list_eq_equiv };
 }
 
-/// The zeros behind the name are hashed, too.
+/// Hashes the zeros behind the name, too.
 impl Hash for Key {
     ghost hash_input = { λ k. words (padded k.items) };
 

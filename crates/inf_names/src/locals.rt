@@ -14,14 +14,14 @@ use inf_scanner::Place;
 /// The most local variables that a routine has (Z-Machine Standard 1.1, section 5.2).
 pub const MOST_LOCALS: usize = 15;
 
-/// Whether two bytes are the same, in any case. Most that are, are spelled the same.
+/// Returns whether two bytes are the same, in any case. Most bytes that are the same in any case are spelled the same.
 fn is_same_byte(byte: u8, other: u8) -> bool
     ensures { result ≡ eq_ignore_ascii_case byte other }
 {
     byte == other || byte.eq_ignore_ascii_case(&other)
 }
 
-/// Whether two names of the same length are the same, in any case.
+/// Returns whether two names of the same length are the same, in any case.
 #[tactic(auto, using(crate::proofs::SameNames::same_steps))]
 fn are_same_bytes(name: &[u8], other: &[u8]) -> bool
     requires { length name.now ≡ length other.now }
@@ -35,7 +35,7 @@ fn are_same_bytes(name: &[u8], other: &[u8]) -> bool
     true
 }
 
-/// Whether two names are the same, in any case. Most that are not differ in their lengths or in their last letters.
+/// Returns whether two names are the same, in any case. Most names that are not differ in their lengths or in their last letters.
 fn is_same_name(name: &[u8], other: &[u8]) -> bool
     ensures { result ≡ str_eq_ignore_ascii_case name.now other.now }
 {
@@ -45,7 +45,7 @@ fn is_same_name(name: &[u8], other: &[u8]) -> bool
     last_letter(name) == last_letter(other) && are_same_bytes(name, other)
 }
 
-/// The last letter of a name as a number that is the same in any case: 0 where it has none.
+/// Returns the last letter of a name as a number that is the same in any case: 0 where the name is empty.
 fn last_letter(name: &[u8]) -> u8
     ensures { result ≡ last_letter name.now }
 {
@@ -80,15 +80,14 @@ pub struct Locals {
     pub list: ArrayVec<Local, MOST_LOCALS>,
 }
 
-/// A name that a header gives again, and where it stands first.
+/// A name that a header gives again, and its first place there.
 #[derive(Debug, Drop)]
 pub struct Repeated {
     pub name: Name,
     pub first: Place,
 }
 
-/// What a header says of local variables: the first 15 different ones, the first name that comes
-/// again, and whether there are more.
+/// The local variables that a header names: the first 15 different ones, the first name that comes again, and whether there are more.
 #[derive(Debug, Drop)]
 pub struct Headed {
     pub locals: Locals,
@@ -107,7 +106,7 @@ impl Locals {
         }
     }
 
-    /// How many there are.
+    /// Counts the local variables.
     pub fn count(&self) -> u8
         ensures value { result ≡ length (listed self.now) }
         ensures few { result ≤ 15 }
@@ -115,7 +114,7 @@ impl Locals {
         self.list.len() as u8
     }
 
-    /// The place of the local of this name, in any case.
+    /// Returns the place among the locals of the one with the name `name`, in any case.
     fn place(&self, name: &[u8]) -> Option<usize>
         ensures value { result ≡ position (λ l. str_eq_ignore_ascii_case l.name.items name.now) self.now.list.items }
         ensures within { IfSome result (λ place. place < array_vec_len self.now.list) }
@@ -126,7 +125,7 @@ impl Locals {
             .position(|local| is_same_name(local.name.as_slice(), name))
     }
 
-    /// Where the local of this name, in any case, stands in the header.
+    /// Returns the place in the source where the header names the local `name`, in any case.
     fn first_place(&self, name: &[u8]) -> Option<Place>
         ensures { result ≡ option_map (λ l. l.place) (local_of name.now (listed self.now)) }
     {
@@ -134,8 +133,7 @@ impl Locals {
         Some(self.list[place].place)
     }
 
-    /// The number of the local of this name, in any case, from 1 on (Z-Machine Standard 1.1,
-    /// section 4.2.2).
+    /// Returns the number of the local with the name `name`, in any case, from 1 on (Z-Machine Standard 1.1, section 4.2.2).
     pub fn number(&self, name: &[u8]) -> Option<u8>
         ensures { result ≡ number_of name.now (listed self.now) }
     {
@@ -143,7 +141,7 @@ impl Locals {
         Some(place as u8 + 1)
     }
 
-    /// A statement names this, which may be a local.
+    /// Notes that a statement names `name`, if it is a local.
     pub fn name(&mut self, name: &[u8])
         ensures { listed self.new ≡ with_named name.now (listed self.old) }
     {
@@ -157,7 +155,7 @@ impl Headed {
     ghost use Rattle.inf_names.specs.LocalList.{headed};
     ghost use Rattle.inf_names.specs.Locals.{earlier};
 
-    /// No local yet.
+    /// Returns the headed locals of a routine before its header is read: none.
     pub fn new() -> Headed
         ensures { headed result ≡ no_locals }
     {
@@ -168,7 +166,7 @@ impl Headed {
         }
     }
 
-    /// No local any more.
+    /// Removes all locals, and all that was noted of them.
     pub fn clear(&mut self)
         ensures { headed self.new ≡ no_locals }
     {
@@ -177,7 +175,7 @@ impl Headed {
         self.are_too_many = false;
     }
 
-    /// A name stands first at a place, and comes again. The first that does is told.
+    /// Notes that `name`, whose first place is `first`, comes again. Only the first such name is kept.
     fn repeat(&mut self, name: &Name, first: Place)
         ensures { let before = headed self.old in headed self.new
             ≡ record before { repeated = earlier before.repeated (record { name = as_name name.now; first = first }) } }
@@ -190,7 +188,7 @@ impl Headed {
         }
     }
 
-    /// One name more behind the routine's name.
+    /// Adds a name behind the routine's name: as a local, unless it is the name of one already or there are 15.
     pub fn add(&mut self, name: &Name)
         ensures { headed self.new ≡ with_local (as_name name.now) (headed self.old) }
     {

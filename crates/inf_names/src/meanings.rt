@@ -1,4 +1,4 @@
-//! What a name stands for.
+//! The meanings of names.
 
 /// A function that the language has from the start.
 #[derive(Clone, Copy, Debug, PartialEq, Eq)]
@@ -11,7 +11,7 @@ pub enum Function {
     Indirect,
 }
 
-/// What a name stands for. What is laid out at the end stands here by its place among those of its kind, counted from 0.
+/// The meaning of a name. A part of the story that is laid out at the end is named by its place among those of its kind, counted from 0.
 #[derive(Clone, Copy, Debug, PartialEq, Eq)]
 pub enum Meaning {
     /// A constant whose number is known.

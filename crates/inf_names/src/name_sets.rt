@@ -8,7 +8,7 @@ use indexmap::IndexSet;
 use std::alloc::{AllocError, Global};
 use std::marker::Model;
 
-/// Names in any case, in the order in which they were first given. A name that the language has is one as any other.
+/// Names in any case, in the order in which they were first given. A name that the language has is like any other.
 #[derive(Drop)]
 pub struct NameSet {
     keys: IndexSet<Key, NameHashing>,
@@ -23,7 +23,7 @@ impl Model for NameSet {
 }
 
 impl NameSet {
-    /// No names, which will be hashed by `hashing`. They take no memory until the first one comes.
+    /// Returns a set of no names, which will be hashed by `hashing`. It takes no memory until the first name comes.
     pub fn new(alloc: Global, hashing: NameHashing) -> NameSet
         ensures { result ≡ [] }
     {
@@ -32,7 +32,7 @@ impl NameSet {
         }
     }
 
-    /// Whether `name`, in any case, is one of them. It has at most 35 bytes.
+    /// Returns whether `name`, in any case, is in the set. It has at most 35 bytes.
     pub fn has(&self, name: &[u8]) -> bool
         requires { length name.now ≤ 35 }
         ensures { result ≡ is_among name.now self.now }
@@ -41,7 +41,7 @@ impl NameSet {
         self.keys.contains(&key)
     }
 
-    /// Adds `name`, given in any case, unless it is one of them. It has at most 35 bytes. Where memory runs out they stay as they were.
+    /// Adds `name`, given in any case, unless it is in the set. It has at most 35 bytes. Where memory runs out the set stays as it was.
     pub fn add(&mut self, name: &[u8]) -> Result<(), AllocError>
         requires { length name.now ≤ 35 }
         ensures ok { OnOk result (self.new ≡ with_name name.now self.old) }

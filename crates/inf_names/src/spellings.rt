@@ -11,7 +11,7 @@ pub const MOST_NAME_BYTES: usize = 32;
 /// The bytes of a name, as a source spells it.
 pub type Spelling = ArrayVec<u8, MOST_NAME_BYTES>;
 
-/// The same bytes.
+/// Returns a copy of a spelling.
 pub(crate) fn copy_of(spelling: &Spelling) -> Spelling
     ensures { result.items ≡ spelling.now.items }
 {
@@ -28,7 +28,7 @@ pub struct Name {
 }
 
 impl Name {
-    /// A name of at most 32 bytes.
+    /// Returns the name with the bytes `bytes`, at most 32, at `place`.
     pub fn new(bytes: &[u8], place: Place) -> Name
         requires { length bytes.now ≤ 32 }
         ensures { as_name result ≡ record { bytes = bytes.now; place = place } }
@@ -38,7 +38,7 @@ impl Name {
         Name { spelling, place }
     }
 
-    /// The same name at the same place.
+    /// Returns a copy of the name, at the same place.
     pub(crate) fn copy(&self) -> Name
         ensures { as_name result ≡ as_name self.now }
     {
@@ -48,7 +48,7 @@ impl Name {
         }
     }
 
-    /// Its bytes, at most 32.
+    /// Returns the bytes of the name, at most 32.
     pub fn bytes(&self) -> &[u8]
         ensures value { result.now ≡ (as_name self.now).bytes }
         ensures few { length result.now ≤ 32 }

@@ -12,26 +12,26 @@ use inf_settings::bounds::Bounds;
 use std::alloc::{AllocError, AllocFailed, Global};
 use std::marker::{Model, PhantomData};
 
-/// The bytes of the longest name: 32 of one in a source, and three more behind the name of an action, whose routine is that with
-/// `Sub` at its end.
+/// The number of bytes of the longest name: 32 of a name in a source, and three more where `Sub` is behind the name of an action,
+/// which is the name of its routine.
 pub const LONGEST_NAME: usize = 35;
 
-/// What looking for a name finds. `P` is a place in a source.
+/// The finding of a look-up of a name. `P` is a place in a source.
 #[derive(Clone, Copy, Debug, PartialEq, Eq)]
 pub enum Found<P> {
-    /// The language has it from the start.
+    /// A name that the language has from the start.
     System(Meaning),
-    /// It was declared, at this place.
+    /// A name that was declared, at this place.
     Declared(Meaning, P),
-    /// It was used, and not declared so far.
+    /// A name that was used, and not declared so far.
     Used,
     Unknown,
 }
 
-/// Why a name was not declared.
+/// The reason for which a name was not declared.
 #[derive(Clone, Copy, Debug, PartialEq, Eq)]
 pub enum DeclareFault<P> {
-    /// It was declared at this place; without one, the language has it from the start.
+    /// The name was declared at this place; without a place, the language has it from the start.
     Present(Option<P>),
     /// There are as many names as there may be.
     Full,
@@ -50,7 +50,7 @@ impl<P, T: Drop> From<AllocFailed<T>> for DeclareFault<P> {
     }
 }
 
-/// Why a name was not used.
+/// The reason for which a name was not used.
 #[derive(Clone, Copy, Debug, PartialEq, Eq)]
 pub enum ReferFault {
     /// There are as many names as there may be.
@@ -70,16 +70,16 @@ impl<T: Drop> From<AllocFailed<T>> for ReferFault {
     }
 }
 
-/// What is known of a name.
+/// A name's entry in the map of names.
 #[derive(Debug, Drop)]
 pub enum Entry<P> {
-    /// It is the one of this number that was declared, counted from 0.
+    /// The name was declared: as the one of this number, counted from 0, with this meaning and at this place.
     Declared(usize, Meaning, P),
-    /// It was used, as it is spelled there, at this place.
+    /// The name was used and not declared so far: its spelling at its first use, and the place of this use.
     Used(ArrayVec<u8, LONGEST_NAME>, P),
 }
 
-/// The names that were declared or used so far, in the order in which they first came. The language's own are not among them.
+/// The names that were declared or used so far, in the order in which they first came, but for those that the language has.
 #[derive(Drop)]
 pub struct Symbols<P: Copy, B: Bounds> {
     entries: IndexMap<Key, Entry<P>, NameHashing>,
@@ -108,7 +108,7 @@ impl<P: Copy, B: Bounds> Model for Symbols<P, B> {
     ghost invariant = { λ s. (s.declared ≡ declarations (map as_named s.entries.entries)) × (length s.entries.entries ≤ s.limit) };
 }
 
-/// A name of at most 35 bytes, as it is spelled.
+/// Returns the spelling of a name of at most 35 bytes.
 fn spelled(name: &[u8]) -> ArrayVec<u8, LONGEST_NAME>
     requires { length name.now ≤ 35 }
     ensures { result.items ≡ name.now }
@@ -126,9 +126,8 @@ impl<P: Copy, B: Bounds> Symbols<P, B> {
     ghost use Rattle.inf_names.specs.Symbols.{standing_at, standing_of, use_in, with_declared, with_used};
     ghost use Rattle.inf_names.specs.Entries.{standing};
 
-    /// No names, of which there may be so many as the type tells. With debugging the language has the name `DEBUG` from the start. It takes
-    /// no
-    /// memory.
+    /// Returns a map of no names, which may come to have as many as `limit`, the bound of the type `B`. With debugging the language
+    /// has the name `DEBUG` from the start. The map takes no memory.
     pub fn new(alloc: Global, limit: u32, is_debugging: bool, hashing: NameHashing) -> Symbols<P, B>
         requires { limit ≡ B.most setting.Symbols }
         ensures { result ≡ no_names is_debugging }
@@ -143,19 +142,19 @@ impl<P: Copy, B: Bounds> Symbols<P, B> {
         }
     }
 
-    /// How its names are hashed.
+    /// Returns the hashing of the names.
     pub fn hashing(&self) -> NameHashing {
         self.hashing
     }
 
-    /// From now on the language has the name `DEBUG` where `is_debugging` says so, and has it not else. What is known of names stays.
+    /// Gives the language the name `DEBUG` from now on where `is_debugging` says so, and takes it away else. The entries of names stay.
     pub fn set_debugging(&mut self, is_debugging: bool)
         ensures { self.new ≡ record self.old { is_debugging = is_debugging } }
     {
         self.is_debugging = is_debugging;
     }
 
-    /// How many names were declared or used.
+    /// Counts the names that were declared or used.
     pub fn len(&self) -> usize
         ensures count { result ≡ length self.now.names }
         ensures within { result ≤ B.most setting.Symbols }
@@ -163,14 +162,15 @@ impl<P: Copy, B: Bounds> Symbols<P, B> {
         self.entries.len()
     }
 
-    /// How many names were declared.
+    /// Counts the names that were declared.
     pub fn declared(&self) -> usize
         ensures { result ≡ self.now.declared }
     {
         self.declared
     }
 
-    /// What is known of a name, in any case.
+    /// Looks up a name, in any case, and returns its meaning and place if it was declared, its meaning if the language has it, or
+    /// else whether it was used.
     pub fn look(&self, name: &[u8]) -> Found<P>
         requires { length name.now ≤ 35 }
         ensures { result ≡ found_in name.now self.now }
@@ -185,7 +185,7 @@ impl<P: Copy, B: Bounds> Symbols<P, B> {
         }
     }
 
-    /// Declares a name, given in any case, at a place. Answers how many names are then declared.
+    /// Declares the name `name`, given in any case, at `place` with a meaning, and returns the number of names that are then declared.
     ///
     /// Refuses a name that the language has or that was declared, then a new one where there are as many names as there may be,
     /// then where memory runs out. The names then stay as they were.
@@ -211,8 +211,8 @@ impl<P: Copy, B: Bounds> Symbols<P, B> {
         Ok(self.declared)
     }
 
-    /// Uses a name, as it is spelled at a place. Answers the number by which references name it: how many names came before it.
-    /// There is none for a name that the language has.
+    /// Uses the name `name`, as it is spelled at `place`, and returns the number by which references name it: how many names came
+    /// before it. There is no number for a name that the language has.
     ///
     /// Refuses a new name where there are as many as there may be, then where memory runs out. The names then stay as they were.
     pub fn refer(&mut self, name: &[u8], place: P) -> Result<Option<usize>, ReferFault>
@@ -227,7 +227,7 @@ impl<P: Copy, B: Bounds> Symbols<P, B> {
         Ok(number)
     }
 
-    /// Uses a name, as `refer` does, and answers what looking for it found before, with its number.
+    /// Uses a name, as `refer` does, and returns the finding of a look-up of the name before this use, and its number.
     pub fn find_and_refer(
         &mut self,
         name: &[u8],
@@ -256,7 +256,7 @@ impl<P: Copy, B: Bounds> Symbols<P, B> {
         Ok((Found::Unknown, Some(number)))
     }
 
-    /// What looking for the name of a number finds.
+    /// Returns the finding of a look-up of the name with the number `number`.
     fn found_at(&self, number: usize) -> Found<P>
         ensures { result ≡ found_as None (standing_at number self.now.names) }
     {
@@ -267,7 +267,7 @@ impl<P: Copy, B: Bounds> Symbols<P, B> {
         }
     }
 
-    /// Whether a name, in any case, is one that the language has or one of the first `n` that were declared.
+    /// Returns whether `name`, in any case, is one that the language has or one of the first `n` names that were declared.
     pub fn declared_before(&self, name: &[u8], n: usize) -> bool
         requires { length name.now ≤ 35 }
         ensures { result ≡ declared_before name.now n self.now }
@@ -279,7 +279,8 @@ impl<P: Copy, B: Bounds> Symbols<P, B> {
         }
     }
 
-    /// What the name of a number was declared as; none where it was not, or where there is none of that number.
+    /// Returns the meaning with which the name of number `number` was declared; `None` where it was not declared, or where no name
+    /// has that number.
     pub fn meaning_at(&self, number: usize) -> Option<Meaning>
         ensures { result ≡ meaning_in (standing_at number self.now.names) }
     {
@@ -289,8 +290,8 @@ impl<P: Copy, B: Bounds> Symbols<P, B> {
         }
     }
 
-    /// Where the name of a number was first used, as it is spelled there, if it was not declared so far; none where it was, or
-    /// where there is none of that number.
+    /// Returns the spelling and the place of the first use of the name with the number `number`, if it was not declared so far;
+    /// `None` where it was declared, or where no name has that number.
     pub fn use_at(&self, number: usize) -> Option<(&[u8], P)>
         ensures { option_map (λ u. (u.0.now, u.1)) result ≡ use_in (standing_at number self.now.names) }
     {
@@ -300,7 +301,7 @@ impl<P: Copy, B: Bounds> Symbols<P, B> {
         }
     }
 
-    /// What is known of a name, in any case.
+    /// Returns the entry of a name, in any case.
     fn entry_of(&self, name: &[u8]) -> Option<&Entry<P>>
         requires { length name.now ≤ 35 }
         ensures { option_map (λ e. standing e.now) result ≡ standing_of (key_of name.now) self.now.names }
@@ -309,7 +310,7 @@ impl<P: Copy, B: Bounds> Symbols<P, B> {
         self.entries.get(&key)
     }
 
-    /// What is known of the name of a number.
+    /// Returns the entry of the name with the number `number`.
     fn entry_at(&self, number: usize) -> Option<&Entry<P>>
         ensures { option_map (λ e. standing e.now) result ≡ standing_at number self.now.names }
     {
@@ -317,21 +318,21 @@ impl<P: Copy, B: Bounds> Symbols<P, B> {
         Some(entry)
     }
 
-    /// How many names came before one that was declared or used, given without case.
+    /// Returns the number of the name with the key `key` if it was declared or used: how many names came before it.
     fn number(&self, key: &Key) -> Option<usize>
         ensures { result ≡ number_among key.now.items self.now.names }
     {
         self.entries.get_index_of(key)
     }
 
-    /// Whether there are as many names as there may be.
+    /// Returns whether there are as many names as there may be.
     fn is_full(&self) -> bool
         ensures { result ≡ is_full B.most self.now }
     {
         self.len() >= self.limit as usize
     }
 
-    /// Why a name cannot be declared, but for want of memory.
+    /// Returns the fault for which a name cannot be declared, but for want of memory.
     fn declare_fault(&self, name: &[u8]) -> Option<DeclareFault<P>>
         requires { length name.now ≤ 35 }
         ensures { result ≡ declare_fault B.most name.now self.now }

@@ -30,7 +30,7 @@ pub enum SystemName {
     Sender,
     SwitchVariable,
     TemporaryGlobal,
-    /// Only where the words of the command ask for debugging.
+    /// The name `DEBUG`, which is there only where the words of the command ask for debugging.
     Debug,
 }
 
@@ -59,7 +59,7 @@ const SYSTEM_NAMES: [SystemName; 22] = [
     SystemName::Debug,
 ];
 
-/// The first and last letters of the names that have a size.
+/// Returns the first and last letters of those names that have `size` letters.
 fn ends_of(size: usize) -> &'static [(u8, u8)]
     ensures { result.now ≡ ends_of size }
 {
@@ -81,14 +81,14 @@ fn ends_of(size: usize) -> &'static [(u8, u8)]
     }
 }
 
-/// Whether one of them has these ends.
+/// Returns whether one pair of `ends` is `first` and `last`.
 fn has_ends(ends: &[(u8, u8)], first: u8, last: u8) -> bool
     ensures { result ≡ has_ends ends.now first last }
 {
     ends.iter().any(|end| end.0 == first && end.1 == last)
 }
 
-/// A letter of a name, made small: 0 where it has none.
+/// Returns the letter of `name` at `place`, made small: 0 where there is none.
 fn letter_at(name: &[u8], place: usize) -> u8
     ensures { result ≡ to_ascii_lowercase (get_or name.now place 0) }
 {
@@ -98,7 +98,7 @@ fn letter_at(name: &[u8], place: usize) -> u8
     }
 }
 
-/// Whether some name has the size and the ends of this one, in any case.
+/// Returns whether some name of the language has the size and the ends of `name`, in any case.
 fn may_be_known(name: &[u8]) -> bool
     ensures { result ≡ may_be_known name.now }
 {
@@ -107,7 +107,7 @@ fn may_be_known(name: &[u8]) -> bool
     has_ends(ends_of(size), first, last)
 }
 
-/// All of them.
+/// Returns all names that the language has from the start.
 fn all() -> &'static [SystemName]
     ensures { result.now ≡ system_names }
 {
@@ -115,7 +115,7 @@ fn all() -> &'static [SystemName]
 }
 
 impl SystemName {
-    /// The one that is spelled so, in any case. Most names are seen at once to be none, by their size and their ends.
+    /// Returns the name of the language that is spelled `name`, in any case. Most other names are known by their size and their ends.
     #[tactic(auto, using(crate::proofs::Unknown::none_named))]
     pub fn by_name(name: &[u8]) -> Option<SystemName>
         ensures { result ≡ named name.now }
@@ -126,14 +126,14 @@ impl SystemName {
         all().iter().copied().find(|known| known.has_name(name))
     }
 
-    /// Whether it is spelled so, in any case.
+    /// Returns whether this name is spelled `name`, in any case.
     fn has_name(self, name: &[u8]) -> bool
         ensures { result ≡ has_name name.now self }
     {
         name.eq_ignore_ascii_case(self.name().as_bytes())
     }
 
-    /// How it is spelled, in small letters.
+    /// Returns the spelling of this name, in small letters.
     pub fn name(self) -> &'static str
         ensures { result.now ≡ name_of self }
     {
@@ -163,7 +163,7 @@ impl SystemName {
         }
     }
 
-    /// What it stands for. The last global variables of the Z-machine are those that the language keeps for itself.
+    /// Returns the meaning of this name. The language keeps the last global variables of the Z-machine for itself.
     pub fn meaning(self) -> Meaning
         ensures { result ≡ meaning_of self }
     {
@@ -195,7 +195,7 @@ impl SystemName {
     }
 }
 
-/// What a name stands for from the start, in any case; `DEBUG` only where debugging is on.
+/// Returns the meaning that `name` has from the start, in any case; `DEBUG` has one only where debugging is on.
 pub fn system_meaning(name: &[u8], is_debugging: bool) -> Option<Meaning>
     ensures { result ≡ system_meaning is_debugging name.now }
 {
@@ -207,7 +207,7 @@ pub fn system_meaning(name: &[u8], is_debugging: bool) -> Option<Meaning>
     }
 }
 
-/// Whether the language has a name, with or without debugging.
+/// Returns whether the language has a name, with or without debugging.
 fn is_known(name: SystemName, is_debugging: bool) -> bool
     ensures { result ≡ is_known is_debugging name }
 {

@@ -1,4 +1,4 @@
-//! The names of a source: in which order they come, which is found, and how many there may be.
+//! The names of a source: their order, their look-up, and the limit on their number.
 use inf_names::hashing::NameHashing;
 use inf_names::meanings::Meaning;
 use inf_names::symbols::{DeclareFault, Found, LONGEST_NAME, ReferFault, Symbols};
@@ -33,7 +33,7 @@ impl Bounds for Hundred {
 /// A file and a line.
 type Place = (u16, u32);
 
-/// What is asked of the names about one of them, and what has to come of it.
+/// A question to the names about one of them, and the answer that it has to have.
 #[derive(Drop)]
 enum Asked {
     Declare(Place, Meaning, Result<usize, DeclareFault<Place>>),
@@ -43,12 +43,12 @@ enum Asked {
     UsedAs(usize, Place),
 }
 
-/// What is held behind that.
+/// A fact that holds of the names behind those questions.
 #[derive(Drop)]
 enum Held {
     NoUse(usize),
     HasMeaning(usize, Option<Meaning>),
-    /// So many names, and so many declared ones.
+    /// The number of names, and that of declared ones.
     Counts(usize, usize),
 }
 
@@ -86,7 +86,7 @@ fn hold_all<B: Bounds>(rt: &impl Abort, symbols: &Symbols<Place, B>, rows: &[Hel
     }
 }
 
-/// Three declarations and a use of what the last of them declares.
+/// Three declarations and a use of the name that the last of them declares.
 const COUNTED: [(&str, Asked); 4] = [
     ("Main", Declare((0, 1), Meaning::Routine(0), Ok(1))),
     ("later", Refer((0, 2), Ok(Some(1)))),
@@ -148,7 +148,7 @@ const USED_IN_ORDER: [(&str, Asked); 7] = [
     ("three", UsedAs(2, (0, 4))),
 ];
 
-/// What is held of them then.
+/// The facts that hold of the names then.
 const HELD_IN_ORDER: [Held; 5] = [
     NoUse(1),
     NoUse(3),
@@ -245,7 +245,7 @@ fn takes_the_longest_name(rt: HostRuntime) {
     ask(&rt, &mut symbols, name, &UsedAs(0, (0, 1)));
 }
 
-/// Declares or uses the name of a line. Answers whether its growth was refused.
+/// Declares or uses the name of a line. Returns whether its growth was refused.
 fn is_refused<B: Bounds>(symbols: &mut Symbols<Place, B>, name: &[u8; 2], line: u32) -> bool {
     if line % 3 == 0 {
         matches!(symbols.refer(name, (0, line)), Err(ReferFault::Memory))

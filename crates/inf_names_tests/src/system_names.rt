@@ -6,7 +6,7 @@ use inf_names::system_names::system_meaning;
 use inf_settings::bounds::Bounds;
 use std::process::Abort;
 
-/// Names and what they stand for, as the manual of the language lists them.
+/// Names and their meanings, as the manual of the language lists them.
 const LISTED: [(&str, Meaning); 21] = [
     ("true", Meaning::Number(1)),
     ("false", Meaning::Number(0)),
@@ -44,7 +44,7 @@ impl Bounds for Five {
     ghost most = { λ _. 5 };
 }
 
-/// Nothing that is asked about this name of the language changes what it stands for.
+/// Asserts that no question about this name of the language changes its meaning.
 fn stays(rt: &impl Abort, symbols: &mut Symbols<u32, Five>, name: &[u8], meaning: Meaning) {
     assert!(rt; name.len() <= LONGEST_NAME);
     assert!(rt; symbols.declared_before(name, 0));
@@ -65,7 +65,7 @@ fn has_the_listed_names(rt: HostRuntime) {
     assert!(rt; symbols.len() == 0);
 }
 
-/// Names, whether debugging was asked for, and what they stand for then.
+/// Names, whether debugging was asked for, and their meanings then.
 const ASKED_FOR: [(&str, bool, Option<Meaning>); 6] = [
     ("Null", false, Some(Meaning::Number(65535))),
     ("SELF", false, Some(Meaning::Variable(253))),

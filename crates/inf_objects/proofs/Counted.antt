@@ -1,4 +1,4 @@
--- What is written of an object is what it counts.
+-- The tables of an object have as many bytes as it counts.
 use Rattle.std.proofs.Common.{◌≡◌, ◌+◌, ◌*◌, ◌∷◌, [], ℕ, List, Bool, true, false, inl, inr, length, refl, sym, ap, ◌∙◌, arith}
 use Rattle.std.specs.Prelude.{nat_lt, sum_by, ◌⊎◌, ◌||◌, if◌then◌else◌}
 use Rattle.std.proofs.lemmas.Bool.{le-leb, lt-leb, lt-ltb, le-ltb, cases_lt, or_parts}
@@ -15,7 +15,7 @@ use Rattle.inf_objects.specs.Measures.{CountedBy, kind_part, measure_by, measure
 use Rattle.inf_objects.specs.Objects.{head_bytes, head_fixups, list_bytes, object_bytes, object_fixups}
 use Rattle.inf_objects.specs.Tables.{has_individual, is_individual}
 
--- both kinds are all
+-- the parts of both kinds together are the size of a property
 kinds : (p : Property)
     → ((kind_part false p).bytes + (kind_part true p).bytes ≡ (size_of owner.Object p).bytes) ×
     ((kind_part false p).later + (kind_part true p).later ≡ (size_of owner.Object p).fixups)
@@ -56,7 +56,7 @@ all_parts (p ∷ ps) =
       ),
     )
 
--- a property that is declared needs nothing of an individual table; one that is individual is counted as one
+-- a declared property needs nothing in an individual table; an individual one is counted as one
 abbrev OfKind : Property → Type 0
 OfKind p =
     ((is_individual p ≡ false) × ((size_of owner.Object p).individuals ≡ 0) × ((kind_part true p).bytes ≡ 0) ×
@@ -120,7 +120,7 @@ doubled : (ps : List Property) → bytes_of owner.Class ps ≡ 2 * sum_by (λ p.
 doubled [] = refl
 doubled (p ∷ ps) = omega (arith, sum_by-cons (λ q. (size_of owner.Class q).bytes) p ps, sum_by-cons (λ q. length q.values) p ps, doubled ps)
 
--- the end of an individual table, and its address
+-- the end of an individual table takes two bytes, and its address three
 ends_bytes : (s : Size) (b : Bool) → nat_lt 0 s.individuals ≡ b → (with_table s).bytes ≡ s.bytes + (if b then 5 else 0)
 ends_bytes s b e = ap (λ (c : Bool). (if c then record s { bytes = s.bytes + 5; fixups = s.fixups + 1 } else s).bytes) e ∙ go b
   where
@@ -135,7 +135,7 @@ ends_fixups s b e = ap (λ (c : Bool). (if c then record s { bytes = s.bytes + 5
     go true = refl
     go false = omega arith
 
--- what an object needs, where it is known whether it has an individual table
+-- the parts that an object needs, given whether it has an individual table
 abbrev measured_with : Bool → Object → Measure
 measured_with b o = record {
   table = record {

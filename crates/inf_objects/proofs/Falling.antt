@@ -16,7 +16,7 @@ use Rattle.inf_objects.specs.declared.objects.Object.{Object}
 use Rattle.inf_objects.specs.Tables.{address_rows, class_rows, class_values, falling, has_individual, rows_by}
 use Rattle.inf_objects.proofs.Rows.{none-found, no_address}
 
--- a measure of a property whose number is below one
+-- a measure of a property where its number is below `k`, and else 0
 abbrev pub below : ℕ → (Property → ℕ) → Property → ℕ
 below k f p = if nat_lt p.number k then f p else 0
 
@@ -26,7 +26,7 @@ below_in k f p h = ap (λ (b : Bool). if b then f p else 0) (lt-ltb p.number k h
 pub below_out : (k : ℕ) (f : Property → ℕ) (p : Property) → k ≤ p.number → below k f p ≡ 0
 below_out k f p h = ap (λ (b : Bool). if b then f p else 0) (le-ltb p.number k h)
 
--- one number more makes a difference to this one alone
+-- a bound higher by one makes a difference to the property with that number alone
 below_other : (k : ℕ) (f : Property → ℕ) (p : Property) → (p.number ≡ k → ⊥) → below (suc k) f p ≡ below k f p
 below_other k f p e =
     elim (cases_lt p.number k) [
@@ -34,7 +34,7 @@ below_other k f p e =
       | inr h ↦ below_out (suc k) f p (omega (arith, h, e)) ∙ sym (below_out k f p h)
     ]
 
--- one property more in front, whose number is that of none behind it
+-- a property more in front, whose number no property behind it has, adds its measure to the sum
 pub sum_falling-cons : (f : Property → ℕ) (k : ℕ) (p : Property) (ps : List Property) → has p.number ps ≡ false
     → sum_by f (falling k (p ∷ ps)) ≡ sum_by f (falling k ps) + below k f p
 sum_falling-cons f zero p ps absent = omega (arith, below_out 0 f p (omega arith))
@@ -74,7 +74,7 @@ sum_falling f k before (p ∷ ps) h =
     let absent = absent_later (before ++ p ∷ []) ps p.number h.1 (has-push_same p before) in
     omega (arith, sum_falling-cons f k p ps absent, sum_falling f k (before ++ p ∷ []) ps h.1, sum_by-cons (below k f) p ps)
 
--- the address of an individual table in front of others
+-- the address of an individual table in front of other properties adds its measure to the sum
 sum_address : (f : Property → ℕ) (k part : ℕ) (qs ps : List Property) → 3 < k → has 3 ps ≡ false
     → sum_by f (falling k (address_rows part qs ++ ps)) ≡ sum_by f (address_rows part qs) + sum_by f (falling k ps)
 sum_address f k part qs ps h absent = go (has_individual qs)
@@ -97,7 +97,7 @@ sum_classes f k (c ∷ cs) ps h absent =
     let row : Property = record { number = 2; is_additive = false; values = class_values (c ∷ cs) } in
     omega (arith, sum_falling-cons f k row ps absent, below_in k f row h, sum_by-cons f row [])
 
--- all that an object has: the list of its classes, the address of its individual table, and its properties that are declared
+-- the sum over all that an object has: the list of its classes, the address of its individual table, and its declared properties
 pub sum_rows : (f : Property → ℕ) (k part : ℕ) (o : Object) → 3 < k → AreNew [] o.properties → AreFree o.properties
     → sum_by f (falling k (rows_by owner.Object part o)) ≡ sum_by f (class_rows o.classes) + sum_by f (address_rows part o.properties) +
     sum_by (below k f) o.properties

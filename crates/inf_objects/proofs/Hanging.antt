@@ -7,7 +7,7 @@ use Rattle.inf_objects.specs.declared.tree.Link.{Link}
 use Rattle.inf_objects.specs.Tree.{AreWithin, children_from, each_from, first_of, link_at, linked, links_of, next_below, no_link}
 use Rattle.inf_objects.specs.Tree.{sibling_from, with_child, with_sibling}
 
--- links hung from the last object on, the first of which stands at a place
+-- the links where the objects from `place` on are hung, the last one first
 abbrev pub made : ℕ → List ℕ → List Link → List Link
 made place [] links = links
 made place (p ∷ parents) links = linked place p (made (place + 1) parents links)
@@ -19,7 +19,7 @@ made-last place (q ∷ before) p links =
     let there : place + 1 + length before ≡ place + length (q ∷ before) = omega arith in
     ap (linked place q) (made-last (place + 1) before p links ∙ ap (λ n. made (place + 1) before (linked n p links)) there)
 
--- what a function gives, place by place
+-- the link at each place is that of the function
 pub get-each : (first count : ℕ) (f : ℕ → Link) (place : ℕ) (d : Link) → place < count →
     get_or (each_from first count f) place d ≡ f (first + place)
 get-each first zero f place d h = absurd (omega arith)
@@ -27,7 +27,7 @@ get-each first (suc count) f zero d h = let here : first ≡ first + 0 = omega a
 get-each first (suc count) f (suc place) d h =
     let there : first + 1 + place ≡ first + suc place = omega arith in get-each (first + 1) count f place d (omega arith) ∙ ap f there
 
--- with another value at one number
+-- a function with another link at one number
 abbrev pub but_at : ℕ → Link → (ℕ → Link) → ℕ → Link
 but_at number link f n = if n == number then link else f n
 
@@ -62,12 +62,12 @@ pub nothing-each : (first count : ℕ) → replicate count no_link ≡ each_from
 nothing-each first zero = refl
 nothing-each first (suc count) = ap (λ ls. no_link ∷ ls) (nothing-each (first + 1) count)
 
--- the link of an object, as far as objects from a place on are hung
+-- the link of an object, where the objects from `place` on are hung
 abbrev pub link_from : ℕ → List ℕ → ℕ → Link
 link_from place parents number =
     record { sibling = sibling_from number (place + 1) parents; child = first_of (children_from (place + 1) number parents) }
 
--- an object is hung
+-- the links where one more object is hung
 abbrev hung : ℕ → ℕ → (ℕ → Link) → ℕ → Link
 hung place p f = but_at p (record (but_at (place + 1) (record (f (place + 1)) { sibling = (f p).child }) f p) { child = place + 1 })
     (but_at (place + 1) (record (f (place + 1)) { sibling = (f p).child }) f)
@@ -146,13 +146,13 @@ hung-is place p parents n e =
         ∙ both (f n).sibling (sibling_from n (place + 1) (p ∷ parents)) (f n).child (first_of (children_from (place + 1) n (p ∷ parents)))
         (further n isnt) (above other)
 
--- behind those with lower numbers
+-- a number below that of the first object of a list has no sibling in it
 sibling-before : (n first : ℕ) (ps : List ℕ) → n < first → sibling_from n first ps ≡ 0
 sibling-before n first [] h = refl
 sibling-before n first (p ∷ ps) h =
     sibling-step n first p ps false (ne_eqb n first (λ e. omega (arith, e, h))) ∙ sibling-before n (first + 1) ps (omega (arith, h))
 
--- an object without a parent
+-- an object without a parent changes no link
 root-is : (place p : ℕ) (parents : List ℕ) (n : ℕ) → p ≡ 0 → 1 ≤ n → link_from (place + 1) parents n ≡ link_from place (p ∷ parents) n
 root-is place p parents n e h =
     both (sibling_from n (place + 1 + 1) parents) (sibling_from n (place + 1) (p ∷ parents))
@@ -216,7 +216,7 @@ made-each place count (p ∷ parents) h k =
     ap (linked place p) (made-each (place + 1) count parents (omega (arith, h)) k.1)
     ∙ linked-each place p count parents (omega (arith, h)) k.0
 
--- with all hung
+-- once all objects are hung the links are those of the tree
 pub made-links : (parents : List ℕ) → AreWithin (length parents) parents →
     made 0 parents (replicate (length parents) no_link) ≡ links_of parents
 made-links parents h =
@@ -226,7 +226,7 @@ pub within-front : (most : ℕ) (before : List ℕ) (p : ℕ) → AreWithin most
 within-front most [] p h = (tt, h.0)
 within-front most (q ∷ before) p h = let later = within-front most before p h.1 in ((h.0, later.0), later.1)
 
--- the last one that is left is hung
+-- hanging the last object that is left brings the links one step on
 pub made-step : (left before : List ℕ) (p : ℕ) (links : List Link) → left ≡ before ++ p ∷ [] →
     made 0 before (linked (length before) p links) ≡ made 0 left links
 made-step left before p links is =

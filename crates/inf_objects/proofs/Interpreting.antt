@@ -1,4 +1,4 @@
--- An interpreter reads back what is written of an object.
+-- An interpreter reads back the properties that are written of an object.
 use Rattle.std.proofs.Common.{◌≡◌, ◌≤◌, ◌<◌, ◌+◌, ◌*◌, ◌/◌, ◌%◌, ◌∷◌, ◌++◌, ◌==◌, ◌&&◌, [], ℕ, zero, suc, List, Bool, true, false, Option}
 use Rattle.std.proofs.Common.{Some, None, inl, inr, length, length-append, map, take, drop, append_assoc, append-nil, refl, sym, ap, subst}
 use Rattle.std.proofs.Common.{◌∙◌, arith}
@@ -11,9 +11,9 @@ use Rattle.inf_area.specs.declared.targets.Target.{Target}
 use Rattle.inf_area.specs.declared.targets.Target.TheVariants as target
 use Rattle.inf_area.specs.declared.targets.Value.{Value}
 use Rattle.inf_area.specs.declared.targets.Value.TheVariants as value
-use Rattle.inf_cells.specs.Cells.{value_cells, values_cells}
-use Rattle.inf_cells.specs.declared.cells.Cell.{Cell}
-use Rattle.inf_cells.specs.declared.cells.Cell.TheVariants as cell
+use Rattle.inf_area.specs.Cells.{value_cells, values_cells}
+use Rattle.inf_area.specs.declared.cells.Cell.{Cell}
+use Rattle.inf_area.specs.declared.cells.Cell.TheVariants as cell
 use Rattle.inf_properties.specs.declared.values.Property.{Property}
 use Rattle.inf_properties.specs.declared.sizes.Owner.{Owner}
 use Rattle.inf_properties.specs.declared.sizes.Owner.TheVariants as owner
@@ -59,7 +59,7 @@ values_count f [] = refl
 values_count f (value.Known n ∷ vs) = omega (arith, values_count f vs)
 values_count f (value.Later t ∷ vs) = omega (arith, values_count f vs)
 
--- one property, by its first size byte
+-- the properties that are read from a first size byte on: with one size byte, and with two
 abbrev short_read : ℕ → ℕ → List ℕ → List Row
 short_read most size bytes = row_of (size % 64) (1 + size / 64 % 2) bytes ∷ rows_read most (drop (1 + size / 64 % 2) bytes)
 
@@ -79,7 +79,7 @@ read_long most size bytes h =
     (ne_eqb size 0 (λ e. omega (arith, e, h)))
     ∙ ap (λ (b : Bool). if b then short_read most size bytes else long_read most size bytes) (le-ltb size 128 h)
 
--- data of so many words, and what is behind them
+-- the property that is read of `n` and these values
 abbrev told_of : (Target → ℕ) → ℕ → List Value → Row
 told_of f n vs = record { number = n; words = map (number_in f) (shown vs) }
 
@@ -95,7 +95,7 @@ row_rest : (f : Target → ℕ) (m : ℕ) (vs : List Value) (rest : List ℕ) �
     drop m (filled f (values_cells (shown vs)) ++ rest) ≡ rest
 row_rest f m vs rest h = drop_front m (filled f (values_cells (shown vs))) rest (values_count f (shown vs) ∙ h)
 
--- a single word
+-- a property of a single word is read back
 short_row : (f : Target → ℕ) (most n : ℕ) (vs : List Value) (rest : List ℕ) → n < 64 → length (shown vs) ≡ 1
     → rows_read (suc most) ((64 + n) ∷ (filled f (values_cells (shown vs)) ++ rest)) ≡ told_of f n vs ∷ rows_read most rest
 short_row f most n vs rest h one =
@@ -108,7 +108,7 @@ short_row f most n vs rest h one =
     (row_data f n ((64 + n) % 64) (1 + (64 + n) / 64 % 2) vs rest number two)
     ∙ ap (λ bs. told_of f n vs ∷ rows_read most bs) (row_rest f (1 + (64 + n) / 64 % 2) vs rest two)
 
--- two words to 32
+-- a property of 2 to 32 words is read back
 long_row : (f : Target → ℕ) (most n : ℕ) (vs : List Value) (rest : List ℕ) → n < 64 → length (shown vs) ≡ length vs → 1 < length vs →
     length vs ≤ 32
     → rows_read (suc most) ((128 + n) ∷ (128 + 2 * length vs % 64) ∷ (filled f (values_cells (shown vs)) ++ rest)) ≡ told_of f n vs ∷
@@ -143,7 +143,7 @@ row_by f most n (v ∷ w ∷ vs) rest h few =
     ++ values_cells (v ∷ w ∷ vs)) ++ rest)) (lt-leb (length (v ∷ w ∷ vs)) 1 more)
     ∙ long_row f most n (v ∷ w ∷ vs) rest h refl more few
 
--- properties that a table can have
+-- tells whether a table can have these properties
 abbrev pub AreRows : List Property → Type 0
 AreRows [] = Unit {0}
 AreRows (p ∷ ps) = (p.number < 64) × (length p.values ≤ 32) × AreRows ps
@@ -159,7 +159,7 @@ rows_are_read f (suc most) (p ∷ ps) rest h few =
     ∙ row_by f most p.number p.values (filled f (rows_cells ps) ++ 0 ∷ rest) h.0 h.1
     ∙ ap (λ rs. told f p ∷ rs) (rows_are_read f most ps rest h.2 (omega (arith, few)))
 
--- each property has a byte at least
+-- each property has at least one byte
 row_some : (f : Target → ℕ) (p : Property) → 1 ≤ length (filled f (row_cells p))
 row_some f p = go (nat_le (length p.values) 1)
   where
@@ -209,7 +209,7 @@ table_is_read f name words ps rest e few h =
         ∙ append_assoc (filled f (name_cells name)) (filled f (rows_cells ps)) (0 ∷ rest)
         ∙ ap (λ bs. count_byte ∷ (bs ++ (filled f (rows_cells ps) ++ 0 ∷ rest))) (filled-bytes f name)
 
--- the rows of an object
+-- The rows of an object fall in number, and each is the property that the object has of its number.
 found_number : (n : ℕ) (ps : List Property) (p : Property) → found n ps ≡ Some p → p.number ≡ n
 found_number n [] p e = cc
 found_number n (q ∷ ps) p e = go (q.number == n) refl e (found_number n ps p)
@@ -242,7 +242,7 @@ falling_below (suc k) ps = go (found k ps) refl (falling_below k ps)
         let number = found_number k ps p e in
         (omega (arith, number), subst (λ n. AreFallingBelow n (falling k ps)) (sym number) later)
 
--- of a number that is not below
+-- no property has a number that is not below the bound
 not_below : (n k : ℕ) (ps : List Property) → k ≤ n → AreFallingBelow k ps → found n ps ≡ None
 not_below n k [] h f = refl
 not_below n k (p ∷ ps) h f =

@@ -1,4 +1,4 @@
--- How much properties of a kind need.
+-- The properties of one kind need no more than all properties.
 use Rattle.std.proofs.Common.{◌≤◌, ◌∷◌, [], List, Bool, true, false, arith}
 use Rattle.std.specs.Prelude.{if◌then◌else◌}
 use Rattle.std.proofs.lemmas.List.Sums.{sum_by-cons}
@@ -9,7 +9,7 @@ use Rattle.inf_properties.proofs.Sums.{few_here}
 use Rattle.inf_objects.specs.Measures.{kind_part, no_part, part_of, parts_of}
 use Rattle.inf_objects.specs.Tables.{is_individual}
 
--- of each kind there are fewer numbers that are known later than bytes, and no more bytes than of both
+-- the properties of each kind have no more later numbers than bytes, and no more bytes than those of both kinds
 pub kind_within : (individual : Bool) (p : Property)
     → ((kind_part individual p).later ≤ (kind_part individual p).bytes) × ((kind_part individual p).bytes ≤ (size_of owner.Object p).bytes)
 kind_within individual p = go (is_individual p) individual

@@ -1,9 +1,9 @@
--- What a function gives of each and of what stands beside it, place by place.
+-- Two lists merged place by place, by a function of both entries.
 use Rattle.std.proofs.Common.{◌≡◌, ◌<◌, ◌+◌, ◌∷◌, ◌++◌, [], ℕ, zero, suc, List, Bool, length, get_or, take, drop, refl, sym, ap, ◌∙◌, arith}
 use Rattle.std.specs.Prelude.{slice_set}
 use Rattle.inf_objects.specs.Attributes.{merged}
 
--- the places before one are done
+-- the list where the places before `place` are merged
 abbrev pub merged_from : {A : Type 0} → (Bool → A → Bool) → ℕ → List Bool → List A → List Bool
 merged_from f place all others = take place all ++ merged f (drop place all) (drop place others)
 

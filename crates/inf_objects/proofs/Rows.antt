@@ -1,4 +1,4 @@
--- What stands in a property table, number by number.
+-- The properties in a property table, number by number.
 use Rattle.std.proofs.Common.{◌≡◌, ◌<◌, ◌+◌, ◌∷◌, ◌++◌, ◌==◌, [], ℕ, zero, suc, List, Bool, true, false, Option, Some, None, length}
 use Rattle.std.proofs.Common.{append_assoc, append-nil, refl, sym, ap, subst, ◌∙◌, arith}
 use Rattle.std.specs.Prelude.{is_some, option_to_list, if◌then◌else◌}
@@ -6,7 +6,7 @@ use Rattle.std.proofs.lemmas.Bool.{eqb-true, eqb-false, ne_eqb}
 use Rattle.inf_area.specs.declared.targets.AreaName.TheVariants as area_name
 use Rattle.inf_area.specs.declared.targets.Target.TheVariants as target
 use Rattle.inf_area.specs.declared.targets.Value.TheVariants as value
-use Rattle.inf_cells.specs.Cells.{values_cells}
+use Rattle.inf_area.specs.Cells.{values_cells}
 use Rattle.inf_properties.specs.declared.values.Property.{Property}
 use Rattle.inf_properties.specs.declared.sizes.Owner.TheVariants as owner
 use Rattle.inf_properties.specs.Properties.{AreFree, found, has}
@@ -19,7 +19,7 @@ pub length-class_values : (ns : List ℕ) → length (class_values ns) ≡ lengt
 length-class_values [] = refl
 length-class_values (n ∷ ns) = omega (arith, length-class_values ns)
 
--- the list of classes, where there is one
+-- the list of classes, where it is not empty
 pub class_rows_cells : (ns : List ℕ) → 0 < length ns →
     rows_cells (class_rows ns) ≡ size_cells 2 (length ns) ++ values_cells (class_values ns)
 class_rows_cells [] h = absurd (omega arith)
@@ -80,7 +80,7 @@ second_alone : (o : Option Property) → or_found (or_found None o) None ≡ o
 second_alone None = refl
 second_alone (Some p) = refl
 
--- all that has a number, where each of the three is told
+-- the property of a number, looked for in three lists, one after the other
 abbrev three : Option Property → Option Property → Option Property → Option Property
 three a b c = or_found (or_found a b) c
 
@@ -132,7 +132,7 @@ pub rows_for-found : (part n : ℕ) (o : Object) → o.owner ≡ owner.Object �
     rows_for part o n ≡ option_to_list (found n (rows_of part o))
 rows_for-found part n o e free = rows_for-object part n o free ∙ ap (λ w. option_to_list (found n (rows_by w part o))) (sym e)
 
--- one number less to go
+-- the rows below a number are its own and those below the next lower number
 pub falling-step : (part n left : ℕ) (o : Object) → left ≡ n + 1 → o.owner ≡ owner.Object → AreFree o.properties
     → rows_cells (falling left (rows_of part o)) ≡ rows_cells (rows_for part o n) ++ rows_cells (falling n (rows_of part o))
 falling-step part n left o is e free =

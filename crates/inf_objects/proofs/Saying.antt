@@ -1,4 +1,4 @@
--- What a body says of attributes, one after another.
+-- The attributes that a body gives and takes away one after another are those of the object in the end.
 use Rattle.std.proofs.Common.{◌≡◌, ◌<◌, ◌∷◌, [], ℕ, zero, suc, List, Bool, Option, Some, None, fold, length, length-set, replicate, refl}
 use Rattle.std.proofs.Common.{sym, ap, ◌∙◌, arith}
 use Rattle.std.specs.Prelude.{slice_set}

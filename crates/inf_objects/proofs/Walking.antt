@@ -1,4 +1,4 @@
--- What is found below an object.
+-- An interpreter finds below an object its children.
 use Rattle.std.proofs.Common.{◌≡◌, ◌≤◌, ◌<◌, ◌+◌, ◌-◌, ◌∷◌, ◌++◌, ◌==◌, [], ℕ, zero, suc, List, Bool, true, false, length, get_or, refl}
 use Rattle.std.proofs.Common.{sym, ap, subst, ◌∙◌, arith}
 use Rattle.std.specs.Prelude.{count_by, slice_index_or, if◌then◌else◌}
@@ -14,7 +14,7 @@ link_is parents place h =
     let here : 1 + place ≡ place + 1 = omega arith in
     get-each 1 (length parents) (link_of parents) place no_link h ∙ ap (link_of parents) here
 
--- the sibling of an object is the next one below its parent, where those before it are passed
+-- the sibling of an object is the next one below its parent, once the objects before it are passed
 sibling_here : (first p : ℕ) (rest : List ℕ) → sibling_from first first (p ∷ rest) ≡ next_below p (first + 1) rest
 sibling_here first p rest =
     ap (λ (b : Bool). if b then next_below p (first + 1) rest else sibling_from first (first + 1) rest) (eq-eqb first first refl)
@@ -25,21 +25,21 @@ sibling_later number first p rest h =
     ap (λ (b : Bool). if b then next_below p (first + 1) rest else sibling_from number (first + 1) rest)
     (ne_eqb number first (λ e. omega (arith, h, e)))
 
--- a number that is an object's
+-- the walk goes from an object to its sibling
 walked_one : (most : ℕ) (links : List Link) (n : ℕ) → 1 ≤ n →
     walked (suc most) links n ≡ n ∷ walked most links (link_at links (n - 1)).sibling
 walked_one most links zero h = absurd (omega (arith, h))
 walked_one most links (suc k) h =
     let here : k ≡ suc k - 1 = omega arith in ap (λ m. suc k ∷ walked most links (link_at links m).sibling) here
 
--- what is left of the parents behind so many
+-- tells whether `rest` are the parents of the objects from number `first` on
 abbrev IsRest : List ℕ → ℕ → List ℕ → Type 0
 IsRest parents first rest = (number : ℕ) → first ≤ number → sibling_of number parents ≡ sibling_from number first rest
 
 rest_next : (parents : List ℕ) (first p : ℕ) (rest : List ℕ) → IsRest parents first (p ∷ rest) → IsRest parents (first + 1) rest
 rest_next parents first p rest h number k = h number (omega (arith, k)) ∙ sibling_later number first p rest (omega (arith, k))
 
--- from the first of those that are left
+-- the walk from the first child among the remaining objects finds all children among them
 walk : (parents : List ℕ) (most first parent : ℕ) (rest : List ℕ) → (parent == 0) ≡ false → 1 ≤ first →
     first + length rest ≡ length parents + 1 → length rest ≤ most
     → IsRest parents first rest → walked most (links_of parents) (first_of (children_from first parent rest)) ≡ children_from first parent

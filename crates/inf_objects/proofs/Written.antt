@@ -1,4 +1,4 @@
--- How much is written of objects.
+-- The number of bytes that are written of objects.
 use Rattle.std.proofs.Common.{◌≡◌, ◌≤◌, ◌<◌, ◌+◌, ◌*◌, ◌%◌, ◌∷◌, ◌++◌, ◌==◌, [], ℕ, List, Bool, true, false, inl, inr, length, refl, sym}
 use Rattle.std.proofs.Common.{ap, ◌∙◌, arith}
 use Rattle.std.specs.Prelude.{nat_le, sum_by, if◌then◌else◌}
@@ -8,9 +8,9 @@ use Rattle.inf_area.specs.declared.targets.AreaName.TheVariants as area_name
 use Rattle.inf_area.specs.declared.targets.Target.TheVariants as target
 use Rattle.inf_area.specs.declared.targets.Value.{Value}
 use Rattle.inf_area.specs.declared.targets.Value.TheVariants as value
-use Rattle.inf_cells.specs.Cells.{bytes_of, later_count, value_cells, values_cells, word_cells}
-use Rattle.inf_cells.specs.declared.cells.Cell.{Cell}
-use Rattle.inf_cells.specs.declared.cells.Cell.TheVariants as cell
+use Rattle.inf_area.specs.Cells.{bytes_of, later_count, value_cells, values_cells, word_cells}
+use Rattle.inf_area.specs.declared.cells.Cell.{Cell}
+use Rattle.inf_area.specs.declared.cells.Cell.TheVariants as cell
 use Rattle.inf_properties.specs.declared.values.Property.{Property}
 use Rattle.inf_properties.specs.declared.sizes.Owner.{Owner}
 use Rattle.inf_properties.specs.declared.sizes.Owner.TheVariants as owner
@@ -27,7 +27,7 @@ use Rattle.inf_objects.specs.Tables.{is_individual, name_cells, row_cells, rows_
 use Rattle.inf_objects.proofs.Falling.{below, below_in, below_out, sum_rows}
 use Rattle.inf_objects.proofs.Rows.{length-class_values, nothing_falls}
 
--- how many bytes cells are
+-- the number of bytes of cells
 abbrev pub size : List Cell → ℕ
 size cells = length (bytes_of cells)
 
@@ -65,7 +65,7 @@ shown_later : (vs : List Value) → values_later (shown vs) ≡ values_later vs
 shown_later [] = refl
 shown_later (v ∷ vs) = refl
 
--- one property
+-- A single property takes the bytes that it counts.
 few_size : (n count : ℕ) → count ≤ 1 → size (size_cells n count) ≡ 1
 few_size n count h = ap (λ (b : Bool). size (if b then cell.Byte (64 + n) ∷ [] else cell.Byte (128 + n) ∷ cell.Byte (128 + 2 * count % 64) ∷
     [])) (le-leb count 1 h)
@@ -129,7 +129,7 @@ pub rows_later : (ps : List Property) → later_count (rows_cells ps) ≡ sum_by
 rows_later [] = refl
 rows_later (p ∷ ps) = omega (arith, later_joined (row_cells p) (rows_cells ps), row_later p, rows_later ps, sum_by-cons row_laters p ps)
 
--- the list of classes, and the address
+-- The list of classes and the address take the bytes that they count.
 class_size : (cs : List ℕ) → sum_by row_size (class_rows cs) ≡ list_bytes (length cs)
 class_size [] = refl
 class_size (c ∷ cs) =
@@ -176,7 +176,7 @@ address_later part ps = go (has_individual ps)
     go true = refl
     go false = refl
 
--- what properties of each kind need
+-- the bytes and later numbers of properties, kind by kind
 abbrev common_of : Property → Size
 common_of p = record { bytes = row_size p; fixups = row_laters p; individuals = 0 }
 
@@ -195,7 +195,7 @@ declared p h = lt-leb 64 p.number h
 individual : (p : Property) → 64 ≤ p.number → is_individual p ≡ true
 individual p h = le-leb 64 p.number h
 
--- a kind's part, by a property's number
+-- the part of a property, by its number
 kind_declared : (b : Bool) (p : Property) → p.number < 64 → kind_part b p ≡ (if b then no_part else part_of p)
 kind_declared b p h = ap (λ (c : Bool). if c then (if b then part_of p else no_part) else (if b then no_part else part_of p)) (declared p h)
 
@@ -203,7 +203,7 @@ kind_individual : (b : Bool) (p : Property) → 64 ≤ p.number → kind_part b 
 kind_individual b p h =
     ap (λ (c : Bool). if c then (if b then part_of p else no_part) else (if b then no_part else part_of p)) (individual p h)
 
--- what an individual property counts, if this is one
+-- the measure of a property that is individual, and else 0
 abbrev pub individual_if : (Property → ℕ) → Property → ℕ
 individual_if f p = if is_individual p then f p else 0
 
@@ -251,7 +251,7 @@ pub same_sums : (f g : Property → ℕ) (ps : List Property) → ((p : Property
 same_sums f g [] same = refl
 same_sums f g (p ∷ ps) same = omega (arith, sum_by-cons f p ps, sum_by-cons g p ps, same p, same_sums f g ps same)
 
--- a property table
+-- A property table takes the bytes that it is measured to take.
 bytes_size : (bs : List ℕ) → (size (byte_cells bs) ≡ length bs) × (later_count (byte_cells bs) ≡ 0)
 bytes_size [] = (refl, refl)
 bytes_size (b ∷ bs) = let later = bytes_size bs in (omega (arith, later.0), later.1)
@@ -286,7 +286,7 @@ bare_rows : (part : ℕ) (o : Object) → (size (rows_cells (all_falling [])) �
 unfolding all_falling
 bare_rows part o = (ap (λ ps. size (rows_cells ps)) (nothing_falls 64), ap (λ ps. later_count (rows_cells ps)) (nothing_falls 64))
 
--- as much is written as is measured
+-- tells whether the cells of a property table have the bytes and the later numbers that were measured
 abbrev pub IsMeasured : Owner → ℕ → Object → Type 0
 IsMeasured w part o =
     (size (name_cells o.name ++ rows_cells (all_falling (rows_by w part o)) ++ cell.Byte 0 ∷ []) ≡ (measure_by w o).table.bytes)
@@ -310,7 +310,7 @@ pub table_measured : (part : ℕ) (o : Object) → AreNew [] o.properties → Ar
     → (size (table_cells part o) ≡ (measured o).table.bytes) × (later_count (table_cells part o) ≡ (measured o).table.later)
 table_measured part o new free = measured_by o.owner part o new free
 
--- an individual table
+-- An individual table takes the bytes that it is measured to take.
 individual_few : (count : ℕ) → count ≤ 1 → individual_bytes count ≡ 5
 individual_few count h = ap (λ (b : Bool). if b then 5 else 3 + 2 * count) (le-leb count 1 h)
 

@@ -1,4 +1,4 @@
--- How much of the areas an object needs.
+-- The bytes that an object needs in the areas of tables.
 use Rattle.std.specs.Prelude.{◌+◌, ◌*◌, ◌≡◌, List, Bool, true, false, length, sum_by, if◌then◌else◌}
 use Rattle.inf_properties.specs.declared.values.Property.{Property}
 use Rattle.inf_properties.specs.declared.sizes.Owner.{Owner}
@@ -16,7 +16,7 @@ part_of p = record { bytes = (size_of owner.Object p).bytes; later = (size_of ow
 abbrev pub no_part : Part
 no_part = record { bytes = 0; later = 0 }
 
--- of a property, if it is individual as asked, or declared
+-- the part of a property that is of the kind asked for (individual, or else declared); one of the other kind has no part
 abbrev pub kind_part : Bool → Property → Part
 kind_part individual p =
     if is_individual p then (if individual then part_of p else no_part) else (if individual then no_part else part_of p)
@@ -28,7 +28,7 @@ parts_of individual properties = record {
       (λ p. (kind_part individual p).later) properties;
 }
 
--- the property table: the short name, the list of classes, the properties, the address of an individual table
+-- the part in the property table: the short name, the list of classes, the properties, the address of an individual table
 abbrev pub table_part : Object → Part
 table_part o = record {
   bytes = 2 + length o.name + list_bytes (length o.classes) + (parts_of false o.properties).bytes +
@@ -36,7 +36,7 @@ table_part o = record {
   later = (parts_of false o.properties).later + (if has_individual o.properties then 1 else 0);
 }
 
--- the individual table, where there is one
+-- the part in the individual table, where there is one
 abbrev pub individual_table_part : Object → Part
 individual_table_part o =
     if has_individual o.properties then record {
@@ -48,7 +48,7 @@ individual_table_part o =
 abbrev pub bare_part : Object → Part
 bare_part o = record { bytes = 2 + length o.name; later = 0 }
 
--- of a class only the short name is written
+-- the parts of an object; of a class only the short name is written
 abbrev pub measure_by : Owner → Object → Measure
 measure_by owner.Object o = record { table = table_part o; individual_table = individual_table_part o }
 measure_by owner.Class o = record { table = bare_part o; individual_table = no_part }
@@ -57,9 +57,8 @@ measure_by owner.Nothing o = record { table = bare_part o; individual_table = no
 abbrev pub measured : Object → Measure
 measured o = measure_by o.owner o
 
--- What is written is what an object counts, with the address of its table among what is known later; a class counts two bytes for each
--- value
--- that it holds besides.
+-- The parts of an object have as many bytes as it counts; its numbers that are known later are those of the parts and the address
+-- of its table. A class counts besides two bytes for each value that it holds.
 abbrev pub CountedBy : Owner → Object → Measure → Type 0
 CountedBy owner.Object o m =
     (m.table.bytes + m.individual_table.bytes ≡ object_bytes o) × (m.table.later + m.individual_table.later + 1 ≡ object_fixups o)

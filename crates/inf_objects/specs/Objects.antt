@@ -1,4 +1,4 @@
--- Objects and classes, and what was read of one whose body is open (Designer's Manual, fourth edition, section 3).
+-- Objects and classes, and the part that was read of one whose body is open (Designer's Manual, fourth edition, section 3).
 use Rattle.std.specs.Prelude.{ℕ, ◌+◌, ◌*◌, List, [], ◌∷◌, ◌++◌, ◌==◌, ◌||◌, Bool, true, false, Option, Some, None, length, nat_lt}
 use Rattle.std.specs.Prelude.{slice_set, if◌then◌else◌}
 use Rattle.inf_properties.specs.declared.sizes.Owner.{Owner}
@@ -18,13 +18,13 @@ abbrev pub has_number : ℕ → List ℕ → Bool
 has_number number [] = false
 has_number number (n ∷ numbers) = n == number || has_number number numbers
 
--- those of a class that are new behind others and behind the class itself
+-- those classes of class `number` that are neither in the list `own` nor the class itself
 abbrev pub new_classes : List ℕ → ℕ → List ℕ → List ℕ
 new_classes own number [] = []
 new_classes own number (n ∷ classes) =
     if n == number || has_number n own then new_classes own number classes else n ∷ new_classes own number classes
 
--- an object's classes behind one more: the class, then those of its classes that are not there yet
+-- an object's list of classes behind one more: the class, then those of its classes that are not in the list yet
 abbrev pub joined_classes : List ℕ → ℕ → List ℕ → List ℕ
 joined_classes own number classes = own ++ number ∷ [] ++ new_classes own number classes
 
@@ -44,15 +44,15 @@ begun owner parent arrows name =
           owner;
     }
 
--- what was read where no body is open
+-- the body where none is open
 abbrev pub nothing_read : Body
 nothing_read = begun owner.Nothing 0 0 []
 
--- `has` gives an attribute, or takes it away
+-- the body where `has` gives an attribute, or takes it away
 abbrev pub with_said : ℕ → Bool → Body → Body
 with_said number is_given body = record body { said = slice_set body.said number (Some is_given) }
 
--- a class is named
+-- the body with one more class
 abbrev pub with_joined_class : ℕ → Object → Body → Body
 with_joined_class number class body =
     record body {
@@ -67,14 +67,14 @@ is_lost owner.Object = false
 is_lost owner.Class = false
 is_lost owner.Nothing = true
 
--- a class is passed over that the body has already; a body that belongs to nothing takes none
+-- tells whether a class is passed over: the body has it already, or belongs to nothing
 abbrev pub is_passed : ℕ → Body → Bool
 is_passed number body = is_lost body.properties.owner || has_number number body.classes
 
 abbrev pub with_named_class : ℕ → Object → Body → Body
 with_named_class number class body = if is_passed number body then body else with_joined_class number class body
 
--- the object, if the body ended here
+-- the object that the body is if it ends here
 abbrev pub ended : Body → Object
 ended body = record {
   owner = body.properties.owner;
@@ -86,23 +86,23 @@ ended body = record {
   properties = all body.properties;
 }
 
--- What an object needs of the bytes that there may be.
+-- The bytes and the later numbers of an object, as they are counted against the room.
 
--- the list of classes in a property table
+-- the number of bytes of the list of classes in a property table
 abbrev pub list_bytes : ℕ → ℕ
 list_bytes count = if count == 0 then 0 else if count == 1 then 3 else 2 + 2 * count
 
--- its short name with a byte before it and a 0 behind the properties, and the list of its classes
+-- the number of bytes beside the properties: the short name with a byte before it, a 0 behind the properties, and the list of classes
 abbrev pub head_bytes : Owner → ℕ → ℕ → ℕ
 head_bytes owner.Object name classes = 2 + name + list_bytes classes
 head_bytes owner.Class name classes = 2 + name
 head_bytes owner.Nothing name classes = 0
 
--- with all that it has of properties; a class counts two bytes for each value that it holds
+-- the number of bytes with all properties; a class counts two bytes for each value that it holds
 abbrev pub object_bytes : Object → ℕ
 object_bytes o = head_bytes o.owner (length o.name) (length o.classes) + table_bytes o.owner o.properties
 
--- how many of the numbers in it are known later: the address of its table, and those among its values
+-- the number of values that are known later: the address of the table, and those among the values of properties
 abbrev pub head_fixups : Owner → ℕ
 head_fixups owner.Object = 1
 head_fixups owner.Class = 1
@@ -111,9 +111,9 @@ head_fixups owner.Nothing = 0
 abbrev pub object_fixups : Object → ℕ
 object_fixups o = head_fixups o.owner + (with_table (total o.owner o.properties)).fixups
 
--- Why a class is refused.
+-- The faults for which a class is refused.
 
--- the room for properties beside a class list of so many
+-- the room for the properties of a body whose list has this number of classes
 abbrev pub room_with : ℕ → Room → Body → Room
 room_with classes room body = record room { others = room.others + head_bytes body.properties.owner (length body.name) classes }
 

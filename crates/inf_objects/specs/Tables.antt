@@ -6,9 +6,9 @@ use Rattle.inf_area.specs.declared.targets.AreaName.TheVariants as area_name
 use Rattle.inf_area.specs.declared.targets.Target.TheVariants as target
 use Rattle.inf_area.specs.declared.targets.Value.{Value}
 use Rattle.inf_area.specs.declared.targets.Value.TheVariants as value
-use Rattle.inf_cells.specs.Cells.{values_cells, word_cells}
-use Rattle.inf_cells.specs.declared.cells.Cell.{Cell}
-use Rattle.inf_cells.specs.declared.cells.Cell.TheVariants as cell
+use Rattle.inf_area.specs.Cells.{values_cells, word_cells}
+use Rattle.inf_area.specs.declared.cells.Cell.{Cell}
+use Rattle.inf_area.specs.declared.cells.Cell.TheVariants as cell
 use Rattle.inf_properties.specs.declared.values.Property.{Property}
 use Rattle.inf_properties.specs.declared.sizes.Owner.{Owner}
 use Rattle.inf_properties.specs.declared.sizes.Owner.TheVariants as owner
@@ -24,14 +24,14 @@ byte_cells (b ∷ bytes) = cell.Byte b ∷ byte_cells bytes
 abbrev pub name_cells : List ℕ → List Cell
 name_cells name = cell.Byte (length name / 2 % 256) ∷ byte_cells name
 
--- a property without values has one 0
+-- the values that are written of a property: a single 0 where it has none
 abbrev pub shown : List Value → List Value
 shown [] = value.Known 0 ∷ []
 shown (v ∷ values) = v ∷ values
 
--- Properties that are declared
+-- Declared properties
 
--- one byte before a single word, two before more; a length of 64 bytes is told as 0 (section 12.4.2)
+-- one size byte before a single word, two before more; a length of 64 bytes is written as 0 (section 12.4.2)
 abbrev pub size_cells : ℕ → ℕ → List Cell
 size_cells number count =
     if nat_le count 1 then cell.Byte (64 + number) ∷ [] else cell.Byte (128 + number) ∷ cell.Byte (128 + 2 * count % 64) ∷ []
@@ -43,12 +43,12 @@ abbrev pub rows_cells : List Property → List Cell
 rows_cells [] = []
 rows_cells (p ∷ rows) = row_cells p ++ rows_cells rows
 
--- the properties with numbers below one, in falling order of number
+-- the properties with numbers below the given one, in falling order of number
 abbrev pub falling : ℕ → List Property → List Property
 falling zero properties = []
 falling (suc number) properties = option_to_list (found number properties) ++ falling number properties
 
--- those of a property table
+-- the declared properties, in falling order of number
 unfoldable pub all_falling : List Property → List Property
 all_falling properties = falling 64 properties
 
@@ -77,7 +77,7 @@ address_rows part properties =
           (target.Part area_name.IndividualTables part) ∷ [];
     } ∷ [] else []
 
--- all that stands in the property table of an object with a number below by one; a class has nothing there
+-- all properties in the property table of the object with number `part + 1`; a class has none there
 abbrev pub rows_by : Owner → ℕ → Object → List Property
 rows_by owner.Object part o = class_rows o.classes ++ address_rows part o.properties ++ o.properties
 rows_by owner.Class part o = []
@@ -86,11 +86,11 @@ rows_by owner.Nothing part o = []
 abbrev pub rows_of : ℕ → Object → List Property
 rows_of part o = rows_by o.owner part o
 
--- the short name, the properties in falling order, and a 0
+-- the cells of a property table: the short name, the properties in falling order, and a 0
 abbrev pub table_cells : ℕ → Object → List Cell
 table_cells part o = name_cells o.name ++ rows_cells (all_falling (rows_of part o)) ++ cell.Byte 0 ∷ []
 
--- Individual properties, in order: the number, modulo 65536, the length in bytes, the values; then a 0 in two bytes
+-- Individual properties, in order: the number modulo 65536, the length in bytes, and the values; then a 0 in two bytes
 
 abbrev pub individual_row_cells : Property → List Cell
 individual_row_cells p =
@@ -108,7 +108,7 @@ individual_table_by owner.Nothing properties = []
 abbrev pub individual_table_cells : Object → List Cell
 individual_table_cells o = individual_table_by o.owner o.properties
 
--- what an object has of a number, by this number
+-- the property that an object has of `number`, if any
 abbrev pub rows_for : ℕ → Object → ℕ → List Property
 rows_for part o number =
     if number == 2 then class_rows o.classes

@@ -1,14 +1,14 @@
-//! Attributes: for each of the 48 whether an object has it.
+//! The 48 attributes, each of which an object has or has not.
 ghost use Rattle.std.specs.Prelude.{◌≡◌, ◌+◌, ◌≤◌, ◌++◌, length, OnOk, if◌then◌else◌, false, slice_index_or};
 ghost use Rattle.inf_objects.specs.Attributes.{attributes_by, attribute_cells, flag_byte, said_or, together};
 
-use inf_cells::Cells;
+use inf_area::Cells;
 use std::alloc::AllocError;
 
-/// How many attributes there are.
+/// The number of attributes.
 pub const ATTRIBUTES: usize = 48;
 
-/// Adds those of a class to those of others.
+/// Adds the attributes of a class to those of other classes.
 pub(crate) fn join(above: &mut [bool; 48], class: &[bool; 48])
     ensures { above.new ≡ together above.old class.now }
 {
@@ -17,7 +17,7 @@ pub(crate) fn join(above: &mut [bool; 48], class: &[bool; 48])
     }
 }
 
-/// What a body says of an attribute counts, and else whether one of its classes has it.
+/// Returns whether an object has an attribute: as its body `said`, or, where it said nothing, as its classes have it (`above`).
 fn said_or(said: Option<bool>, above: bool) -> bool
     ensures { result ≡ said_or said above }
 {
@@ -27,7 +27,7 @@ fn said_or(said: Option<bool>, above: bool) -> bool
     }
 }
 
-/// The attributes of an object: those of its classes together, but for those of which its body says whether it has them.
+/// Returns the attributes of an object: each as its body `said`, or, where it said nothing, as `above`, its classes together, has it.
 pub(crate) fn attributes_by(above: &[bool; 48], said: &[Option<bool>; 48]) -> [bool; 48]
     ensures { result ≡ attributes_by above.now said.now }
 {
@@ -38,7 +38,7 @@ pub(crate) fn attributes_by(above: &[bool; 48], said: &[Option<bool>; 48]) -> [b
     all
 }
 
-/// A bit, if it is set.
+/// Returns `bit` where `flag` is set, and else 0.
 fn weight(flag: bool, bit: u8) -> u8
     ensures value { result ≡ (if flag then bit else 0) }
     ensures within { result ≤ bit }
@@ -46,7 +46,7 @@ fn weight(flag: bool, bit: u8) -> u8
     if flag { bit } else { 0 }
 }
 
-/// Eight attributes as a byte, the first as its top bit.
+/// Returns eight attributes from `first` on as a byte, the first as its top bit.
 #[tactic(auto, unfolding(crate::specs::Attributes::flag_byte))]
 fn flag_byte(attributes: &[bool; 48], first: usize) -> u8
     requires { first + 8 ≤ 48 }
@@ -62,7 +62,7 @@ fn flag_byte(attributes: &[bool; 48], first: usize) -> u8
         + weight(attributes[first + 7], 1)
 }
 
-/// The six bytes of an object's attributes, behind other cells.
+/// Appends the six bytes of an object's attributes to `cells`.
 #[tactic(auto, unfolding(crate::specs::Attributes::attribute_cells))]
 pub fn add_attributes(cells: &mut Cells, attributes: &[bool; 48]) -> Result<(), AllocError>
     ensures { OnOk result (cells.new ≡ cells.old ++ attribute_cells attributes.now) }

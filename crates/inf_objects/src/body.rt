@@ -1,4 +1,4 @@
-//! What was read of an object or a class.
+//! The part of an object or a class that was read so far.
 ghost use Rattle.std.specs.Prelude.{◌≡◌, ◌+◌, ◌<◌, ◌≤◌, ◌^◌, IfOk, OnOk, OnErr, MatchResult, None, Some, length};
 ghost use Rattle.inf_objects.specs.Objects.{begun, ended, head_bytes, is_passed, join_fault, list_bytes, nothing_read, object_bytes};
 ghost use Rattle.inf_objects.specs.Objects.{object_fixups, with_named_class, with_said};
@@ -10,25 +10,25 @@ use inf_properties::{GiveFault, OpenProperties, Owner, Room};
 use std::alloc::{AllocError, Global};
 use std::mem;
 
-/// What was read of an object or a class, from its header on. Its properties tell whose they are: one whose header was in error is
-/// nothing.
+/// The part of an object or a class that was read so far, from its header on. Its properties hold the owner, that is whether this
+/// is an object, a class, or nothing because its header was in error.
 #[derive(Drop)]
 pub struct Body {
-    /// The number of its parent; 0 is none.
+    /// The number of the parent; 0 where there is none.
     pub parent: usize,
-    /// By how many arrows its header says where it hangs.
+    /// The number of arrows in the header, by which it says where the object hangs in the tree.
     pub arrows: usize,
     pub name: ShortName,
-    /// For each attribute what `has` said of it last, if anything.
+    /// For each attribute, whether `has` gave it or took it away last; `None` where `has` said nothing of it.
     pub said: [Option<bool>; 48],
-    /// The attributes of its classes together.
+    /// The attributes of all its classes together.
     pub above: [bool; 48],
-    /// Those that it named, each followed by those of its classes that were not there yet.
+    /// The classes that the body named, each followed by those of its classes that were not in the list yet.
     pub classes: ClassNumbers,
     pub properties: OpenProperties,
 }
 
-/// The bytes of the list of classes in a property table.
+/// Returns the number of bytes that a list of `count` classes takes in a property table.
 pub(crate) fn list_bytes(count: usize) -> usize
     requires { count ≤ 32 }
     ensures value { result ≡ list_bytes count }
@@ -41,7 +41,8 @@ pub(crate) fn list_bytes(count: usize) -> usize
     }
 }
 
-/// The bytes that an object with a short name of so many bytes and so many classes has beside its properties.
+/// Returns the number of bytes that an `owner` takes beside its properties, where its short name has `name` bytes and it has
+/// `classes` classes.
 fn head_bytes(owner: Owner, name: usize, classes: usize) -> usize
     requires name { name < 2 ^ 63 }
     requires classes { classes ≤ 32 }
@@ -56,7 +57,7 @@ fn head_bytes(owner: Owner, name: usize, classes: usize) -> usize
 }
 
 impl Body {
-    /// What was read where no body is open. It takes no memory.
+    /// Returns the body where none is open: nothing was read. It takes no memory.
     #[tactic(auto, unfolding(crate::specs::Attributes::nothing_said, crate::specs::Attributes::no_attributes))]
     pub fn new(alloc: Global) -> Body
         ensures { result ≡ nothing_read }
@@ -72,7 +73,7 @@ impl Body {
         }
     }
 
-    /// A body begins behind its header.
+    /// Begins a body behind its header, which says the owner, the number of the parent, the arrows and the short name.
     #[tactic(auto, unfolding(crate::specs::Attributes::nothing_said, crate::specs::Attributes::no_attributes))]
     pub fn begin(
         &mut self,
@@ -93,7 +94,7 @@ impl Body {
         self.properties.open(owner);
     }
 
-    /// The bytes that there would be beside its properties if the body ended here.
+    /// Returns the number of bytes that the object would take beside its properties if the body ended here.
     pub fn head_bytes(&self) -> usize
         ensures value { result ≡ head_bytes self.now.properties.owner (length self.now.name) (length self.now.classes) }
         ensures small { result < 2 ^ 63 + 68 }
@@ -102,7 +103,7 @@ impl Body {
         head_bytes(self.properties.owner(), name, classes)
     }
 
-    /// The bytes that its object would have if the body ended here.
+    /// Returns the number of bytes that the object would take if the body ended here.
     pub fn bytes(&self) -> usize
         ensures value { result ≡ object_bytes (ended self.now) }
         ensures small { result < 2 ^ 63 + 2 ^ 34 }
@@ -110,7 +111,7 @@ impl Body {
         self.head_bytes() + self.properties.size().bytes
     }
 
-    /// How many of the numbers in it would be known later.
+    /// Returns the number of values of the object that would be known only later if the body ended here.
     pub fn fixups(&self) -> usize
         ensures value { result ≡ object_fixups (ended self.now) }
         ensures small { result < 2 ^ 34 }
@@ -122,7 +123,7 @@ impl Body {
         head + self.properties.size().fixups
     }
 
-    /// `has` gives an attribute, one of the 48, or takes it away.
+    /// Notes that `has` gives attribute `number`, one of the 48, or takes it away.
     pub fn set_attribute(&mut self, number: usize, is_given: bool)
         requires { number < 48 }
         ensures { self.new ≡ with_said number is_given self.old }
@@ -130,11 +131,11 @@ impl Body {
         self.said[number] = Some(is_given);
     }
 
-    /// A class is named, which has this number. One that the body has already is passed over; a body that belongs to nothing takes
-    /// none. `room` is what there may be beside the body.
+    /// Adds the class with this `number`, which the body names. A class that the body has already is passed over, and a body that
+    /// belongs to nothing takes none. `room` says how many bytes there may be, and how many are used outside of the body.
     ///
-    /// The lists are made first. Then it is refused where the list of classes or a property would have more than 32 values, then where
-    /// there is no room; all then stays as it was.
+    /// The new lists are made first. Then the class is refused where the list of classes or a property would have more than 32
+    /// values, and then where there is no room for it. Where it is refused the body stays as it was.
     pub fn name_class(
         &mut self,
         alloc: Global,
@@ -164,7 +165,7 @@ impl Body {
         Ok(())
     }
 
-    /// The body ends: all that its object is. What is read next begins with nothing. Where no memory is left the body stays as it was.
+    /// Ends the body and returns its object; then nothing is read. Where no memory is left the body stays as it was.
     pub fn end(&mut self, alloc: Global) -> Result<Object, AllocError>
         ensures object { IfOk result (λ object. object ≡ ended self.old) }
         ensures ok { OnOk result (self.new ≡ nothing_read) }

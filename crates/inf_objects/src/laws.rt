@@ -1,4 +1,4 @@
-//! What an author and an interpreter may rely on.
+//! Laws about tables, tree and attributes, on which an author and an interpreter may rely.
 ghost use Rattle.std.specs.Prelude.{◌≡◌, ◌+◌, ◌-◌, ◌*◌, ◌<◌, ◌≤◌, ◌==◌, ℕ, List, Bool, ◌++◌, count_by, fold, length, map, slice_index_or};
 ghost use Rattle.std.specs.Prelude.{slice_set, Some, if◌then◌else◌};
 ghost use Rattle.inf_area.specs.declared.targets.Target.{Target};
@@ -10,9 +10,9 @@ ghost use Rattle.inf_objects.specs.Tree.{AreRisingFrom, children_of, link_at, li
 
 use crate::objects::Object;
 
-/// What an interpreter reads from the property table of an object, once what is known later is put in, are the properties of its table
-/// with their values, in falling order of number: of each number what the object has of it. Its short name has an even number of
-/// bytes, and at most 255 words.
+/// Shows that an interpreter reads from the property table of an object, once each value that is known later is put in, the
+/// object's properties with their values, in falling order of number: for each number the property that the object has of it. The
+/// short name has an even number of bytes, and at most 255 words.
 pub fn table_as_read(object: &Object, part: usize, words: usize)
     requires name { length object.now.name ≡ 2 * words }
     requires few { words < 256 }
@@ -26,8 +26,8 @@ pub fn table_as_read(object: &Object, part: usize, words: usize)
     let _classes = object.classes.as_slice();
 }
 
-/// The tree: below each object an interpreter that goes by children and siblings finds those whose parent it is, in rising order of
-/// their numbers; and an object is found once below its parent, and below no other.
+/// Shows that an interpreter that goes by children and siblings finds below each object those objects whose parent it is, in
+/// rising order of their numbers; and that an object is found once below its parent, and below no other.
 pub fn tree_as_walked()
     ensures walked { (parents : List ℕ) (number : ℕ) → number < length parents
         → walked (length parents) (links_of parents) (link_at (links_of parents) number).child ≡ children_of (number + 1) parents }
@@ -37,7 +37,7 @@ pub fn tree_as_walked()
         (if slice_index_or parents number 0 == parent then 1 else 0) }
 {}
 
-/// The attributes of an object are those of its classes together, and then what its body says of one after another.
+/// Shows that the attributes of an object are those of its classes together, changed by each `has` of its body, one after another.
 pub fn attributes_in_order()
     ensures { (above : List Bool) (has : List (ℕ × Bool)) → length above ≡ 48
         → attributes_by above (fold (λ said h. slice_set said h.0 (Some h.1)) nothing_said has)

@@ -1,8 +1,8 @@
-//! Objects and classes of a story: what is read of one, and what it becomes in the tables (Inform Designer's Manual, fourth edition,
-//! section 3; Z-Machine Standard 1.1, section 12).
+//! Objects and classes of a story, as they are read, and as they are written in the tables (Inform Designer's Manual, fourth
+//! edition, section 3; Z-Machine Standard 1.1, section 12).
 //!
-//! A `Body` is what was read of an object or a class so far; where it ends it gives an `Object`. `links` makes the tree of objects
-//! from their parents, and the other functions put the parts of the tables behind cells.
+//! A `Body` is the part of an object or a class that was read so far; where it ends it gives an `Object`. `links` makes the tree
+//! of objects from their parents, and the other functions append the parts of the tables to cells.
 #![tactic(auto)]
 
 mod attributes;

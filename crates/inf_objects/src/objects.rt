@@ -25,14 +25,14 @@ impl Model for ShortName {
 }
 
 impl ShortName {
-    /// The name that a packed text is.
+    /// Returns the short name with the bytes of a packed text.
     pub fn new(bytes: Vec<u8>) -> ShortName
         ensures { result ≡ bytes.items }
     {
         ShortName { bytes }
     }
 
-    /// A name of no bytes. It takes no memory.
+    /// Returns the name of no bytes, which takes no memory.
     pub fn empty(alloc: Global) -> ShortName
         ensures { result ≡ [] }
     {
@@ -41,7 +41,7 @@ impl ShortName {
         }
     }
 
-    /// Its bytes.
+    /// Returns the bytes of the name.
     pub fn as_slice(&self) -> &[u8]
         ensures value { result.now ≡ self.now }
         ensures small { length result.now < 2 ^ 63 }
@@ -66,7 +66,7 @@ impl Model for ClassNumbers {
     ghost invariant = { λ numbers. length numbers.list.items ≤ 32 };
 }
 
-/// Whether a number is among some.
+/// Returns whether `number` is among `numbers`.
 fn has_number(numbers: &[usize], number: usize) -> bool
     ensures { result ≡ has_number number numbers.now }
 {
@@ -79,7 +79,7 @@ fn has_number(numbers: &[usize], number: usize) -> bool
 }
 
 impl ClassNumbers {
-    /// No classes. It takes no memory.
+    /// Returns the list of no classes, which takes no memory.
     pub fn new(alloc: Global) -> ClassNumbers
         ensures { result ≡ [] }
     {
@@ -88,7 +88,7 @@ impl ClassNumbers {
         }
     }
 
-    /// The numbers, in order.
+    /// Returns the numbers of the classes, in order.
     pub fn as_slice(&self) -> &[usize]
         ensures value { result.now ≡ self.now }
         ensures few { length result.now ≤ 32 }
@@ -96,15 +96,15 @@ impl ClassNumbers {
         self.list.as_slice()
     }
 
-    /// Whether a class is among them.
+    /// Returns whether class `number` is in the list.
     pub fn has(&self, number: usize) -> bool
         ensures { result ≡ has_number number self.now }
     {
         has_number(&self.list, number)
     }
 
-    /// These, then a class, then those of its classes that are not there yet. The list is made first; it is refused where there would be
-    /// more than 32.
+    /// Returns these classes, then class `number`, then those of its `classes` that are not in the list yet. The list is made
+    /// first, which may fail for want of memory; then it is refused as too long where it has more than 32 classes.
     pub(crate) fn joined(
         &self,
         alloc: Global,
@@ -129,16 +129,16 @@ impl ClassNumbers {
     }
 }
 
-/// An object or a class of the source, as it is in the end.
+/// An object or a class of the source, once its body has ended.
 #[derive(Debug, Drop)]
 pub struct Object {
-    /// What it is: an object or a class.
+    /// Whether this is an object or a class.
     pub owner: Owner,
-    /// The number of its parent; 0 is none.
+    /// The number of the parent; 0 where there is none.
     pub parent: usize,
-    /// By how many arrows its header says where it hangs.
+    /// The number of arrows in the header, by which it says where the object hangs in the tree.
     pub arrows: usize,
-    /// For each attribute whether it has it.
+    /// Whether the object has each of the 48 attributes.
     pub attributes: [bool; 48],
     pub name: ShortName,
     pub classes: ClassNumbers,

@@ -1,6 +1,6 @@
-//! How much of the areas an object needs.
+//! The bytes that an object needs in the areas of tables.
 ghost use Rattle.std.specs.Prelude.{◌≡◌, ℕ, ◌+◌, ◌<◌, ◌≤◌, ◌^◌, length, true, false};
-ghost use Rattle.inf_cells.specs.Cells.{bytes_of, later_count};
+ghost use Rattle.inf_area.specs.Cells.{bytes_of, later_count};
 ghost use Rattle.inf_properties.specs.Sizes.{are_short, bytes_of as property_bytes};
 ghost use Rattle.inf_properties.specs.declared.sizes.Owner.TheVariants as owner;
 ghost use Rattle.inf_objects.specs.Measures.{CountedBy, bare_part, individual_table_part, kind_part, measured, no_part, parts_of};
@@ -13,26 +13,26 @@ use crate::objects::Object;
 use crate::tables::{has_individual, is_individual};
 use inf_properties::{Owner, Property};
 
-/// How much of an area something needs.
+/// The part of an area that something needs.
 #[derive(Clone, Copy, Debug, PartialEq, Eq)]
 pub struct Part {
     pub bytes: usize,
-    /// How many of the numbers in them are known later.
+    /// The number of values in these bytes that are known only later.
     pub later: usize,
 }
 
-/// How much an object needs of the areas of property tables and of individual tables.
+/// The parts that an object needs of the areas of property tables and of individual tables.
 #[derive(Clone, Copy, Debug, PartialEq, Eq)]
 pub struct Measure {
     pub table: Part,
     pub individual_table: Part,
 }
 
-/// Nothing.
+/// The part of no bytes.
 const NO_PART: Part = Part { bytes: 0, later: 0 };
 
 impl Part {
-    /// With more.
+    /// Returns both parts together.
     fn plus(self, more: Part) -> Part
         requires bytes { self.bytes + more.bytes < 2 ^ 34 }
         requires later { self.later + more.later < 2 ^ 34 }
@@ -46,7 +46,8 @@ impl Part {
     }
 }
 
-/// What a property needs, if it is individual as asked, or declared.
+/// Returns the part that `property` needs where its kind is asked for (individual, or else declared), and no part where it is of
+/// the other kind.
 fn kind_part(property: &Property, individual: bool) -> Part
     requires { length property.now.values ≤ 32 }
     ensures { result ≡ kind_part individual property.now }
@@ -61,7 +62,7 @@ fn kind_part(property: &Property, individual: bool) -> Part
     }
 }
 
-/// What some properties need of a kind.
+/// Returns the part that those of `properties` need that are of one kind: individual, or else declared.
 fn parts_of(properties: &[Property], individual: bool) -> Part
     requires short { are_short properties.now ≡ true }
     requires small { property_bytes owner.Object properties.now < 2 ^ 34 }
@@ -76,7 +77,7 @@ fn parts_of(properties: &[Property], individual: bool) -> Part
     all
 }
 
-/// What an object needs in a property table beside its common properties.
+/// Returns the part that an object needs in a property table, where its declared properties need the part `common`.
 fn table_part(object: &Object, common: Part) -> Part
     requires name { length object.now.name < 2 ^ 62 }
     requires bytes { common.bytes < 2 ^ 34 }
@@ -96,7 +97,7 @@ fn table_part(object: &Object, common: Part) -> Part
     }
 }
 
-/// What an object needs in an individual table, where its individual properties need so much.
+/// Returns the part that an object needs in an individual table, where its individual properties need the part `individual`.
 fn individual_table_part(object: &Object, individual: Part) -> Part
     requires bytes { individual.bytes < 2 ^ 34 }
     requires value { individual ≡ parts_of true object.now.properties }
@@ -111,7 +112,7 @@ fn individual_table_part(object: &Object, individual: Part) -> Part
     }
 }
 
-/// How much of the areas an object needs: as much as is written of it, and as it counts.
+/// Returns the parts that an object needs of the areas: exactly the bytes that are written of it, and those that it counts.
 pub fn measured(object: &Object) -> Measure
     requires { object_bytes object.now < 2 ^ 34 }
     ensures value { result ≡ measured object.now }
@@ -124,7 +125,7 @@ pub fn measured(object: &Object) -> Measure
     measure_by(object, object.properties.as_slice())
 }
 
-/// How much of the areas an object with these properties needs.
+/// Returns the parts that an object with these properties needs of the areas.
 fn measure_by(object: &Object, properties: &[Property]) -> Measure
     requires small { object_bytes object.now < 2 ^ 34 }
     requires properties { properties.now ≡ object.now.properties }

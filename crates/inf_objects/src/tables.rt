@@ -1,6 +1,6 @@
 //! Property tables and individual tables, as cells.
 ghost use Rattle.std.specs.Prelude.{◌≡◌, ◌+◌, ◌<◌, ◌≤◌, ◌++◌, OnOk, length, true};
-ghost use Rattle.inf_cells.specs.Cells.{values_cells};
+ghost use Rattle.inf_area.specs.Cells.{values_cells};
 ghost use Rattle.inf_properties.specs.Places.{AreAt};
 ghost use Rattle.inf_properties.specs.Properties.{AreFree, found};
 ghost use Rattle.inf_properties.specs.Sizes.{are_short};
@@ -9,28 +9,27 @@ ghost use Rattle.inf_objects.specs.Tables.{individual_row_cells, individual_rows
 ghost use Rattle.inf_objects.specs.Tables.{row_cells, rows_cells, rows_for, rows_of, shown, size_cells, table_cells};
 
 use crate::objects::Object;
-use inf_area::{AreaName, Target, Value};
-use inf_cells::Cells;
+use inf_area::{AreaName, Cells, Target, Value};
 use inf_properties::{Owner, Property, PropertyIndex};
 use std::alloc::AllocError;
 
-/// The number below which properties are declared, and from which on they are individual.
+/// The first number of an individual property; declared properties have the numbers below it.
 const FIRST_INDIVIDUAL: usize = 64;
 
-/// The list of an object's classes.
+/// The number of the property that lists an object's classes.
 const CLASSES: usize = 2;
 
-/// The address of an object's individual table.
+/// The number of the property that has the address of an object's individual table.
 const ADDRESS: usize = 3;
 
-/// Whether a property is individual.
+/// Returns whether a property is individual.
 pub(crate) fn is_individual(property: &Property) -> bool
     ensures { result ≡ is_individual property.now }
 {
     property.number >= FIRST_INDIVIDUAL
 }
 
-/// Whether one of some properties is.
+/// Returns whether one of the properties is individual.
 pub(crate) fn has_individual(properties: &[Property]) -> bool
     ensures { result ≡ has_individual properties.now }
 {
@@ -42,7 +41,7 @@ pub(crate) fn has_individual(properties: &[Property]) -> bool
     false
 }
 
-/// Bytes, behind other cells.
+/// Appends bytes to `cells`.
 fn add_bytes(cells: &mut Cells, bytes: &[u8]) -> Result<(), AllocError>
     ensures { OnOk result (cells.new ≡ cells.old ++ byte_cells bytes.now) }
 {
@@ -52,7 +51,7 @@ fn add_bytes(cells: &mut Cells, bytes: &[u8]) -> Result<(), AllocError>
     Ok(())
 }
 
-/// A short name with its length in words, behind other cells.
+/// Appends a short name to `cells`, with its length in words before it.
 pub fn add_name(cells: &mut Cells, name: &[u8]) -> Result<(), AllocError>
     ensures { OnOk result (cells.new ≡ cells.old ++ name_cells name.now) }
 {
@@ -60,7 +59,7 @@ pub fn add_name(cells: &mut Cells, name: &[u8]) -> Result<(), AllocError>
     add_bytes(cells, name)
 }
 
-/// The number of a property and the length of so many values, behind other cells.
+/// Appends the number of a property and the length of its `count` values to `cells`.
 fn add_size(cells: &mut Cells, number: usize, count: usize) -> Result<(), AllocError>
     requires number { number < 64 }
     requires count { count ≤ 32 }
@@ -74,7 +73,7 @@ fn add_size(cells: &mut Cells, number: usize, count: usize) -> Result<(), AllocE
     }
 }
 
-/// Values, behind other cells; one 0 where there are none.
+/// Appends values to `cells`, or a single 0 where there are none.
 fn add_values(cells: &mut Cells, values: &[Value]) -> Result<(), AllocError>
     ensures { OnOk result (cells.new ≡ cells.old ++ values_cells (shown values.now)) }
 {
@@ -85,7 +84,7 @@ fn add_values(cells: &mut Cells, values: &[Value]) -> Result<(), AllocError>
     }
 }
 
-/// A property, behind other cells.
+/// Appends a declared property to `cells`.
 fn add_property(cells: &mut Cells, property: &Property) -> Result<(), AllocError>
     requires number { property.now.number < 64 }
     requires count { length property.now.values ≤ 32 }
@@ -96,7 +95,7 @@ fn add_property(cells: &mut Cells, property: &Property) -> Result<(), AllocError
     add_values(cells, values)
 }
 
-/// Numbers as values, behind other cells.
+/// Appends numbers to `cells`, as values.
 fn add_numbers(cells: &mut Cells, numbers: &[usize]) -> Result<(), AllocError>
     ensures { OnOk result (cells.new ≡ cells.old ++ values_cells (class_values numbers.now)) }
 {
@@ -106,7 +105,7 @@ fn add_numbers(cells: &mut Cells, numbers: &[usize]) -> Result<(), AllocError>
     Ok(())
 }
 
-/// The list of classes, if there are any, behind other cells.
+/// Appends the list of classes to `cells`, if there are any.
 fn add_classes(cells: &mut Cells, classes: &[usize]) -> Result<(), AllocError>
     requires { length classes.now ≤ 32 }
     ensures { OnOk result (cells.new ≡ cells.old ++ rows_cells (class_rows classes.now)) }
@@ -118,7 +117,7 @@ fn add_classes(cells: &mut Cells, classes: &[usize]) -> Result<(), AllocError>
     add_numbers(cells, classes)
 }
 
-/// The address of an individual table, if there are individual properties, behind other cells.
+/// Appends the address of an individual table to `cells`, if there are individual properties.
 fn add_address(cells: &mut Cells, part: usize, properties: &[Property]) -> Result<(), AllocError>
     ensures { OnOk result (cells.new ≡ cells.old ++ rows_cells (address_rows part properties.now)) }
 {
@@ -129,7 +128,7 @@ fn add_address(cells: &mut Cells, part: usize, properties: &[Property]) -> Resul
     cells.later(Target::Part(AreaName::IndividualTables, part))
 }
 
-/// What an object has of a number, behind other cells.
+/// Appends to `cells` the property of `object` that has this `number`, if there is one.
 fn add_row(
     cells: &mut Cells,
     index: &PropertyIndex,
@@ -151,7 +150,7 @@ fn add_row(
     }
 }
 
-/// What an object has of the numbers below one, in falling order, behind other cells.
+/// Appends to `cells` the properties of `object` with numbers below `count`, in falling order.
 fn add_rows(
     cells: &mut Cells,
     index: &PropertyIndex,
@@ -173,7 +172,7 @@ fn add_rows(
     Ok(())
 }
 
-/// All that stands in the property table of an object, behind other cells; of a class nothing does.
+/// Appends to `cells` all properties in the property table of an object; a class has none there.
 #[tactic(auto, unfolding(crate::specs::Tables::all_falling))]
 fn add_all_rows(
     cells: &mut Cells,
@@ -190,7 +189,8 @@ fn add_all_rows(
     add_rows(cells, index, part, object, FIRST_INDIVIDUAL)
 }
 
-/// The property table of an object whose number is one more than `part`, behind other cells. The index is made for its properties.
+/// Appends to `cells` the property table of an object whose number is `part + 1`. For this `index` is made anew, for the object's
+/// properties.
 pub fn add_table(
     cells: &mut Cells,
     index: &mut PropertyIndex,
@@ -204,7 +204,7 @@ pub fn add_table(
     cells.byte(0)
 }
 
-/// An individual property, behind other cells.
+/// Appends an individual property to `cells`.
 fn add_individual(cells: &mut Cells, property: &Property) -> Result<(), AllocError>
     ensures { OnOk result (cells.new ≡ cells.old ++ individual_row_cells property.now) }
 {
@@ -215,7 +215,7 @@ fn add_individual(cells: &mut Cells, property: &Property) -> Result<(), AllocErr
     add_values(cells, values)
 }
 
-/// Those of some properties that are individual, behind other cells.
+/// Appends those of `properties` to `cells` that are individual.
 fn add_individuals(cells: &mut Cells, properties: &[Property]) -> Result<(), AllocError>
     ensures { OnOk result (cells.new ≡ cells.old ++ individual_rows_cells properties.now) }
 {
@@ -227,7 +227,7 @@ fn add_individuals(cells: &mut Cells, properties: &[Property]) -> Result<(), All
     Ok(())
 }
 
-/// The individual table of an object, if it has one, behind other cells.
+/// Appends the individual table of an object to `cells`, if it has one.
 pub fn add_individual_table(cells: &mut Cells, object: &Object) -> Result<(), AllocError>
     ensures { OnOk result (cells.new ≡ cells.old ++ individual_table_cells object.now) }
 {

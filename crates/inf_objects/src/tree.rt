@@ -4,15 +4,15 @@ ghost use Rattle.inf_objects.specs.Tree.{AreWithin, linked, links_of};
 
 use std::alloc::{AllocError, Global};
 
-/// The next object with the same parent, and the first one below an object; 0 where there is none.
+/// The next object with the same parent, and the first object below this one; 0 where there is none.
 #[derive(Clone, Copy, Debug, PartialEq, Eq)]
 pub struct Link {
     pub sibling: usize,
     pub child: usize,
 }
 
-/// Siblings and children of objects with these parents, all of whom are among them, numbered from 1; 0 is no parent. Children stand in
-/// order of their numbers.
+/// Returns the sibling and the child of each object, given its parent. All parents are among the objects, which are numbered from
+/// 1; 0 is no parent. The children of an object come in the order of their numbers.
 pub fn links(alloc: Global, parents: &[usize]) -> Result<Vec<Link>, AllocError>
     requires { AreWithin (length parents.now) parents.now }
     ensures { IfOk result (λ links. links.items ≡ links_of parents.now) }
@@ -30,7 +30,7 @@ pub fn links(alloc: Global, parents: &[usize]) -> Result<Vec<Link>, AllocError>
     Ok(links)
 }
 
-/// The object at a place becomes the first below its parent; 0 is none.
+/// Makes the object at `place` the first one below `parent`; where that is 0 nothing changes.
 fn hang(links: &mut Vec<Link>, place: usize, parent: usize)
     requires place { place < length links.old.items }
     requires parent { parent ≤ length links.old.items }

@@ -36,7 +36,7 @@ pub fixups-plain : (bytes : List ℕ) → fixup_count (plain bytes) ≡ 0
 fixups-plain [] = refl
 fixups-plain (byte ∷ bytes) = fixups-plain bytes
 
--- one more operand
+-- The cells of one more operand stand behind those of the operands before.
 pub operands_more : (operands : List Operand) (i : ℕ) (d : Operand) → i < length operands →
     flat_map operand_cells (take (i + 1) operands) ≡ flat_map operand_cells (take i operands) ++ operand_cells (get_or operands i d)
 operands_more operands i d within =

@@ -10,7 +10,7 @@ use Rattle.inf_opcode.specs.Instructions.{operand_cells, store_cells, branch_cel
 use Rattle.inf_opcode.proofs.Growing.{long-append, long-plain, kept-append, kept-plain}
 use Rattle.inf_opcode.proofs.Counting.{length-long, operands_more}
 
--- the bytes of the parts, one behind the other
+-- The bytes of joined parts are those of each, one behind the other.
 pub long-front : (head : List ℕ) (a b c : List Cell) →
     long_bytes (plain head ++ a ++ b ++ c) ≡ head ++ long_bytes a ++ long_bytes b ++ long_bytes c
 long-front head a b c =
@@ -29,7 +29,7 @@ size-front head a b c = omega (
       length (long-plain head),
 )
 
--- an operand and those before it are not longer than all
+-- An operand and those before it are not longer than all operands.
 pub long-within : (operands : List Operand) (i : ℕ) (d : Operand) → i < length operands
     → length (long_bytes (flat_map operand_cells (take i operands))) + length (long_bytes (operand_cells (get_or operands i d))) ≤ length
     (long_bytes (flat_map operand_cells operands))
@@ -43,7 +43,7 @@ long-within operands i d within =
     ∙ ap (λ xs. xs ++ rest) (operands_more operands i d within) in
     omega (arith, ap (λ cs. length (long_bytes cs)) all, length-long (before ++ here) rest, length-long before here)
 
--- one more operand
+-- One more operand adds its bytes.
 pub long-more : (head : List ℕ) (operands : List Operand) (i : ℕ) (d : Operand) → i < length operands
     → (head ++ long_bytes (flat_map operand_cells (take i operands))) ++ long_bytes (operand_cells (get_or operands i d)) ≡ head ++
     long_bytes (flat_map operand_cells (take (i + 1) operands))
@@ -61,7 +61,7 @@ kept-more place operands i d within =
     ap (kept_from place) (operands_more operands i d within)
     ∙ kept-append place (flat_map operand_cells (take i operands)) (operand_cells (get_or operands i d))
 
--- a store variable is a plain byte
+-- Of a store variable, a plain byte, nothing is kept.
 kept-store : (place : ℕ) (store : Option ℕ) → kept_from place (store_cells store) ≡ []
 kept-store place None = refl
 kept-store place (Some number) = refl

@@ -1,4 +1,4 @@
--- What is written while a routine is open, piece by piece.
+-- Writing while a routine is open, piece by piece.
 use Rattle.std.specs.Prelude.{Result, Ok, Err, OnErr}
 use Rattle.std.proofs.Common.{◌≡◌, ℕ, ◌+◌, List, [], ◌∷◌, ◌++◌, length, refl, sym, ◌∙◌, ap, arith, append-nil, append_assoc, length-append}
 use Rattle.std.proofs.lemmas.List.Concat.{flat_map-append}
@@ -29,7 +29,7 @@ kept-append place ((Of what) ∷ xs) ys =
     ap (λ ks. record { place = place; what = what } ∷ ks)
     (kept-append (place + special_size what) xs ys ∙ ap (λ n. kept_from (place + special_size what) xs ++ kept_from n ys) next)
 
--- plain bytes are themselves, and nothing is kept of them
+-- plain bytes are written as themselves, and nothing is kept of them
 pub long-plain : (bytes : List ℕ) → long_bytes (plain bytes) ≡ bytes
 long-plain [] = refl
 long-plain (byte ∷ bytes) = ap (λ xs. byte ∷ xs) (long-plain bytes)
@@ -38,7 +38,7 @@ pub kept-plain : (place : ℕ) (bytes : List ℕ) → kept_from place (plain byt
 kept-plain place [] = refl
 kept-plain place (byte ∷ bytes) = kept-plain (place + 1) bytes
 
--- plain bytes, and one thing
+-- Plain bytes grow what was written, and so does one special part.
 pub grew_plain : (bytes added new_bytes : List ℕ) (kept : List Kept) → new_bytes ≡ bytes ++ added →
     Grew bytes kept (plain added) new_bytes kept
 grew_plain bytes added new_bytes kept e =
@@ -53,7 +53,7 @@ pub grew_special : (bytes new_bytes : List ℕ) (kept new_kept : List Kept) (wha
 grew_special bytes new_bytes kept new_kept what e f =
     record { bytes = e ∙ ap (λ xs. bytes ++ xs) (sym (append-nil (special_bytes what))); kept = f }
 
--- one piece behind the other
+-- A piece written behind another grows what was written by both.
 pub grew_then : {bytes mid new_bytes : List ℕ} {kept mid_kept new_kept : List Kept} {xs ys : List Cell} → Grew bytes kept xs mid mid_kept →
     Grew mid mid_kept ys new_bytes new_kept → Grew bytes kept (xs ++ ys) new_bytes new_kept
 grew_then {bytes = bytes} {mid = mid} {kept = kept} {xs = xs} {ys = ys} first second =
@@ -69,7 +69,7 @@ grew_then {bytes = bytes} {mid = mid} {kept = kept} {xs = xs} {ys = ys} first se
           ∙ ap (λ k. kept ++ k) (sym (kept-append (length bytes) xs ys));
     }
 
--- what was written makes longer
+-- Bytes and kept parts that stay as they were are longer by nothing.
 pub longer_none : (bytes : List ℕ) (kept : List Kept) → Longer bytes kept bytes kept
 longer_none bytes kept = record { added = []; added_kept = []; bytes = sym (append-nil bytes); kept = sym (append-nil kept) }
 
@@ -77,7 +77,7 @@ pub longer_by : (bytes new_bytes added : List ℕ) (kept new_kept added_kept : L
     new_kept ≡ kept ++ added_kept → Longer bytes kept new_bytes new_kept
 longer_by bytes new_bytes added kept new_kept added_kept e f = record { added = added; added_kept = added_kept; bytes = e; kept = f }
 
--- what a refused call leaves, whatever it says
+-- A fact that always holds also holds where a call is refused.
 pub on_err : {T E Q : Type 0} (r : Result T E) → Q → OnErr r Q
 on_err (Ok x) q = tt
 on_err (Err e) q = q

@@ -1,3 +1,4 @@
 pub mod Counting
 pub mod Fronts
 pub mod Growing
+pub mod Named

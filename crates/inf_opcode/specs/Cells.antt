@@ -1,11 +1,11 @@
--- Cells: what the items of a routine are written as while it is open.
+-- Cells, as which the items of a routine are written while it is open.
 use Rattle.std.specs.Prelude.{ℕ, ◌+◌, ◌-◌, Bool, List, [], ◌∷◌, ◌++◌, map, take, drop, if◌then◌else◌}
 use Rattle.std.specs.List.{flat_map}
 use Rattle.inf_opcode.specs.declared.cells.Kept.{Kept}
 use Rattle.inf_opcode.specs.declared.cells.Special.{Special}
 use Rattle.inf_opcode.specs.declared.cells.Special.TheVariants.{Marks, Branches, Jumps, Refers}
 
--- a byte, or something whose bytes are known when the routine is whole
+-- A byte, or a special part, whose bytes are known when the routine is whole.
 pub data Cell : Type 0 where
   Plain : (byte : ℕ) → Cell
   Of : (what : Special) → Cell
@@ -13,14 +13,14 @@ pub data Cell : Type 0 where
 abbrev pub plain : List ℕ → List Cell
 plain bytes = map Plain bytes
 
--- The long sizes in bytes: every branch takes two, and so does what is known later.
+-- Size of a special part in bytes while the routine is open: a branch takes two, and so does a number that is known later.
 abbrev pub special_size : Special → ℕ
 special_size (Marks label) = 0
 special_size (Branches branch) = 2
 special_size (Jumps label) = 2
 special_size (Refers target) = 2
 
--- The bytes while the routine is open: a branch has its sense in the top bit (Z-Machine Standard 1.1, section 4.7), and the rest is zero.
+-- Bytes while the routine is open: a branch has its sense in the top bit (Z-Machine Standard 1.1, section 4.7), and the rest is zero.
 abbrev pub sense_bit : Bool → ℕ
 sense_bit sense = if sense then 128 else 0
 
@@ -37,7 +37,7 @@ cell_bytes (Of what) = special_bytes what
 abbrev pub long_bytes : List Cell → List ℕ
 long_bytes cells = flat_map cell_bytes cells
 
--- how many labels, branches and jumps there are, and how many references
+-- Number of labels, branches and jumps, and number of references.
 abbrev pub label_count : List Cell → ℕ
 label_count [] = 0
 label_count ((Plain byte) ∷ cells) = label_count cells
@@ -54,13 +54,13 @@ fixup_count ((Of (Branches branch)) ∷ cells) = fixup_count cells
 fixup_count ((Of (Jumps label)) ∷ cells) = fixup_count cells
 fixup_count ((Of (Refers target)) ∷ cells) = 1 + fixup_count cells
 
--- what a routine keeps of cells that stand from a place on, all of them long
+-- Special parts of cells that begin at a place and are all long, each with its place.
 abbrev pub kept_from : ℕ → List Cell → List Kept
 kept_from place [] = []
 kept_from place ((Plain byte) ∷ cells) = kept_from (place + 1) cells
 kept_from place ((Of what) ∷ cells) = record { place = place; what = what } ∷ kept_from (place + special_size what) cells
 
--- the cells that bytes from a place on and what is kept of them tell
+-- Cells that bytes from a place on and the special parts kept of them stand for.
 abbrev pub cells_of : ℕ → List Kept → List ℕ → List Cell
 cells_of place [] bytes = plain bytes
 cells_of place (kept ∷ others) bytes =

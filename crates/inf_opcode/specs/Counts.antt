@@ -1,4 +1,4 @@
--- How much cells take.
+-- Counts of the bytes, labels and references that cells take.
 use Rattle.std.specs.Prelude.{List, length}
 use Rattle.inf_opcode.specs.declared.writing.Counts.{Counts}
 use Rattle.inf_opcode.specs.Cells.{Cell, long_bytes, label_count, fixup_count}

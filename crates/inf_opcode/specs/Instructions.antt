@@ -15,7 +15,7 @@ use Rattle.inf_opcode.specs.declared.cells.Special.TheVariants.{Branches, Jumps,
 use Rattle.inf_opcode.specs.Cells.{Cell, Plain, Of, plain}
 use Rattle.inf_area.specs.Words.{word}
 
--- what an instruction is made of
+-- Parts of an instruction.
 pub record Parts : Type 0 where
   pub opcode : Opcode
   pub operands : List Operand
@@ -23,11 +23,11 @@ pub record Parts : Type 0 where
   pub branch : Option Branch
   pub text : List ℕ
 
--- an opcode alone
+-- An opcode without operands, and with nothing behind it.
 abbrev pub bare : Opcode → Parts
 bare opcode = record { opcode = opcode; operands = []; store = None; branch = None; text = [] }
 
--- The bits of an operand's type (section 4.2). A number known later is a large constant.
+-- Bits of the type of an operand (section 4.2). A number that is known later is a large constant.
 abbrev pub type_code : Operand → ℕ
 type_code (Large word) = 0
 type_code (Small byte) = 1
@@ -63,14 +63,14 @@ abbrev pub types_bytes : ℕ → List Operand → List ℕ
 types_bytes most operands =
     if nat_lt 4 most then types_byte operands 0 ∷ types_byte operands 4 ∷ [] else types_byte operands 0 ∷ []
 
--- whether the long form can say these operands: two, of one byte each (section 4.4.2)
+-- Tells whether the long form can express the operands: two, of one byte each (section 4.4.2).
 abbrev pub is_long : List Operand → Bool
 is_long [] = false
 is_long (first ∷ []) = false
 is_long (first ∷ second ∷ []) = is_byte first && is_byte second
 is_long (first ∷ second ∷ third ∷ others) = false
 
--- a bit of the long form
+-- Bit of the long form for the operand at a place: 1 for a variable.
 abbrev pub variable_bit : List Operand → ℕ → ℕ
 variable_bit operands k = if option_map_or is_variable (slice_get operands k) false then 1 else 0
 
@@ -86,7 +86,7 @@ heading_by Extended number types operands = 190 ∷ number ∷ types
 abbrev pub heading : OpcodeRow → List Operand → List ℕ
 heading row operands = heading_by row.count row.number (types_bytes row.most operands) operands
 
--- an operand: bytes, or what is known later
+-- An operand: bytes, or a number that is known later.
 abbrev pub operand_cells : Operand → List Cell
 operand_cells (Large number) = plain (word number)
 operand_cells (Small byte) = Plain byte ∷ []
@@ -113,7 +113,7 @@ front_cells parts =
 abbrev pub instruction_cells : Parts → List Cell
 instruction_cells parts = front_cells parts ++ plain parts.text
 
--- whether bytes are whole words of which only the last has its top bit set (section 3.2)
+-- Tells whether bytes are whole words of which only the last has its top bit set (section 3.2).
 abbrev pub is_text : List ℕ → Bool
 is_text [] = false
 is_text (high ∷ []) = false
@@ -125,7 +125,8 @@ fits_text true text = is_text text
 fits_text false [] = true
 fits_text false (byte ∷ others) = false
 
--- whether there are offsets to labels: one and nothing else where the opcode jumps, and none where it does not
+-- Tells whether the operands have offsets to labels as the opcode wants them: one and nothing else where it jumps, and none where
+-- it does not.
 abbrev pub has_no_offset : List Operand → Bool
 has_no_offset [] = true
 has_no_offset ((Offset label) ∷ others) = false
@@ -136,13 +137,13 @@ fits_jump false operands = has_no_offset operands
 fits_jump true ((Offset label) ∷ []) = true
 fits_jump true operands = false
 
--- whether the first operand is a small constant, where it names a variable
+-- Tells whether the first operand is a small constant, where it names a variable.
 abbrev pub fits_variable : Bool → List Operand → Bool
 fits_variable false operands = true
 fits_variable true ((Small number) ∷ others) = true
 fits_variable true operands = false
 
--- that the parts are those that the instruction set gives the opcode (section 14)
+-- The parts are those that the instruction set gives the opcode (section 14).
 pub record IsProper (parts : Parts) : Type 0 where
   pub enough : (row_of parts.opcode).least ≤ length parts.operands
   pub few : length parts.operands ≤ (row_of parts.opcode).most

@@ -5,3 +5,4 @@ pub mod Instructions
 pub mod Names
 pub mod Opcodes
 pub mod PartsOf
+pub mod Slots

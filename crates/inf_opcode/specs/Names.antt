@@ -116,7 +116,7 @@ name_of PrintUnicode = codes "print_unicode"
 name_of CheckUnicode = codes "check_unicode"
 name_of SetTrueColour = codes "set_true_colour"
 
--- each opcode, by its count of operands and its number
+-- The opcodes, by their classes and numbers.
 unfoldable pub opcodes : List Opcode
 opcodes = Je ∷ Jl ∷ Jg ∷ DecChk ∷ IncChk ∷ Jin ∷ Test ∷ Or ∷ And ∷ TestAttr ∷ SetAttr ∷ ClearAttr ∷ Store ∷ InsertObj ∷ Loadw ∷ Loadb ∷
     GetProp ∷ GetPropAddr ∷ GetNextProp ∷ Add ∷ Sub ∷ Mul ∷ Div ∷ Mod ∷ Call2s ∷ Call2n ∷ SetColour ∷ Throw ∷ Jz ∷ GetSibling ∷ GetChild ∷
@@ -127,10 +127,10 @@ opcodes = Je ∷ Jl ∷ Jg ∷ DecChk ∷ IncChk ∷ Jin ∷ Test ∷ Or ∷ And
     Tokenise ∷ EncodeText ∷ CopyTable ∷ PrintTable ∷ CheckArgCount ∷ Save ∷ Restore ∷ LogShift ∷ ArtShift ∷ SetFont ∷ SaveUndo ∷
     RestoreUndo ∷ PrintUnicode ∷ CheckUnicode ∷ SetTrueColour ∷ []
 
--- whether a name is that of an opcode, in any case
+-- Tells whether a name is that of an opcode, in any case.
 abbrev pub has_name : List ℕ → Opcode → Bool
 has_name name opcode = str_eq_ignore_ascii_case (name_of opcode) name
 
--- the opcode of a name
+-- The opcode of a name, if one has it.
 abbrev pub opcode_named : List ℕ → Option Opcode
 opcode_named name = find (has_name name) opcodes

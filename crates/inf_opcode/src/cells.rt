@@ -1,12 +1,12 @@
-//! What an open routine keeps of the bytes that it wrote.
+//! The parts of an open routine that are no plain bytes.
 
 use crate::instructions::{Branch, Label};
 use inf_area::Target;
 
-/// What stands at a place that is no plain byte.
+/// A part of a routine that is no plain byte.
 #[derive(Clone, Copy, Debug, PartialEq, Eq)]
 pub enum Special {
-    /// A label marks the place. It has no bytes.
+    /// A label that marks the place and takes no bytes.
     Marks(Label),
     /// A branch, of two bytes while the routine is open.
     Branches(Branch),
@@ -16,7 +16,7 @@ pub enum Special {
     Refers(Target),
 }
 
-/// Such a thing with its place in the area.
+/// A special part with its place in the area.
 #[derive(Clone, Copy, Debug, PartialEq, Eq)]
 pub struct Kept {
     pub place: usize,

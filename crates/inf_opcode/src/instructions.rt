@@ -52,14 +52,14 @@ impl Default for Operand {
 
     ghost is_default = { λ operand. operand ≡ Small 0 };
 
-    /// The small constant 0.
+    /// Returns the small constant 0.
     fn default() -> Self {
         Operand::Small(0)
     }
 }
 
 impl Operand {
-    /// The two bits that tell the operand's type.
+    /// Returns the two bits that tell the operand's type.
     pub(crate) fn type_code(self) -> u8
         ensures value { result ≡ type_code self }
         ensures small { result < 3 }
@@ -71,14 +71,14 @@ impl Operand {
         }
     }
 
-    /// Whether the operand takes one byte.
+    /// Returns whether the operand takes one byte.
     pub(crate) fn is_byte(self) -> bool
         ensures { result ≡ is_byte self }
     {
         matches!(self, Operand::Small(_) | Operand::Variable(_))
     }
 
-    /// Whether the operand is a variable.
+    /// Returns whether the operand is a variable.
     pub(crate) fn is_variable(self) -> bool
         ensures { result ≡ is_variable self }
     {
@@ -86,11 +86,11 @@ impl Operand {
     }
 }
 
-/// An instruction with what stands behind its operands.
+/// An instruction: an opcode, its operands, and the parts behind them.
 #[derive(Clone, Copy, Debug)]
 pub struct Instruction<'a> {
     pub opcode: Opcode,
-    /// At most eight.
+    /// At most eight operands.
     pub operands: &'a [Operand],
     /// The number of the variable that takes the result.
     pub store: Option<u8>,
@@ -102,7 +102,7 @@ pub struct Instruction<'a> {
 }
 
 impl<'a> Instruction<'a> {
-    /// An instruction of no operands, with nothing behind it.
+    /// Returns an instruction of `opcode` without operands, and with nothing behind it.
     pub fn bare(opcode: Opcode) -> Self
         ensures { parts_of result ≡ bare opcode }
     {
@@ -115,7 +115,7 @@ impl<'a> Instruction<'a> {
         }
     }
 
-    /// An instruction of some operands, with a variable for its result or none.
+    /// Returns an instruction of `opcode` with `operands`, and with a variable for its result if `store` is one.
     pub fn new(opcode: Opcode, operands: &'a [Operand], store: Option<u8>) -> Self
         ensures { parts_of result ≡ record (bare opcode) { operands = operands.now; store = store } }
     {
@@ -126,7 +126,7 @@ impl<'a> Instruction<'a> {
         }
     }
 
-    /// The instruction with a branch.
+    /// Returns the instruction with `branch`.
     pub fn with_branch(self, branch: Branch) -> Self
         ensures { parts_of result ≡ record (parts_of self.entry) { branch = Some branch } }
     {
@@ -136,7 +136,7 @@ impl<'a> Instruction<'a> {
         }
     }
 
-    /// An instruction of no operands that prints the bytes of a text.
+    /// Returns an instruction of `opcode` without operands, which prints the bytes `text`.
     pub fn with_text(opcode: Opcode, text: &'a [u8]) -> Self
         ensures { parts_of result ≡ record (bare opcode) { text = text.now } }
     {

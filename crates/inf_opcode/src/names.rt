@@ -1,10 +1,12 @@
 //! The names of the opcodes (Z-Machine Standard 1.1, section 14).
-ghost use Rattle.std.specs.Prelude.{◌≡◌};
+ghost use Rattle.std.specs.Prelude.{◌≡◌, slice_get};
 ghost use Rattle.inf_opcode.specs.Names.{name_of, has_name, opcodes, opcode_named};
+ghost use Rattle.inf_opcode.specs.Slots.{if_named};
 
 use crate::opcodes::Opcode;
+use crate::places::place_of;
 
-// Each opcode, by its count of operands and its number.
+// The opcodes, by their classes and numbers.
 const OPCODES: [Opcode; 98] = [
     Opcode::Je,
     Opcode::Jl,
@@ -112,22 +114,41 @@ fn all() -> &'static [Opcode]
     &OPCODES
 }
 
+/// Returns the opcode at `place` of the list, if there is one.
+fn opcode_at(place: u8) -> Option<Opcode>
+    ensures { result ≡ slice_get opcodes place }
+{
+    all().get(place as usize).copied()
+}
+
+/// Returns `opcode`, if there is one and it has `name`, in any case.
+fn if_named(name: &str, opcode: Option<Opcode>) -> Option<Opcode>
+    ensures { result ≡ if_named name.now opcode }
+{
+    match opcode {
+        Some(opcode) if opcode.has_name(name) => Some(opcode),
+        _ => None,
+    }
+}
+
 impl Opcode {
-    /// The opcode of this name, in any case; none where no opcode has it.
+    /// Returns the opcode whose name is `name`, in any case; `None` where no opcode has that name. Only the opcode with the slot of
+    /// `name` is compared.
+    #[tactic(auto, using(crate::proofs::Named::by_slot))]
     pub fn by_name(name: &str) -> Option<Opcode>
         ensures { result ≡ opcode_named name.now }
     {
-        all().iter().copied().find(|opcode| opcode.has_name(name))
+        if_named(name, opcode_at(place_of(name.as_bytes())))
     }
 
-    // Whether this is its name, in any case.
+    // Returns whether `name` is the name of the opcode, in any case.
     fn has_name(self, name: &str) -> bool
         ensures { result ≡ has_name name.now self }
     {
         self.name().eq_ignore_ascii_case(name)
     }
 
-    /// The name in the Z-Machine Standard 1.1, section 14.
+    /// Returns the name of the opcode in the Z-Machine Standard 1.1, section 14.
     pub fn name(self) -> &'static str
         ensures { result.now ≡ name_of self }
     {

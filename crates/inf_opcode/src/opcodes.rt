@@ -1,8 +1,8 @@
-//! The instruction set: each opcode with its number, its operands and what stands behind them.
+//! The instruction set: each opcode with its number, its operands and the parts behind them.
 ghost use Rattle.std.specs.Prelude.{◌≡◌, IsTrue};
 ghost use Rattle.inf_opcode.specs.Opcodes.{row_of, is_encodable, plain, naming, jumping, storing, branching, with_most, with_text, last};
 
-/// How many operands an opcode has, by which its number is told (Z-Machine Standard 1.1, section 4.3).
+/// Class of an opcode by its count of operands; opcodes are numbered within their class (Z-Machine Standard 1.1, section 4.3).
 #[derive(Clone, Copy, Debug, PartialEq, Eq)]
 pub enum OperandCount {
     Zero,
@@ -14,27 +14,27 @@ pub enum OperandCount {
     Extended,
 }
 
-/// What the instruction set says of an opcode (Z-Machine Standard 1.1, section 14).
+/// Row of the instruction set for an opcode (Z-Machine Standard 1.1, section 14).
 #[derive(Clone, Copy, Debug, PartialEq, Eq)]
 pub struct OpcodeRow {
     pub count: OperandCount,
-    /// Its number among the opcodes of that count.
+    /// Number of the opcode among those of its class.
     pub number: u8,
-    /// The fewest operands.
+    /// Fewest operands.
     pub least: u8,
-    /// The most operands. Where there may be more than four, their types take two bytes.
+    /// Most operands. Where there may be more than four, their types take two bytes.
     pub most: u8,
-    /// Whether the first operand names a variable, by its number as a small constant.
+    /// Tells whether the first operand names a variable, by its number as a small constant.
     pub names_variable: bool,
-    /// Whether the one operand is the offset to a label.
+    /// Tells whether the only operand is the offset to a label.
     pub jumps: bool,
-    /// Whether a store variable stands behind the operands.
+    /// Tells whether a store variable stands behind the operands.
     pub stores: bool,
-    /// Whether a branch stands behind them.
+    /// Tells whether a branch stands behind the operands and the store variable.
     pub branches: bool,
-    /// Whether a text stands at the end.
+    /// Tells whether a text stands at the end.
     pub has_text: bool,
-    /// Whether control never goes on to the next instruction.
+    /// Tells whether control never goes on to the next instruction.
     pub is_final: bool,
 }
 
@@ -142,7 +142,7 @@ pub enum Opcode {
 }
 
 impl Opcode {
-    /// The row of the instruction set for this opcode.
+    /// Returns the row of the instruction set for this opcode.
     #[inline(always)]
     pub const fn row(self) -> OpcodeRow
         ensures exact { result ≡ row_of self }

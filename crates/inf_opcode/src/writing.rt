@@ -18,10 +18,10 @@ use arrayvec::ArrayVec;
 use inf_area::{Area, word_bytes};
 use std::alloc::AllocError;
 
-// The most bytes of an instruction without its text: four of a heading, eight operands, a store variable and a branch.
+// Most bytes of an instruction without its text: four of a heading, eight operands, a store variable and a branch.
 const FRONT_MAX: usize = 24;
 
-// The type bits of the operand at `k`, or 3 where there is none.
+// Returns the type bits of the operand at `k`, or 3 where there is none.
 fn type_at(operands: &[Operand], k: usize) -> u8
     ensures value { result ≡ type_slot operands.now k }
     ensures small { result < 4 }
@@ -32,7 +32,7 @@ fn type_at(operands: &[Operand], k: usize) -> u8
     }
 }
 
-// The types of the four operands from `k` on.
+// Returns the byte with the types of the four operands from `k` on.
 fn types_of_four(operands: &[Operand], k: usize) -> u8
     requires { k ≤ 4 }
     ensures { result ≡ types_byte operands.now k }
@@ -43,7 +43,7 @@ fn types_of_four(operands: &[Operand], k: usize) -> u8
         + type_at(operands, k + 3)
 }
 
-// Whether the long form can say the operands.
+// Returns whether the long form can express `operands`.
 fn is_long(operands: &[Operand]) -> bool
     ensures { result ≡ is_long operands.now }
 {
@@ -53,7 +53,7 @@ fn is_long(operands: &[Operand]) -> bool
     }
 }
 
-// The bit of the long form for the operand at `k`.
+// Returns the bit of the long form for the operand at `k`.
 fn bit_at(operands: &[Operand], k: usize) -> u8
     ensures value { result ≡ variable_bit operands.now k }
     ensures small { result < 2 }
@@ -64,7 +64,7 @@ fn bit_at(operands: &[Operand], k: usize) -> u8
     }
 }
 
-// Appends the types of all operands, of which there are at most `most`.
+// Appends the types of all `operands`, of which there are at most `most`.
 fn push_types(heading: &mut ArrayVec<u8, FRONT_MAX>, operands: &[Operand], most: u8)
     requires { length heading.old.items ≤ 2 }
     ensures { heading.new.items ≡ heading.old.items ++ types_bytes most operands.now }
@@ -75,7 +75,7 @@ fn push_types(heading: &mut ArrayVec<u8, FRONT_MAX>, operands: &[Operand], most:
     }
 }
 
-// The opcode and the types of the operands (sections 4.3 and 4.4).
+// Returns the bytes of the opcode and of the types of its operands (sections 4.3 and 4.4).
 fn heading(row: OpcodeRow, operands: &[Operand]) -> ArrayVec<u8, FRONT_MAX>
     requires { IsTrue (is_encodable row) }
     ensures value { result.items ≡ heading row operands.now }
@@ -108,7 +108,7 @@ fn heading(row: OpcodeRow, operands: &[Operand]) -> ArrayVec<u8, FRONT_MAX>
     heading
 }
 
-// How many bytes of types there are, of at most so many operands.
+// Returns the number of bytes that the types of at most `most` operands take.
 fn types_len(most: u8) -> usize
     ensures value { (operands : List Operand) → result ≡ length (types_bytes most operands) }
     ensures few { result ≤ 2 }
@@ -116,7 +116,7 @@ fn types_len(most: u8) -> usize
     if most > 4 { 2 } else { 1 }
 }
 
-// The length of a heading.
+// Returns the length of the heading of an opcode with `row` and `operands`.
 fn heading_len(row: OpcodeRow, operands: &[Operand]) -> usize
     ensures value { result ≡ length (heading row operands.now) }
     ensures few { result ≤ 4 }
@@ -129,7 +129,7 @@ fn heading_len(row: OpcodeRow, operands: &[Operand]) -> usize
     }
 }
 
-// Appends an operand, with zeros in place of what is known later.
+// Appends `operand`, with zeros in place of a number that is known later.
 fn push_operand(bytes: &mut ArrayVec<u8, FRONT_MAX>, operand: Operand)
     requires { length bytes.old.items ≤ 22 }
     ensures value { bytes.new.items ≡ bytes.old.items ++ long_bytes (operand_cells operand) }
@@ -149,7 +149,7 @@ fn push_operand(bytes: &mut ArrayVec<u8, FRONT_MAX>, operand: Operand)
     }
 }
 
-// Appends a store variable and a branch, as far as they are there.
+// Appends the store variable `store` and the branch `branch`, where there are any.
 fn push_end(bytes: &mut ArrayVec<u8, FRONT_MAX>, store: Option<u8>, branch: Option<Branch>)
     requires { length bytes.old.items ≤ 20 }
     ensures { bytes.new.items ≡ bytes.old.items ++ long_bytes (store_cells store) ++ long_bytes (branch_cells branch) }
@@ -163,7 +163,7 @@ fn push_end(bytes: &mut ArrayVec<u8, FRONT_MAX>, store: Option<u8>, branch: Opti
     }
 }
 
-// The bytes of an instruction without its text, while the routine is open.
+// Returns the bytes of `instruction` without its text, while the routine is open.
 fn front_bytes(instruction: &Instruction<'_>) -> ArrayVec<u8, FRONT_MAX>
     requires few { length (parts_of instruction.now).operands ≤ 8 }
     ensures { result.items ≡ long_bytes (front_cells (parts_of instruction.now)) }
@@ -177,7 +177,7 @@ fn front_bytes(instruction: &Instruction<'_>) -> ArrayVec<u8, FRONT_MAX>
     bytes
 }
 
-// How many bytes an operand has.
+// Returns the number of bytes of `operand`.
 fn operand_len(operand: Operand) -> usize
     ensures value { result ≡ length (long_bytes (operand_cells operand)) }
     ensures small { result ≤ 2 }
@@ -188,7 +188,7 @@ fn operand_len(operand: Operand) -> usize
     }
 }
 
-// Keeps what is known later of an operand that stands at a place.
+// Keeps `operand`, which stands at `place`, if it is known later.
 fn keep_operand(kept: &mut Vec<Kept>, place: usize, operand: Operand) -> Result<(), AllocError>
     ensures ok { OnOk result (kept.new.items ≡ kept.old.items ++ kept_from place (operand_cells operand)) }
     ensures err { OnErr result (kept.new.items ≡ kept.old.items) }
@@ -202,7 +202,7 @@ fn keep_operand(kept: &mut Vec<Kept>, place: usize, operand: Operand) -> Result<
     Ok(())
 }
 
-// Keeps what is known later of operands, the first of which stands at a place.
+// Keeps those of `operands` that are known later; the first operand stands at `first`.
 fn keep_operands(kept: &mut Vec<Kept>, first: usize, operands: &[Operand]) -> Result<(), AllocError>
     requires { first + length (long_bytes (flat_map operand_cells operands.now)) < 2 ^ 64 }
     ensures ok { OnOk result (kept.new.items ≡ kept.old.items ++ kept_from first (flat_map operand_cells operands.now)) }
@@ -216,7 +216,7 @@ fn keep_operands(kept: &mut Vec<Kept>, first: usize, operands: &[Operand]) -> Re
     Ok(())
 }
 
-// Keeps what is no plain byte of an instruction, whose bytes stand from a place up to another.
+// Keeps the parts of `instruction` that are no plain bytes; its bytes stand from `start` up to `end`.
 fn keep_front(
     kept: &mut Vec<Kept>,
     start: usize,
@@ -239,7 +239,7 @@ fn keep_front(
     Ok(())
 }
 
-// Appends the bytes of a text, of which most instructions have none.
+// Appends the bytes of `text`, which most instructions do not have.
 fn append_text<A: Area>(area: &mut A, text: &[u8]) -> Result<(), AllocError>
     ensures ok { OnOk result (A.bytes area.new ≡ A.bytes area.old ++ text.now) }
     ensures err { OnErr result (A.bytes area.new ≡ A.bytes area.old) }
@@ -250,7 +250,7 @@ fn append_text<A: Area>(area: &mut A, text: &[u8]) -> Result<(), AllocError>
     area.append(text)
 }
 
-// Appends an instruction.
+// Appends `instruction` to `area`, and its special parts to `kept`. Where memory runs out both may have become longer.
 fn write_instruction<A: Area>(
     area: &mut A,
     kept: &mut Vec<Kept>,
@@ -269,8 +269,8 @@ fn write_instruction<A: Area>(
     Ok(())
 }
 
-/// Appends the bytes of an instruction to an area, and to `kept` what is no plain byte of them, each with its place.
-/// Where memory runs out both stay as they were.
+/// Appends the bytes of `instruction` to `area`, and its parts that are no plain bytes to `kept`, each with its place. Where memory
+/// runs out both stay as they were.
 pub fn append_instruction<A: Area>(
     area: &mut A,
     kept: &mut Vec<Kept>,
@@ -292,25 +292,25 @@ pub fn append_instruction<A: Area>(
     Ok(())
 }
 
-/// The bit of a branch that says whether it is taken where its test holds (Z-Machine Standard 1.1, section 4.7).
+/// Returns the bit of a branch that says whether it is taken where its test holds (Z-Machine Standard 1.1, section 4.7).
 pub fn sense_bit(sense: bool) -> u8
     ensures { result ≡ sense_bit sense }
 {
     if sense { 0x80 } else { 0 }
 }
 
-/// How much something takes of an open routine.
+/// Counts of the bytes, labels and references that a part of a routine takes.
 #[derive(Clone, Copy, Debug, PartialEq, Eq)]
 pub struct Counts {
-    /// Its bytes.
+    /// Number of bytes.
     pub bytes: usize,
-    /// Its label marks, branches and jumps.
+    /// Number of label marks, branches and jumps.
     pub labels: usize,
-    /// Its references.
+    /// Number of references.
     pub fixups: usize,
 }
 
-// How much an operand takes.
+// Returns the counts of `operand`.
 fn operand_counts(operand: Operand) -> Counts
     ensures value { result ≡ counts_of (operand_cells operand) }
     ensures bytes { result.bytes ≤ 2 }
@@ -330,7 +330,7 @@ fn operand_counts(operand: Operand) -> Counts
     }
 }
 
-// How much operands take, of which there are at most eight.
+// Returns the counts of `operands`, of which there are at most eight.
 fn operands_counts(operands: &[Operand]) -> Counts
     requires { length operands.now ≤ 8 }
     ensures value { result ≡ counts_of (flat_map operand_cells operands.now) }
@@ -354,7 +354,7 @@ fn operands_counts(operands: &[Operand]) -> Counts
     }
 }
 
-// How many bytes a store variable takes.
+// Returns the number of bytes of a store variable: 1, or 0 where there is none.
 fn store_len(store: Option<u8>) -> usize
     ensures bytes { result ≡ length (long_bytes (store_cells store)) }
     ensures labels { label_count (store_cells store) ≡ 0 }
@@ -367,7 +367,7 @@ fn store_len(store: Option<u8>) -> usize
     }
 }
 
-// How many branches there are.
+// Returns the number of branches: 1 or 0.
 fn branch_count(branch: Option<Branch>) -> usize
     ensures bytes { 2 * result ≡ length (long_bytes (branch_cells branch)) }
     ensures labels { result ≡ label_count (branch_cells branch) }
@@ -380,7 +380,7 @@ fn branch_count(branch: Option<Branch>) -> usize
     }
 }
 
-/// How much an instruction takes without its text, with its branch in two bytes.
+/// Returns the counts of `instruction` without its text, with its branch in two bytes.
 pub fn instruction_counts(instruction: &Instruction<'_>) -> Counts
     requires few { length (parts_of instruction.now).operands ≤ 8 }
     ensures value { result ≡ counts_of (front_cells (parts_of instruction.now)) }

@@ -1,8 +1,8 @@
--- What is taken away behind some bytes.
+-- Bytes that are cut off behind others.
 use Rattle.std.proofs.Common.{◌≡◌, ℕ, ◌+◌, List, [], ◌++◌, length, take, drop, append-nil, length-append, refl, ◌∙◌, ap, arith}
 use Rattle.std.proofs.lemmas.List.{take_at, drop_all}
 
--- where all that was appended is, nothing is left of it
+-- Where all bytes that were appended are cut off again, those before are left.
 pub cut_behind : (bytes more : List ℕ) → take (length bytes) (bytes ++ more) ++ drop (length bytes + length more) (bytes ++ more) ≡ bytes
 cut_behind bytes more =
     ap (λ xs. xs ++ drop (length bytes + length more) (bytes ++ more)) (take_at bytes more (length bytes) refl)

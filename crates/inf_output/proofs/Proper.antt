@@ -13,7 +13,7 @@ use Rattle.inf_output.specs.declared.operands.Simple.TheVariants.{Known, Variabl
 use Rattle.inf_output.specs.Operands.{written}
 use Rattle.inf_output.specs.Output.{Takes, TakesVariable}
 
--- no simple operand is an offset
+-- No simple operand is an offset.
 no_offset_known : (b : Bool) (number : ℕ) (operands : List Operand) → has_no_offset operands ≡ true →
     has_no_offset (cond b (Small number) (Large number) ∷ operands) ≡ true
 no_offset_known true number operands others = others

@@ -16,17 +16,17 @@ use Rattle.inf_verbs.specs.Routines.{AllActions, action_fault, number_of, with_a
 
 -- Keys
 
--- The key of an action among names: two signs stand before its own, so no other name is the same.
+-- Key of an action among names: two signs stand before its own name, so it is the key of no other name.
 abbrev pub key_of : List ℕ → List ℕ
 key_of name = codes "##" ++ name
 
--- the name of its routine
+-- Name of the routine of an action.
 abbrev pub routine_name : List ℕ → List ℕ
 routine_name name = name ++ codes "Sub"
 
 -- Numbers
 
--- The number that a key stands for: a fake action is declared under its key among the names of the source, and any other that appeared
+-- Number that a key stands for: a fake action is declared under its key among the names of the source, and any other that appeared
 -- among those that did.
 abbrev pub number_of_meaning : Meaning → Option ℕ
 number_of_meaning (meaning.FakeAction number) = Some number
@@ -48,7 +48,7 @@ action_number name o = number_by (fake_number (key_of name) o) (number_in (found
 
 -- Where an action appears that is no fake one
 
--- the first time it is declared under its key with how many others appeared before, as a word
+-- An action that appears for the first time is declared under its key with the number of the actions that appeared before, as a word.
 abbrev pub next_seen : Out → ℕ
 next_seen o = length o.seen.names % 65536
 
@@ -59,7 +59,7 @@ seen_by (Some fault) key place o = o
 abbrev pub appeared : List ℕ → Place → Code
 appeared key place o = seen_by (declare_fault unbounded key o.seen) key place o
 
--- its number is that of its routine among the routines of actions; where there would be one too many the limit is passed
+-- The number of an action is that of its routine among the routines of actions; where there would be one too many the limit is passed.
 abbrev pub with_actions : AllActions → Code
 with_actions actions o = record o { tables = record o.tables { actions = actions } }
 
@@ -70,7 +70,7 @@ numbered_by limits (Some fault) routine o = (passed_table limits setting.Actions
 abbrev pub numbered : Limits → ℕ → Out → Out × ℕ
 numbered limits routine o = numbered_by limits (action_fault limits routine o.tables.actions) routine o
 
--- its routine is used there, whose number is that among the names
+-- The routine of an action is used where the action appears; its number is that among the names.
 abbrev pub routine_of : Option (Found Place × Option ℕ) → Option ℕ
 routine_of None = None
 routine_of (Some f) = f.1
@@ -97,7 +97,7 @@ action_of limits name place o = action_by limits (fake_number (key_of name) o) n
 
 -- Fake actions
 
--- where an action appeared first, as a fake one or not
+-- First place of an action, as a fake one or not.
 abbrev pub place_in : Found Place → Option Place
 place_in (found.Declared m first) = Some first
 place_in _ = None
@@ -109,7 +109,7 @@ first_by None seen = seen
 abbrev pub first_seen : List ℕ → Out → Option Place
 first_seen key o = first_by (place_in (found_in key o.names)) (place_in (found_in key o.seen))
 
--- one that is no action yet is declared as a fake one, with the next number of those
+-- A name that is no action yet is declared as a fake action, with the next number of those.
 abbrev pub next_fake : Out → ℕ
 next_fake o = (4096 + o.tables.actions.fakes) % 65536
 

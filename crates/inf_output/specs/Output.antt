@@ -1,4 +1,4 @@
--- Code, as what it adds to an output, and the words by which pieces of code are put together.
+-- Code, as a change of an output, and the words by which pieces of code are put together.
 use Rattle.std.specs.Prelude.{◌≡◌, ℕ, ◌+◌, ◌-◌, ◌≤◌, min, Bool, true, false, nat_lt, if◌then◌else◌, List, [], ◌∷◌, ◌++◌, length, map}
 use Rattle.std.specs.Prelude.{Option, Some, None}
 use Rattle.inf_settings.specs.Bounds.{Limits}
@@ -6,7 +6,7 @@ use Rattle.inf_scanner.specs.declared.tokens.Place.{Place}
 use Rattle.inf_area.specs.declared.targets.AreaName.TheVariants as area
 use Rattle.inf_area.specs.declared.targets.Target.{Target}
 use Rattle.inf_area.specs.declared.targets.Target.TheVariants as target
-use Rattle.inf_cells.specs.declared.scale.Scale.{Scale}
+use Rattle.inf_area.specs.declared.scale.Scale.{Scale}
 use Rattle.inf_opcode.specs.declared.instructions.Branch.{Branch}
 use Rattle.inf_opcode.specs.declared.instructions.Destination.TheVariants.{To}
 use Rattle.inf_opcode.specs.declared.instructions.Label.{Label}
@@ -56,9 +56,9 @@ use Rattle.inf_tables.specs.LowStrings.{low_fits, low_size, with_low}
 use Rattle.inf_tables.specs.Tables.{AllTables, references}
 use Rattle.inf_output.specs.Veneer.{name_of}
 
--- What is laid: the routines of the story, its strings, its tables, the names, how texts are packed, the actions that appeared, the place
--- of the first token of the unit at hand, the number of the next label of the
--- routine, what is left of each limit once one was passed, and the items of code that is kept apart, if there is such code.
+-- Output of the units of a source: the routines of the story, its strings, its tables, the names, how texts are packed, the actions
+-- that appeared, the place of the first token of the unit at hand, the number of the next label of the routine, the room left of
+-- each limit once one was passed, and the items of code that is kept apart, if there is such code.
 pub record Out : Type 0 where
   pub code : Routines
   pub strings : StringArea
@@ -76,7 +76,7 @@ Code = Out → Out
 
 -- Limits
 
--- what is left beside some code
+-- Room left beside some code.
 abbrev pub whole : Limits → Routines → Past
 whole limits code = record {
   symbols = false;
@@ -88,7 +88,7 @@ whole limits code = record {
       references_left limits code;
 }
 
--- so much more of a limit; nothing is left of one that is passed
+-- Room of a limit when `more` of it is taken; `None` once the limit is passed.
 abbrev pub less : Option ℕ → ℕ → Option ℕ
 less None more = None
 less (Some rest) more = if nat_lt rest more then None else Some (rest - more)
@@ -101,11 +101,11 @@ abbrev pub past_by : Limits → Option Past → Routines → Past
 past_by limits None code = whole limits code
 past_by limits (Some past) code = past
 
--- what is left now
+-- Room left in an output.
 abbrev pub past_of : Limits → Out → Past
 past_of limits o = past_by limits o.past o.code
 
--- what is left behind an item: an instruction, whose text has bytes of its own, or a label's place
+-- Room left behind an item: an instruction, whose text has bytes of its own, or the place of a label.
 abbrev pub without_bytes : ℕ → Past → Past
 without_bytes bytes past = record past { code = less past.code bytes }
 
@@ -113,7 +113,7 @@ abbrev pub without : Item → Past → Past
 without (Instruction parts) past = without_bytes (length parts.text) (taken (counts_of (front_cells parts)) past)
 without (Mark label) past = taken (counts_of (Of (Marks label) ∷ [])) past
 
--- The same in a routine that is lost, of which the labels count alone.
+-- Room left behind an item in a routine that is lost, of which the labels count alone.
 abbrev pub without_labels : ℕ → Past → Past
 without_labels labels past = record past { labels = less past.labels labels }
 
@@ -121,14 +121,14 @@ abbrev pub without_lost : Item → Past → Past
 without_lost (Instruction parts) past = without_labels (counts_of (front_cells parts)).labels past
 without_lost (Mark label) past = without (Mark label) past
 
--- an item that is not laid any more counts all the same
+-- An item that is not laid any more is counted all the same.
 abbrev pub without_item : Routines → Item → Past → Past
 without_item code item past = if is_lost_in code.opened then without_lost item past else without item past
 
 abbrev pub passed : Limits → Item → Code
 passed limits item o = record o { past = Some (without_item o.code item (past_of limits o)) }
 
--- the first limit that was passed, in the order of the settings
+-- First limit that was passed, in the order of the settings.
 abbrev pub full_of : Option ℕ → Setting → Option Setting → Option Setting
 full_of None limit others = Some limit
 full_of (Some rest) limit others = others
@@ -143,25 +143,25 @@ full_past past =
     full_of past.labels setting.Labels (or_full past.tables (full_of past.code setting.Code (
     if past.strings then Some setting.Strings else full_of past.refs setting.References None)))
 
--- Of the references so many more stand in tables.
+-- Room left where tables have `references` more references.
 abbrev pub counted : ℕ → Past → Past
 counted references past = record past { refs = less past.refs references }
 
 abbrev pub full : Limits → Out → Option Setting
 full limits o = full_past (counted (references o.tables) (past_of limits o))
 
--- the first of two limits of tables, in the order of the settings
+-- First of two limits of tables, in the order of the settings.
 abbrev pub first_table : Option Setting → Setting → Setting
 first_table None limit = limit
 first_table (Some other) limit = if nat_lt (place_of limit) (place_of other) then limit else other
 
--- a limit of a table is passed
+-- A limit of a table is passed.
 abbrev pub table_passed : Setting → Past → Past
 table_passed limit past = record past { tables = Some (first_table past.tables limit) }
 
 -- Items
 
--- the first limit that an item in the open routine would pass, and the routines with it
+-- First limit that an item in the open routine would pass, and the routines with the item.
 abbrev pub full_item : Item → Routines → Option CodeLimit
 full_item (Instruction parts) routines = full_with parts routines
 full_item (Mark label) routines = full_label routines
@@ -170,9 +170,8 @@ abbrev pub grown : Item → Routines → Routines
 grown (Instruction parts) routines = record routines { opened = with_item parts routines.opened }
 grown (Mark label) routines = record routines { opened = with_mark label routines.opened }
 
--- An item is laid: into the code that is kept apart, if there is such code, and else into the open routine. From the first item on that
--- would pass
--- a limit nothing is laid any more.
+-- An item is laid: into the code that is kept apart, if there is such code, and else into the open routine. From the first item on
+-- that would pass a limit nothing is laid any more.
 abbrev pub fitted : Limits → Option CodeLimit → Item → Code
 fitted limits None item o = record o { code = grown item o.code }
 fitted limits (Some limit) item o = passed limits item o
@@ -188,12 +187,12 @@ laid_by limits (Some items) item o = record o { kept = Some (items ++ item ∷ [
 unfoldable pub laid : Limits → Item → Code
 laid limits item o = laid_by limits o.kept item o
 
--- items one behind the other
+-- Items are laid one behind the other.
 abbrev pub laid_all : Limits → List Item → Code
 laid_all limits [] o = o
 laid_all limits (item ∷ items) o = laid_all limits items (laid limits item o)
 
--- What is laid from here on is kept apart, and no longer.
+-- Code is kept apart from here on, and no longer from here on.
 abbrev pub apart : Code
 apart o = record o { kept = Some [] }
 
@@ -206,7 +205,7 @@ items_of (Some items) = items
 
 -- Routines
 
--- another routine is open, unless that passes a limit; its labels are counted from 0
+-- Another routine is opened, unless that passes a limit; its labels are counted from 0.
 abbrev pub passed_limit : CodeLimit → Past → Past
 passed_limit code_setting.Labels past = record past { labels = None }
 passed_limit code_setting.Code past = record past { code = None }
@@ -240,7 +239,7 @@ closed_by limits (Some fault) kind o = record o { code = with_none_open o.code }
 abbrev pub code_closed : Limits → RoutineKind → Code
 code_closed limits kind o = closed_by limits (fault_closed limits kind o.code) kind o
 
--- where it had too many labels, their limit is passed
+-- Where the routine had too many labels, their limit is passed.
 abbrev pub with_labels_left : Limits → Option ℕ → Code
 with_labels_left limits None o = record o { past = Some (passed_limit code_setting.Labels (past_of limits o)) }
 with_labels_left limits (Some rest) o = o
@@ -248,19 +247,19 @@ with_labels_left limits (Some rest) o = o
 abbrev pub closed : Limits → RoutineKind → Code
 closed limits kind o = with_labels_left limits (past_of limits o).labels (code_closed limits kind o)
 
--- What packed addresses are multiplied by
+-- Scale of packed addresses
 
--- so the next routine and the next string are filled up
+-- Packed addresses are multiplied by another scale: the next routine and the next string are filled up to it.
 abbrev pub with_scale : Scale → Code
 with_scale scale o = record o { code = record o.code { scale = scale }; strings = record o.strings { scale = scale } }
 
 -- Strings
 
--- where the next one begins
+-- Place of the next string.
 abbrev pub string_at : Out → Target
 string_at o = target.Place area.Strings (length o.strings.bytes)
 
--- A string of these bytes is added. Where it would pass the limit nothing is, and the limit is passed.
+-- A string with some bytes is added. Where it would pass the limit, nothing is added and the limit is passed.
 abbrev pub with_text_by : Limits → Bool → List ℕ → Code
 with_text_by limits true text o = record o { strings = with_string text o.strings }
 with_text_by limits false text o = record o { past = Some (record (past_of limits o) { strings = true }) }
@@ -270,11 +269,11 @@ with_text limits text o = with_text_by limits (fits limits text o.strings) text 
 
 -- Tables
 
--- One would hold more than it may.
+-- A table would hold more than its limit allows.
 abbrev pub passed_table : Limits → Setting → Code
 passed_table limits limit o = record o { past = Some (table_passed limit (past_of limits o)) }
 
--- where the next low string begins, and one more: where it would pass the limit it is not added, and the limit is passed
+-- Place of the next low string, and one more: where it would pass the limit it is not added, and the limit is passed.
 abbrev pub low_string_at : Out → Target
 low_string_at o = target.Place area.LowStrings (low_size o.tables.low_strings)
 
@@ -291,7 +290,8 @@ with_low_text limits text o = with_low_text_by limits (low_fits limits text o.ta
 abbrev pub with_dictionary : Text → WordUse → Bool → AllTables → AllTables
 with_dictionary text how is_plural tables = record tables { dictionary = with_use text how is_plural tables.dictionary }
 
--- A word is used. Where it would be one too many it is not, and the limit is passed; nor where it is one of another verb's.
+-- A word is used. Where it would be one too many it is not added, and the limit is passed; nor is it added where it is one of
+-- another verb.
 abbrev pub with_word_by : Limits → Option WordFault → Text → WordUse → Bool → Code
 with_word_by limits None text how is_plural o = record o { tables = with_dictionary text how is_plural o.tables }
 with_word_by limits (Some word_fault.Full) text how is_plural o = passed_table limits setting.DictionaryEntries o
@@ -307,7 +307,7 @@ with_word limits text how is_plural o =
 abbrev pub symbols_passed : Limits → Code
 symbols_passed limits o = record o { past = Some (record (past_of limits o) { symbols = true }) }
 
--- a name is declared, unless something is wrong with that
+-- A name is declared, unless something is wrong with that.
 abbrev pub declared_by : Limits → Option (DeclareFault Place) → List ℕ → Place → Meaning → Code
 declared_by limits None name place m o = record o { names = with_declared name place m o.names }
 declared_by limits (Some declaring.Full) name place m o = symbols_passed limits o
@@ -316,7 +316,7 @@ declared_by limits (Some fault) name place m o = o
 abbrev pub declared : Limits → List ℕ → Place → Meaning → Code
 declared limits name place m o = declared_by limits (declare_fault limits name o.names) name place m o
 
--- a name is used at a place; where it is one too many, that limit is passed
+-- A name is used at a place; where it is one too many, the limit of names is passed.
 abbrev pub referred_by : Limits → Option ReferFault → List ℕ → Place → Code
 referred_by limits None name place o = record o { names = with_used name place o.names }
 referred_by limits (Some fault) name place o = symbols_passed limits o
@@ -324,7 +324,7 @@ referred_by limits (Some fault) name place o = symbols_passed limits o
 abbrev pub referred : Limits → List ℕ → Place → Code
 referred limits name place o = referred_by limits (refer_fault limits name o.names) name place o
 
--- what looking for it found, and its number among the names
+-- Meaning that the look-up of a name finds, and its number among the names; `None` where it would be one too many.
 abbrev pub referred_as_by : Option ReferFault → List ℕ → Table Place → Option (Found Place × Option ℕ)
 referred_as_by None name names = Some (found_in name names, number_of name names)
 referred_as_by (Some fault) name names = None
@@ -337,23 +337,23 @@ referred_as limits name o = referred_as_by (refer_fault limits name o.names) nam
 abbrev pub nothing : Code
 nothing o = o
 
--- one piece behind another
+-- A piece of code behind another.
 infixr 30 ◌▸◌
 abbrev pub ◌▸◌ : Code → Code → Code
 (first ▸ second) o = second (first o)
 
--- the number behind a label's; numbers end long behind the most labels that a routine may have
+-- Number behind that of a label; numbers end long behind the most labels that a routine may have.
 unfoldable pub behind : ℕ → ℕ
 behind number = min (number + 1) 4294967295
 
 abbrev pub next_label : Out → Label
 next_label o = record { number = o.next }
 
--- code with a label of its own
+-- Code with a label of its own.
 abbrev pub with_label : (Label → Code) → Code
 with_label body o = body (next_label o) (record o { next = behind o.next })
 
--- an instruction of simple operands, and one whose first operand names a variable
+-- An instruction of simple operands, and one whose first operand names a variable.
 unfoldable pub instruction : Limits → Opcode → List Simple → Option ℕ → Option Branch → Code
 instruction limits opcode operands store branch o =
     laid limits (Instruction (record { opcode = opcode; operands = map written operands; store = store; branch = branch; text = [] })) o
@@ -368,7 +368,7 @@ naming limits opcode variable operands store branch o =
       text = [];
     })) o
 
--- a label's place, a jump to it, and a branch that is taken where the truth of a test is this
+-- Place of a label, a jump to it, and a branch to it that is taken where the test is `sense`.
 unfoldable pub marked : Limits → Label → Code
 marked limits label o = laid limits (Mark label) o
 
@@ -379,8 +379,8 @@ jumped limits label o =
 abbrev pub to : Bool → Label → Option Branch
 to sense label = Some (record { sense = sense; target = To label })
 
--- that an opcode takes so many operands of which none names a variable, with a store and a branch or without (Z-Machine Standard 1.1,
--- section 14)
+-- The opcode takes `operands` operands of which none names a variable, with a store and a branch or without (Z-Machine Standard
+-- 1.1, section 14).
 pub record Takes (opcode : Opcode) (operands : ℕ) (with_store with_branch : Bool) : Type 0 where
   pub enough : (row_of opcode).least ≤ operands
   pub few : operands ≤ (row_of opcode).most
@@ -390,7 +390,7 @@ pub record Takes (opcode : Opcode) (operands : ℕ) (with_store with_branch : Bo
   pub branches : with_branch ≡ (row_of opcode).branches
   pub text : (row_of opcode).has_text ≡ false
 
--- the same of one whose first operand names a variable, with so many operands behind it
+-- The opcode takes a first operand that names a variable and `operands` others, with a store and a branch or without.
 pub record TakesVariable (opcode : Opcode) (operands : ℕ) (with_store with_branch : Bool) : Type 0 where
   pub enough : (row_of opcode).least ≤ operands + 1
   pub few : operands + 1 ≤ (row_of opcode).most
@@ -401,7 +401,7 @@ pub record TakesVariable (opcode : Opcode) (operands : ℕ) (with_store with_bra
 
 -- Routines of the veneer
 
--- what a name stands for whose number is known, or that is a variable
+-- Operand of a name whose number is known, or that is a variable.
 abbrev pub standing_simple : Meaning → Option Simple
 standing_simple (meaning.Number number) = Some (Known number)
 standing_simple (meaning.Variable number) = Some (Variable number)
@@ -419,7 +419,7 @@ standing_simple (meaning.Routine place) = None
 standing_simple (meaning.PackedAddress place) = None
 standing_simple (meaning.Function function) = None
 
--- a name that has a number among the names is a reference by that, unless it stands for something itself
+-- A name with a number among the names is a reference by that, unless it has an operand of its own.
 abbrev pub simple_by : Option Simple → Option ℕ → Simple
 simple_by (Some simple) number = simple
 simple_by None None = Known 0
@@ -431,9 +431,8 @@ found_simple (found.Declared meaning place) number = simple_by (standing_simple 
 found_simple found.Used number = simple_by None number
 found_simple found.Unknown number = simple_by None number
 
--- The operand by which a routine is called: its name is looked up where it is called, and no local hides it. A name that is one too many is
--- no
--- reference to anything, since nothing is laid any more.
+-- Operand by which a routine is called: its name is looked up where it is called, and no local hides it. A name that is one too
+-- many refers to nothing, since nothing is laid any more.
 abbrev pub routine_by : Option ReferFault → List ℕ → Table Place → Simple
 routine_by None name names = found_simple (found_in name names) (number_of name names)
 routine_by (Some fault) name names = Later (target.Name 0)
@@ -441,7 +440,7 @@ routine_by (Some fault) name names = Later (target.Name 0)
 unfoldable pub routine : Limits → Veneer → Out → Simple
 routine limits veneer o = routine_by (refer_fault limits (name_of veneer) o.names) (name_of veneer) o.names
 
--- Its name is used there, at the first token of the unit.
+-- The name of the routine is used where it is called, at the first token of the unit.
 abbrev pub used_by : Limits → Option ReferFault → List ℕ → Code
 used_by limits None name o = record o { names = with_used name o.first o.names }
 used_by limits (Some fault) name o = record o { past = Some (record (past_of limits o) { symbols = true }) }
@@ -449,6 +448,6 @@ used_by limits (Some fault) name o = record o { past = Some (record (past_of lim
 unfoldable pub used : Limits → Veneer → Code
 used limits veneer o = used_by limits (refer_fault limits (name_of veneer) o.names) (name_of veneer) o
 
--- code that calls a routine of the veneer
+-- Code that calls a routine of the veneer.
 abbrev pub with_routine : Limits → Veneer → (Simple → Code) → Code
 with_routine limits veneer body o = body (routine limits veneer o) (used limits veneer o)

@@ -2,10 +2,10 @@
 use Rattle.std.specs.Prelude.{ℕ, List, [], ◌++◌, length, Bool, nat_le}
 use Rattle.inf_settings.specs.Bounds.{Limits}
 use Rattle.inf_settings.specs.declared.setting.Setting.TheVariants as setting
-use Rattle.inf_cells.specs.declared.scale.Scale.{Scale}
+use Rattle.inf_area.specs.declared.scale.Scale.{Scale}
 use Rattle.inf_code.specs.Code.{zeros_behind}
 
--- the bytes of packed texts, and what packed addresses are multiplied by
+-- Bytes of packed texts, and the scale of packed addresses.
 pub record StringArea : Type 0 where
   pub bytes : List ℕ
   pub scale : Scale
@@ -13,10 +13,10 @@ pub record StringArea : Type 0 where
 abbrev pub no_strings : Scale → StringArea
 no_strings scale = record { bytes = []; scale = scale }
 
--- one more, filled up to a packed address (Z-Machine Standard 1.1, section 1.2.3)
+-- One more string, filled up to a packed address (Z-Machine Standard 1.1, section 1.2.3).
 abbrev pub with_string : List ℕ → StringArea → StringArea
 with_string text strings = record strings { bytes = strings.bytes ++ (text ++ zeros_behind strings.scale (length text)) }
 
--- whether there is room for it
+-- Tells whether there is room for a string.
 abbrev pub fits : Limits → List ℕ → StringArea → Bool
 fits limits text strings = nat_le (length (with_string text strings).bytes) (limits setting.Strings)

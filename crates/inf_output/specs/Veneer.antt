@@ -1,4 +1,4 @@
--- The names of the routines of the veneer that templates call.
+-- Names of the routines of the veneer that templates call.
 use Rattle.std.specs.Prelude.{ℕ, List, codes}
 use Rattle.inf_output.specs.declared.veneer.Veneer.{Veneer}
 use Rattle.inf_output.specs.declared.veneer.Veneer.TheVariants as veneer

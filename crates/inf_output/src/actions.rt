@@ -13,7 +13,7 @@ use inf_settings::setting::Setting;
 use inf_tables::ActionFault;
 use std::alloc::AllocError;
 
-/// Some bytes and others behind them, as many as a name can have.
+/// Returns the bytes `front` with `back` behind them, in all no more than a name can have.
 fn joined(front: &[u8], back: &[u8]) -> ArrayVec<u8, LONGEST_NAME>
     requires { length front.now + length back.now ≤ 35 }
     ensures { result.items ≡ front.now ++ back.now }
@@ -28,7 +28,7 @@ fn joined(front: &[u8], back: &[u8]) -> ArrayVec<u8, LONGEST_NAME>
     bytes
 }
 
-/// The key of an action of at most 32 bytes among the names.
+/// Returns the key of the action `name`, of at most 32 bytes, among the names.
 pub fn key_of(name: &[u8]) -> ArrayVec<u8, LONGEST_NAME>
     requires { length name.now ≤ 32 }
     ensures { result.items ≡ key_of name.now }
@@ -36,7 +36,7 @@ pub fn key_of(name: &[u8]) -> ArrayVec<u8, LONGEST_NAME>
     joined(b"##", name)
 }
 
-/// The number that a key stands for, by what looking for it found.
+/// Returns the number that a key stands for, where its look-up found `found`.
 fn number_in(found: Found<Place>) -> Option<u16>
     ensures { result ≡ number_in found }
 {
@@ -46,7 +46,7 @@ fn number_in(found: Found<Place>) -> Option<u16>
     }
 }
 
-/// The first place of a key, by what looking for it found.
+/// Returns the first place of a key, where its look-up found `found`.
 fn place_in(found: Found<Place>) -> Option<Place>
     ensures { result ≡ place_in found }
 {
@@ -56,7 +56,7 @@ fn place_in(found: Found<Place>) -> Option<Place>
     }
 }
 
-/// The number of the routine that was used, if it has one.
+/// Returns the number of the routine whose use found `found`, if it has one.
 fn routine_of(found: Option<(Found<Place>, Option<usize>)>) -> Option<usize>
     ensures { result ≡ routine_of found }
 {
@@ -67,7 +67,7 @@ fn routine_of(found: Option<(Found<Place>, Option<usize>)>) -> Option<usize>
 }
 
 impl<B: Bounds> Output<B> {
-    /// The number of the fake action with a key.
+    /// Returns the number of the fake action with the key `key`, if there is one.
     fn fake_number(&self, key: &[u8]) -> Option<u16>
         requires { length key.now ≤ 35 }
         ensures { result ≡ fake_number key.now self.now }
@@ -75,7 +75,7 @@ impl<B: Bounds> Output<B> {
         number_in(self.names.look(key))
     }
 
-    /// The number of an action of at most 32 bytes that appeared before, modulo 65536.
+    /// Returns the number, modulo 65536, of the action `name`, of at most 32 bytes, if it appeared before.
     pub fn action_number(&self, name: &[u8]) -> Option<u16>
         requires { length name.now ≤ 32 }
         ensures { result ≡ action_number name.now self.now }
@@ -87,7 +87,8 @@ impl<B: Bounds> Output<B> {
         }
     }
 
-    /// An action of at most 32 bytes appears at a place. Answers its number, modulo 65536. Its routine is used where it is no fake action.
+    /// Notes that the action `name`, of at most 32 bytes, appears at `place`, and returns its number, modulo 65536. Its routine is
+    /// used where it is no fake action.
     pub fn action(&mut self, name: &[u8], place: Place) -> Result<u16, AllocError>
         requires { length name.now ≤ 32 }
         ensures { IfOk result (λ number. (self.new, number) ≡ action_of B.most name.now place self.old) }
@@ -101,14 +102,14 @@ impl<B: Bounds> Output<B> {
         self.use_routine(routine.as_slice(), place)
     }
 
-    /// The number of the next action that appears, modulo 65536.
+    /// Returns the number of the next action that appears, modulo 65536.
     fn next_seen(&self) -> u16
         ensures { result ≡ next_seen self.now }
     {
         (self.seen.len() % 65536) as u16
     }
 
-    /// The action with a key, which is no fake one, appears at a place.
+    /// Notes that the action with the key `key`, which is no fake one, appears at `place`.
     fn appear(&mut self, key: &[u8], place: Place) -> Result<(), AllocError>
         requires { length key.now ≤ 35 }
         ensures { OnOk result (self.new ≡ appeared key.now place self.old) }
@@ -121,7 +122,7 @@ impl<B: Bounds> Output<B> {
         }
     }
 
-    /// A routine is used at a place. Answers its number among the names, if it has one.
+    /// Uses the routine `name` at `place`, and returns its number among the names, if it has one.
     pub fn refer_routine(&mut self, name: &[u8], place: Place) -> Result<Option<usize>, AllocError>
         requires { length name.now ≤ 35 }
         ensures { IfOk result (λ number. (self.new, number) ≡ routine_referred B.most name.now place self.old) }
@@ -129,7 +130,7 @@ impl<B: Bounds> Output<B> {
         Ok(routine_of(self.refer(name, place)?))
     }
 
-    /// The routine of an action is used at a place. Answers the number of the action.
+    /// Uses the routine `routine` of an action at `place`, and returns the number of the action.
     fn use_routine(&mut self, routine: &[u8], place: Place) -> Result<u16, AllocError>
         requires { length routine.now ≤ 35 }
         ensures { IfOk result (λ number. (self.new, number) ≡ routine_used B.most routine.now place self.old) }
@@ -140,7 +141,8 @@ impl<B: Bounds> Output<B> {
         }
     }
 
-    /// The number of the action with a routine.
+    /// Returns the number of the action whose routine has the number `routine` among the names. Where it would be one too many, the
+    /// limit is passed.
     fn action_with(&mut self, routine: usize) -> Result<u16, AllocError>
         ensures { IfOk result (λ number. (self.new, number) ≡ numbered B.most routine self.old) }
     {
@@ -154,7 +156,8 @@ impl<B: Bounds> Output<B> {
         }
     }
 
-    /// Declares an action of at most 32 bytes as a fake one. Answers why it cannot be where it is an action already.
+    /// Declares the action `name`, of at most 32 bytes, as a fake one. Returns the refusal where it is an action already, or the
+    /// name cannot be declared.
     pub fn fake_action(
         &mut self,
         name: &[u8],
@@ -171,7 +174,7 @@ impl<B: Bounds> Output<B> {
         self.declare(key.as_slice(), place, Meaning::FakeAction(number))
     }
 
-    /// Where an action with a key appeared first.
+    /// Returns the place at which the action with the key `key` appeared first, if it did.
     fn first_seen(&self, key: &[u8]) -> Option<Place>
         requires { length key.now ≤ 35 }
         ensures { result ≡ first_seen key.now self.now }

@@ -42,7 +42,7 @@ impl Model for KeptInstruction {
     }) };
 }
 
-/// What code is made of.
+/// Item of code.
 #[derive(Debug, Drop)]
 pub enum Item {
     Instruction(KeptInstruction),
@@ -66,7 +66,8 @@ impl Model for Items {
     ghost view = { λ i. i.list.items };
 }
 
-/// The operands of an instruction: no more than its opcode takes, and the instruction set has no opcode that takes more than eight.
+/// Returns the operands of `instruction`: no more than its opcode takes, and the instruction set has no opcode that takes more than
+/// eight.
 pub(crate) fn proper_operands<'a>(instruction: &Instruction<'a>) -> &'a [Operand]
     requires { IsProper (parts_of instruction.now) }
     ensures value { result.now ≡ (parts_of instruction.now).operands }
@@ -78,7 +79,7 @@ pub(crate) fn proper_operands<'a>(instruction: &Instruction<'a>) -> &'a [Operand
 }
 
 impl KeptInstruction {
-    /// An instruction that is kept.
+    /// Returns `instruction` as one that is kept.
     fn new(alloc: Global, instruction: &Instruction<'_>) -> Result<KeptInstruction, AllocError>
         requires { IsProper (parts_of instruction.now) }
         ensures { IfOk result (λ kept. kept ≡ parts_of instruction.now) }
@@ -99,7 +100,7 @@ impl KeptInstruction {
         })
     }
 
-    /// It as an instruction.
+    /// Returns the kept instruction as an instruction.
     pub(crate) fn instruction(&self) -> Instruction<'_>
         ensures value { parts_of result ≡ self.now }
         ensures proper { IsProper self.now }
@@ -117,7 +118,7 @@ impl KeptInstruction {
 impl Items {
     ghost use Rattle.inf_output.specs.declared.items.Item.TheVariants as item;
 
-    /// No items. It takes no memory until the first one comes.
+    /// Returns no items. They take no memory until the first one comes.
     pub(crate) fn new(alloc: Global) -> Items
         ensures { result ≡ [] }
     {
@@ -127,7 +128,7 @@ impl Items {
         }
     }
 
-    /// An instruction behind the others.
+    /// Adds `instruction` behind the others. Where memory runs out they stay as they were.
     pub(crate) fn instruction(&mut self, instruction: &Instruction<'_>) -> Result<(), AllocError>
         requires { IsProper (parts_of instruction.now) }
         ensures ok { OnOk result (self.new ≡ self.old ++ item.Instruction (parts_of instruction.now) ∷ []) }
@@ -138,7 +139,7 @@ impl Items {
         Ok(())
     }
 
-    /// The place of a label behind the others.
+    /// Adds the place of `label` behind the others. Where memory runs out they stay as they were.
     pub(crate) fn mark(&mut self, label: Label) -> Result<(), AllocError>
         ensures ok { OnOk result (self.new ≡ self.old ++ item.Mark label ∷ []) }
         ensures err { OnErr result (self.new ≡ self.old) }
@@ -147,7 +148,7 @@ impl Items {
         Ok(())
     }
 
-    /// The items, in order.
+    /// Returns the items, in order.
     pub(crate) fn as_slice(&self) -> &[Item]
         ensures { result.now ≡ self.now }
     {

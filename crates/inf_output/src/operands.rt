@@ -22,14 +22,14 @@ impl Default for Simple {
 
     ghost is_default = { λ simple. simple ≡ Known 0 };
 
-    /// The number 0.
+    /// Returns the number 0.
     fn default() -> Self {
         Simple::Known(0)
     }
 }
 
 impl Simple {
-    /// It as an operand of an instruction: a known number of one byte is a small constant, every other constant a large one.
+    /// Returns the operand of an instruction: a known number of one byte is a small constant, every other constant a large one.
     pub fn written(self) -> Operand
         ensures { result ≡ written self }
     {
@@ -42,7 +42,7 @@ impl Simple {
     }
 }
 
-/// Puts operands of an instruction behind others.
+/// Appends `operands` to `all`, as operands of an instruction.
 pub(crate) fn add_written(all: &mut ArrayVec<Operand, MOST_OPERANDS>, operands: &[Simple])
     requires { length all.old.items + length operands.now ≤ 8 }
     ensures { all.new.items ≡ all.old.items ++ map written operands.now }

@@ -1,32 +1,23 @@
-//! What units are laid into.
-ghost use Rattle.std.specs.Prelude.{◌≡◌, ◌≤◌, [], IfOk, None, OnErr, OnOk, is_some, length};
-ghost use Rattle.inf_opcode.specs.Counts.{counts_of};
-ghost use Rattle.inf_opcode.specs.Instructions.{IsProper, front_cells};
-ghost use Rattle.inf_opcode.specs.PartsOf.{parts_of};
+//! Output that units are laid into.
+ghost use Rattle.std.specs.Prelude.{◌≡◌, ◌≤◌, [], IfOk, None, OnErr, OnOk, length, true};
 ghost use Rattle.inf_code.specs.Code.{fault_closed};
 ghost use Rattle.inf_names.specs.Symbols.{declare_fault};
 ghost use Rattle.inf_names.specs.declared.meanings.Meaning.{Meaning as Standing};
-ghost use Rattle.inf_output.specs.declared.items.Item.TheVariants as item;
-ghost use Rattle.inf_output.specs.Output.{Takes, TakesVariable, apart, begun, behind, closed, code_closed, declared, found_simple, full};
-ghost use Rattle.inf_output.specs.Output.{in_routine, instruction, items_of, jumped, laid, laid_all, low_string_at, marked, naming};
-ghost use Rattle.inf_output.specs.Output.{next_label, opened, passed, passed_table, past_of, referred, referred_as, routine, simple_by};
-ghost use Rattle.inf_output.specs.Output.{standing_simple, string_at, symbols_passed, together, used, with_low_text, with_scale, with_text};
-ghost use Rattle.inf_output.specs.Output.{with_word};
+ghost use Rattle.inf_output.specs.Output.{begun, closed, code_closed, declared, found_simple, full, low_string_at, opened, passed_table};
+ghost use Rattle.inf_output.specs.Output.{past_of, referred, referred_as, routine, simple_by, standing_simple, string_at, symbols_passed};
+ghost use Rattle.inf_output.specs.Output.{used, with_low_text, with_scale, with_text, with_word};
 
-use crate::items::{Item, Items, proper_operands};
-use crate::operands::{Simple, add_written};
+use crate::items::Items;
+use crate::operands::Simple;
 use crate::past::Past;
 use crate::strings::Strings;
 use crate::texts::Texts;
 use crate::veneer::Veneer;
-use arrayvec::ArrayVec;
-use inf_area::{AreaName, Target};
+use inf_area::{AreaName, Scale, Target};
 use inf_assembler::{CloseFault, GrowFault, Limit as CodeLimit, RoutineKind};
-use inf_cells::Scale;
 use inf_code::code::Code;
 use inf_names::meanings::Meaning;
 use inf_names::symbols::{DeclareFault, Found, ReferFault, Symbols};
-use inf_opcode::{Branch, Counts, Instruction, Label, Opcode, Operand, instruction_counts};
 use inf_scanner::Place;
 use inf_settings::bounds::{Bounds, Unbounded};
 use inf_settings::setting::Setting;
@@ -34,13 +25,13 @@ use inf_tables::{Tables, WordFault, WordUse};
 use std::alloc::{AllocError, Global};
 use std::marker::Model;
 
-/// What the units of a routine are laid into.
+/// Output that the units of a routine are laid into.
 pub struct Output<B: Bounds> {
     pub code: Code<B>,
     pub strings: Strings<B>,
     pub tables: Tables<B>,
     pub names: Symbols<Place, B>,
-    /// How texts are packed.
+    /// Packing of texts.
     pub texts: Texts,
     /// The actions that appeared, but fake ones: each is declared by its name behind two signs, with its number.
     pub seen: Symbols<Place, Unbounded>,
@@ -48,9 +39,9 @@ pub struct Output<B: Bounds> {
     pub first: Place,
     /// The number of the next label of the routine at hand.
     pub next: u32,
-    /// What is left of each limit once one was passed. From then on nothing is laid, but counted.
+    /// Room left of each limit once one was passed. From then on code is not laid any more, but counted.
     pub past: Option<Past>,
-    /// The items of code that is kept apart, which comes later: what is laid goes there.
+    /// The items of code that is kept apart and comes later: code is laid there, while there are any.
     pub kept: Option<Items>,
 }
 
@@ -73,14 +64,14 @@ impl<B: Bounds> Model for Output<B> {
     } };
 }
 
-/// One call at each exit of a function that owns one, in place of a call for each part of each part.
+/// One call at each exit of a function that owns an output, in place of a call for each part of each part.
 impl<B: Bounds> Drop for Output<B> {
     fn drop(self) {
         let _parts = self.into_parts();
     }
 }
 
-/// What a story has beside its code.
+/// Parts of a story beside its code.
 #[derive(Drop)]
 pub struct Contents<B: Bounds> {
     pub names: Symbols<Place, B>,
@@ -88,19 +79,7 @@ pub struct Contents<B: Bounds> {
     pub tables: Tables<B>,
 }
 
-/// How much an instruction takes without its text.
-fn proper_counts(instruction: &Instruction<'_>) -> Counts
-    requires { IsProper (parts_of instruction.now) }
-    ensures { result ≡ counts_of (front_cells (parts_of instruction.now)) }
-{
-    let operands = proper_operands(instruction);
-    instruction_counts(&Instruction {
-        operands,
-        ..*instruction
-    })
-}
-
-/// What a name stands for whose number is known, or that is a variable.
+/// Returns the operand of a name whose number is known, or that is a variable; `None` for any other `meaning`.
 fn standing(meaning: Meaning) -> Option<Simple>
     ensures { result ≡ standing_simple meaning }
 {
@@ -124,7 +103,7 @@ fn standing(meaning: Meaning) -> Option<Simple>
     }
 }
 
-/// What a name stands for as an operand: something itself, or a reference by its number among the names.
+/// Returns the operand of a name: `standing` if there is one, and else a reference by its number among the names.
 fn simple(standing: Option<Simple>, number: Option<usize>) -> Simple
     ensures { result ≡ simple_by standing number }
 {
@@ -135,7 +114,7 @@ fn simple(standing: Option<Simple>, number: Option<usize>) -> Simple
     }
 }
 
-/// What a name is as an operand, by what looking for it finds.
+/// Returns the operand of a name, where its look-up found `found` and its number among the names is `number`.
 fn found(found: Found<Place>, number: Option<usize>) -> Simple
     ensures { result ≡ found_simple found number }
 {
@@ -171,7 +150,7 @@ impl<B: Bounds> Output<B> {
         (code, contents)
     }
 
-    /// An output for some code, strings, tables, names and texts, of which no routine was begun.
+    /// Returns an output of the given code, strings, tables, names and texts, of which no routine was begun.
     pub fn new(
         code: Code<B>,
         strings: Strings<B>,
@@ -209,7 +188,7 @@ impl<B: Bounds> Output<B> {
         }
     }
 
-    /// From now on packed addresses are multiplied by `scale`: so the next routine and the next string are filled up.
+    /// Multiplies packed addresses by `scale` from now on: the next routine and the next string are filled up to it.
     pub fn set_scale(&mut self, scale: Scale)
         ensures { self.new ≡ with_scale scale self.old }
     {
@@ -217,18 +196,40 @@ impl<B: Bounds> Output<B> {
         self.strings.set_scale(scale);
     }
 
-    /// The first limit that was passed, in the order of the settings, counted over all that was laid since. The references of tables count
-    /// with those of
-    /// code.
+    /// Returns the first limit that was passed, in the order of the settings, counted over all that was laid since. The references
+    /// of tables count with those of code.
     pub fn full(&self) -> Option<Setting>
+        ensures { result ≡ full B.most self.now }
+    {
+        if self.past.is_none() && self.has_room() {
+            return None;
+        }
+        self.full_past()
+    }
+
+    /// Returns whether the code, as it was laid, and the references passed no limit.
+    fn has_room(&self) -> bool
+        ensures { result ≡ true → self.now.past ≡ None → full B.most self.now ≡ None }
+    {
+        if self.code.labels_left().is_none() || self.code.code_left().is_none() {
+            return false;
+        }
+        match self.code.references_left() {
+            Some(left) => self.tables.references() <= left,
+            None => false,
+        }
+    }
+
+    /// Returns the first limit that was passed, as `full` does. It stands apart, since mostly there is room.
+    #[inline(never)]
+    fn full_past(&self) -> Option<Setting>
         ensures { result ≡ full B.most self.now }
     {
         self.rest().counted(self.tables.references()).full()
     }
 
-    /// Opens a routine of so many locals, at most 15, which is lost or not; its labels are counted from 0. Where that would pass a limit
-    /// none
-    /// is open, and the limit is passed. One that is open is given up.
+    /// Opens a routine of `locals` locals, at most 15, whose labels are counted from 0; it is lost if `is_lost`. Where that would
+    /// pass a limit none is open, and the limit is passed. A routine that is open is given up.
     pub fn open(&mut self, alloc: Global, locals: u8, is_lost: bool) -> Result<(), AllocError>
         requires { locals ≤ 15 }
         ensures { OnOk result (self.new ≡ opened B.most locals is_lost self.old) }
@@ -244,8 +245,8 @@ impl<B: Bounds> Output<B> {
         }
     }
 
-    /// What is left of each limit.
-    fn rest(&self) -> Past
+    /// Returns the room left of each limit.
+    pub(crate) fn rest(&self) -> Past
         ensures { result ≡ past_of B.most self.now }
     {
         match self.past {
@@ -254,168 +255,8 @@ impl<B: Bounds> Output<B> {
         }
     }
 
-    /// An instruction is not laid any more, but counted. Of a routine that is lost the labels count alone.
-    fn pass(&mut self, instruction: &Instruction<'_>)
-        requires { IsProper (parts_of instruction.now) }
-        ensures { self.new ≡ passed B.most (item.Instruction (parts_of instruction.now)) self.old }
-    {
-        let counts = proper_counts(instruction);
-        let past = self.rest();
-        self.past = Some(if self.code.is_lost() {
-            past.labelled(counts.labels)
-        } else {
-            past.behind(counts, instruction.text.len())
-        });
-    }
-
-    /// A label's place is not laid any more, but counted.
-    fn pass_mark(&mut self, label: Label)
-        ensures { self.new ≡ passed B.most (item.Mark label) self.old }
-    {
-        self.past = Some(
-            self.rest().taken(Counts {
-                bytes: 0,
-                labels: 1,
-                fixups: 0,
-            }),
-        );
-    }
-
-    /// A label that was not handed out for the routine at hand.
-    #[tactic(auto, unfolding(crate::specs::Output::behind))]
-    pub fn label(&mut self) -> Label
-        ensures label { result ≡ next_label self.old }
-        ensures next { self.new ≡ record self.old { next = behind self.old.next } }
-    {
-        let label = Label { number: self.next };
-        self.next = self.next.saturating_add(1);
-        label
-    }
-
-    /// An instruction, whose parts are those that the instruction set gives its opcode (Z-Machine Standard 1.1, section 14).
-    #[tactic(auto, unfolding(crate::specs::Output::laid))]
-    pub fn emit(&mut self, instruction: &Instruction<'_>) -> Result<(), AllocError>
-        requires { IsProper (parts_of instruction.now) }
-        ensures ok { OnOk result (self.new ≡ laid B.most (item.Instruction (parts_of instruction.now)) self.old) }
-        ensures err { OnErr result (self.new ≡ self.old) }
-    {
-        match &mut self.kept {
-            Some(kept) => kept.instruction(instruction),
-            None => self.emit_in_routine(instruction),
-        }
-    }
-
-    /// An instruction in the open routine.
-    #[tactic(auto, using(crate::proofs::Limits::is_passed))]
-    fn emit_in_routine(&mut self, instruction: &Instruction<'_>) -> Result<(), AllocError>
-        requires { IsProper (parts_of instruction.now) }
-        ensures ok { OnOk result (self.new ≡ in_routine B.most self.old.past (item.Instruction (parts_of instruction.now)) self.old) }
-        ensures err { OnErr result (self.new ≡ self.old) }
-    {
-        if self.past.is_some() {
-            self.pass(instruction);
-            return Ok(());
-        }
-        match self.code.emit(instruction) {
-            Ok(()) => Ok(()),
-            Err(GrowFault::Full(_)) => {
-                self.pass(instruction);
-                Ok(())
-            }
-            Err(GrowFault::Memory) => Err(AllocError),
-        }
-    }
-
-    /// The place of a label.
-    #[tactic(auto, unfolding(crate::specs::Output::laid, crate::specs::Output::marked))]
-    pub fn mark(&mut self, label: Label) -> Result<(), AllocError>
-        ensures ok { OnOk result (self.new ≡ marked B.most label self.old) }
-        ensures err { OnErr result (self.new ≡ self.old) }
-    {
-        match &mut self.kept {
-            Some(kept) => kept.mark(label),
-            None => self.mark_in_routine(label),
-        }
-    }
-
-    /// The place of a label in the open routine.
-    #[tactic(auto, using(crate::proofs::Limits::is_passed))]
-    fn mark_in_routine(&mut self, label: Label) -> Result<(), AllocError>
-        ensures ok { OnOk result (self.new ≡ in_routine B.most self.old.past (item.Mark label) self.old) }
-        ensures err { OnErr result (self.new ≡ self.old) }
-    {
-        if self.past.is_some() {
-            self.pass_mark(label);
-            return Ok(());
-        }
-        match self.code.label(label) {
-            Ok(()) => Ok(()),
-            Err(GrowFault::Full(_)) => {
-                self.pass_mark(label);
-                Ok(())
-            }
-            Err(GrowFault::Memory) => Err(AllocError),
-        }
-    }
-
-    /// A jump to a label.
-    #[tactic(auto, unfolding(crate::specs::Output::jumped))]
-    pub fn jump(&mut self, label: Label) -> Result<(), AllocError>
-        ensures { OnOk result (self.new ≡ jumped B.most label self.old) }
-    {
-        self.emit(&Instruction::new(Opcode::Jump, &[Operand::Offset(label)], None))
-    }
-
-    /// An instruction of simple operands.
-    #[tactic(auto, using(crate::proofs::Proper::is_proper), unfolding(crate::specs::Output::instruction))]
-    pub fn instruct(
-        &mut self,
-        opcode: Opcode,
-        operands: &[Simple],
-        store: Option<u8>,
-        branch: Option<Branch>,
-    ) -> Result<(), AllocError>
-        requires { Takes opcode (length operands.now) (is_some store) (is_some branch) }
-        ensures { OnOk result (self.new ≡ instruction B.most opcode operands.now store branch self.old) }
-    {
-        let mut written = ArrayVec::new();
-        add_written(&mut written, operands);
-        self.emit(&Instruction {
-            opcode,
-            operands: &written,
-            store,
-            branch,
-            text: &[],
-        })
-    }
-
-    /// An instruction whose first operand names a variable.
-    #[tactic(auto, using(crate::proofs::Proper::is_proper_naming), unfolding(crate::specs::Output::naming))]
-    pub fn instruct_naming(
-        &mut self,
-        opcode: Opcode,
-        variable: u8,
-        operands: &[Simple],
-        store: Option<u8>,
-        branch: Option<Branch>,
-    ) -> Result<(), AllocError>
-        requires { TakesVariable opcode (length operands.now) (is_some store) (is_some branch) }
-        ensures { OnOk result (self.new ≡ naming B.most opcode variable operands.now store branch self.old) }
-    {
-        let mut all = ArrayVec::new();
-        all.push(Operand::Small(variable));
-        add_written(&mut all, operands);
-        self.emit(&Instruction {
-            opcode,
-            operands: &all,
-            store,
-            branch,
-            text: &[],
-        })
-    }
-
-    /// Code begins with the first routine of the story, unless it has begun. Where that would pass a limit it does not begin, and the limit
-    /// is passed.
+    /// Begins the code with the first routine of the story, unless it has begun. Where that would pass a limit it does not begin,
+    /// and the limit is passed.
     pub fn begin(&mut self)
         ensures { self.new ≡ begun B.most self.old }
     {
@@ -424,9 +265,9 @@ impl<B: Bounds> Output<B> {
         }
     }
 
-    /// The open routine is closed, if there is one. Answers what is wrong with it, if anything is: then it is given up, and where that is a
-    /// limit, it is
-    /// passed. So is the limit of labels where it had too many.
+    /// Closes the open routine, if there is one, as one of `kind`. Returns the fault of the routine, if it has one: then it is
+    /// given up, and where the fault is a limit, that is passed. The limit of labels is passed, too, where the routine had too
+    /// many.
     pub fn close(&mut self, kind: RoutineKind) -> Result<Option<CloseFault>, AllocError>
         ensures value { OnOk result (self.new ≡ closed B.most kind self.old) }
         ensures fault { IfOk result (λ fault. fault ≡ fault_closed B.most kind self.old.code) }
@@ -439,9 +280,8 @@ impl<B: Bounds> Output<B> {
         Ok(fault)
     }
 
-    /// The code of the open routine is closed, if there is one. Answers what is wrong with it, if anything is: then it is given up, and
-    /// where that is a
-    /// limit, it is passed.
+    /// Closes the code of the open routine, if there is one, as one of `kind`. Returns the fault of the routine, if it has one:
+    /// then it is given up, and where the fault is a limit, that is passed.
     fn close_code(&mut self, kind: RoutineKind) -> Result<Option<CloseFault>, AllocError>
         ensures value { OnOk result (self.new ≡ code_closed B.most kind self.old) }
         ensures fault { IfOk result (λ fault. fault ≡ fault_closed B.most kind self.old.code) }
@@ -457,9 +297,8 @@ impl<B: Bounds> Output<B> {
         }
     }
 
-    /// A name is declared with what it stands for. Answers what is wrong with that, if anything is: then nothing is declared, and where it
-    /// would be one
-    /// too many, that limit is passed.
+    /// Declares `name` with `meaning`. Returns the refusal, if there is one: then nothing is declared, and where `name` would be
+    /// one too many, that limit is passed.
     pub fn declare(
         &mut self,
         name: &[u8],
@@ -482,8 +321,8 @@ impl<B: Bounds> Output<B> {
         }
     }
 
-    /// A name is used at a place. Answers what looking for it found, with its number; nothing where it would be one too many: then that
-    /// limit is passed.
+    /// Uses `name` at `place`. Returns the meaning that its look-up found, with its number; `None` where it would be one too many:
+    /// then that limit is passed.
     pub fn refer(
         &mut self,
         name: &[u8],
@@ -504,7 +343,7 @@ impl<B: Bounds> Output<B> {
         }
     }
 
-    /// There would be more names than there may be.
+    /// Passes the limit of names.
     fn pass_symbols(&mut self)
         ensures { self.new ≡ symbols_passed B.most self.old }
     {
@@ -514,8 +353,8 @@ impl<B: Bounds> Output<B> {
         });
     }
 
-    /// A string of these bytes is added, which are a packed text. Answers what it is. Where it would pass the limit nothing is added, and
-    /// the limit is passed.
+    /// Adds a string of the bytes `text`, which are a packed text, and returns its place. Where it would pass the limit nothing is
+    /// added, and the limit is passed.
     pub fn string(&mut self, text: &[u8]) -> Result<Target, AllocError>
         ensures target { IfOk result (λ target. target ≡ string_at self.old) }
         ensures value { OnOk result (self.new ≡ with_text B.most text.now self.old) }
@@ -531,9 +370,8 @@ impl<B: Bounds> Output<B> {
         Ok(Target::Place(AreaName::Strings, place))
     }
 
-    /// A low string of these bytes is added, which are a packed text. Answers what it is. Where it would pass the limit nothing is added,
-    /// and the limit is
-    /// passed.
+    /// Adds a low string of the bytes `text`, which are a packed text, and returns its place. Where it would pass the limit nothing
+    /// is added, and the limit is passed.
     pub fn low_string(&mut self, text: &[u8]) -> Result<Target, AllocError>
         ensures target { IfOk result (λ target. target ≡ low_string_at self.old) }
         ensures value { OnOk result (self.new ≡ with_low_text B.most text.now self.old) }
@@ -546,16 +384,15 @@ impl<B: Bounds> Output<B> {
         Ok(Target::Place(AreaName::LowStrings, place))
     }
 
-    /// A table would hold more than this limit allows.
+    /// Passes `limit`, the limit of a table that would hold more than it allows.
     pub fn pass_table(&mut self, limit: Setting)
         ensures { self.new ≡ passed_table B.most limit self.old }
     {
         self.past = Some(self.rest().table_passed(limit));
     }
 
-    /// A use of the word with this text. Where it would be one too many it is not added, and the limit is passed; nor is it where it would
-    /// become a word
-    /// of another verb.
+    /// Adds a use of the dictionary word with `text`. Where it would be one too many it is not added, and the limit is passed; nor
+    /// is it added where it would become a word of another verb.
     pub fn word(
         &mut self,
         text: [u8; 6],
@@ -574,7 +411,7 @@ impl<B: Bounds> Output<B> {
         }
     }
 
-    /// The operand by which a routine of the veneer is called, whose name is looked up, and used at the first token of the unit.
+    /// Returns the operand by which the routine `veneer` is called. Its name is looked up, and used at the first token of the unit.
     #[tactic(auto, unfolding(crate::specs::Output::routine, crate::specs::Output::used))]
     pub fn routine(&mut self, veneer: Veneer) -> Result<Simple, AllocError>
         ensures operand { IfOk result (λ operand. operand ≡ routine B.most veneer self.old) }
@@ -590,45 +427,6 @@ impl<B: Bounds> Output<B> {
                 Ok(Simple::Later(Target::Name(0)))
             }
             Err(ReferFault::Memory) => Err(AllocError),
-        }
-    }
-
-    /// What is laid from here on is kept apart. What was kept so far is dropped.
-    pub fn set_apart(&mut self, alloc: Global)
-        ensures { self.new ≡ apart self.old }
-    {
-        self.kept = Some(Items::new(alloc));
-    }
-
-    /// What is laid from here on goes into the routine again. Answers what was kept apart.
-    pub fn take_apart(&mut self, alloc: Global) -> Items
-        ensures items { result ≡ items_of self.old.kept }
-        ensures together { self.new ≡ together self.old }
-    {
-        match self.kept.take() {
-            Some(items) => items,
-            None => Items::new(alloc),
-        }
-    }
-
-    /// Items that were kept apart come now.
-    pub fn append(&mut self, items: &Items) -> Result<(), AllocError>
-        ensures { OnOk result (self.new ≡ laid_all B.most items.now self.old) }
-    {
-        for item in items.as_slice() {
-            self.add(item)?;
-        }
-        Ok(())
-    }
-
-    /// An item that was kept.
-    #[tactic(auto, unfolding(crate::specs::Output::marked))]
-    fn add(&mut self, item: &Item) -> Result<(), AllocError>
-        ensures { OnOk result (self.new ≡ laid B.most item.now self.old) }
-    {
-        match item {
-            Item::Instruction(kept) => self.emit(&kept.instruction()),
-            Item::Mark(label) => self.mark(*label),
         }
     }
 }

@@ -1,6 +1,7 @@
-//! What is left of the limits of a story.
+//! Room left of the limits of a story.
 ghost use Rattle.std.specs.Prelude.{◌≡◌};
-ghost use Rattle.inf_output.specs.Output.{counted, first_table, full_of, full_past, less, or_full, passed_limit, table_passed, taken, whole};
+ghost use Rattle.inf_output.specs.Output.{counted, first_table, full_of, full_past, less, or_full, passed_limit, table_passed, taken};
+ghost use Rattle.inf_output.specs.Output.{whole};
 ghost use Rattle.inf_output.specs.Output.{without_bytes, without_labels};
 
 use inf_assembler::Limit as CodeLimit;
@@ -9,31 +10,31 @@ use inf_opcode::Counts;
 use inf_settings::bounds::Bounds;
 use inf_settings::setting::Setting;
 
-/// What is left of each limit, one of which was passed; nothing of those that were.
+/// Room left of each limit, once one was passed; none of those that were passed.
 #[derive(Clone, Copy, Debug, PartialEq, Eq)]
 pub struct Past {
-    /// Whether there are more names than there may be.
+    /// Tells whether there are more names than there may be.
     pub symbols: bool,
-    /// The labels, branches and jumps that the open routine may still take.
+    /// Labels, branches and jumps that the open routine may still take.
     pub labels: Option<usize>,
-    /// The first limit of a table that was passed, in the order of the settings.
+    /// First limit of a table that was passed, in the order of the settings.
     pub tables: Option<Setting>,
-    /// The bytes of code.
+    /// Bytes of code that there may still be.
     pub code: Option<usize>,
-    /// Whether there are more bytes of strings than there may be.
+    /// Tells whether there are more bytes of strings than there may be.
     pub strings: bool,
-    /// The references.
+    /// References that there may still be.
     pub refs: Option<usize>,
 }
 
-/// So much more of a limit.
+/// Takes `more` from the room `rest` of a limit; returns `None` once the limit is passed.
 fn less(rest: Option<usize>, more: usize) -> Option<usize>
     ensures { result ≡ less rest more }
 {
     rest?.checked_sub(more)
 }
 
-/// The first limit, which nothing is left of, or one behind it.
+/// Returns `limit` where `rest` says that it was passed, and else the first limit behind it, which `others` is.
 fn full_of(rest: Option<usize>, limit: Setting, others: Option<Setting>) -> Option<Setting>
     ensures { result ≡ full_of rest limit others }
 {
@@ -43,7 +44,7 @@ fn full_of(rest: Option<usize>, limit: Setting, others: Option<Setting>) -> Opti
     }
 }
 
-/// The first limit of a table that was passed, or one behind it.
+/// Returns the first limit of a table, `passed`, if one was passed, and else the first limit behind it, which `others` is.
 fn or_full(passed: Option<Setting>, others: Option<Setting>) -> Option<Setting>
     ensures { result ≡ or_full passed others }
 {
@@ -53,7 +54,7 @@ fn or_full(passed: Option<Setting>, others: Option<Setting>) -> Option<Setting>
     }
 }
 
-/// The first of two limits of tables, in the order of the settings.
+/// Returns the first of two limits of tables, in the order of the settings: of `limit` and of the one passed so far, if there is one.
 fn first_table(passed: Option<Setting>, limit: Setting) -> Setting
     ensures { result ≡ first_table passed limit }
 {
@@ -65,7 +66,7 @@ fn first_table(passed: Option<Setting>, limit: Setting) -> Setting
 }
 
 impl Past {
-    /// What is left beside some code.
+    /// Returns the room left beside `code`.
     pub(crate) fn whole<B: Bounds>(code: &Code<B>) -> Past
         ensures { result ≡ whole B.most code.now }
     {
@@ -79,7 +80,7 @@ impl Past {
         }
     }
 
-    /// So much more of the limits.
+    /// Takes `counts` from the room left.
     pub(crate) fn taken(self, counts: Counts) -> Past
         ensures { result ≡ taken counts self }
     {
@@ -93,7 +94,7 @@ impl Past {
         }
     }
 
-    /// What is left behind an instruction that takes so much, and as many bytes of text.
+    /// Takes an instruction with `counts`, and with `text` bytes of text, from the room left.
     pub(crate) fn behind(self, counts: Counts, text: usize) -> Past
         ensures { result ≡ without_bytes text (taken counts self) }
     {
@@ -104,7 +105,7 @@ impl Past {
         }
     }
 
-    /// So many more labels.
+    /// Takes `labels` labels from the room left.
     pub(crate) fn labelled(self, labels: usize) -> Past
         ensures { result ≡ without_labels labels self }
     {
@@ -114,7 +115,7 @@ impl Past {
         }
     }
 
-    /// A limit is passed.
+    /// Marks `limit` as passed.
     pub(crate) fn passed(self, limit: CodeLimit) -> Past
         ensures { result ≡ passed_limit limit self }
     {
@@ -128,7 +129,7 @@ impl Past {
         }
     }
 
-    /// So many more references stand in tables.
+    /// Takes `references` references of tables from the room left.
     pub(crate) fn counted(self, references: usize) -> Past
         ensures { result ≡ counted references self }
     {
@@ -138,7 +139,7 @@ impl Past {
         }
     }
 
-    /// A limit of a table is passed.
+    /// Marks `limit`, the limit of a table, as passed.
     pub(crate) fn table_passed(self, limit: Setting) -> Past
         ensures { result ≡ table_passed limit self }
     {
@@ -148,7 +149,7 @@ impl Past {
         }
     }
 
-    /// The first of the limits that were passed, in the order of the settings.
+    /// Returns the first of the limits that were passed, in the order of the settings.
     pub(crate) fn full(self) -> Option<Setting>
         ensures { result ≡ full_past self }
     {

@@ -3,15 +3,13 @@ ghost use Rattle.std.specs.Prelude.{◌≡◌, ◌≤◌, IfOk, OnErr, if◌then
 ghost use Rattle.inf_output.specs.Strings.{fits, with_string};
 ghost use Rattle.inf_settings.specs.declared.setting.Setting.TheVariants as setting;
 
-use inf_area::{Area, PagedArea};
-use inf_cells::Scale;
+use inf_area::{Area, PagedArea, Scale};
 use inf_settings::bounds::Bounds;
 use std::alloc::{AllocError, Global};
 use std::marker::{Model, PhantomData};
 
-/// The packed texts of a story's strings, one behind the other in the order in which they came, each filled up with zeros to a packed
-/// address
-/// (Z-Machine Standard 1.1, section 1.2.3).
+/// The packed texts of the strings of a story, one behind the other in the order in which they came, each filled up with zeros to a
+/// packed address (Z-Machine Standard 1.1, section 1.2.3).
 #[derive(Drop)]
 pub struct Strings<B: Bounds> {
     area: PagedArea,
@@ -35,8 +33,8 @@ impl<B: Bounds> Model for Strings<B> {
 impl<B: Bounds> Strings<B> {
     ghost use Rattle.inf_output.specs.Strings.{no_strings};
 
-    /// None, of at most so many bytes, in a story whose packed addresses are multiplied by this. They take no memory until the first one
-    /// comes.
+    /// Returns no strings, of at most `limit` bytes, in a story whose packed addresses are multiplied by `scale`. They take no
+    /// memory until the first one comes.
     pub fn new(alloc: Global, limit: usize, scale: Scale) -> Strings<B>
         requires { limit ≡ B.most setting.Strings }
         ensures { result ≡ no_strings scale }
@@ -49,14 +47,14 @@ impl<B: Bounds> Strings<B> {
         }
     }
 
-    /// From now on packed addresses are multiplied by `scale`: so the next string is filled up.
+    /// Multiplies packed addresses by `scale` from now on: the next string is filled up to it.
     pub fn set_scale(&mut self, scale: Scale)
         ensures { self.new ≡ record self.old { scale = scale } }
     {
         self.scale = scale;
     }
 
-    /// How many bytes they have: the place of the next one.
+    /// Returns the number of bytes of the strings: the place of the next one.
     pub fn len(&self) -> usize
         ensures value { result ≡ length self.now.bytes }
         ensures few { result ≤ B.most setting.Strings }
@@ -64,8 +62,8 @@ impl<B: Bounds> Strings<B> {
         self.area.len()
     }
 
-    /// Adds a string of the bytes `text`, and answers that it was added; or that it would pass the limit. Where memory runs out they stay
-    /// as they were.
+    /// Adds a string of the bytes `text` and returns true; returns false, and adds nothing, where it would pass the limit. Where
+    /// memory runs out the strings stay as they were.
     #[tactic(auto, using(crate::proofs::Cutting::cut_behind))]
     pub fn add(&mut self, text: &[u8]) -> Result<bool, AllocError>
         ensures value { IfOk result (λ added. (added ≡ fits B.most text.now self.old)
@@ -87,7 +85,7 @@ impl<B: Bounds> Strings<B> {
         Ok(true)
     }
 
-    /// Their area.
+    /// Returns the area of the strings.
     pub fn into_area(self) -> PagedArea
         ensures { result ≡ self.bytes }
     {

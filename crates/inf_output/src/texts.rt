@@ -1,4 +1,4 @@
-//! How the texts of a story are packed.
+//! Packing of the texts of a story.
 ghost use Rattle.std.specs.Prelude.{◌≡◌, IfOk, IsTrue, OnErr, OnOk, []};
 ghost use Rattle.std.specs.Option.{option_copied};
 ghost use Rattle.inf_text.specs.Declaring.{Declares};
@@ -10,7 +10,7 @@ use inf_text::{AbbrevFault, Abbreviations, Text, pack};
 use std::alloc::{AllocError, Global};
 use std::marker::Model;
 
-/// How the texts of a story are packed: the abbreviations that its source declares, and whether texts are packed with them (Z-Machine
+/// Packing of the texts of a story: the abbreviations that its source declares, and whether texts are packed with them (Z-Machine
 /// Standard 1.1, section 3.3). An abbreviation is declared in front of each text that is packed (Designer's Manual, fourth edition,
 /// section 45).
 #[derive(Drop)]
@@ -29,7 +29,8 @@ impl Model for Texts {
 }
 
 impl Texts {
-    /// No abbreviations, with which no text is packed; nor was one packed so far. They take no memory until the first one is declared.
+    /// Returns a packing without abbreviations, with which no text was packed so far. It takes no memory until the first
+    /// abbreviation is declared.
     pub fn new(alloc: Global) -> Texts
         ensures { result ≡ no_texts }
     {
@@ -40,22 +41,22 @@ impl Texts {
         }
     }
 
-    /// From now on texts are packed with the abbreviations where `are_used` says so, and without them else.
+    /// Packs texts from now on with the abbreviations if `are_used`, and without them else.
     pub fn set_used(&mut self, are_used: bool)
         ensures { self.new ≡ record self.old { are_used = are_used } }
     {
         self.are_used = are_used;
     }
 
-    /// Whether a text was packed. Then it is too late to declare an abbreviation.
+    /// Returns whether a text was packed. Then it is too late to declare an abbreviation.
     pub fn is_late(&self) -> bool
         ensures { result ≡ self.now.is_late }
     {
         self.is_late
     }
 
-    /// The bytes of `text`, packed with the abbreviations where these are used. From now on it is late. Where memory runs out nothing is
-    /// changed.
+    /// Returns the bytes of `text`, packed with the abbreviations where these are used. From now on it is late. Where memory runs
+    /// out nothing is changed.
     pub fn pack(&mut self, alloc: Global, text: &Text) -> Result<Vec<u8>, AllocError>
         ensures bytes { IfOk result (λ bytes. bytes.items ≡ packed text.now (used_in self.old)) }
         // They are whole words, of which only the last is marked as the end.
@@ -71,8 +72,8 @@ impl Texts {
         Ok(bytes)
     }
 
-    /// The bytes of `text`, packed without abbreviations, as those of low strings are. From now on it is late. Where memory runs out nothing
-    /// is changed.
+    /// Returns the bytes of `text`, packed without abbreviations, as those of low strings are. From now on it is late. Where memory
+    /// runs out nothing is changed.
     pub fn pack_low(&mut self, alloc: Global, text: &Text) -> Result<Vec<u8>, AllocError>
         ensures bytes { IfOk result (λ bytes. bytes.items ≡ packed text.now []) }
         // They are whole words, of which only the last is marked as the end.
@@ -85,9 +86,9 @@ impl Texts {
         Ok(bytes)
     }
 
-    /// Declares `text` as an abbreviation, and answers its number: how many were declared before. The refusals, in this order: `Full`
-    /// where there are 64, `Repeated` where the text is declared, `TooShort` where it has fewer than two characters, `Memory` where there
-    /// is too little memory. A refusal changes nothing.
+    /// Declares `text` as an abbreviation, and returns its number: the count of those declared before. The refusals, in this order:
+    /// `Full` where there are 64, `Repeated` where the text is declared, `TooShort` where it has fewer than two characters,
+    /// `Memory` where there is too little memory. A refusal changes nothing.
     pub fn declare(&mut self, text: &Text) -> Result<u8, AbbrevFault>
         ensures declared { Declares self.old.declared text.now self.new.declared result }
         ensures others { self.new ≡ record self.old { declared = self.new.declared } }

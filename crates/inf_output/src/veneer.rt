@@ -5,41 +5,41 @@ ghost use Rattle.inf_output.specs.Veneer.{name_of};
 /// A routine that the code of an expression or of a statement calls by name. A source may declare the name itself.
 #[derive(Clone, Copy, Debug, PartialEq, Eq)]
 pub enum Veneer {
-    /// The value of a property of an object.
+    /// Reads the value of a property of an object.
     ReadProperty,
     /// Stores the value of a property.
     WriteProperty,
-    /// The address of a property's values.
+    /// Computes the address of the values of a property.
     PropertyAddress,
-    /// The length of a property's values in bytes.
+    /// Computes the length of the values of a property in bytes.
     PropertyLength,
     /// Calls a property as a message to an object.
     CallProperty,
-    /// A step of a property's value.
+    /// Steps the value of a property.
     StepProperty,
-    /// Stores a byte of an array and answers it.
+    /// Stores a byte of an array and returns it.
     WriteByte,
-    /// Stores a word of an array and answers it.
+    /// Stores a word of an array and returns it.
     WriteWord,
-    /// A step of a byte of an array.
+    /// Steps a byte of an array.
     StepByte,
-    /// A step of a word of an array.
+    /// Steps a word of an array.
     StepWord,
-    /// How many children an object has.
+    /// Counts the children of an object.
     Children,
-    /// Whether something is of a class.
+    /// Tests whether something is of a class.
     OfClass,
-    /// Whether an object has a property.
+    /// Tests whether an object has a property.
     Provides,
     /// Prints the short name of an object.
     ShortName,
-    /// Prints it with a definite article.
+    /// Prints the short name of an object with a definite article.
     DefiniteArticle,
-    /// Prints it with a definite article that begins with a capital.
+    /// Prints the short name of an object with a definite article that begins with a capital.
     CapitalArticle,
-    /// Prints it with an indefinite article.
+    /// Prints the short name of an object with an indefinite article.
     IndefiniteArticle,
-    /// Prints a number.
+    /// Prints a number in words.
     EnglishNumber,
     /// Prints spaces.
     Spaces,
@@ -48,7 +48,7 @@ pub enum Veneer {
 }
 
 impl Veneer {
-    /// Its name, as messages spell it.
+    /// Returns the name of the routine, as messages spell it.
     pub fn name(self) -> &'static str
         ensures value { result.now ≡ name_of self }
         ensures short { length result.now ≤ 35 }

@@ -1,4 +1,4 @@
--- Properties are found by the places that stand under their numbers.
+-- Properties are found by the places that are kept under their numbers.
 use Rattle.std.proofs.Common.{◌≡◌, ◌<◌, ◌+◌, ◌-◌, ◌∷◌, ◌++◌, ◌==◌, [], ℕ, zero, suc, List, Bool, true, false, Option, Some, None, inl, inr}
 use Rattle.std.proofs.Common.{ltb, length, length-set, get_or, refl, sym, ap, subst, ◌∙◌, arith}
 use Rattle.std.specs.Prelude.{slice_get, slice_set, nat_lt, is_some, if◌then◌else◌}
@@ -12,7 +12,7 @@ abbrev pub at_place : ℕ → List Property → Option ℕ → Option Property
 at_place number properties None = None
 at_place number properties (Some place) = checked number (slice_get properties place)
 
--- the same, where the first property of the list stands at a place
+-- the property of a number, by the place under the number, where the first property of the list has the place `first`
 abbrev at_place_from : ℕ → ℕ → List Property → Option ℕ → Option Property
 at_place_from first number properties None = None
 at_place_from first number properties (Some place) =
@@ -34,7 +34,7 @@ nothing_there first n (Some place) = go (nat_lt place first)
     go true = refl
     go false = refl
 
--- behind a property of another number
+-- a property of another number is passed over
 other_further : (first n : ℕ) (p : Property) (ps : List Property) (d : ℕ) → (p.number == n) ≡ false
     → at_place_from (first + 1) n ps (Some (first + d)) ≡ at_place_from first n (p ∷ ps) (Some (first + d))
 other_further first n p ps zero e =
@@ -73,7 +73,7 @@ other_there first n p ps (Some place) e =
           (other_further first n p ps (place - first) e)
     ]
 
--- the first property itself
+-- the first property is found where it has the number
 found_here : (first n : ℕ) (p : Property) (ps : List Property) (o : Option ℕ) → (p.number == n) ≡ true → o ≡ Some first
     → Some p ≡ at_place_from first n (p ∷ ps) o
 found_here first n p ps o e is =
@@ -104,7 +104,7 @@ found-at places ps n h = found-at_from 0 places ps n h ∙ go (slice_get places 
         if-false (ltb place 0) None (checked n (slice_get ps (place - 0))) (le-ltb place 0 (omega arith))
         ∙ ap (λ k. checked n (slice_get ps k)) same
 
--- writing a place
+-- a place that is written is read again
 slice_get-set_same : (xs : List ℕ) (n k : ℕ) → n < length xs → slice_get (slice_set xs n k) n ≡ Some k
 slice_get-set_same [] n k h = absurd (omega arith)
 slice_get-set_same (x ∷ xs) zero k h = refl
@@ -117,7 +117,7 @@ slice_get-set_other (x ∷ xs) zero (suc m) k e = refl
 slice_get-set_other (x ∷ xs) (suc n) zero k e = refl
 slice_get-set_other (x ∷ xs) (suc n) (suc m) k e = slice_get-set_other xs n m k (λ same. e (ap suc same))
 
--- a number that is not there: neither the first nor one behind it
+-- a number that no property has: neither the first one nor one behind it
 pub absent_head : (p : Property) (ps : List Property) (n : ℕ) → has n (p ∷ ps) ≡ false → ((p.number == n) ≡ false) × (has n ps ≡ false)
 absent_head p ps n e = go (p.number == n) e
   where
@@ -125,7 +125,7 @@ absent_head p ps n e = go (p.number == n) e
     go true absent = cc
     go false absent = (refl, absent)
 
--- what stands there is not overwritten by the place of one that is not there
+-- the places of properties are not overwritten by the place of a number that none of them has
 pub AreAt-set : (first : ℕ) (places : List ℕ) (ps : List Property) (n k : ℕ) → AreAt first places ps → has n ps ≡ false
     → AreAt first (slice_set places n k) ps
 AreAt-set first places [] n k h e = tt
@@ -157,7 +157,7 @@ pub AreAt-kept : (first : ℕ) (old new : List ℕ) (ps : List Property) → Kee
 AreAt-kept first old new [] k h = tt
 AreAt-kept first old new (p ∷ ps) k h = (k.kept p.number first h.0, AreAt-kept (first + 1) old new ps k h.1)
 
--- there is a place still
+-- a number that had a place has one still
 AreCovered_one : (old new : List ℕ) (n : ℕ) → KeepsPlaces old new → n < length old → n < length new
 AreCovered_one old new n k h = slice_get_within new n (get_or old n 0) (k.kept n (get_or old n 0) (slice_get-get_or old n 0 h))
 

@@ -1,4 +1,4 @@
--- What the code adds to a size is what a body's properties need more.
+-- The change of a size that the code computes is the change of the size that a body's properties have.
 use Rattle.std.proofs.Common.{◌≡◌, ◌∷◌, ◌++◌, [], ℕ, List, Bool, false, Option, length, refl, sym, ap, subst, ◌∙◌}
 use Rattle.std.specs.Prelude.{option_to_list}
 use Rattle.inf_area.specs.declared.targets.Value.{Value}
@@ -19,7 +19,7 @@ alike old old' lost lost' gained gained' new a b c h =
     subst (λ x. Changes x lost gained new) (sym a)
     (subst (λ x. Changes old' x gained new) (sym b) (subst (λ x. Changes old' lost' x new) (sym c) h))
 
--- what a property needs, by counts
+-- the size of a property, by its counts
 pub sized_by : (o o' : Owner) (n : ℕ) (b : Bool) (count later : ℕ) (values above own : List Value)
     → o ≡ o' → count ≡ length own → later ≡ later_count own → values ≡ above
     → joined_size o n b count later values ≡ joined_size o' n b (length own) (later_count own) above
@@ -42,7 +42,7 @@ given_fits view s size lost gained n b first is once absent sized was now =
     (sized ∙ ap (λ (o : Open). total o.owner (inherited o.own o.above)) is) was
     (now ∙ sym (size-joined s.owner n b (option_to_list first) (values_in (found n s.above)))) new
 
--- one value more of the last property
+-- the change of the size with one value more of the last property
 pub valued_fits : (view s : Open) (front : List Property) (p : Property) (v : Value) (size lost gained : Size)
     → view ≡ s → view.own ≡ front ++ p ∷ [] → size ≡ total view.owner (inherited view.own view.above)
     → lost ≡ size_of s.owner (joined s.above p)
@@ -59,7 +59,7 @@ valued_fits view s front p v size lost gained is last sized was now =
     (size_of s.owner (joined s.above q))
     (total s.owner (inherited (front ++ q ∷ []) s.above)) old was now new)
 
--- what a property needs with the values of classes
+-- the size of a property with the values of classes
 pub sized_as : (o o' : Owner) (p : Property) (values : List Value) (above : List Property) → o ≡ o' → values ≡ values_of p.number above
     → size_by o p.number (length (joined_values p.is_additive p.values values)) (later_count (joined_values p.is_additive p.values values))
     ≡ size_of o' (joined above p)
@@ -69,7 +69,7 @@ sized_as o o' p values above a b =
     ∙ ap (λ vs. size_by o' p.number (length (joined_values p.is_additive p.values vs))
     (later_count (joined_values p.is_additive p.values vs))) b
 
--- whether the last property would be short
+-- the last property with a further value is short where that property, joined with those of classes, is short
 pub last_short_is : (own front above : List Property) (p : Property) (v : Value) → own ≡ front ++ p ∷ []
     → is_last_short above (with_last_value v own) ≡ is_short (joined above (record p { values = p.values ++ v ∷ [] }))
 last_short_is own front above p v is =

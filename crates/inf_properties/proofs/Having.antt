@@ -1,4 +1,4 @@
--- What an object has of a number.
+-- The property that an object has of a number.
 use Rattle.std.proofs.Common.{◌≡◌, ◌≤◌, ◌∷◌, ◌++◌, ◌==◌, [], ℕ, length, sym, subst, List, Bool, true, false, Option, Some, None, refl, ap}
 use Rattle.std.proofs.Common.{◌∙◌}
 use Rattle.std.specs.Prelude.{is_some, option_map, IfSome, ◌||◌, if◌then◌else◌}
@@ -117,7 +117,7 @@ found_one n (q ∷ ps) p is short = go (q.number == n) refl is (found_one n ps p
     go false other is later = later is parts.1
 
 module _ {A : Type 0} where
-  -- what is found, seen through a reference
+  -- what is found, seen through a reference, has the number
   pub found_number : (f : A → Property) (o : Option A) (n : ℕ) (ps : List Property) → option_map f o ≡ found n ps → are_short ps ≡ true →
       IfSome o (λ a. (f a).number ≡ n)
   found_number f None n ps is short = tt

@@ -1,4 +1,4 @@
--- Properties that stand once, and what an object takes from its classes.
+-- Properties no two of which have the same number, and those that an object takes from its classes.
 use Rattle.std.proofs.Common.{◌≡◌, ◌∷◌, ◌++◌, ◌==◌, [], ℕ, List, Bool, true, false, Some, append_assoc, append-nil, refl, sym, ap, subst}
 use Rattle.std.proofs.Common.{◌∙◌}
 use Rattle.std.specs.Prelude.{is_some, if◌then◌else◌}
@@ -33,7 +33,7 @@ has-push_true p (q ∷ ps) n e = go (q.number == n) e (has-push_true p ps n)
     go true e later = refl
     go false e later = later e
 
--- absent with one more: neither that one nor one of the others
+-- a number is absent from a list with one property more: neither that one nor one of the others has it
 pub absent_push : (p : Property) (ps : List Property) (n : ℕ) → has n (ps ++ p ∷ []) ≡ false →
     ((p.number == n) ≡ false) × (has n ps ≡ false)
 absent_push p [] n e = (absent_head p [] n e)
@@ -42,7 +42,7 @@ absent_push p (q ∷ ps) n e =
     let later = absent_push p ps n parts.1 in
     (later.0, ap (λ (b : Bool). is_some (if b then Some q else found n ps)) parts.0 ∙ later.1)
 
--- what stands before is none of those that come
+-- a number of properties before is none of those that come
 pub absent_later : (before ps : List Property) (n : ℕ) → AreNew before ps → has n before ≡ true → has n ps ≡ false
 absent_later before [] n h e = refl
 absent_later before (p ∷ ps) n h e = go (p.number == n) refl (absent_later (before ++ p ∷ []) ps n h.1 (has-push_true p before n e))
@@ -73,7 +73,7 @@ has-joined above (p ∷ own) n = go (p.number == n) (has-joined above own n)
     go true later = refl
     go false later = later
 
--- two lists have the same numbers
+-- two lists of properties with the same numbers
 abbrev pub SameNumbers : List Property → List Property → Type 0
 SameNumbers xs ys = (n : ℕ) → has n xs ≡ has n ys
 
@@ -96,7 +96,7 @@ AreNew-joined above (p ∷ own) before before' same h = (
       (SameNumbers-push before before' p (joined above p) refl same) h.1,
 )
 
--- what stands before them: own properties, and those of classes
+-- properties that are new behind some are new behind others, which have no further numbers but those of the object's own
 AreNew-lacked : (own above before before' : List Property) → ((n : ℕ) → has n own ≡ false → has n before ≡ false → has n before' ≡ false)
     → AreNew before above → AreNew before' (lacked own above)
 AreNew-lacked own [] before before' all h = tt

@@ -1,4 +1,4 @@
--- What is kept of a body stands behind what it takes.
+-- The invariant of a body holds behind all that the body takes.
 use Rattle.std.proofs.Common.{◌≡◌, ◌≤◌, ◌<◌, ◌+◌, ◌^◌, ◌∷◌, ◌++◌, [], ℕ, suc, zero, List, Bool, true, false, length, get_or, take, inl, inr}
 use Rattle.std.proofs.Common.{refl, sym, ap, subst, ◌∙◌, arith}
 use Rattle.std.specs.Prelude.{slice_set, nat_lt, ◌⊎◌, if◌then◌else◌}
@@ -17,7 +17,7 @@ use Rattle.inf_properties.proofs.Inheriting.{AreNew-inherited, AreNew-push}
 use Rattle.inf_properties.proofs.Short.{short-given, short-replaced}
 use Rattle.inf_properties.proofs.Sums.{few}
 
--- any lists with the size of all
+-- the invariant of any lists with the size of all their properties
 opens : (o : Owner) (own above : List Property) (own_places above_places : List ℕ) (size : Size)
     → AreAt 0 own_places own → AreAt 0 above_places above → AreNew [] own → AreNew [] above → AreFree own → AreFree above
     → are_short (inherited own above) ≡ true → size ≡ total o (inherited own above) → size.bytes < 2 ^ 32 → IsOpen o own above own_places
@@ -65,7 +65,7 @@ opens_inherited o own above class own_places above_places places size new h once
     opens o own (inherited above class) own_places places new h.own_at at h.own_new (AreNew-inherited above class h.above_new once)
     h.own_free (AreFree-inherited above class h.above_free free) short sized small
 
--- the last of some properties
+-- a further value of the last of some properties
 pub set_last : (ps : List Property) (k : ℕ) (p : Property) (v : Value) → k + 1 ≡ length ps → p ≡ get_or ps k p
     → slice_set ps k (record p { values = p.values ++ v ∷ [] }) ≡ with_last_value v ps
 set_last [] k p v h is = absurd (omega arith)
@@ -106,7 +106,7 @@ AreNew-valued before v [] h = tt
 AreNew-valued before v (p ∷ []) h = (h.0, tt)
 AreNew-valued before v (p ∷ q ∷ ps) h = (h.0, AreNew-valued (before ++ p ∷ []) v (q ∷ ps) h.1)
 
--- there is none, or a last one
+-- there is no property, or a last one
 abbrev pub HasLast : List Property → Type 0
 HasLast ps = (ps ≡ []) ⊎ ((front : List Property) × (p : Property) × (ps ≡ front ++ p ∷ []))
 
@@ -141,7 +141,7 @@ opens_valued o own above own_places above_places size new v h short sized small 
     (AreNew-valued [] v own h.own_new) h.above_new (AreFree-valued v own h.own_free) h.above_free (short-valued own above v h.short short)
     sized small
 
--- what was written over all of a list
+-- the front of a list is what was written over it
 pub take_front : (n : ℕ) (xs ys : List ℕ) → length xs ≡ n → take n (xs ++ ys) ≡ xs
 take_front zero [] ys e = refl
 take_front (suc n) [] ys e = absurd (omega arith)

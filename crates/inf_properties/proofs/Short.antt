@@ -27,7 +27,7 @@ lacked_short own (q ∷ above) p h =
         let parts = and_parts (is_short q) (are_short (lacked own above)) h in
         and_from (is_short q) (are_short (lacked (own ++ p ∷ []) above)) parts.0 (later parts.1)
 
--- the parts of what an object has
+-- the two parts of an object's properties are short
 pub short_parts : (own above : List Property) → are_short (inherited own above) ≡ true →
     (are_short (with_joined above own) ≡ true) × (are_short (lacked own above) ≡ true)
 short_parts own above h = and_parts (are_short (with_joined above own)) (are_short (lacked own above))
@@ -46,7 +46,7 @@ joined_short (q ∷ own) above p h k =
     let parts = and_parts (is_short (joined above q)) (are_short (with_joined above own)) h in
     and_from (is_short (joined above q)) (are_short (with_joined above (own ++ p ∷ []))) parts.0 (joined_short own above p parts.1 k)
 
--- without the last one
+-- a list without its last property, and that property
 joined_front : (front above : List Property) (p : Property) → are_short (with_joined above (front ++ p ∷ [])) ≡ true →
     (are_short (with_joined above front) ≡ true) × (is_short (joined above p) ≡ true)
 joined_front [] above p h = (refl, (and_parts (is_short (joined above p)) true h).0)
@@ -70,7 +70,7 @@ short-replaced front above p q e h k =
     let same = lacked-same (front ++ p ∷ []) (front ++ q ∷ []) above (SameNumbers-push front front p q e (λ n. refl)) in
     short_from (front ++ q ∷ []) above (joined_short front above q own.0 k) (ap are_short (sym same) ∙ parts.1)
 
--- the last one itself
+-- the last property joined with those of classes is short
 pub short_last : (front above : List Property) (p : Property) → are_short (inherited (front ++ p ∷ []) above) ≡ true →
     length (joined above p).values ≤ 32
 short_last front above p h =
@@ -80,7 +80,7 @@ pub own_length : (b : Bool) (own above : List Value) → length own ≤ length (
 own_length true own above = omega (arith, length-append own above)
 own_length false own above = omega arith
 
--- what classes give of a property that the body lacks
+-- a property that classes give, and the body lacks, is short
 pub short_found : (own above : List Property) (n : ℕ) (q : Property) → are_short (lacked own above) ≡ true → has n own ≡ false →
     found n above ≡ Some q → length q.values ≤ 32
 short_found own [] n q h e is = cc

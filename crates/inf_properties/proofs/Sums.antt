@@ -1,4 +1,4 @@
--- Sums over what an object has, when its body gives more.
+-- Sums over the properties of an object, when its body gives more.
 use Rattle.std.proofs.Common.{◌≡◌, ◌≤◌, ◌+◌, ◌-◌, ◌*◌, ◌∷◌, ◌++◌, ◌==◌, [], ℕ, List, Bool, true, false, Option, Some, None, length}
 use Rattle.std.proofs.Common.{length-append, refl, sym, ap, subst, ◌∙◌, arith}
 use Rattle.std.specs.Prelude.{nat_le, nat_lt, sum_by, if◌then◌else◌}
@@ -80,7 +80,7 @@ sum-with_joined_push f own above p =
     ∙ ap (λ xs. sum_by f xs + sum_by f (lacked (own ++ p ∷ []) above)) (with_joined-push above own p)
     ∙ ap (λ n. n + sum_by f (lacked (own ++ p ∷ []) above)) (sum_by_push f (with_joined above own) (joined above p))
 
--- one property more: what its classes gave of it is gone, and it is there with what they add
+-- one property more: the one that classes gave is gone, and the new one is there with the values that classes add
 pub sum-given : (f : Property → ℕ) (own above : List Property) (p : Property) → AreNew [] above → has p.number own ≡ false
     → (sum_by f (inherited (own ++ p ∷ []) above) + measure f (found p.number above) ≡ sum_by f (inherited own above) + f (joined above p))
     × (measure f (found p.number above) ≤ sum_by f (inherited own above))
@@ -90,14 +90,14 @@ sum-given f own above p h e =
     let lost = sum-lacked_push f own above [] p h e in
     (omega arith, omega arith)
 
--- lists of the same numbers lack the same
+-- lists of the same numbers lack the same properties
 pub lacked-same : (own own' above : List Property) → SameNumbers own own' → lacked own above ≡ lacked own' above
 lacked-same own own' [] same = refl
 lacked-same own own' (q ∷ above) same =
     ap (λ (b : Bool). if b then lacked own above else q ∷ lacked own above) (same q.number)
     ∙ ap (λ xs. if has q.number own' then xs else q ∷ xs) (lacked-same own own' above same)
 
--- another one in place of the last
+-- another property in place of the last
 pub sum-replaced : (f : Property → ℕ) (front above : List Property) (p q : Property) → p.number ≡ q.number
     → (sum_by f (inherited (front ++ q ∷ []) above) + f (joined above p) ≡ sum_by f (inherited (front ++ p ∷ []) above) + f
     (joined above q))
@@ -108,7 +108,7 @@ sum-replaced f front above p q e =
     let same = ap (sum_by f) (lacked-same (front ++ p ∷ []) (front ++ q ∷ []) above (SameNumbers-push front front p q e (λ n. refl))) in
     (omega arith, omega arith)
 
--- how a size changes
+-- a size changes: it loses a part and gains another
 pub record Changes (old lost gained new : Size) : Type 0 where
   pub bytes : new.bytes + lost.bytes ≡ old.bytes + gained.bytes
   pub fixups : new.fixups + lost.fixups ≡ old.fixups + gained.fixups

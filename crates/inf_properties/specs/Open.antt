@@ -13,8 +13,8 @@ use Rattle.inf_properties.specs.Properties.{AreFree, AreNew, has, inherited, joi
 use Rattle.inf_properties.specs.Values.{with_last_value}
 use Rattle.inf_properties.specs.Sizes.{are_short, is_short, lacks, table_bytes, total, with_table}
 
--- Whose they are, those that its body gave, those of the classes that it named, and whether a further value belongs to the property
--- that was given last.
+-- The owner of the properties, those that its body gave, those of the classes that it named, and whether a further value belongs to
+-- the property that was given last.
 pub record Open : Type 0 where
   pub owner : Owner
   pub own : List Property
@@ -24,33 +24,33 @@ pub record Open : Type 0 where
 abbrev pub opened : Owner → Open
 opened owner = record { owner = owner; own = []; above = []; takes_values = false }
 
--- all properties if its body ended here
+-- all properties, if the body ended here
 abbrev pub all : Open → List Property
 all o = inherited o.own o.above
 
--- how many bytes they need then
+-- the number of bytes that all properties need, if the body ended here
 abbrev pub bytes_now : Open → ℕ
 bytes_now o = table_bytes o.owner (all o)
 
 abbrev pub given_first : ℕ → Bool → Option Value → Property
 given_first number is_additive first = record { number = number; is_additive = is_additive; values = option_to_list first }
 
--- a property is given, with its first value if it has one
+-- with the property `p` given, which has its first value if there is one
 abbrev pub with_given : Property → Open → Open
 with_given p o = record o { own = o.own ++ p ∷ []; takes_values = true }
 
 abbrev pub with_value : Value → Open → Open
 with_value value o = if o.takes_values then record o { own = with_last_value value o.own } else o
 
--- a class is named, which has these properties
+-- with a class named, which has these properties
 abbrev pub with_class : List Property → Open → Open
 with_class properties o = record o { above = inherited o.above properties }
 
--- that there is no room, where properties that need so much have none
+-- the fault of too little room, where properties of the size `size` lack it
 abbrev pub full_fault : Size → Room → Option GiveFault
 full_fault size room = if lacks room (with_table size).bytes then Some fault.Full else None
 
--- Why something is refused: what stands before the others in their order, if anything.
+-- The reason for which a property is refused: the first of these faults in their order, if any.
 abbrev pub give_fault : Property → Room → Open → Option GiveFault
 give_fault p room o =
     if has p.number o.own then Some fault.Given
@@ -58,7 +58,7 @@ give_fault p room o =
     else if lacks room (bytes_now (with_given p o)) then Some fault.Full
     else None
 
--- the property that was given last, if a further value belongs to it
+-- the property that was given last has at most 32 values, with those of classes
 abbrev pub is_last_short : List Property → List Property → Bool
 is_last_short above [] = true
 is_last_short above (p ∷ []) = is_short (joined above p)
@@ -77,17 +77,17 @@ class_fault properties room o =
     else if lacks room (bytes_now (with_class properties o)) then Some fault.Full
     else None
 
--- what is refused by a fault, or where memory runs out
+-- the fault that is told: the one that was found, or else that memory ran out
 abbrev pub refusal : Option GiveFault → GiveFault
 refusal None = fault.Memory
 refusal (Some f) = f
 
--- what a class is refused for: a fault, or that memory ran out before it showed
+-- the fault that is told of a class: the one that was found, or that memory ran out before
 abbrev pub class_refused : Option GiveFault → GiveFault → Type 0
 class_refused found fault.Memory = Unit {0}
 class_refused found refused = found ≡ Some refused
 
--- What is kept of a body: places of its properties and of those of its classes, and what all of them need.
+-- The invariant of a body: the places of its properties and of those of its classes, and the size of all of them.
 pub record IsOpen (owner : Owner) (own above : List Property) (own_places above_places : List ℕ) (size : Size) : Type 0 where
   pub own_at : AreAt 0 own_places own
   pub above_at : AreAt 0 above_places above

@@ -4,7 +4,7 @@ use Rattle.std.specs.Coded.{Coded, coded_list}
 use Rattle.inf_area.specs.declared.targets.Value.{Value}
 use Rattle.inf_properties.specs.declared.values.Property.{Property}
 
--- the property of a number
+-- the property of a number, if there is one
 abbrev pub found : ℕ → List Property → Option Property
 found number [] = None
 found number (p ∷ properties) = if p.number == number then Some p else found number properties
@@ -12,7 +12,7 @@ found number (p ∷ properties) = if p.number == number then Some p else found n
 abbrev pub has : ℕ → List Property → Bool
 has number properties = is_some (found number properties)
 
--- its values; none where there is no such property
+-- the values of a property; none where there is no such property
 abbrev pub values_in : Option Property → List Value
 values_in None = []
 values_in (Some p) = p.values
@@ -31,21 +31,21 @@ abbrev pub with_joined : List Property → List Property → List Property
 with_joined above [] = []
 with_joined above (p ∷ own) = joined above p ∷ with_joined above own
 
--- of its classes it takes the properties that it lacks
+-- the properties of classes that an object lacks, and takes from them
 abbrev pub lacked : List Property → List Property → List Property
 lacked own [] = []
 lacked own (p ∷ above) = if has p.number own then lacked own above else p ∷ lacked own above
 
--- its own properties, then what it lacks of those above it, additive ones joined
+-- an object's own properties, additive ones joined, then those of its classes that it lacks
 abbrev pub inherited : List Property → List Property → List Property
 inherited own above = with_joined above own ++ lacked own above
 
--- the property of a number that an object has in the end, where its own one is this
+-- the property of a number that an object has in the end, where `own` is its own one
 abbrev pub found_or_above : ℕ → Option Property → List Property → Option Property
 found_or_above number None above = found number above
 found_or_above number (Some own) above = Some (joined above own)
 
--- each number stands there once: none is that of a property before it
+-- No number comes twice: none is that of a property before it.
 abbrev pub AreNew : List Property → List Property → Type 0
 AreNew before [] = Unit {0}
 AreNew before (p ∷ properties) = (has p.number before ≡ false) × AreNew (before ++ p ∷ []) properties
@@ -54,7 +54,7 @@ AreNew before (p ∷ properties) = (has p.number before ≡ false) × AreNew (be
 abbrev pub is_reserved : ℕ → Bool
 is_reserved number = number == 2 || number == 3
 
--- none of these has such a number
+-- none of these properties has a reserved number
 pub record AreFree (properties : List Property) : Type 0 where
   pub no_classes : has 2 properties ≡ false
   pub no_address : has 3 properties ≡ false

@@ -9,9 +9,9 @@ use crate::values::Property;
 use std::alloc::{AllocError, Global};
 use std::marker::Model;
 
-/// Where the properties of an object stand in their list, by their numbers.
+/// The places of an object's properties in their list, by the numbers of the properties.
 ///
-/// It is made once for many objects: what was noted of another one does no harm.
+/// One index serves many objects: places that were noted for another object do no harm.
 #[derive(Debug, Drop)]
 pub struct PropertyIndex {
     places: Vec<usize>,
@@ -26,7 +26,7 @@ impl Model for PropertyIndex {
 }
 
 impl PropertyIndex {
-    /// An index of nothing. It takes no memory.
+    /// Returns an index of no properties. It takes no memory.
     pub fn new(alloc: Global) -> PropertyIndex
         ensures { result ≡ [] }
     {
@@ -35,7 +35,7 @@ impl PropertyIndex {
         }
     }
 
-    /// Notes where each of some properties stands, none of which has the number 2 or 3.
+    /// Notes the place of each of `properties`, none of which has the number 2 or 3. Fails where no memory is left.
     pub fn note(&mut self, properties: &Properties) -> Result<(), AllocError>
         ensures at { OnOk result (AreAt 0 self.new properties.now) }
         ensures free { AreFree properties.now }
@@ -46,7 +46,7 @@ impl PropertyIndex {
         Ok(())
     }
 
-    /// The property of a number among those that were noted last.
+    /// Returns the property with the number `number` among `properties`, which were noted last; `None` where none has it.
     pub fn find<'a>(&self, properties: &'a Properties, number: usize) -> Option<&'a Property>
         requires { AreAt 0 self.now properties.now }
         ensures value { option_map (λ p. p.now) result ≡ found number properties.now }

@@ -1,6 +1,6 @@
-//! Properties of objects: what the body of an object or a class gives, and what it takes from its classes.
+//! Properties of objects: those that the body of an object or a class gives, and those that it takes from its classes.
 //!
-//! `OpenProperties` takes the properties of a body one after the other and tells at every moment how large the object's tables would
+//! `OpenProperties` takes the properties of a body one after the other and counts at every moment how large the object's tables would
 //! be if its body ended there. `Properties` are those of a whole object or class.
 #![tactic(auto)]
 

@@ -11,9 +11,9 @@ use inf_area::Value;
 use std::alloc::{AllocError, Global};
 use std::marker::Model;
 
-/// The properties of an object or a class, none of which stands there twice, and each of which has at most 32 values.
+/// The properties of an object or a class: no two have the same number, and each has at most 32 values.
 ///
-/// None has the number 2 or 3: the list of an object's classes and the address of its individual table are not among them.
+/// No property has the number 2 or 3: the list of an object's classes and the address of its individual table are not among them.
 #[derive(Debug, Drop)]
 pub struct Properties {
     list: Vec<Property>,
@@ -36,7 +36,7 @@ impl Model for Properties {
 }
 
 impl Properties {
-    /// No properties. It takes no memory.
+    /// Returns an empty list of properties. It takes no memory.
     pub fn new(alloc: Global) -> Properties
         ensures { result ≡ [] }
     {
@@ -45,7 +45,7 @@ impl Properties {
         }
     }
 
-    /// Properties, none of which stands there twice, and each of which has at most 32 values; none of them is numbered 2 or 3.
+    /// Returns the properties of `list`, where no two have the same number, each has at most 32 values, and none is numbered 2 or 3.
     pub(crate) fn from_list(list: Vec<Property>) -> Properties
         requires once { AreNew [] list.items }
         requires short { are_short list.items ≡ true }
@@ -55,7 +55,7 @@ impl Properties {
         Properties { list }
     }
 
-    /// The properties, in order.
+    /// Returns the properties, in order.
     pub fn as_slice(&self) -> &[Property]
         ensures value { result.now ≡ self.now }
         ensures once { AreNew [] self.now }
@@ -66,7 +66,7 @@ impl Properties {
     }
 }
 
-/// The values of a property; none where there is no such property.
+/// Returns the values of property `number` among `properties`; no values where there is no such property.
 fn values_of(properties: &[Property], number: usize) -> &[Value]
     ensures { result.now ≡ values_of number properties.now }
 {
@@ -78,7 +78,7 @@ fn values_of(properties: &[Property], number: usize) -> &[Value]
     &[]
 }
 
-/// A property with the values of classes behind its own, where it is additive.
+/// Returns a copy of the property `own`, with the values of classes behind its own where it is additive.
 fn joined(alloc: Global, own: &Property, above: &[Property]) -> Result<Property, AllocError>
     ensures { IfOk result (λ p. p ≡ joined above.now own.now) }
 {
@@ -93,7 +93,7 @@ fn joined(alloc: Global, own: &Property, above: &[Property]) -> Result<Property,
     })
 }
 
-/// All of an object's own properties, so joined.
+/// Returns copies of all of an object's own properties, with the values of classes behind those of additive ones.
 fn with_joined(
     alloc: Global,
     own: &[Property],
@@ -108,7 +108,7 @@ fn with_joined(
     Ok(all)
 }
 
-/// A copy of a property.
+/// Returns a copy of a property.
 fn copied(alloc: Global, property: &Property) -> Result<Property, AllocError>
     ensures { IfOk result (λ p. p ≡ property.now) }
 {
@@ -119,7 +119,7 @@ fn copied(alloc: Global, property: &Property) -> Result<Property, AllocError>
     })
 }
 
-/// Puts those of classes behind some, which the object lacks; `places` are those of its own.
+/// Appends to `all` copies of the properties `above` of classes that the object lacks; `places` are the places of its own properties.
 fn add_lacked(
     alloc: Global,
     all: &mut Vec<Property>,
@@ -138,7 +138,8 @@ fn add_lacked(
     Ok(())
 }
 
-/// An object's own properties, then what it lacks of those above it, additive ones joined; `places` are those of its own.
+/// Returns copies of an object's own properties, additive ones joined with those `above` it, then of those above it that it
+/// lacks; `places` are the places of its own properties.
 pub(crate) fn inherited(
     alloc: Global,
     own: &[Property],
@@ -153,7 +154,7 @@ pub(crate) fn inherited(
     Ok(all)
 }
 
-/// What properties of at most 32 values each need, if they need no more bytes than there may be.
+/// Adds up the sizes of `properties`, which have at most 32 values each; `None` where they need more than `most` bytes.
 pub(crate) fn total_within(owner: Owner, properties: &[Property], most: u32) -> Option<Size>
     requires { are_short properties.now ≡ true }
     ensures some { IfSome result (λ size. size ≡ total owner properties.now) }
@@ -170,7 +171,7 @@ pub(crate) fn total_within(owner: Owner, properties: &[Property], most: u32) -> 
     Some(size)
 }
 
-/// Makes places for all of some properties.
+/// Makes places for the numbers of all `properties`, and keeps the places that were written.
 pub(crate) fn cover_all(places: &mut Vec<usize>, properties: &[Property]) -> Result<(), AllocError>
     ensures covered { OnOk result (AreCovered places.new.items properties.now) }
     ensures kept { KeepsPlaces places.old.items places.new.items }
@@ -181,7 +182,7 @@ pub(crate) fn cover_all(places: &mut Vec<usize>, properties: &[Property]) -> Res
     Ok(())
 }
 
-/// Writes the place of each property.
+/// Writes the place of each property under its number.
 pub(crate) fn place_all(places: &mut [usize], properties: &[Property])
     requires covered { AreCovered places.old properties.now }
     requires once { AreNew [] properties.now }

@@ -45,9 +45,10 @@ impl<T: Drop> From<AllocFailed<T>> for GiveFault {
     }
 }
 
-/// The properties of a body that is being read: those that it gave, and those of the classes that it named.
+/// The properties of a body that is being read: those that the body gave, and those of the classes that it named.
 ///
-/// Each call that takes something refuses what would need more bytes than there is room for, and leaves all as it was then.
+/// Each call that adds something refuses it where the properties would need more bytes than there is room for, and then leaves all
+/// as it was.
 #[derive(Drop)]
 pub struct OpenProperties {
     alloc: Global,
@@ -57,7 +58,7 @@ pub struct OpenProperties {
     takes_values: bool,
     own_places: Vec<usize>,
     above_places: Vec<usize>,
-    // What all properties need if the body ended here.
+    // The size of all properties if the body ended here.
     size: Size,
 }
 
@@ -71,8 +72,8 @@ impl Model for OpenProperties {
     ghost invariant = { λ o. IsOpen o.owner o.own.items o.above.items o.own_places.items o.above_places.items o.size };
 }
 
-/// What a property needs that has so many values of its own, so many of them known later, and behind them those of classes, if it is
-/// additive; none where these would be more than 32.
+/// Returns the size of property `number` with `own.0` values of its own, `own.1` of which are known later, and with the values
+/// `above` of classes behind them if it is additive; `None` where these would be more than 32 values.
 fn joined_size(
     owner: Owner,
     number: usize,
@@ -98,7 +99,7 @@ fn joined_size(
     Some(owner.size_by(number, own.0 + more, own.1 + more_later))
 }
 
-/// How many values there are, and how many of them are known later.
+/// Returns the number of values in `first`, and the number of them that are known later.
 fn counts(first: Option<Value>) -> (usize, usize)
     ensures count { result.0 ≡ length (option_to_list first) }
     ensures later { result.1 ≡ later_count (option_to_list first) }
@@ -110,7 +111,8 @@ fn counts(first: Option<Value>) -> (usize, usize)
     }
 }
 
-/// What a property needs with the values of classes, as it is and with one value more; none where these would be more than 32.
+/// Returns the size of `property` joined with the values `above` of classes, as it is and with `value` behind its own; `None` where
+/// these would be more than 32 values.
 fn value_sizes(
     owner: Owner,
     property: &Property,
@@ -138,7 +140,7 @@ fn value_sizes(
     Some((before, after))
 }
 
-/// The values of a property with its first value, if it has one.
+/// Returns the values of a new property: its first value, if it has one.
 fn first_values(alloc: Global, first: Option<Value>) -> Result<Values, AllocError>
     ensures { IfOk result (λ values. values ≡ option_to_list first) }
 {
@@ -149,7 +151,7 @@ fn first_values(alloc: Global, first: Option<Value>) -> Result<Values, AllocErro
     Ok(values)
 }
 
-/// Puts a property behind others, none of which has its number. Where no memory is left these stay as they were.
+/// Appends `property` to `properties`, none of which has its number. Where no memory is left `properties` stay as they were.
 fn add_last(
     places: &mut Vec<usize>,
     properties: &mut Vec<Property>,
@@ -168,7 +170,7 @@ fn add_last(
     Ok(())
 }
 
-/// A further value of the last property, if there is one. Where no memory is left the properties stay as they were.
+/// Appends `value` to the values of the last property, if there is one. Where no memory is left the properties stay as they were.
 fn push_value(properties: &mut Vec<Property>, value: Value) -> Result<(), AllocError>
     ensures ok { OnOk result (properties.new.items ≡ with_last_value value properties.old.items) }
     ensures err { OnErr result (properties.new.items ≡ properties.old.items) }
@@ -181,7 +183,7 @@ fn push_value(properties: &mut Vec<Property>, value: Value) -> Result<(), AllocE
     Ok(())
 }
 
-/// That there is no room, where properties that need so much have none.
+/// Returns the fault of too little room, where properties of the size `size` lack it.
 fn full_fault(size: Size, room: Room) -> Option<GiveFault>
     requires bytes { size.bytes < 2 ^ 33 }
     requires fixups { size.fixups < 2 ^ 33 }
@@ -200,7 +202,7 @@ impl OpenProperties {
     ghost use Rattle.inf_properties.specs.Properties.{found, has, inherited, is_reserved, joined, values_in, values_of};
     ghost use Rattle.inf_properties.specs.Sizes.{is_short, total, with_table};
 
-    /// Those of no body. It takes no memory.
+    /// Returns the properties of no body. It takes no memory.
     pub fn new(alloc: Global) -> OpenProperties
         ensures { result ≡ opened Owner.Nothing }
     {
@@ -216,7 +218,7 @@ impl OpenProperties {
         }
     }
 
-    /// A body begins, of an object, a class, or of neither.
+    /// Begins a body of an object, a class, or of neither.
     pub fn open(&mut self, owner: Owner)
         ensures { self.new ≡ opened owner }
     {
@@ -227,22 +229,22 @@ impl OpenProperties {
         self.size = NO_SIZE;
     }
 
-    /// Whose body it is.
+    /// Returns the owner of the body.
     pub fn owner(&self) -> Owner
         ensures { result ≡ self.now.owner }
     {
         self.owner
     }
 
-    /// Whether the body gave a property.
+    /// Returns whether the body gave property `number`.
     pub fn is_given(&self, number: usize) -> bool
         ensures { result ≡ has number self.now.own }
     {
         find(&self.own_places, &self.own, number).is_some()
     }
 
-    /// What the properties need if the body ended here, with the end of an individual table, and the property that has its
-    /// address, where there is one.
+    /// Returns the size of the properties if the body ended here, with the end of an individual table, and the property that has
+    /// its address, where there is such a table.
     pub fn size(&self) -> Size
         ensures value { result ≡ with_table (total self.now.owner (all self.now)) }
         ensures small { result.bytes < 2 ^ 33 }
@@ -251,7 +253,7 @@ impl OpenProperties {
         self.size.with_table()
     }
 
-    /// What the classes give of a property: what it needs, and its values.
+    /// Returns the size and the values of property `number` as the classes give it; no size and no values where they do not.
     fn above_of(&self, number: usize) -> (Size, &[Value])
         requires { has number self.now.own ≡ false }
         ensures size { result.0 ≡ size_option self.now.owner (found number self.now.above) }
@@ -263,7 +265,8 @@ impl OpenProperties {
         }
     }
 
-    /// What the properties need with one more, which the body did not give; none where it would have more than 32 values.
+    /// Returns the size of the properties with property `number` besides, which the body did not give; `None` where it would have
+    /// more than 32 values.
     fn size_given(&self, number: usize, is_additive: bool, first: Option<Value>) -> Option<Size>
         requires { has number self.now.own ≡ false }
         ensures some { let p = given_first number is_additive first in
@@ -279,8 +282,8 @@ impl OpenProperties {
         Some(self.size.changed(lost, gained))
     }
 
-    /// The body gives a property, with its first value if it has one; it is of the same kind wherever it is given. Its number is
-    /// neither 2 nor 3.
+    /// Gives the property `number` in the body, with its first value `first` if it has one. The property is additive wherever it is
+    /// given or nowhere, and its number is neither 2 nor 3.
     ///
     /// Refuses it where the body gave it already, then where it would have more than 32 values with those of additive classes, then
     /// where there is no room, then where no memory is left.
@@ -318,9 +321,9 @@ impl OpenProperties {
         Ok(())
     }
 
-    /// A further value of the property that was given last. Behind one that was lost it gives nothing.
+    /// Adds `value` to the property that was given last. Behind a property that was lost it adds nothing.
     ///
-    /// Refuses it where the property would have more than 32 values with those of additive classes, then where there is no room,
+    /// Refuses the value where the property would have more than 32 with those of additive classes, then where there is no room,
     /// then where no memory is left.
     pub fn add_value(&mut self, value: Value, room: Room) -> Result<(), GiveFault>
         ensures ok { OnOk result (self.new ≡ with_value value self.old) }
@@ -342,7 +345,7 @@ impl OpenProperties {
         Ok(())
     }
 
-    /// Why `give` would refuse a property, whatever memory there is.
+    /// Returns the fault for which `give` would refuse the property, whatever memory there is.
     pub fn give_fault(
         &self,
         number: usize,
@@ -362,7 +365,7 @@ impl OpenProperties {
         }
     }
 
-    /// Why `add_value` would refuse a further value, whatever memory there is.
+    /// Returns the fault for which `add_value` would refuse the value, whatever memory there is.
     pub fn value_fault(&self, value: Value, room: Room) -> Option<GiveFault>
         ensures { result ≡ value_fault value room self.now }
     {
@@ -375,7 +378,8 @@ impl OpenProperties {
         }
     }
 
-    /// What the properties need with a further value of the one that was given last; none where it would have more than 32.
+    /// Returns the size of the properties with `value` behind those of the property that was given last; `None` where it would have
+    /// more than 32 values.
     fn size_with(&self, value: Value) -> Option<Size>
         ensures some { IfSome result (λ size. size ≡ total self.now.owner (inherited (with_last_value value self.now.own) self.now.above)) }
         ensures short { IsSome result → is_last_short self.now.above (with_last_value value self.now.own) ≡ true }
@@ -390,7 +394,7 @@ impl OpenProperties {
         Some(self.size.changed(before, after))
     }
 
-    /// The values that the classes give of a property.
+    /// Returns the values that the classes give of property `number`.
     fn values_above(&self, number: usize) -> &[Value]
         ensures { result.now ≡ values_of number self.now.above }
     {
@@ -400,16 +404,17 @@ impl OpenProperties {
         }
     }
 
-    /// What follows gives nothing, up to the next property.
+    /// Drops further values, up to the next property.
     pub fn lose(&mut self)
         ensures { self.new ≡ record self.old { takes_values = false } }
     {
         self.takes_values = false;
     }
 
-    /// The body names a class, which has these properties.
+    /// Takes the properties `class` of a class that the body names.
     ///
-    /// The lists are made first. Then it is refused where a property would have more than 32 values, then where there is no room.
+    /// Refuses the class where a property would have more than 32 values, then where there is no room. The lists are made before
+    /// these faults are looked for, and memory may run out first.
     pub fn inherit(&mut self, class: &Properties, room: Room) -> Result<(), GiveFault>
         ensures ok { OnOk result (self.new ≡ with_class class.now self.old) }
         ensures err { OnErr result (self.new ≡ self.old) }
@@ -439,7 +444,8 @@ impl OpenProperties {
         Ok(())
     }
 
-    /// All properties if the body ended here: its own, then what it lacks of its classes', additive ones joined.
+    /// Returns all properties as if the body ended here: its own, additive ones joined with those of its classes, then those of its
+    /// classes that it lacks.
     pub fn complete(&self) -> Result<Properties, AllocError>
         ensures { IfOk result (λ properties. properties ≡ all self.now) }
     {

@@ -1,6 +1,6 @@
 //! The places of properties in a list, by their numbers.
 //!
-//! A place that was written for another list does no harm: it is looked up in the list itself whether it is right.
+//! A place that was written for another list does no harm: the list itself shows whether the property at a place has the number.
 ghost use Rattle.std.specs.Prelude.{◌≡◌, ◌<◌, length, option_map, OnOk, slice_get};
 ghost use Rattle.inf_properties.specs.Properties.{found};
 ghost use Rattle.inf_properties.specs.Places.{AreAt, KeepsPlaces, checked};
@@ -8,21 +8,21 @@ ghost use Rattle.inf_properties.specs.Places.{AreAt, KeepsPlaces, checked};
 use crate::values::Property;
 use std::alloc::AllocError;
 
-/// The place that stands under a number.
+/// Returns the place that is kept under `number`.
 fn place_under(places: &[usize], number: usize) -> Option<usize>
     ensures { result ≡ slice_get places.now number }
 {
     places.get(number).copied()
 }
 
-/// The property at a place.
+/// Returns the property at `place`, if there is one.
 fn property_at(properties: &[Property], place: usize) -> Option<&Property>
     ensures { option_map (λ p. p.now) result ≡ slice_get properties.now place }
 {
     properties.get(place)
 }
 
-/// The property at a place, if it has the number.
+/// Returns the property at `place`, if it has the number `number`.
 fn checked(properties: &[Property], place: usize, number: usize) -> Option<&Property>
     ensures { option_map (λ p. p.now) result ≡ checked number (slice_get properties.now place) }
 {
@@ -32,7 +32,7 @@ fn checked(properties: &[Property], place: usize, number: usize) -> Option<&Prop
     }
 }
 
-/// The property of a number.
+/// Returns the property with the number `number`, if there is one.
 pub(crate) fn find<'a>(
     places: &[usize],
     properties: &'a [Property],
@@ -47,7 +47,7 @@ pub(crate) fn find<'a>(
     }
 }
 
-/// Makes a place for a number.
+/// Makes a place for `number`, and keeps the places that were written.
 pub(crate) fn cover(places: &mut Vec<usize>, number: usize) -> Result<(), AllocError>
     ensures covered { OnOk result (number < length places.new.items) }
     ensures kept { KeepsPlaces places.old.items places.new.items }

@@ -5,27 +5,27 @@ ghost use Rattle.inf_properties.specs.Sizes.{are_short, later_count};
 use crate::values::Property;
 use inf_area::Value;
 
-/// Whose properties they are.
+/// The owner of a body's properties.
 #[derive(Clone, Copy, Debug, PartialEq, Eq)]
 pub enum Owner {
     Object,
-    /// A class, which keeps them for the objects that take from it.
+    /// A class, which keeps its properties for the objects that take from it.
     Class,
-    /// No object: the header was in error.
+    /// No object, since the header was in error.
     Nothing,
 }
 
-/// What properties need in the tables of a story.
+/// The room that properties need in the tables of a story.
 #[derive(Clone, Copy, Debug, PartialEq, Eq)]
 pub struct Size {
     pub bytes: usize,
-    /// How many of the numbers in them are known later.
+    /// Number of values in these tables that are known later.
     pub fixups: usize,
-    /// How many of the properties are individual.
+    /// Number of the properties that are individual.
     pub individuals: usize,
 }
 
-/// How many bytes there may be, and how many of them others have.
+/// The most bytes that there may be (`limit`), and the bytes of other objects among them (`others`).
 #[derive(Clone, Copy, Debug, PartialEq, Eq)]
 pub struct Room {
     pub others: usize,
@@ -35,7 +35,7 @@ pub struct Room {
 impl Room {
     ghost use Rattle.inf_properties.specs.Sizes.{lacks};
 
-    /// Whether so many bytes more are too many.
+    /// Returns whether `bytes` more bytes are too many.
     pub(crate) fn lacks(self, bytes: usize) -> bool
         ensures value { result ≡ lacks self bytes }
         ensures within { result ≡ false → self.others + bytes ≤ self.limit }
@@ -48,7 +48,7 @@ impl Room {
     }
 }
 
-/// Nothing.
+/// The size of no properties.
 pub(crate) const NO_SIZE: Size = Size {
     bytes: 0,
     fixups: 0,
@@ -58,10 +58,10 @@ pub(crate) const NO_SIZE: Size = Size {
 // The most values of a property (Z-Machine Standard 1.1, section 12.4.2.1).
 pub(crate) const MOST_VALUES: usize = 32;
 
-/// The numbers of individual properties begin here.
+/// The first number of individual properties.
 const FIRST_INDIVIDUAL: usize = 64;
 
-/// How many values are known later.
+/// Counts the values that are known later.
 pub(crate) fn later_count(values: &[Value]) -> usize
     ensures value { result ≡ later_count values.now }
     ensures within { result ≤ length values.now }
@@ -78,7 +78,7 @@ pub(crate) fn later_count(values: &[Value]) -> usize
 impl Owner {
     ghost use Rattle.inf_properties.specs.Sizes.{size_by, size_of};
 
-    /// What a property of so many values needs, of which so many are known later.
+    /// Returns the size of property `number` with `count` values, `later` of which are known later.
     pub(crate) fn size_by(self, number: usize, count: usize, later: usize) -> Size
         requires { count ≤ 32 }
         ensures value { result ≡ size_by self number count later }
@@ -106,7 +106,7 @@ impl Owner {
         }
     }
 
-    /// What a property needs, which has at most 32 values.
+    /// Returns the size of `property`, which has at most 32 values.
     pub fn size_of(self, property: &Property) -> Size
         requires { length property.now.values ≤ 32 }
         ensures value { result ≡ size_of self property.now }
@@ -122,7 +122,7 @@ impl Owner {
 impl Size {
     ghost use Rattle.inf_properties.specs.Sizes.{with_table};
 
-    /// With the end of an individual table, and the property that has its address, where there is one.
+    /// Returns this size with the end of an individual table, and the property that has its address, where there is such a table.
     pub(crate) fn with_table(self) -> Size
         requires bytes { self.bytes < 2 ^ 33 }
         requires fixups { self.fixups < 2 ^ 33 }
@@ -139,7 +139,7 @@ impl Size {
         }
     }
 
-    /// With something less, which is part of it, and something more.
+    /// Returns this size without `lost`, which is part of it, and with `gained`.
     pub(crate) fn changed(self, lost: Size, gained: Size) -> Size
         requires bytes { lost.bytes ≤ self.bytes }
         requires fixups { lost.fixups ≤ self.fixups }
@@ -160,7 +160,7 @@ impl Size {
     }
 }
 
-/// Whether each property has at most 32 values.
+/// Returns whether each property has at most 32 values.
 pub(crate) fn are_short(properties: &[Property]) -> bool
     ensures { result ≡ are_short properties.now }
 {

@@ -21,7 +21,7 @@ impl Model for Values {
 }
 
 impl Values {
-    /// No values. It takes no memory until the first one comes.
+    /// Returns an empty list of values. It takes no memory until the first value comes.
     pub fn new(alloc: Global) -> Values
         ensures { result ≡ [] }
     {
@@ -30,7 +30,7 @@ impl Values {
         }
     }
 
-    /// A copy of some values, or a refusal where no memory is left.
+    /// Returns a copy of some values, or a refusal where no memory is left.
     pub fn from_slice(alloc: Global, values: &[Value]) -> Result<Values, AllocError>
         ensures { IfOk result (λ copy. copy ≡ values.now) }
     {
@@ -39,14 +39,14 @@ impl Values {
         })
     }
 
-    /// The values, in order.
+    /// Returns the values, in order.
     pub fn as_slice(&self) -> &[Value]
         ensures { result.now ≡ self.now }
     {
         self.list.as_slice()
     }
 
-    /// One value more at the end. Where no memory is left the values stay as they were.
+    /// Appends `value`. Where no memory is left the values stay as they were.
     pub fn push(&mut self, value: Value) -> Result<(), AllocError>
         ensures ok { OnOk result (self.new ≡ self.old ++ value ∷ []) }
         ensures err { OnErr result (self.new ≡ self.old) }
@@ -55,7 +55,7 @@ impl Values {
         Ok(())
     }
 
-    /// Some values more at the end. Where no memory is left the values stay as they were.
+    /// Appends `values`. Where no memory is left the values of this list stay as they were.
     pub fn append(&mut self, values: &[Value]) -> Result<(), AllocError>
         ensures ok { OnOk result (self.new ≡ self.old ++ values.now) }
         ensures err { OnErr result (self.new ≡ self.old) }
@@ -67,7 +67,7 @@ impl Values {
 /// A property that an object or a class has, with its values there.
 #[derive(Debug, Drop)]
 pub struct Property {
-    /// 1 is `name`, 4 to 63 are declared, and individual properties number from 64.
+    /// The property's number: 1 is `name`, 4 to 63 are declared, and individual properties number from 64.
     pub number: usize,
     /// Whether the values of classes come behind an object's own.
     pub is_additive: bool,

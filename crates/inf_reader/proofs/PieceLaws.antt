@@ -24,7 +24,7 @@ piece = Rule piece_rule ∷ []
 pub pieces_begin : PiecesBegin
 pieces_begin seen p = record { begins = (p.events, [], p.is_text) }
 
--- what is read on is read up to there
+-- atoms that are read with others behind them are read by themselves
 read_before : (o : Option (Read Action)) (behind : List ℕ) → is_some (read_on grammar known o behind) ≡ true → is_some o ≡ true
 read_before (Some r) behind h = refl
 read_before None behind h = h
@@ -44,7 +44,7 @@ fronts_begin seen n b = record {
         ∙ ap (λ ts. is_some (read grammar known piece ts)) (take-append-drop n seen)
         ∙ all
 
--- What is faulty by itself
+-- Tokens that are faulty by themselves
 
 faulty_is_bad : (c : Bool) (k : TokenKind) (bytes : List ℕ) (m : Message) → fault_of_kind k ≡ Some m → atom_of_kind c k bytes ≡ bad_atom
 faulty_is_bad c (kind.Bad b) bytes m h = refl

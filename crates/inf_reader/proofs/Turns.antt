@@ -16,7 +16,7 @@ use Rattle.inf_conditionals.proofs.Misfits.{end_fits_nothing}
 
 -- The end of the source ends the reading
 
--- it fits nowhere, so in a piece it is the bad token
+-- the end of the source fits nowhere, so in a piece it is the bad token
 end_in_piece : (limits : Limits) (context : Context) (bytes : List ℕ) (place : Place) (named : Bool) (r : Reading) (w : Compilation)
     → (judged limits context (record { kind = kind.End; bytes = bytes; place = place; is_class = named }) r w).reading.mode ≡ mode.Ended
 end_in_piece limits context bytes place named r w =

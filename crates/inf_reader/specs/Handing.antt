@@ -1,4 +1,4 @@
--- What the machine of the grammar gets of a token, by what becomes of it among conditionals.
+-- The tokens that the machine of the grammar gets, by their results among conditionals.
 use Rattle.std.specs.Prelude.{List, [], ◌∷◌, codes, Bool, true, false, ◌&&◌, Option, Some, None}
 use Rattle.inf_settings.specs.Bounds.{Limits}
 use Rattle.inf_settings.specs.Settings.{number_of}
@@ -25,7 +25,7 @@ use Rattle.inf_reader.specs.Reading.{Reading, ReaderState, bad, step}
 use Rattle.inf_reader.specs.declared.recovery.Recovery.{Recovery}
 use Rattle.inf_reader.specs.declared.recovery.Recovery.TheVariants as mode
 
--- Where a token comes to the reading
+-- The places in the reading at which a token comes
 
 abbrev pub is_empty : List (Symbol Action) → Bool
 is_empty [] = true
@@ -40,26 +40,27 @@ skips mode.SkipsRoutine = true
 skips mode.SkipsDirective = true
 skips _ = false
 
--- between the pieces of a source
+-- Tells whether the next token comes between the pieces of a source.
 abbrev pub is_between : Reading → Bool
 is_between r = reads r.mode && is_empty r.stack
 
--- between them, or among tokens that are passed over
+-- the place in the reading at which the next token comes: between the pieces, or among tokens that are passed over
 abbrev pub site_of : Settings → Reading → Site
 site_of settings r = record { is_between = is_between r; is_quiet = skips r.mode; longest = number_of setting.ExpressionNodes settings }
 
--- What is handed on
+-- The tokens that are handed on
 
--- a `#` at a place
+-- a `#` at a place, as a token
 abbrev pub hash : Place → SourceToken
 hash place = record { kind = kind.Mark mark.Hash; bytes = codes "#"; place = place; is_class = false }
 
--- a token that does not fit a conditional is the bad one of the piece at hand, and where one was told it is passed over
+-- the reading behind a token that does not fit a conditional: it is the bad one of the piece at hand, and is passed over where one was
+-- reported before
 abbrev pub unfit_in : Limits → Recovery → Context → SourceToken → ReaderState → ReaderState
 unfit_in limits mode.Reads context t s = bad limits context t s.reading s.work
 unfit_in limits _ context t s = step limits context t s.reading s.work
 
--- one that a condition takes is not handed on
+-- the reading behind a token that is handed on in this way; one that a condition takes is not handed on
 abbrev pub handed_as : Limits → Forwarded → Context → SourceToken → ReaderState → ReaderState
 handed_as limits handed.Kept context t s = step limits context t s.reading s.work
 handed_as limits handed.Unfit context t s = unfit_in limits s.reading.mode context t s
@@ -73,8 +74,7 @@ abbrev pub token_taken : Limits → Option Forwarded → Context → SourceToken
 token_taken limits None context t s = s
 token_taken limits (Some h) context t s = handed_as limits h context t s
 
--- What there is to tell of a condition comes before anything else that its token does; the actions of one with which nothing is wrong
--- appear.
+-- The message about a condition comes before anything else that its token does; the actions of a condition without an error appear.
 abbrev pub said_told : Limits → Option Said → Context → ReaderState → ReaderState
 said_told limits said context s =
     record s { work = record s.work { report = with_said context.names said s.work.report; output = with_right limits said s.work.output } }
@@ -89,8 +89,8 @@ unit_ended limits None context s = s
 unit_ended limits (Some place) context s =
     record s { work = begun_at limits context.names place (closed_ahead limits (closings s.reading.stack) s.work) }
 
--- first the `#` before the token, then the token, and then a conditional directive that has ended: one that has no conditional to
--- end or to turn is told
+-- the reading behind a token: first the `#` before the token is taken, then the token, and then a conditional directive that has ended;
+-- one that has no conditional to end or to turn is reported
 abbrev pub judged_taken : Limits → Context → SourceToken → Filtered → ReaderState → ReaderState
 judged_taken limits context t j s = unit_ended limits j.ended context
     (lone_told j.unmatched context (token_taken limits j.token context t (sign_taken limits j.sign context s)))

@@ -12,12 +12,12 @@ use Rattle.inf_reader.specs.Tests.{fault_of}
 use Rattle.inf_compilation.specs.Actions.{Compilation, piece_begun as work_begun}
 use Rattle.inf_reader.specs.Reading.{Reading, piece_rule, piece_begun}
 
--- Tokens that the grammar sees so are a piece: a text of its rule for pieces.
+-- Tokens with these atoms are a piece: a text of the grammar's rule for pieces.
 pub record IsPiece (atoms : List ℕ) : Type 0 where
   pub events : List (Event Action)
   pub is_text : IsText grammar (Rule piece_rule ∷ []) atoms events
 
--- They begin one, as far as they go.
+-- Tokens with these atoms begin a piece, as far as they go.
 pub record BeginsPiece (atoms : List ℕ) : Type 0 where
   pub begins : Begins grammar (Rule piece_rule ∷ []) atoms
 
@@ -29,7 +29,7 @@ at_hand_by (_ ∷ _) r = r
 abbrev pub at_hand : Reading → Reading
 at_hand r = at_hand_by r.stack r
 
--- and what was compiled: a new piece has no tokens
+-- the compilation at the first token of a piece, or of the piece at hand: a new piece has no tokens
 abbrev pub work_by : List (Symbol Action) → Compilation → Compilation
 work_by [] w = work_begun w
 work_by (_ ∷ _) w = w
@@ -39,7 +39,7 @@ abbrev pub FaultyTokensFitNothing : Type 0
 FaultyTokensFitNothing =
     (t : SourceToken) (m : Message) (stack : List (Symbol Action)) → fault_of t ≡ Some m → fits grammar known (atom_of t) stack ≡ false
 
--- A piece begins one, and so does each front of what begins one.
+-- Each piece begins a piece.
 abbrev pub PiecesBegin : Type 0
 PiecesBegin = (seen : List ℕ) → IsPiece seen → BeginsPiece seen
 

@@ -1,7 +1,6 @@
--- How a source is read: token by token, by the machine of the grammar.
--- A token that fits is taken, and the actions on the way to it act. One that does not is the bad token of its piece; it is told,
--- and tokens are passed over to where the piece ends. The unit that it cuts gives nothing.
--- Designer's Manual, fourth edition, sections 1.3, 1.4 and 1.7.
+-- The reading of a source: token by token, by the machine of the grammar. A token that fits is taken, and the actions on the way to it
+-- act. One that does not is the bad token of its piece; it is reported, and tokens are passed over to the end of the piece. The unit that
+-- it cuts gives nothing. Designer's Manual, fourth edition, sections 1.3, 1.4 and 1.7.
 use Rattle.std.specs.Prelude.{ℕ, List, [], ◌∷◌, Bool, true, false, ◌||◌, if◌then◌else◌}
 use Rattle.inf_settings.specs.Bounds.{Limits}
 use Rattle.inf_characters.specs.declared.characters.CharSet.{CharSet}
@@ -21,26 +20,26 @@ use Rattle.inf_machine.specs.Machine.{fits, taken}
 use Rattle.inf_grammar.specs.Routines.{is_in_routine}
 use Rattle.inf_grammar.specs.Language.{grammar, known}
 use Rattle.inf_compilation.specs.Actions.{Compilation, no_work, piece_begun as work_begun, took as work_took}
-use Rattle.inf_actions.specs.Acting.{all_acted, cut_at}
+use Rattle.inf_reader.specs.Acting.{all_acted, cut_at}
 use Rattle.inf_reader.specs.Tests.{complaint_of}
 use Rattle.inf_reader.specs.declared.recovery.Recovery.{Recovery}
 use Rattle.inf_reader.specs.declared.recovery.Recovery.TheVariants as mode
 
--- What is read: how, and what of the piece at hand is still to come.
+-- The reading of a source: the way in which the next token is read, and the rest of the piece at hand that is still to come.
 pub record Reading : Type 0 where
   pub mode : Recovery
   pub stack : List (Symbol Action)
 
--- between the pieces of a source
+-- the reading between the pieces of a source
 abbrev pub between : Recovery → Reading
 between m = record { mode = m; stack = [] }
 
--- what was read, and what was compiled
+-- The reading of a source, and the compilation so far.
 pub record ReaderState : Type 0 where
   pub reading : Reading
   pub work : Compilation
 
--- before the first token of a source
+-- the state before the first token of a source
 abbrev pub begun_stand : Settings → ReaderState
 begun_stand settings = record { reading = between mode.Reads; work = no_work settings }
 
@@ -48,14 +47,14 @@ abbrev pub is_mode_ended : Recovery → Bool
 is_mode_ended mode.Ended = true
 is_mode_ended _ = false
 
--- nothing is read after the end of the source or a fatal message
+-- Tells whether reading has ended: at the end of the source or with a fatal message.
 abbrev pub has_ended_at : ReaderState → Bool
 has_ended_at s = s.work.report.counts.is_over || is_mode_ended s.reading.mode
 
 -- Bad pieces
 
--- Where reading stands behind a token that is passed over: it goes on behind the next semicolon, in a routine
--- behind the first one after the next closing bracket.
+-- The way in which reading goes on behind a token that is passed over: after the next semicolon, in a routine after the first one behind
+-- the next closing bracket.
 abbrev pub passed_mark : Recovery → TokenKind → Recovery
 passed_mark mode.SkipsRoutine token = if is_mark mark.CloseBracket token then mode.SkipsDirective else mode.SkipsRoutine
 passed_mark _ token = if is_mark mark.Semicolon token then mode.Reads else mode.SkipsDirective
@@ -63,13 +62,13 @@ passed_mark _ token = if is_mark mark.Semicolon token then mode.Reads else mode.
 abbrev pub passed : Recovery → TokenKind → Recovery
 passed skip token = if is_end token then mode.Ended else passed_mark skip token
 
--- the piece that stands so is in a routine up to where the machine expects the routine's end
+-- the way in which tokens are passed over in a piece, which is in a routine up to where the machine expects the routine's end
 abbrev pub skip_of : List (Symbol Action) → Recovery
 skip_of stack = if is_in_routine stack then mode.SkipsRoutine else mode.SkipsDirective
 
 -- Tokens
 
--- what is wrong with a token at a line: a text that is too long ends the compilation
+-- the messages with that about a token at a line: a text that is too long ends the compilation
 abbrev pub with_complaint_of : Kind → Location → Message → Reported → Reported
 with_complaint_of weight.Fatal at m r = with_fatal at m r
 with_complaint_of _ at m r = with_error at at m r
@@ -77,8 +76,8 @@ with_complaint_of _ at m r = with_error at at m r
 abbrev pub with_complaint : Location → Message → Reported → Reported
 with_complaint at m r = with_complaint_of (kind_of m) at m r
 
--- The bad token of a piece is told, and is the first that is passed over. The unit that it stands in gives nothing, and a
--- routine that it stands in is never finished: what there is of it and of its locals is left, and nothing reads it.
+-- The bad token of a piece is reported, and is the first that is passed over. The unit that it is in gives nothing, and a routine that it
+-- is in is never finished: the part that there is of it and of its locals is left, and nothing reads it.
 abbrev pub bad : Limits → Context → SourceToken → Reading → Compilation → ReaderState
 bad limits context t r w =
     let c = cut_at limits context t.place w in
@@ -93,7 +92,7 @@ took limits context t r w =
     let n = taken grammar known (atom_of t) r.stack in
     record { reading = record { mode = r.mode; stack = n.left }; work = work_took context t (all_acted limits context t.place n.actions w) }
 
--- a token of a piece is taken where it fits; else it is the bad one
+-- the state behind a token of a piece, which is taken where it fits, and else is the bad one
 abbrev pub judged : Limits → Context → SourceToken → Reading → Compilation → ReaderState
 judged limits context t r w = if fits grammar known (atom_of t) r.stack then took limits context t r w else bad limits context t r w
 
@@ -101,11 +100,11 @@ judged limits context t r w = if fits grammar known (atom_of t) r.stack then too
 abbrev pub piece_rule : ℕ
 piece_rule = 1
 
--- a piece is read next
+-- the reading of a new piece
 abbrev pub piece_begun : Reading → Reading
 piece_begun r = record { mode = r.mode; stack = Rule piece_rule ∷ [] }
 
--- the next token where this is still to come: of a new piece, or of the one at hand
+-- the state behind the next token, of a new piece where the stack is empty, and else of the piece at hand
 abbrev pub read_at : Limits → Context → SourceToken → List (Symbol Action) → Reading → Compilation → ReaderState
 read_at limits context t [] r w =
     if is_end t.kind then record { reading = record r { mode = mode.Ended }; work = w }
@@ -117,6 +116,6 @@ step_in limits mode.Reads context t r w = read_at limits context t r.stack r w
 step_in limits mode.Ended context t r w = record { reading = r; work = w }
 step_in limits skip context t r w = record { reading = record r { mode = passed skip t.kind }; work = w }
 
--- what a token does
+-- the state behind a token
 abbrev pub step : Limits → Context → SourceToken → Reading → Compilation → ReaderState
 step limits context t r w = step_in limits r.mode context t r w

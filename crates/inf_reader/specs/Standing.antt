@@ -1,4 +1,4 @@
--- What the parts of the code's reading stand for.
+-- The reading of a source as the code has it.
 use Rattle.inf_compilation.specs.Works.{work}
 use Rattle.inf_reader.specs.Reading.{Reading, ReaderState}
 use Rattle.inf_reader.specs.declared.reader.Reader.{Reader}

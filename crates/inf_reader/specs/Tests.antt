@@ -1,4 +1,4 @@
--- What is wrong with a token by itself.
+-- The faults of tokens by themselves.
 use Rattle.std.specs.Prelude.{Option, Some, None, unwrap_or}
 use Rattle.inf_scanner.specs.declared.tokens.BadToken.{BadToken}
 use Rattle.inf_scanner.specs.declared.tokens.BadToken.TheVariants as bad
@@ -20,7 +20,7 @@ message_of bad.NoZscii = NoZscii
 message_of bad.BadCode = NumberOutOfRange
 message_of bad.TooLong = Exceeded QuotedText
 
--- what a token by itself is blamed for, if it is
+-- the message about a token that is faulty by itself
 abbrev pub fault_of_kind : TokenKind → Option Message
 fault_of_kind (kind.Bad b) = Some (message_of b)
 fault_of_kind _ = None

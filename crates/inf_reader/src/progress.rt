@@ -1,4 +1,4 @@
-//! What is read of a source, and what was compiled of it: token by token.
+//! The reading of a source, and its compilation so far, token by token.
 ghost use Rattle.inf_compilation.specs.Context.{handed};
 ghost use Rattle.std.specs.Prelude.{◌≡◌, [], IfOk, OnOk};
 ghost use Rattle.inf_settings.specs.Bounds.{AreSet};
@@ -8,10 +8,10 @@ ghost use Rattle.inf_reader.specs.Handing.{hash};
 ghost use Rattle.inf_reader.specs.Reading.{with_complaint};
 ghost use Rattle.inf_reader.specs.Tests.{complaint_of};
 
+use crate::acting::{act_all, cut};
 use crate::reader::Reader;
 use crate::recovery::{Recovery, passed};
 use crate::tokens::complaint_of;
-use inf_actions::acting::{act_all, cut};
 use inf_compilation::compilation::Compilation;
 use inf_compilation::context::Context;
 use inf_conditionals::ends::tell_lone;
@@ -29,7 +29,7 @@ use inf_unit::messages::{Diagnostics, location};
 use inf_unit::tokens::SourceToken;
 use std::alloc::{AllocError, Global};
 
-/// How far a source was read, and what was compiled of it.
+/// The reading of a source, and its compilation so far.
 #[derive(Drop)]
 pub struct Progress<B: Bounds> {
     alloc: Global,
@@ -46,7 +46,7 @@ impl<B: Bounds> Progress<B> {
     ghost use Rattle.inf_compilation.specs.Actions.{piece_begun as work_begun};
     ghost use Rattle.inf_compilation.specs.Works.{work};
 
-    /// Before the first token of a source, of which names are hashed so.
+    /// Returns the progress before the first token of a source, whose names are hashed by `hashing`.
     pub fn new(
         alloc: Global,
         settings: &Settings,
@@ -63,14 +63,14 @@ impl<B: Bounds> Progress<B> {
         })
     }
 
-    /// Returns whether there is nothing left to read.
+    /// Returns whether nothing is left to be read.
     pub fn has_ended(&self) -> bool
         ensures { result ≡ has_ended_at (standing self.now) }
     {
         self.work.report.is_over() || matches!(self.reader.mode, Recovery::Ended)
     }
 
-    /// Takes the next token of a source, one of these files.
+    /// Takes the next token of a source, whose files are in `context`.
     pub fn take(&mut self, context: &Context<'_>, token: &SourceToken<'_>) -> Result<(), AllocError>
         ensures { let before = standing self.old in
             OnOk result (standing self.new ≡ step B.most (handed context.now) (spelled token.now) before.reading before.work) }
@@ -92,7 +92,7 @@ impl<B: Bounds> Progress<B> {
         matches!(self.reader.mode, Recovery::Reads) && self.reader.machine.is_done()
     }
 
-    /// Where the next token comes to.
+    /// Returns the place in the reading at which the next token comes.
     pub fn site(&self, settings: &Settings) -> Site
         ensures { result ≡ site_of settings.now (standing self.now).reading }
     {
@@ -106,7 +106,7 @@ impl<B: Bounds> Progress<B> {
         }
     }
 
-    /// Takes what became of the next token of a source among conditionals.
+    /// Takes the next token of a source, with its result among conditionals, `judged`.
     pub fn take_judged(
         &mut self,
         context: &Context<'_>,
@@ -149,7 +149,7 @@ impl<B: Bounds> Progress<B> {
         }
     }
 
-    /// A token of a piece, or the end between the pieces.
+    /// Takes a token of a piece, or the end between the pieces.
     #[tactic(auto, using(crate::proofs::Inside::read_first, crate::proofs::Inside::read_inside))]
     fn read_token(
         &mut self,
@@ -170,7 +170,7 @@ impl<B: Bounds> Progress<B> {
         self.read_first(context, token)
     }
 
-    /// A new piece is at hand, where none was.
+    /// Begins a new piece, where none is at hand.
     fn begin_piece(&mut self) -> Result<(), AllocError>
         requires { (reading self.old.reader).stack ≡ [] }
         ensures reading { OnOk result (reading self.new.reader ≡ piece_begun (reading self.old.reader)) }
@@ -181,7 +181,7 @@ impl<B: Bounds> Progress<B> {
         Ok(())
     }
 
-    /// The first token of a new piece, where none was at hand.
+    /// Takes the first token of a new piece, where none is at hand.
     fn read_first(
         &mut self,
         context: &Context<'_>,
@@ -214,7 +214,7 @@ impl<B: Bounds> Progress<B> {
         self.work.take(context, token)
     }
 
-    /// Tells the bad token of a piece, and passes over it.
+    /// Reports the bad token of a piece, and passes over it.
     fn bad(&mut self, context: &Context<'_>, token: &SourceToken<'_>) -> Result<(), AllocError>
         ensures { let before = reading self.old.reader in
             OnOk result (standing self.new ≡ bad B.most (handed context.now) (spelled token.now) before (work self.old.work)) }
@@ -226,14 +226,14 @@ impl<B: Bounds> Progress<B> {
     }
 }
 
-/// A `#` at a place.
+/// Returns a `#` at a place.
 fn hash(place: Place) -> SourceToken<'static>
     ensures { spelled result ≡ hash place }
 {
     SourceToken::new(TokenKind::Mark(Mark::Hash), b"#", place, false)
 }
 
-/// Tells what is wrong with a token at a line: a text that is too long ends the compilation.
+/// Reports the fault of a token at a line: a text that is too long ends the compilation.
 fn complain(
     report: &mut Diagnostics,
     at: Location<'_>,

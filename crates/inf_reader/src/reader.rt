@@ -1,4 +1,4 @@
-//! How a source is read: the machine of the grammar, and how bad pieces are passed over.
+//! The reading of a source: the machine of the grammar, and the passing over of bad pieces.
 ghost use Rattle.std.specs.Prelude.{◌≡◌, [], IfOk, OnOk, false, true};
 ghost use Rattle.inf_grammar.specs.Language.{grammar, known};
 ghost use Rattle.inf_machine.specs.Machine.{fits, taken};
@@ -11,7 +11,7 @@ use inf_grammar::{Action, Machine, PIECE};
 use inf_unit::tokens::SourceToken;
 use std::alloc::{AllocError, Global};
 
-/// How the next token is read, and what of the piece at hand is still to come.
+/// The way in which the next token is read, and the rest of the piece at hand that is still to come.
 #[derive(Drop)]
 pub struct Reader {
     pub mode: Recovery,
@@ -19,7 +19,7 @@ pub struct Reader {
 }
 
 impl Reader {
-    /// Before the first piece.
+    /// Returns a reader before the first piece.
     pub fn new(alloc: Global) -> Reader
         ensures { reading result ≡ between mode.Reads }
     {
@@ -29,7 +29,7 @@ impl Reader {
         }
     }
 
-    /// A piece begins, where none is at hand.
+    /// Begins a piece, where none is at hand.
     pub fn begin(&mut self) -> Result<(), AllocError>
         requires { (reading self.old).stack ≡ [] }
         ensures { OnOk result (reading self.new ≡ piece_begun (reading self.old)) }
@@ -37,7 +37,7 @@ impl Reader {
         self.machine.start(PIECE)
     }
 
-    /// Returns whether a token fits; where it does, it is taken, with the actions on the way to it.
+    /// Returns whether a token fits, and takes it where it does, with the actions on the way to it.
     pub fn read(&mut self, atom: u8, actions: &mut Vec<Action>) -> Result<bool, AllocError>
         ensures fits { IfOk result (λ is_taken. is_taken ≡ fits grammar known atom (reading self.old).stack) }
         ensures reading { let before = reading self.old in IfOk result (λ is_taken. is_taken ≡ true →
@@ -50,7 +50,7 @@ impl Reader {
         self.machine.read(atom, actions)
     }
 
-    /// The piece at hand is bad: it is given up, and its bad token passed over.
+    /// Gives up the piece at hand, which is bad, and passes over its bad token.
     pub fn give_up(&mut self, token: &SourceToken<'_>)
         ensures { reading self.new ≡ between (passed (skip_of (reading self.old).stack) token.now.kind) }
     {

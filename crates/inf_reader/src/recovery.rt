@@ -5,20 +5,20 @@ use inf_scanner::Mark;
 use inf_unit::kinds::{is_end, is_mark};
 use inf_unit::tokens::SourceToken;
 
-/// How the next token of a source is read.
+/// The way in which the next token of a source is read.
 #[derive(Clone, Copy, Debug, PartialEq, Eq)]
 pub enum Recovery {
     /// By the grammar.
     Reads,
-    /// In a bad piece: it is passed over, up to the closing bracket of its routine.
+    /// In a bad piece: the token is passed over, up to the closing bracket of its routine.
     SkipsRoutine,
-    /// In a bad piece: it is passed over, up to its semicolon.
+    /// In a bad piece: the token is passed over, up to its semicolon.
     SkipsDirective,
     /// The source has ended.
     Ended,
 }
 
-/// How reading goes on behind a token that is passed over.
+/// Returns the way in which reading goes on behind `token`, which is passed over.
 pub fn passed(skip: Recovery, token: &SourceToken<'_>) -> Recovery
     ensures { result ≡ passed skip token.now.kind }
 {

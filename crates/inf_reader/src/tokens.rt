@@ -23,7 +23,7 @@ fn message_of(bad: BadToken) -> Message<'static>
     }
 }
 
-/// The message of the bad token of a piece: its own fault, or that it fits nowhere.
+/// Returns the message of the bad token of a piece: its own fault, or that it fits nowhere.
 pub fn complaint_of<'t>(token: &SourceToken<'t>) -> Message<'t>
     ensures { meant result ≡ complaint_of (spelled token.now) }
 {

@@ -4,8 +4,8 @@ use Rattle.std.proofs.Common.{drop, Option, Result, IsErr, refl, sym, ap, ◌∙
 use Rattle.std.specs.List.{prefix_len}
 use Rattle.inf_characters.specs.Characters.{is_white}
 use Rattle.inf_characters.specs.declared.characters.CharSet.{CharSet}
-use Rattle.inf_sinks.specs.Sinks.{Takes}
-use Rattle.inf_files.specs.Files.{Rose}
+use Rattle.inf_devices.specs.Sinks.{Takes}
+use Rattle.inf_devices.specs.Files.{Rose}
 use Rattle.inf_report.proofs.Writings.{both_whole, failed, goes_on, with_more}
 use Rattle.inf_report.specs.Writing.{TakesPart, Writes}
 use Rattle.inf_report.specs.declared.pieces.ReportFault.{ReportFault}
@@ -21,7 +21,7 @@ pub record Shows (old new : Option (List ℕ)) (before after : ℕ) (set : CharS
 one_more : (n : ℕ) → 1 + n ≡ suc n
 one_more n = omega arith
 
--- white space, behind some of it
+-- white space is shown with the white space before it
 spaces_shown : (set : CharSet) (run bytes : List ℕ) → shown_behind set run bytes ≡ spaced
     (run ++ take (prefix_len (is_white set) bytes) bytes) ++ shown_behind set [] (drop (prefix_len (is_white set) bytes) bytes)
 spaces_shown set run [] = ap spaced (sym (append-nil run)) ∙ sym (append-nil (spaced (run ++ [])))
@@ -38,7 +38,7 @@ spaces_shown set run (b ∷ bs) = go (is_white set b) refl (spaces_shown set (ru
         (append_assoc run (b ∷ []) (take (prefix_len (is_white set) bs) bs)))
     go false is later = rw (is, append-nil run) refl
 
--- other bytes
+-- other bytes are shown as they are
 others_shown : (set : CharSet) (bytes : List ℕ) → shown_behind set [] bytes ≡ take (prefix_len (is_alike set false) bytes) bytes ++
     shown_behind set [] (drop (prefix_len (is_alike set false) bytes) bytes)
 others_shown set [] = refl
@@ -58,7 +58,7 @@ run_shown : (set : CharSet) (is_space : Bool) (bytes : List ℕ) → shown_behin
 run_shown set true bytes = spaces_shown set [] bytes
 run_shown set false bytes = others_shown set bytes
 
--- what is shown of the whole, up to a further run and behind it
+-- the whole shows the text up to a further run, this run, and the text behind it
 cut_again : (set : CharSet) (is_space : Bool) (whole rest done : List ℕ) (n : ℕ) → n ≡ prefix_len (is_alike set is_space) rest →
     shown_behind set [] whole ≡ done ++ shown_behind set [] rest
     → shown_behind set [] whole ≡ (done ++ shown_run is_space (take n rest)) ++ shown_behind set [] (drop n rest)
@@ -70,7 +70,7 @@ cut_again set is_space whole rest done n is cut =
     )
     (cut ∙ ap (λ xs. done ++ xs) (run_shown set is_space rest))
 
--- a run: how many bytes it has, itself and what is behind it, and what is shown of it
+-- a run: the number of its bytes, the bytes behind it, and the text that is shown of it
 pub record IsRun (set : CharSet) (is_space : Bool) (rest behind piece : List ℕ) : Type 0 where
   pub count : ℕ
   pub is_count : count ≡ prefix_len (is_alike set is_space) rest
@@ -83,7 +83,7 @@ cut_of : (set : CharSet) (is_space : Bool) (whole rest behind piece done : List 
 cut_of set is_space whole rest behind piece done run cut =
     rw (run.is_behind, run.is_piece) (cut_again set is_space whole rest done run.count run.is_count cut)
 
--- a run was written
+-- a run that was written is shown, too
 pub shows_next : (old mid new : Option (List ℕ)) (a b c : ℕ) (set : CharSet) (is_space : Bool) (whole rest behind piece : List ℕ) →
     IsRun set is_space rest behind piece
     → Shows old mid a b set whole rest → Takes mid new piece × (b ≤ c) → Shows old new a c set whole behind
@@ -96,7 +96,7 @@ shows_next old mid new a b c set is_space whole rest behind piece run shows next
       later = both.1;
     }
 
--- or it was not
+-- a run that was not written leaves a part shown
 pub shows_failed : (old mid new : Option (List ℕ)) (a b c : ℕ) (set : CharSet) (is_space : Bool) (whole rest behind piece : List ℕ)
     (r : Result Unit ReportFault) → IsErr r → IsRun set is_space rest behind piece
     → Shows old mid a b set whole rest → TakesPart mid new piece × (b ≤ c) × Rose b c → Writes old new a c (shown_behind set [] whole) r

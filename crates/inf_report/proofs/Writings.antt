@@ -1,9 +1,9 @@
 -- Writing one thing behind the other.
 use Rattle.std.proofs.Common.{ℕ, ◌≤◌, ◌++◌, List, length-append, append_assoc, Option, Result, Ok, Err, IsErr, sym, ap, ◌∙◌, inl, inr}
 use Rattle.std.proofs.Common.{arith}
-use Rattle.inf_sinks.specs.Sinks.{Takes}
-use Rattle.inf_sinks.proofs.TakenBytes.{Takes-append}
-use Rattle.inf_files.specs.Files.{Rose}
+use Rattle.inf_devices.specs.Sinks.{Takes}
+use Rattle.inf_devices.proofs.TakenBytes.{Takes-append}
+use Rattle.inf_devices.specs.Files.{Rose}
 use Rattle.inf_report.specs.Writing.{TakesPart, Writes}
 use Rattle.inf_report.specs.declared.pieces.ReportFault.{ReportFault}
 
@@ -17,7 +17,7 @@ part_of_more old new xs ys part = record {
   takes = part.takes;
 }
 
--- and a part of what stands behind bytes that were taken
+-- a part of the bytes behind others that were taken is a part of both
 part_behind : (old mid new : Option (List ℕ)) (xs ys : List ℕ) → Takes old mid xs → TakesPart mid new ys → TakesPart old new (xs ++ ys)
 part_behind old mid new xs ys first part = record {
   front = xs ++ part.front;
@@ -37,25 +37,25 @@ goes_on old mid new a b c xs ys (Ok _) first next = (Takes-append old mid new xs
 goes_on old mid new a b c xs ys (Err _) first next =
     (part_behind old mid new xs ys first.0 next.0, omega (arith, first.1, next.1), rose_since a b c first.1 next.2)
 
--- writing stops where the sink failed, whatever was to follow
+-- writing ends where the sink failed, whatever was to follow
 pub stops : (old new : Option (List ℕ)) (a c : ℕ) (xs ys : List ℕ) (r : Result Unit ReportFault) → IsErr r →
     TakesPart old new xs × (a ≤ c) × Rose a c → Writes old new a c (xs ++ ys) r
 stops old new a c xs ys (Ok _) is writes = cc
 stops old new a c xs ys (Err _) is writes = (part_of_more old new xs ys writes.0, writes.1, writes.2)
 
--- a write that failed
+-- a write that failed is one of some bytes
 pub failed : (old new : Option (List ℕ)) (a c : ℕ) (xs : List ℕ) (r : Result Unit ReportFault) → IsErr r →
     TakesPart old new xs × (a ≤ c) × Rose a c → Writes old new a c xs r
 failed old new a c xs (Ok _) is writes = cc
 failed old new a c xs (Err _) is writes = writes
 
--- what was not written whole was not written with more behind it
+-- a write that failed is one of more bytes, too
 pub with_more : (old new : Option (List ℕ)) (a c : ℕ) (xs ys : List ℕ) (r : Result Unit ReportFault) → IsErr r → Writes old new a c xs r →
     Writes old new a c (xs ++ ys) r
 with_more old new a c xs ys (Ok _) is writes = cc
 with_more old new a c xs ys (Err e) is writes = stops old new a c xs ys (Err e) is writes
 
--- two writes that both went well
+-- two writes that went well are one
 pub both_whole : (old mid new : Option (List ℕ)) (a b c : ℕ) (xs ys : List ℕ) → Takes old mid xs × (a ≤ b) → Takes mid new ys × (b ≤ c) →
     Takes old new (xs ++ ys) × (a ≤ c)
 both_whole old mid new a b c xs ys first next = (Takes-append old mid new xs ys first.0 next.0, omega (arith, first.1, next.1))

@@ -1,4 +1,4 @@
--- What the code's messages stand for.
+-- The messages that the code's messages stand for.
 use Rattle.inf_report.specs.OwnWords.{Words}
 use Rattle.inf_report.specs.Messages.{Location, Told, Bytes, Quote, Text, End, Message, Syntax, IllegalCharacter, UnclosedQuote}
 use Rattle.inf_report.specs.Messages.{NumberOutOfRange, UnknownEscape, LongName, NoZscii, Declared, SystemName, WrongKind, Undeclared}

@@ -1,4 +1,4 @@
--- The messages of a compilation: what they say, what kind they are and their numbers in the table of messages.
+-- The messages of a compilation: their texts, their kinds, and their numbers in the table of messages.
 use Rattle.std.specs.Prelude.{ℕ, List, ◌++◌, codes, decimal}
 use Rattle.inf_settings.specs.declared.setting.Setting.{Setting}
 use Rattle.inf_settings.specs.Settings.{name_of}
@@ -69,22 +69,22 @@ pub data Message : Type 0 where
   NoSource : (name : List ℕ) → Message
   DeepNesting : Message
 
--- between double quotes
+-- bytes between double quotes
 abbrev pub quoted : List ℕ → List ℕ
 quoted bytes = codes "\"" ++ bytes ++ codes "\""
 
--- a line of a file
+-- the words for a line of a file
 abbrev pub place : List ℕ → ℕ → List ℕ
 place file line = file ++ codes "(" ++ decimal line ++ codes ")"
 
--- how a token is told
+-- the words for a token
 abbrev pub told : Told → List ℕ
 told (Bytes bytes) = quoted bytes
 told (Quote bytes) = quoted (codes "'" ++ bytes ++ codes "'")
 told Text = codes "text"
 told End = codes "end of file"
 
--- what there can be so many of, and no more
+-- the most that there can be of one kind, with its name
 abbrev pub most : FixedLimit → List ℕ
 most countable.Locals = codes "15 locals"
 most countable.Globals = codes "235 globals"
@@ -94,7 +94,7 @@ most countable.Values = codes "32 values"
 most countable.Abbreviations = codes "64 abbreviations"
 most countable.Verbs = codes "255 verbs"
 
--- what a message says
+-- the text of a message
 abbrev pub text : Message → List ℕ
 text (Syntax t) = codes "Syntax error at " ++ told t
 text IllegalCharacter = codes "Illegal character"
@@ -177,7 +177,7 @@ kind_of (StoryTooLong _) = kind.Fatal
 kind_of (NoSource _) = kind.Fatal
 kind_of DeepNesting = kind.Fatal
 
--- the number of a message among those of its kind: of two errors at one place the one with the lesser number is told
+-- the number of a message among those of its kind: of two errors at one place the one with the lesser number is reported
 abbrev pub number_of : Message → ℕ
 number_of (Syntax _) = 1
 number_of IllegalCharacter = 2
@@ -219,7 +219,7 @@ number_of (StoryTooLong _) = 7
 number_of (NoSource _) = 8
 number_of DeepNesting = 9
 
--- what stands between the place and the text
+-- the words between the place and the text
 abbrev pub severity : Kind → List ℕ
 severity kind.Error = codes ": Error: "
 severity kind.Warning = codes ": Warning: "

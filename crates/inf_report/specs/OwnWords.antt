@@ -1,4 +1,4 @@
--- Messages in the source's own words: how the bytes between the quotes are shown on a line.
+-- Messages in the source's own words: the bytes between the quotes as a line shows them.
 use Rattle.std.specs.Prelude.{ℕ, List, [], ◌∷◌, ◌++◌, codes, Bool, not, if◌then◌else◌}
 use Rattle.std.specs.List.{list_any}
 use Rattle.inf_characters.specs.Characters.{is_line_end, is_white}
@@ -12,7 +12,7 @@ pub record Words : Type 0 where
 abbrev pub has_line_end : List ℕ → Bool
 has_line_end bytes = list_any is_line_end bytes
 
--- whether a byte is white space, or whether it is not
+-- Tells whether a byte is white space, or, where `is_space` is false, whether it is not.
 abbrev pub is_alike : CharSet → Bool → ℕ → Bool
 is_alike set is_space b = if is_space then is_white set b else not (is_white set b)
 
@@ -20,11 +20,11 @@ is_alike set is_space b = if is_space then is_white set b else not (is_white set
 abbrev pub spaced : List ℕ → List ℕ
 spaced run = if has_line_end run then codes " " else run
 
--- a run of white space, or of other bytes
+-- a run as a line shows it, which is of white space or of other bytes
 abbrev pub shown_run : Bool → List ℕ → List ℕ
 shown_run is_space run = if is_space then spaced run else run
 
--- what is shown of bytes that stand behind white space
+-- the bytes that a line shows of white space and of the bytes behind it
 abbrev pub shown_behind : CharSet → List ℕ → List ℕ → List ℕ
 shown_behind set run [] = spaced run
 shown_behind set run (b ∷ bs) =

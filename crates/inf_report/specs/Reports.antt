@@ -1,29 +1,30 @@
--- The report of a compilation: the lines that it writes, and what it counts.
+-- The report of a compilation: the lines that it writes, and its counts.
 use Rattle.std.specs.Prelude.{ℕ, ◌+◌, List, [], ◌++◌, codes, decimal, Bool, true, false, not, ◌||◌, ◌==◌, if◌then◌else◌}
 use Rattle.inf_report.specs.Messages.{Location, Message, TooManyErrors, line_of}
 use Rattle.inf_report.specs.OwnWords.{Words, shown}
 use Rattle.inf_report.specs.declared.messages.Kind.TheVariants as kind
 
--- How many errors and warnings were told, whether a fatal one has ended them, and whether warnings are told at all.
+-- The numbers of errors and warnings that were reported, whether a fatal error has ended the report, and whether warnings are reported at
+-- all.
 pub record Counts : Type 0 where
   pub errors : ℕ
   pub warnings : ℕ
   pub is_over : Bool
   pub has_warnings : Bool
 
--- nothing was told yet
+-- the counts before the first message
 abbrev pub no_counts : Bool → Counts
 no_counts has_warnings = record { errors = 0; warnings = 0; is_over = false; has_warnings = has_warnings }
 
--- the hundredth error is the last
+-- the most errors: the hundredth is the last
 abbrev pub most_errors : ℕ
 most_errors = 100
 
--- whether the next error is the last
+-- Tells whether the next error is the last.
 abbrev pub is_last : Counts → Bool
 is_last c = c.errors + 1 == most_errors
 
--- An error at a place, of a unit that begins at another or the same: the last is followed by a fatal one there.
+-- the lines of an error at a place, in a unit that begins at another or the same: the last error is followed by a fatal one there
 abbrev pub error_lines : Location → Location → Message → Counts → List ℕ
 error_lines at unit m c =
     if c.is_over then [] else
@@ -32,21 +33,21 @@ error_lines at unit m c =
 abbrev pub with_error : Counts → Counts
 with_error c = if c.is_over then c else record c { errors = c.errors + 1; is_over = is_last c }
 
--- where the count of warnings stops
+-- the number at which the count of warnings stops
 abbrev pub most_warnings : ℕ
 most_warnings = 18446744073709551615
 
 abbrev pub one_warning_more : ℕ → ℕ
 one_warning_more n = if n == most_warnings then most_warnings else n + 1
 
--- a warning: where none are wanted it is not counted
+-- the line of a warning: where none are wanted it is not counted
 abbrev pub warning_lines : Location → Message → Counts → List ℕ
 warning_lines at m c = if c.is_over || not c.has_warnings then [] else line_of kind.Warning at m
 
 abbrev pub with_warning : Counts → Counts
 with_warning c = if c.is_over || not c.has_warnings then c else record c { warnings = one_warning_more c.warnings }
 
--- a fatal error ends all
+-- the line of a fatal error, which ends the report
 abbrev pub fatal_lines : Location → Message → Counts → List ℕ
 fatal_lines at m c = if c.is_over then [] else line_of kind.Fatal at m
 
@@ -61,7 +62,7 @@ plain_lines words c = if c.is_over then [] else shown words ++ codes "\n"
 abbrev pub statistic_lines : List ℕ → ℕ → Counts → List ℕ
 statistic_lines word n c = if c.is_over then [] else word ++ codes ": " ++ decimal n ++ codes "\n"
 
--- what the last line ends with: with an error no story is written
+-- the end of the last line: with an error no story is written
 abbrev pub ending : ℕ → List ℕ
 ending errors = if errors == 0 then codes "\n" else codes " (no output)\n"
 

@@ -1,4 +1,4 @@
--- How the texts of messages are made of pieces.
+-- The texts of messages, made of pieces.
 use Rattle.std.specs.Prelude.{ℕ, List, ◌++◌, codes, decimal}
 use Rattle.inf_report.specs.Meant.{worded}
 use Rattle.inf_report.specs.Messages.{place, quoted}

@@ -1,7 +1,7 @@
--- What writing some bytes to a sink leaves.
+-- The outcome of writing some bytes to a sink.
 use Rattle.std.specs.Prelude.{◌≡◌, ℕ, ◌<◌, ◌≤◌, List, ◌++◌, length, Option, Result, Ok, Err}
-use Rattle.inf_sinks.specs.Sinks.{Takes}
-use Rattle.inf_files.specs.Files.{Rose}
+use Rattle.inf_devices.specs.Sinks.{Takes}
+use Rattle.inf_devices.specs.Files.{Rose}
 use Rattle.inf_report.specs.declared.pieces.ReportFault.{ReportFault}
 
 -- A sink took only the front of some bytes.
@@ -12,7 +12,8 @@ pub record TakesPart (old new : Option (List ℕ)) (bytes : List ℕ) : Type 0 w
   pub is_short : 0 < length rest
   pub takes : Takes old new front
 
--- The bytes taken and the count of failures, before and after, by the answer: all was taken, or the sink failed and took a part.
+-- The bytes taken and the count of failures, before and after a write, by its result: all bytes were taken, or the sink failed and took a
+-- part.
 abbrev pub Writes : Option (List ℕ) → Option (List ℕ) → ℕ → ℕ → List ℕ → Result Unit ReportFault → Type 0
 Writes old new before after bytes (Ok _) = Takes old new bytes × (before ≤ after)
 Writes old new before after bytes (Err _) = TakesPart old new bytes × (before ≤ after) × Rose before after

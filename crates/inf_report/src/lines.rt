@@ -12,7 +12,7 @@ use crate::messages::{Kind, Location, Message};
 use crate::own_words::{OwnWords, write_shown};
 use crate::pieces::{ReportFault, write_bytes, write_pieces};
 use crate::wordings::Wording;
-use inf_sinks::sinks::Sink;
+use inf_devices::sinks::Sink;
 use itoa::Buffer;
 
 /// Writes the line of a message of a kind, at a place.

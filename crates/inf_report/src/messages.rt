@@ -8,13 +8,13 @@ use crate::own_words::OwnWords;
 use crate::wordings::Wording;
 use inf_settings::setting::Setting;
 
-/// How much a message weighs.
+/// The weight of a message.
 #[derive(Clone, Copy, Debug, PartialEq, Eq)]
 pub enum Kind {
     /// No story is written.
     Error,
     Warning,
-    /// Nothing is read behind it, and no story is written.
+    /// Nothing behind it is read, and no story is written.
     Fatal,
 }
 
@@ -38,7 +38,7 @@ pub enum Told<'a> {
     End,
 }
 
-/// What there can be so many of, and no more.
+/// A kind of things of which there is a fixed limit.
 #[derive(Clone, Copy, Debug, PartialEq, Eq)]
 pub enum FixedLimit {
     /// The locals of a routine.
@@ -57,7 +57,7 @@ pub enum FixedLimit {
     Verbs,
 }
 
-/// What a message says. Names are as the source spells them at the message's place.
+/// A message. Names are as the source spells them at the message's place.
 #[derive(Clone, Copy, Debug)]
 pub enum Message<'a> {
     /// A token that fits nowhere.
@@ -66,7 +66,7 @@ pub enum Message<'a> {
     IllegalCharacter,
     /// A text or a quote without its end, or a quote of nothing.
     UnclosedQuote,
-    /// A number, or a code in a text, that cannot be.
+    /// A number, or a code in a text, that is out of range.
     NumberOutOfRange,
     /// A text in which `@` begins no escape.
     UnknownEscape,
@@ -78,15 +78,15 @@ pub enum Message<'a> {
     Declared(&'a [u8], Location<'a>),
     /// A name that the language has from the start.
     SystemName(&'a [u8]),
-    /// A token that names what cannot stand there.
+    /// A token that names something that is not allowed there.
     WrongKind(Told<'a>),
     /// A name that is used, and declared nowhere.
     Undeclared(&'a [u8]),
     /// A name that is declared behind a use that must not come before.
     UsedBefore(&'a [u8]),
-    /// A value that is not known where it must be.
+    /// A value that is not known where it has to be.
     NotConstant,
-    /// A known number that cannot stand there.
+    /// A known number that is not allowed there.
     ConstantOutOfRange,
     /// A call of too many arguments.
     TooManyArguments,
@@ -100,13 +100,13 @@ pub enum Message<'a> {
     NothingToLeave,
     /// A branch or jump over too many bytes.
     BranchTooFar,
-    /// One more than there can be.
+    /// One more of a kind than there can be.
     TooMany(FixedLimit),
     /// Switches behind another directive, or unknown ones.
     MisplacedSwitches,
-    /// An abbreviation that cannot be.
+    /// A text that cannot be declared as an abbreviation.
     WrongAbbreviation,
-    /// A word that is a verb already, or none.
+    /// A word that is a verb already, or that is none where one is needed.
     WrongVerb(Told<'a>),
     /// A source without the routine where its story begins.
     NoMain,
@@ -130,7 +130,7 @@ pub enum Message<'a> {
     FatalText(OwnWords<'a>),
     /// The error before this was the hundredth.
     TooManyErrors,
-    /// The code would begin behind what can be read.
+    /// The code would begin behind the memory that can be read.
     ReadableTooLong,
     /// A story of more bytes than this.
     StoryTooLong(u32),
@@ -141,7 +141,7 @@ pub enum Message<'a> {
 }
 
 impl Location<'static> {
-    /// The line `line` of the routines that the compiler has of its own, the veneer, which messages name as a file `veneer`.
+    /// Returns the line `line` of the veneer, the compiler's own routines, which messages name as a file `veneer`.
     pub fn veneer(line: u32) -> Location<'static>
         ensures { located result ≡ veneer_line line }
     {
@@ -153,7 +153,7 @@ impl Location<'static> {
 }
 
 impl Kind {
-    /// What stands between the place and the text of a message.
+    /// Returns the words between the place and the text of a message.
     pub(crate) fn severity(self) -> &'static [u8]
         ensures { result.now ≡ severity self }
     {
@@ -166,7 +166,7 @@ impl Kind {
 }
 
 impl FixedLimit {
-    /// How many there can be, and what they are called.
+    /// Returns the most that there can be, with the name of the kind.
     fn most(self) -> &'static [u8]
         ensures { result.now ≡ most self }
     {
@@ -183,7 +183,7 @@ impl FixedLimit {
 }
 
 impl<'a> Message<'a> {
-    /// What kind of message it is.
+    /// Returns the kind of the message.
     pub fn kind(&self) -> Kind
         ensures { result ≡ kind_of (meant self.now) }
     {
@@ -202,8 +202,8 @@ impl<'a> Message<'a> {
         }
     }
 
-    /// Its number among the messages of its kind, from 1 on. Of several errors of a unit at one place
-    /// the one with the least number is told.
+    /// Returns the number of the message among those of its kind, from 1 on. Of several errors of a unit at one place
+    /// the one with the least number is reported.
     pub fn number(&self) -> u8
         ensures { result ≡ number_of (meant self.now) }
     {
@@ -237,7 +237,7 @@ impl<'a> Message<'a> {
         }
     }
 
-    /// How its text is made.
+    /// Returns the wording of the message.
     pub(crate) fn wording(&self) -> Wording<'a>
         ensures { said result ≡ text (meant self.now) }
     {

@@ -8,18 +8,18 @@ ghost use Rattle.inf_report.specs.Writing.{Writes};
 
 use crate::pieces::{ReportFault, write_bytes};
 use inf_characters::{CharSet, is_line_end, is_white};
-use inf_sinks::sinks::Sink;
+use inf_devices::sinks::Sink;
 
-/// A text of the source as its bytes stand between the quotes. A message shows them as they are, but
-/// white space with a line end in it as one space.
+/// A text of the source: the bytes between the quotes. A message shows them as they are, but white space with a line
+/// end in it as one space.
 #[derive(Clone, Copy, Debug)]
 pub struct OwnWords<'a> {
     pub bytes: &'a [u8],
-    /// The source's character set, which says what white space is.
+    /// The source's character set, which decides which bytes are white space.
     pub set: CharSet,
 }
 
-/// Writes what a message shows of a text, run by run: of white space, and of other bytes.
+/// Writes a text as a message shows it, run by run: of white space, and of other bytes.
 pub(crate) fn write_shown<S: Sink>(to: &mut S, words: OwnWords<'_>) -> Result<(), ReportFault>
     ensures { Writes (S.taken to.old) (S.taken to.new) (S.failures to.old) (S.failures to.new) (shown (worded words.entry)) result }
 {
@@ -33,7 +33,7 @@ pub(crate) fn write_shown<S: Sink>(to: &mut S, words: OwnWords<'_>) -> Result<()
     Ok(())
 }
 
-/// What is shown of a run of white space or of other bytes.
+/// Returns the bytes that a message shows of a run of white space or of other bytes.
 fn shown_run(is_space: bool, run: &[u8]) -> &[u8]
     ensures { result.now ≡ shown_run is_space run.now }
 {
@@ -44,7 +44,7 @@ fn shown_run(is_space: bool, run: &[u8]) -> &[u8]
     }
 }
 
-/// How many bytes at the front are white space, or how many are not.
+/// Returns the number of bytes at the front that are white space, or, where `is_space` is false, of those that are not.
 fn run_len(set: CharSet, is_space: bool, bytes: &[u8]) -> usize
     ensures value { result ≡ prefix_len (is_alike set is_space) bytes.now }
     ensures within { result ≤ length bytes.now }

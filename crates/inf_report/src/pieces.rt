@@ -2,10 +2,10 @@
 ghost use Rattle.std.specs.Prelude.{◌++◌};
 ghost use Rattle.inf_report.specs.Writing.{Writes};
 
-use inf_sinks::sinks::{Sink, write_whole};
+use inf_devices::sinks::{Sink, write_whole};
 use thiserror::Error;
 
-/// Why a line was not written.
+/// The reason why a line was not written.
 #[derive(Clone, Copy, Debug, PartialEq, Eq, Error)]
 pub enum ReportFault {
     /// The sink failed. A part of the line may be out.

@@ -10,18 +10,18 @@ use crate::messages::{Kind, Location, Message};
 use crate::own_words::OwnWords;
 pub use crate::pieces::ReportFault;
 use crate::pieces::write_pieces;
-use inf_sinks::sinks::Sink;
+use inf_devices::sinks::Sink;
 use itoa::Buffer;
 use std::marker::Model;
 
 /// The error with this number is the last.
 const MOST_ERRORS: u32 = 100;
 
-/// How many errors and warnings were told, and whether a fatal one has ended them: nothing is written
-/// behind it. The count of warnings stops at its last value.
+/// The numbers of errors and warnings that were reported, and whether a fatal error has ended the report: nothing is
+/// written behind it. The count of warnings stops at its last value.
 ///
-/// Each call writes its line to a sink, and allocates nothing. It refuses only where the sink failed in the call: then a
-/// part of the line may be out, and the counts are as they were.
+/// Each call writes its line to a sink, and allocates nothing. It returns an error only where the sink failed in the
+/// call: then a part of the line may be out, and the counts are as they were.
 #[derive(Debug, Drop)]
 pub struct Report {
     errors: u32,
@@ -42,7 +42,8 @@ impl Model for Report {
 }
 
 impl Report {
-    /// Nothing was told yet. Whether warnings are to be told: else they are not counted either.
+    /// Returns a report of no messages yet. `has_warnings` says whether warnings are reported: else they are not
+    /// counted either.
     pub fn new(has_warnings: bool) -> Report
         ensures { result ≡ no_counts has_warnings }
     {
@@ -54,36 +55,36 @@ impl Report {
         }
     }
 
-    /// Has warnings told from now on, or neither told nor counted, as `has_warnings` says. What was counted stays.
+    /// Sets whether warnings are reported from now on, or neither reported nor counted. The counts so far stay.
     pub fn set_warnings(&mut self, has_warnings: bool)
         ensures { self.new ≡ record self.old { has_warnings = has_warnings } }
     {
         self.has_warnings = has_warnings;
     }
 
-    /// How many errors were told.
+    /// Returns the number of errors that were reported.
     pub fn errors(&self) -> u32
         ensures { result ≡ self.now.errors }
     {
         self.errors
     }
 
-    /// How many warnings were told.
+    /// Returns the number of warnings that were reported.
     pub fn warnings(&self) -> u64
         ensures { result ≡ self.now.warnings }
     {
         self.warnings
     }
 
-    /// Whether a fatal error has ended all.
+    /// Returns whether a fatal error has ended the report.
     pub fn is_over(&self) -> bool
         ensures { result ≡ self.now.is_over }
     {
         self.is_over
     }
 
-    /// An error at a place, of a unit that begins at another or the same. The hundredth is followed by
-    /// a fatal error where the unit begins.
+    /// Reports an error at a place, in a unit that begins at another or the same. The hundredth error is followed by a
+    /// fatal one where the unit begins.
     pub fn error<S: Sink>(
         &mut self,
         to: &mut S,
@@ -109,7 +110,7 @@ impl Report {
         Ok(())
     }
 
-    /// A warning at a place, if warnings are to be told.
+    /// Reports a warning at a place, if warnings are to be reported.
     pub fn warning<S: Sink>(
         &mut self,
         to: &mut S,
@@ -129,7 +130,7 @@ impl Report {
         Ok(())
     }
 
-    /// A fatal error at a place: nothing is written behind it.
+    /// Reports a fatal error at a place: nothing is written behind it.
     pub fn fatal<S: Sink>(
         &mut self,
         to: &mut S,
@@ -149,7 +150,7 @@ impl Report {
         Ok(())
     }
 
-    /// A line of the source's own words alone.
+    /// Writes a line of the source's own words alone.
     pub fn plain<S: Sink>(&self, to: &mut S, words: OwnWords<'_>) -> Result<(), ReportFault>
         ensures writes { Writes (S.taken to.old) (S.taken to.new) (S.failures to.old) (S.failures to.new)
             (plain_lines (worded words.entry) self.now) result }
@@ -160,7 +161,7 @@ impl Report {
         write_plain(to, words)
     }
 
-    /// A line of the statistics: a word and its number.
+    /// Writes a line of the statistics: a word and its number.
     pub fn statistic<S: Sink>(&self, to: &mut S, word: &str, number: u64) -> Result<(), ReportFault>
         ensures writes { Writes (S.taken to.old) (S.taken to.new) (S.failures to.old) (S.failures to.new)
             (statistic_lines word.now number self.now) result }
@@ -173,7 +174,7 @@ impl Report {
         write_pieces(to, word.as_bytes(), b": ", digits, b"\n")
     }
 
-    /// The last line, with the counts of errors and warnings.
+    /// Writes the last line, with the counts of errors and warnings.
     pub fn close<S: Sink>(&self, to: &mut S) -> Result<(), ReportFault>
         ensures writes { Writes (S.taken to.old) (S.taken to.new) (S.failures to.old) (S.failures to.new) (closing_lines self.now) result }
     {

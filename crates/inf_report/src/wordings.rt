@@ -1,4 +1,4 @@
-//! How the texts of messages are made of pieces.
+//! The texts of messages, made of pieces.
 ghost use Rattle.std.specs.Prelude.{◌≡◌, ◌++◌, codes};
 ghost use Rattle.inf_report.specs.Meant.{named};
 ghost use Rattle.inf_report.specs.Messages.{told};
@@ -7,7 +7,7 @@ ghost use Rattle.inf_report.specs.Wordings.{said};
 use crate::messages::{Location, Told};
 use crate::own_words::OwnWords;
 
-/// How the text of a message is made.
+/// The wording of a message: the pieces that its text is made of.
 #[derive(Clone, Copy)]
 pub(crate) enum Wording<'a> {
     /// Four pieces, of which some may be empty.
@@ -26,7 +26,7 @@ pub(crate) enum Wording<'a> {
 }
 
 impl<'a> Wording<'a> {
-    /// A text that is always the same.
+    /// Returns a text that is always the same.
     pub(crate) fn only(text: &'static [u8]) -> Wording<'a>
         ensures { said result ≡ text.now }
     {
@@ -38,7 +38,7 @@ impl<'a> Wording<'a> {
         }
     }
 
-    /// A text with a word in it.
+    /// Returns a text with a word in it.
     pub(crate) fn about(before: &'static [u8], word: &'a [u8], behind: &'static [u8]) -> Wording<'a>
         ensures { said result ≡ before.now ++ word.now ++ behind.now }
     {
@@ -50,7 +50,7 @@ impl<'a> Wording<'a> {
         }
     }
 
-    /// A text with a name in it, of which the closing quote stands behind the name.
+    /// Returns a text with a name in it, with a closing quote behind the name.
     pub(crate) fn of_name(
         before: &'static [u8],
         name: &'a [u8],
@@ -66,7 +66,7 @@ impl<'a> Wording<'a> {
         }
     }
 
-    /// A text that ends with a token.
+    /// Returns a text that ends with a token.
     pub(crate) fn of_token(before: &'static [u8], token: Told<'a>) -> Wording<'a>
         ensures { said result ≡ before.now ++ told (named token.entry) }
     {

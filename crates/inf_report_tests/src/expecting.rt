@@ -1,8 +1,8 @@
-//! Assertions of what is found.
+//! Assertions of the values that are found.
 use std::fmt::Debug;
 use std::process::Abort;
 
-/// Asserts that what was found of a row is what is wanted.
+/// Asserts that the value found for a row is the one that is wanted.
 pub(crate) fn expect<T: Debug + PartialEq>(
     rt: &impl Abort,
     row: &impl Debug,

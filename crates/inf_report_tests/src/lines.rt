@@ -3,13 +3,13 @@ ghost use Rattle.std.specs.Prelude.{None};
 
 use crate::expecting::expect;
 use inf_characters::CharSet;
-use inf_files::failures::Failures;
+use inf_devices::failures::Failures;
+use inf_devices::memory_sink::MemorySink;
+use inf_devices::sinks::{Sink, SinkFault};
 use inf_report::messages::{FixedLimit, Kind, Location, Message, Told};
 use inf_report::own_words::OwnWords;
 use inf_report::report::{Report, ReportFault};
 use inf_settings::setting::Setting;
-use inf_sinks::memory_sink::MemorySink;
-use inf_sinks::sinks::{Sink, SinkFault};
 use std::alloc::Global;
 use std::process::Abort;
 use std::test::Fail;
@@ -25,7 +25,7 @@ fn own(bytes: &[u8], set: CharSet) -> OwnWords<'_> {
     OwnWords { bytes, set }
 }
 
-/// A file and the last line that a number has.
+/// A file and the last line that has a number.
 const PLACE: Location<'static> = Location {
     file: b"lib/c.h",
     line: 4_294_967_295,
@@ -80,10 +80,10 @@ static ERRORS: [(Message<'static>, &str); 21] = [
     ),
 ];
 
-/// One thing that a report tells.
+/// A call of a report.
 #[derive(Clone, Copy)]
 enum Part<'a> {
-    /// An error at a line, where the lines of the compilation stand at another one.
+    /// An error at a line, where the lines of the compilation are at another one.
     Error(u32, u32, &'a Message<'a>),
     Fatal(&'a Message<'a>),
     Warning(&'a Message<'a>),
@@ -92,7 +92,7 @@ enum Part<'a> {
     End,
 }
 
-/// Tells one thing.
+/// Makes one call of a report.
 fn tell(report: &mut Report, to: &mut MemorySink, part: Part<'_>) -> Result<(), ReportFault> {
     match part {
         Part::Error(line, last, message) => report.error(to, at(line), at(last), message),
@@ -104,7 +104,7 @@ fn tell(report: &mut Report, to: &mut MemorySink, part: Part<'_>) -> Result<(), 
     }
 }
 
-/// The bytes of some things that are told in turn.
+/// Makes some calls of a report in turn, and returns the bytes that it wrote.
 fn told_of(alloc: Global, report: &mut Report, parts: &[Part<'_>]) -> Result<Vec<u8>, Fail> {
     let mut sink = MemorySink::new(alloc);
     for part in parts {
@@ -113,7 +113,7 @@ fn told_of(alloc: Global, report: &mut Report, parts: &[Part<'_>]) -> Result<Vec
     Ok(sink.into_bytes())
 }
 
-/// Asserts the bytes of what a new report tells of a row.
+/// Asserts the bytes that a new report writes for the calls of a row.
 fn expect_told(
     rt: &impl Abort,
     alloc: Global,
@@ -177,7 +177,7 @@ static FATAL: [(Message<'static>, &str, u8); 6] = [
 /// A warning.
 static UNUSED: Message<'static> = Message::UnusedLocal(b"x");
 
-/// Asserts that only its line is told of a fatal error, and its number.
+/// Asserts that a fatal error has this number, and that its line is all that a report writes.
 fn expect_fatal(
     rt: &impl Abort,
     alloc: Global,
@@ -192,7 +192,7 @@ fn expect_fatal(
     expect_told(rt, alloc, text, &parts, wanted.as_bytes())
 }
 
-/// Asserts what is told of the fatal error of each row.
+/// Asserts the number and the line of the fatal error of each row.
 fn expect_fatals(
     rt: &impl Abort,
     alloc: Global,
@@ -204,7 +204,7 @@ fn expect_fatals(
     Ok(())
 }
 
-/// Asserts what is told of a warning and the end, where warnings are told or not.
+/// Asserts the lines of a warning and the end, where warnings are told or not.
 fn expect_warning(
     rt: &impl Abort,
     alloc: Global,
@@ -226,10 +226,10 @@ fn tells_fatal_errors_and_warnings(rt: HostRuntime) -> Result<(), Fail> {
     expect_warning(&rt, alloc, false, b"Errors: 0, warnings: 0\n")
 }
 
-/// An error that is told often.
+/// An error that comes often.
 static FIVE: Message<'static> = Message::Syntax(Told::Bytes(b"5"));
 
-/// 101 errors, each at its own line, and the end.
+/// Returns 101 errors, each at its own line, and the end.
 fn parts_of_101(alloc: Global) -> Result<Vec<Part<'static>>, Fail> {
     let mut parts = Vec::new(alloc);
     for line in 1..=101_u32 {
@@ -239,7 +239,7 @@ fn parts_of_101(alloc: Global) -> Result<Vec<Part<'static>>, Fail> {
     Ok(parts)
 }
 
-/// The lines of the first 100 of them, and what ends them.
+/// Returns the lines of the first 100 errors, and the line that ends them.
 fn lines_of_100(alloc: Global) -> Result<String, Fail> {
     let mut lines = String::new(alloc);
     for line in 1..=100_u32 {
@@ -316,7 +316,7 @@ impl Sink for Small {
     }
 }
 
-/// Asserts that a report whose sink has so much room fails, with the first bytes of its line.
+/// Asserts that a report whose sink has `room` for bytes fails, with the first bytes of its line.
 fn expect_failure(rt: &impl Abort, alloc: Global, room: usize, line: &[u8]) {
     let mut sink = Small {
         whole: MemorySink::new(alloc),

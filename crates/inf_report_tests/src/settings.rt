@@ -41,7 +41,7 @@ fn expect_setting(
     expect_shown(rt, alloc, setting, name)
 }
 
-/// Asserts what a setting is shown as.
+/// Asserts the name with which a setting is shown.
 fn expect_shown(rt: &impl Abort, alloc: Global, setting: Setting, name: &str) -> Result<(), Fail> {
     let shown = format!(in alloc; "{setting}")?;
     expect(rt, &name, &shown.as_str(), &name);
@@ -108,7 +108,7 @@ static WORDS: [(&[u8], Option<(&[u8], u32)>); 9] = [
     (b"A=1", None),
 ];
 
-/// Asserts what the word of each row sets.
+/// Asserts the setting and the number in the word of each row.
 fn expect_words(rt: &impl Abort, rows: &[(&[u8], Option<(&[u8], u32)>)]) {
     for (word, wanted) in rows {
         let said = Assignment::of(word).map(|said| (said.name, said.number));

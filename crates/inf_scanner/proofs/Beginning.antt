@@ -1,4 +1,4 @@
--- A byte that is a mark begins one: it is no white space, none of a name, and begins no comment, text or quote.
+-- A byte that is a mark begins a mark: it is neither white space nor in a name, and begins no comment, text or quote.
 use Rattle.std.proofs.Common.{◌≡◌, ℕ, cond, ◌==◌, Bool, true, false, Option, Some, None, refl, ap, ◌∙◌}
 use Rattle.std.proofs.lemmas.Bool.{eqb-true}
 use Rattle.inf_characters.specs.declared.characters.CharSet.{CharSet}
@@ -6,12 +6,12 @@ use Rattle.inf_characters.specs.declared.characters.CharSet.TheVariants as chars
 use Rattle.inf_scanner.specs.Marks.{first_mark}
 use Rattle.inf_scanner.specs.Scanning.{begin}
 use Rattle.inf_scanner.specs.declared.scanner.State.TheVariants as state
-use Rattle.inf_scanner.specs.declared.scanner.Step.{Step}
-use Rattle.inf_scanner.specs.declared.scanner.Step.TheVariants as step_to
+use Rattle.inf_scanner.specs.declared.scanner.ByteStep.{ByteStep}
+use Rattle.inf_scanner.specs.declared.scanner.ByteStep.TheVariants as step_to
 use Rattle.inf_scanner.specs.declared.tokens.Mark.{Mark}
 use Rattle.inf_scanner.specs.declared.tokens.Mark.TheVariants as mark
 
-abbrev begins : Mark → Step
+abbrev begins : Mark → ByteStep
 begins m = step_to.Keep (state.Mark m)
 
 both : (n : ℕ) (x : Mark) → begin charset.Ascii n ≡ begins x → begin charset.Latin1 n ≡ begins x → (set : CharSet) → begin set n ≡ begins x

@@ -1,4 +1,4 @@
--- What is left behind a token: no more than there was; and where a byte of it may still come, less of some bytes.
+-- A token leaves no more bytes than there were; and where a byte of it may still come, there are bytes of which it takes one.
 use Rattle.std.proofs.Common.{◌≡◌, ℕ, ◌≤◌, List, [], ◌∷◌, length, true, arith}
 use Rattle.inf_characters.specs.declared.characters.CharSet.{CharSet}
 use Rattle.inf_characters.specs.declared.characters.CharSet.TheVariants.{Ascii, Latin1}
@@ -54,7 +54,7 @@ mark_takes set limit mark.DoubleHash seen h = cc
 mark_takes set limit mark.Question seen h = cc
 mark_takes set limit mark.At seen h = cc
 
--- the first byte of a token
+-- a token takes a first byte
 gap_takes : (set : CharSet) (limit : ℕ) (seen : Sight) → TakesMore set limit state.Gap seen
 gap_takes Ascii limit seen = record { more = 59 ∷ []; takes = omega arith }
 gap_takes Latin1 limit seen = record { more = 59 ∷ []; takes = omega arith }

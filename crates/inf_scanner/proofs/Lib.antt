@@ -3,6 +3,7 @@ pub mod Growing
 pub mod Quoted
 pub mod Runs
 pub mod SpellingLaws
+pub mod Tails
 pub mod Taking
 pub mod TokenLaws
 pub mod NameBytes

@@ -1,4 +1,4 @@
--- The table of bytes that stand in names.
+-- The table of the bytes that may be in names.
 use Rattle.std.proofs.Common.{◌≡◌, ℕ, ◌+◌, ◌<◌, zero, suc, Bool, ◌∙◌, ap, arith}
 use Rattle.std.specs.Prelude.{slice_index_or}
 use Rattle.inf_scanner.specs.Runs.{is_name_byte, name_bytes, names_from}

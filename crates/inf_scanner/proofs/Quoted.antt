@@ -1,4 +1,4 @@
--- Only a quoted token asks for memory.
+-- Only a quoted token needs more memory.
 use Rattle.std.proofs.Common.{◌≡◌, ◌<◌, ◌≤◌, ℕ, List, [], ◌∷◌, Bool, true, not, cond, ◌||◌, ◌&&◌, ◌==◌, Option, Some, None, refl, sym, ap}
 use Rattle.std.proofs.Common.{◌∙◌, arith}
 use Rattle.std.proofs.lemmas.Bool.{cond_both}
@@ -9,13 +9,13 @@ use Rattle.inf_scanner.specs.Scanning.{Sight, Found, find, is_quoted, is_run_byt
 use Rattle.inf_scanner.specs.declared.scanner.Ending.TheVariants as ending
 use Rattle.inf_scanner.specs.declared.scanner.State.{State}
 use Rattle.inf_scanner.specs.declared.scanner.State.TheVariants as state
-use Rattle.inf_scanner.specs.declared.scanner.Step.{Step}
-use Rattle.inf_scanner.specs.declared.scanner.Step.TheVariants as step_to
+use Rattle.inf_scanner.specs.declared.scanner.ByteStep.{ByteStep}
+use Rattle.inf_scanner.specs.declared.scanner.ByteStep.TheVariants as step_to
 use Rattle.inf_scanner.specs.declared.scanner.Turn.TheVariants as turn_to
 use Rattle.inf_scanner.specs.declared.tokens.Mark.{Mark}
 
--- what comes of a step, at a byte before others
-abbrev pub after : CharSet → ℕ → Step → ℕ → Sight → List ℕ → Found
+-- the token that is found behind a step, at a byte before others
+abbrev pub after : CharSet → ℕ → ByteStep → ℕ → Sight → List ℕ → Found
 after set limit s b seen bs =
     let t = turn_by limit s b seen in
     elim t.0 [
@@ -42,7 +42,7 @@ quote_ends set limit (b ∷ bs) a seen =
     (λ s. is_quoted (after set limit s b seen bs).ending ≡ true)
     (λ _. refl) (λ _. quote_ends set limit bs (b == 64) (kept limit b seen)))
 
--- no other byte of a token is kept beyond 32
+-- No other token keeps more than 32 bytes.
 
 mark_first : (limit : ℕ) (o : Option Mark) →
     most_behind limit (elim o [ Some m ↦ step_to.Keep (state.Mark m) | None ↦ step_to.Close ending.Unfit ]) ≤ 32
@@ -56,7 +56,7 @@ mark_more limit m None = omega arith
 
 first_kept : (set : CharSet) (limit b : ℕ) → most_behind limit (step_of set state.Gap b) ≤ 32
 first_kept set limit b =
-    let P : Step → Type 0 = λ s. most_behind limit s ≤ 32 in
+    let P : ByteStep → Type 0 = λ s. most_behind limit s ≤ 32 in
     cond_both (is_white set b) _ _ P (λ _. omega arith)
     (λ _. cond_both (is_run_byte b) _ _ P (λ _. omega arith)
     (λ _. cond_both (b == 33) _ _ P (λ _. omega arith)

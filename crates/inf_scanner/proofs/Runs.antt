@@ -1,4 +1,4 @@
--- A run of bytes that leave a state as it is does what its bytes do one after another.
+-- A run of bytes that leave a state as it is has the effect of its bytes one after another.
 use Rattle.std.proofs.Common.{◌≡◌, ℕ, suc, zero, ◌+◌, ◌-◌, ◌<◌, ◌≤◌, ◌⊎◌, inl, inr, List, [], ◌∷◌, ◌++◌, length, take, drop, cond, not}
 use Rattle.std.proofs.Common.{◌||◌, ◌&&◌, ◌==◌, nat_le, nat_lt, Bool, true, false, Option, Some, None, refl, sym, ap, subst, ◌∙◌, arith}
 use Rattle.std.proofs.Common.{append-nil, append_assoc, length-append}
@@ -17,19 +17,19 @@ use Rattle.inf_scanner.specs.declared.lines.Lines.{Lines}
 use Rattle.inf_scanner.specs.declared.scanner.Ending.TheVariants as ending
 use Rattle.inf_scanner.specs.declared.scanner.State.{State}
 use Rattle.inf_scanner.specs.declared.scanner.State.TheVariants as state
-use Rattle.inf_scanner.specs.declared.scanner.Step.{Step}
-use Rattle.inf_scanner.specs.declared.scanner.Step.TheVariants as step_to
+use Rattle.inf_scanner.specs.declared.scanner.ByteStep.{ByteStep}
+use Rattle.inf_scanner.specs.declared.scanner.ByteStep.TheVariants as step_to
 use Rattle.inf_scanner.specs.declared.tokens.Mark.{Mark}
 use Rattle.inf_scanner.proofs.Quoted.{after}
 
--- nothing passes a test that nothing passes
+-- no byte passes a test that fails for all
 pub no_run : (test : ℕ → Bool) → ((b : ℕ) → test b ≡ false) → (bs : List ℕ) → prefix_len test bs ≡ 0
 no_run test none [] = refl
 no_run test none (b ∷ bs) = cond-false (test b) (1 + prefix_len test bs) 0 (none b)
 
 -- Single bytes
 
--- a byte that passes a test is none that fails
+-- a byte that passes a test differs from one that fails
 other : (test : ℕ → Bool) (b n : ℕ) → test n ≡ false → test b ≡ true → (b == n) ≡ false
 other test b n fails passes = by (b == n) refl
   where
@@ -127,7 +127,7 @@ gap_on set b passes = cond-true (is_white set b) _ _ (blank_white set b passes)
 abbrev seen_on : Sight → Kept → Sight
 seen_on seen kept = record { first = seen.first; kept = kept; lines = calm seen.lines }
 
--- what a byte does that leaves the state as it is
+-- the effect of a byte that leaves the state as it is
 abbrev Steps : CharSet → ℕ → State → (ℕ → Sight → Sight) → Type 0
 Steps set limit s on =
     (b : ℕ) (bs : List ℕ) (seen : Sight) → stays s b ≡ true → find set limit s seen (b ∷ bs) ≡ find set limit s (on b seen) bs
@@ -143,7 +143,7 @@ keeps : (set : CharSet) (limit : ℕ) (s : State) (b : ℕ) (bs : List ℕ) (see
     → find set limit s seen (b ∷ bs) ≡ find set limit s (with_kept (most limit s) b seen) bs
 keeps set limit s b bs seen same step passes =
     ap (λ (x : Sight). after set limit (step_of set s b) b x bs) same
-    ∙ ap (λ (x : Step). after set limit x b seen bs) step
+    ∙ ap (λ (x : ByteStep). after set limit x b seen bs) step
     ∙ ap (λ (l : Lines). find set limit s (record { first = seen.first; kept = with_byte (most limit s) b seen.kept; lines = l }) bs)
     (past_calm b seen.lines (no_end s b passes))
 
@@ -157,7 +157,7 @@ run_kept set limit (state.Quote false) fails b bs seen passes =
     keeps set limit (state.Quote false) b bs seen refl (quote_on set b passes) passes
 run_kept set limit (state.Quote true) fails b bs seen passes = cc
 
--- before a token it makes fails difference where it was thought to begin
+-- before a token, the line that was noted for its first byte makes no difference
 first_free : (set : CharSet) (limit : ℕ) (s : State) (first other : ℕ) (kept : Kept) (lines : Lines) (bs : List ℕ) → is_gap s ≡ true
     → find set limit s (record { first = first; kept = kept; lines = lines }) bs ≡ find set limit s
     (record { first = other; kept = kept; lines = lines }) bs
@@ -174,7 +174,7 @@ skips : (set : CharSet) (limit : ℕ) (s : State) (b : ℕ) (bs : List ℕ) (see
     stays s b ≡ true
     → find set limit s seen (b ∷ bs) ≡ find set limit s (skipped b seen) bs
 skips set limit s b bs seen gap step passes =
-    ap (λ (x : Step). after set limit x b (marked s seen) bs) step
+    ap (λ (x : ByteStep). after set limit x b (marked s seen) bs) step
     ∙ ap (λ (l : Lines). find set limit s (record { first = (marked s seen).first; kept = seen.kept; lines = l }) bs)
     (past_calm b seen.lines (no_end s b passes))
     ∙ first_free set limit s (marked s seen).first seen.first seen.kept (calm seen.lines) bs gap
@@ -236,7 +236,7 @@ some_kept most bs k full =
     cond-false (nat_le (length bs) (most - length k.bytes)) (kept_as (k.bytes ++ bs) k.is_cut)
     (kept_as (k.bytes ++ take (most - length k.bytes) bs) true) (lt-leb (length bs) (most - length k.bytes) full)
 
--- where there is no room at all
+-- where there is no room at all no byte is kept
 full_kept : (most : ℕ) (bs bytes : List ℕ) → most ≤ length bytes → with_bytes most bs (kept_as bytes true) ≡ kept_as bytes true
 full_kept most [] bytes full = none_more most (kept_as bytes true)
 full_kept most (b ∷ bs) bytes full =
@@ -265,7 +265,7 @@ room_kept most b bs k room = by (cases_lt most (length bs + 1 + length k.bytes))
         ∙ ap (λ x. kept_as x k.is_cut) (sym (append_assoc k.bytes (b ∷ []) bs))
         ∙ sym (all_kept most bs (kept_as (k.bytes ++ b ∷ []) k.is_cut) (omega (arith, more)))
 
--- one byte, and then more
+-- several bytes are kept as the first, and then the others
 one_more : (most b : ℕ) (bs : List ℕ) (k : Kept) → with_bytes most (b ∷ bs) k ≡ with_bytes most bs (with_byte most b k)
 one_more most b bs k = by (cases_lt (length k.bytes) most)
   where
@@ -294,7 +294,7 @@ ran_kept most [] b seen =
 ran_kept most (x ∷ bs) b seen =
     ran_kept most bs x (with_kept most b seen) ∙ ap (λ (k : Kept). seen_on seen k) (sym (one_more most b (x ∷ bs) seen.kept))
 
--- behind a run that is kept
+-- a token goes on behind a run that is kept
 pub found_kept : (set : CharSet) (limit : ℕ) (s : State) (n : ℕ) (bytes rest : List ℕ) (seen : Sight) → is_gap s ≡ false →
     n ≡ prefix_len (stays s) bytes → (n ≡ 0 → ⊥)
     → find set limit s (seen_on seen (with_bytes (most limit s) (take n bytes) seen.kept)) (drop n bytes ++ rest) ≡ find set limit s seen
@@ -306,7 +306,7 @@ found_kept set limit s (suc n) (b ∷ bytes) rest seen fails is some =
     ∙ subst (RunFound set limit s (with_kept (most limit s)) (b ∷ bytes) rest) (sym is)
     (run_found set limit s (with_kept (most limit s)) (run_kept set limit s fails) (b ∷ bytes) rest) seen
 
--- behind a run that is passed over
+-- a token goes on behind a run that is skipped
 pub found_skipped : (set : CharSet) (limit : ℕ) (s : State) (n : ℕ) (bytes rest : List ℕ) (seen : Sight) → is_gap s ≡ true →
     n ≡ prefix_len (stays s) bytes → (n ≡ 0 → ⊥)
     → find set limit s (seen_on seen seen.kept) (drop n bytes ++ rest) ≡ find set limit s seen (bytes ++ rest)
@@ -317,7 +317,7 @@ found_skipped set limit s (suc n) (b ∷ bytes) rest seen gap is some =
     ∙ subst (RunFound set limit s skipped (b ∷ bytes) rest) (sym is)
     (run_found set limit s skipped (run_skipped set limit s gap) (b ∷ bytes) rest) seen
 
--- The first byte of a name, and a mark that none is longer than
+-- The first byte of a name, and a mark that is the front of no other
 
 name_black : (set : CharSet) (b : ℕ) → is_name_byte b ≡ true → is_white set b ≡ false
 name_black set b passes = by set
@@ -365,10 +365,10 @@ found_name set limit b (x ∷ behind) rest seen is passes = by x is
         let same : x ≡ b = cc in
         subst (λ (y : ℕ). find set limit (state.Run (is_digit b)) (marked state.Gap seen) (y ∷ (behind ++ rest)) ≡ find set limit state.Gap
         seen (y ∷ (behind ++ rest))) (sym same)
-        (ap (λ (s : Step). after set limit s b (marked state.Gap seen) (behind ++ rest))
+        (ap (λ (s : ByteStep). after set limit s b (marked state.Gap seen) (behind ++ rest))
         (run_on set (is_digit b) b passes ∙ sym (name_first set b passes)))
 
--- a mark that none is longer than ends at once
+-- a mark that is the front of no other ends at once
 pub found_mark : (set : CharSet) (limit : ℕ) (m : Mark) (seen : Sight) (bs : List ℕ) → ((b : ℕ) → longer_mark m b ≡ None)
     → record { ending = ending.Mark m; seen = seen; rest = bs } ≡ find set limit (state.Mark m) seen bs
 found_mark set limit m seen [] whole = refl

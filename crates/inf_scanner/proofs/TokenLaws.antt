@@ -1,4 +1,4 @@
--- What each token takes of a source, and what is kept of it.
+-- The bytes that each token takes of a source, and those that are kept of it.
 use Rattle.std.proofs.Common.{◌≡◌, inl, inr, ℕ, ◌≤◌, List, [], ◌∷◌, length, Bool, true, false, ◌==◌, Option, Some, None, Result, Ok, Err}
 use Rattle.std.proofs.Common.{refl, sym, ap, ◌∙◌, arith, length-take}
 use Rattle.std.specs.Str.{bytes_eq}
@@ -24,7 +24,7 @@ use Rattle.inf_scanner.specs.declared.tokens.TokenKind.{TokenKind}
 use Rattle.inf_scanner.specs.declared.tokens.TokenKind.TheVariants as kind
 use Rattle.inf_scanner.proofs.SpellingLaws.{next_spelled, shorter}
 
--- whether a kind is of a token that began with a quote, or of a mark
+-- tells whether a kind is a token that began with a quote, or a mark
 abbrev is_other : TokenKind → Bool
 is_other kind.End = false
 is_other kind.Name = false
@@ -69,7 +69,7 @@ number_no_end None e = cc
 other_no_end : (k : TokenKind) → Other k → k ≡ kind.End → ⊥
 other_no_end k other e = let f : false ≡ true = sym (ap is_other e) ∙ other in cc
 
--- only the end is one
+-- the only token whose kind is the end is the end
 end_only : (set : CharSet) (e : Ending) (k : Kept) → kind_of set e k ≡ kind.End → e ≡ ending.End
 end_only set ending.End k is = refl
 end_only set ending.Unfit k is = cc
@@ -109,7 +109,7 @@ other_no_run (kind.Bad bad.TooLong) other = refl
 no_run : (limit : ℕ) (e : Ending) (k : TokenKind) → Other k → is_run k ≡ true → most_of limit e ≡ 32
 no_run limit e k other is = let f : false ≡ true = sym (other_no_run k other) ∙ is in cc
 
--- a run is none that began with a quote
+-- a run began with no quote, and keeps at most 32 bytes
 run_only : (set : CharSet) (limit : ℕ) (e : Ending) (k : Kept) → is_run (kind_of set e k) ≡ true → most_of limit e ≡ 32
 run_only set limit ending.End k is = refl
 run_only set limit ending.Unfit k is = refl

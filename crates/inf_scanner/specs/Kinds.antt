@@ -1,4 +1,4 @@
--- What a token is, by its bytes (Designer's Manual, fourth edition, sections 1.4 and 1.11).
+-- The kind of a token, by its bytes (Designer's Manual, fourth edition, sections 1.4 and 1.11).
 use Rattle.std.specs.Prelude.{ℕ, ◌+◌, ◌-◌, ◌*◌, List, [], ◌∷◌, length, take, drop, Bool, true, false, ◌&&◌, ◌||◌, ◌==◌, nat_le, nat_lt}
 use Rattle.std.specs.Prelude.{if◌then◌else◌, Option, Some, None, Result, Ok, Err}
 use Rattle.inf_characters.specs.declared.characters.CharSet.{CharSet}
@@ -28,7 +28,7 @@ digit_of base b =
     if (nat_le 97 b && nat_le b 102) && nat_lt 10 base then Some (b - 97 + 10) else
     if (nat_le 65 b && nat_le b 70) && nat_lt 10 base then Some (b - 65 + 10) else None
 
--- the number that digits write behind others, up to 65535
+-- the number that digits write behind the number `high`, up to 65535
 abbrev pub value_from : ℕ → ℕ → List ℕ → Option ℕ
 value_from base high [] = Some high
 value_from base high (b ∷ bs) =
@@ -41,12 +41,12 @@ abbrev pub value_of : ℕ → List ℕ → Option ℕ
 value_of base [] = None
 value_of base (b ∷ bs) = value_from base 0 (b ∷ bs)
 
--- behind a `$`
+-- the number behind a `$`
 abbrev pub behind_dollar : List ℕ → Option ℕ
 behind_dollar [] = None
 behind_dollar (b ∷ bs) = if b == 36 then value_of 2 bs else value_of 16 (b ∷ bs)
 
--- the number of a run: decimal, `$` and hexadecimal, or `$$` and binary
+-- the number of a run: decimal, hexadecimal behind `$`, or binary behind `$$`
 abbrev pub number_of : List ℕ → Option ℕ
 number_of [] = None
 number_of (b ∷ bs) = if b == 36 then behind_dollar bs else value_of 10 (b ∷ bs)
@@ -55,19 +55,19 @@ abbrev pub number_kind : Option ℕ → TokenKind
 number_kind (Some n) = kind.Number n
 number_kind None = kind.Bad bad.Number
 
--- what can't be read
+-- the kind of a text or a quote that cannot be read
 abbrev pub refused : TextFault → TokenKind
 refused fault.UnknownEscape = kind.Bad bad.UnknownEscape
 refused fault.NoZscii = kind.Bad bad.NoZscii
 refused fault.BadCode = kind.Bad bad.BadCode
 refused fault.Memory = kind.Bad bad.BadCode
 
--- what a call answers then
+-- the result of a call for a text or a quote that cannot be read
 abbrev pub refusal : TextFault → Result TokenKind AllocError
 refusal fault.Memory = Err (record {})
 refusal f = Ok (refused f)
 
--- what a text is, if it can be read
+-- the kind of a text, if it can be read
 abbrev pub read_by : (List TextItem → TokenKind) → Result (List TextItem) TextFault → TokenKind
 read_by kind (Ok items) = kind items
 read_by kind (Err f) = refused f
@@ -78,7 +78,7 @@ text_kind set bytes = read_by (λ _. kind.Text) (text_of set mode.Text bytes)
 abbrev pub word_of : Bool → List TextItem → TokenKind
 word_of is_plural items = kind.Word (record { text = dictionary_bytes items; is_plural = is_plural })
 
--- what the text of a quote is, by the sign behind it: without one a single character is itself
+-- the kind of a quote, by the sign behind its text: a single character without a sign is itself
 abbrev pub quoted_kind : Sign → List TextItem → TokenKind
 quoted_kind sign.Plural items = word_of true items
 quoted_kind sign.Single items = word_of false items
@@ -88,14 +88,14 @@ quoted_kind sign.None items = word_of false items
 abbrev pub signed_kind : CharSet → Sign → List ℕ → TokenKind
 signed_kind set s bytes = read_by (quoted_kind s) (text_of set mode.Quote bytes)
 
--- the last bytes, so many
+-- the last `n` bytes; and below, all bytes but these
 abbrev pub last : ℕ → List ℕ → List ℕ
 last n bytes = drop (length bytes - n) bytes
 
 abbrev pub front : ℕ → List ℕ → List ℕ
 front n bytes = take (length bytes - n) bytes
 
--- what stands between single quotes: the sign `//` or `//p` at the end makes it a word
+-- the kind of a token with these bytes between single quotes: the sign `//` or `//p` at the end makes it a word
 abbrev pub quote_kind : CharSet → List ℕ → TokenKind
 quote_kind set bytes =
     if length bytes == 0 then kind.Bad bad.EmptyQuote else
@@ -103,7 +103,7 @@ quote_kind set bytes =
     if bytes_eq (last 2 bytes) (47 ∷ 47 ∷ []) then signed_kind set sign.Single (front 2 bytes) else
     signed_kind set sign.None bytes
 
--- what a token is, by its end and what is kept of it
+-- the kind of a token, by its ending and the bytes that are kept of it
 abbrev pub kind_of : CharSet → Ending → Kept → TokenKind
 kind_of set ending.End k = kind.End
 kind_of set ending.Unfit k = kind.Bad bad.Unfit

@@ -3,7 +3,7 @@ use Rattle.std.specs.Prelude.{ℕ, List, [], ◌∷◌, ◌==◌, if◌then◌el
 use Rattle.inf_scanner.specs.declared.tokens.Mark.{Mark}
 use Rattle.inf_scanner.specs.declared.tokens.Mark.TheVariants as mark
 
--- the mark of one byte
+-- the mark that a single byte is
 abbrev pub first_mark : ℕ → Option Mark
 first_mark b =
     if b == 45 then Some mark.Minus else
@@ -31,7 +31,7 @@ first_mark b =
     if b == 63 then Some mark.Question else
     if b == 64 then Some mark.At else None
 
--- the mark that a mark and one more byte are
+-- the mark that a mark with one more byte is
 abbrev pub longer_mark : Mark → ℕ → Option Mark
 longer_mark mark.Minus b = if b == 45 then Some mark.Decrement else if b == 62 then Some mark.Arrow else None
 longer_mark mark.Decrement b = if b == 62 then Some mark.LongArrow else None
@@ -46,7 +46,7 @@ longer_mark mark.Dot b = if b == 38 then Some mark.DotAnd else if b == 35 then S
 longer_mark mark.Hash b = if b == 35 then Some mark.DoubleHash else None
 longer_mark _ b = None
 
--- whether some mark is this one and one more byte
+-- tells whether a mark with one more byte can be a mark
 abbrev pub can_grow : Mark → Bool
 can_grow mark.Minus = true
 can_grow mark.Decrement = true
@@ -61,7 +61,7 @@ can_grow mark.Dot = true
 can_grow mark.Hash = true
 can_grow _ = false
 
--- how each mark is spelled
+-- the bytes of each mark
 abbrev pub mark_bytes : Mark → List ℕ
 mark_bytes mark.Arrow = 45 ∷ 62 ∷ []
 mark_bytes mark.LongArrow = 45 ∷ 45 ∷ 62 ∷ []

@@ -1,4 +1,4 @@
--- Tokens byte by byte, over the whole of what is left of a source (Designer's Manual, fourth edition, sections 1.1 to 1.4).
+-- Tokens byte by byte, over all bytes that are left of a source (Designer's Manual, fourth edition, sections 1.1 to 1.4).
 use Rattle.std.specs.Prelude.{ℕ, ◌<◌, List, [], ◌∷◌, length, Bool, true, false, not, ◌&&◌, ◌||◌, ◌==◌, nat_le, if◌then◌else◌, Option, Some}
 use Rattle.std.specs.Prelude.{None}
 use Rattle.inf_characters.specs.Characters.{is_line_end, is_white}
@@ -8,8 +8,8 @@ use Rattle.inf_scanner.specs.declared.scanner.State.{State}
 use Rattle.inf_scanner.specs.declared.scanner.State.TheVariants as state
 use Rattle.inf_scanner.specs.declared.scanner.Ending.{Ending}
 use Rattle.inf_scanner.specs.declared.scanner.Ending.TheVariants as ending
-use Rattle.inf_scanner.specs.declared.scanner.Step.{Step}
-use Rattle.inf_scanner.specs.declared.scanner.Step.TheVariants as step_to
+use Rattle.inf_scanner.specs.declared.scanner.ByteStep.{ByteStep}
+use Rattle.inf_scanner.specs.declared.scanner.ByteStep.TheVariants as step_to
 use Rattle.inf_scanner.specs.declared.scanner.Turn.{Turn}
 use Rattle.inf_scanner.specs.declared.scanner.Turn.TheVariants as turn_to
 use Rattle.inf_scanner.specs.declared.scanner.Seen as code
@@ -23,25 +23,25 @@ is_digit b = nat_le 48 b && nat_le b 57
 abbrev pub is_letter : ℕ → Bool
 is_letter b = (nat_le 65 b && nat_le b 90) || (nat_le 97 b && nat_le b 122)
 
--- the bytes of names and numbers: letters, digits, `_` and `$`
+-- tells whether a byte may be in a name or a number: letters, digits, `_` and `$`
 abbrev pub is_run_byte : ℕ → Bool
 is_run_byte b = (is_letter b || is_digit b) || b == 95 || b == 36
 
 abbrev pub begins_number : ℕ → Bool
 begins_number b = is_digit b || b == 36
 
--- What was seen of a token: the line of its first byte, its bytes, and the lines behind them.
+-- The part of a token that was seen: the line of its first byte, its bytes, and the lines behind them.
 pub record Sight : Type 0 where
   pub first : ℕ
   pub kept : Kept
   pub lines : Lines
 
--- nothing seen yet
+-- the state where no byte of a token was seen yet
 abbrev pub begun : Lines → Sight
 begun lines = record { first = lines.line; kept = nothing_kept; lines = lines }
 
--- the first byte of a token, or a byte before it
-abbrev pub begin : CharSet → ℕ → Step
+-- the step of the first byte of a token, or of a byte before it
+abbrev pub begin : CharSet → ℕ → ByteStep
 begin set b =
     if is_white set b then step_to.Skip state.Gap else
     if is_run_byte b then step_to.Keep (state.Run (begins_number b)) else
@@ -50,8 +50,8 @@ begin set b =
     if b == 39 then step_to.Skip (state.Quote false) else
     elim (first_mark b) [ Some m ↦ step_to.Keep (state.Mark m) | None ↦ step_to.Close ending.Unfit ]
 
--- what a byte does
-abbrev pub step_of : CharSet → State → ℕ → Step
+-- the step that a byte makes in a state
+abbrev pub step_of : CharSet → State → ℕ → ByteStep
 step_of set state.Gap b = begin set b
 step_of set state.Comment b = step_to.Skip (if is_line_end b then state.Gap else state.Comment)
 step_of set (state.Run is_number) b =
@@ -63,7 +63,7 @@ step_of set (state.Quote after_at) b =
     if is_line_end b then step_to.Behind ending.Unclosed else
     if b == 39 && not after_at then step_to.Close ending.Quote else step_to.Keep (state.Quote (b == 64))
 
--- what stands at the end of the source
+-- the ending of a token at the end of the source
 abbrev pub at_end : State → Ending
 at_end state.Gap = ending.End
 at_end state.Comment = ending.End
@@ -72,28 +72,28 @@ at_end (state.Mark m) = ending.Mark m
 at_end state.Text = ending.Unclosed
 at_end (state.Quote after_at) = ending.Unclosed
 
--- whether a byte may still come that is of the token: with any but a mark that none is longer than
+-- tells whether a byte that comes may still be of the token: in every state but at a mark that is the front of no other
 abbrev pub goes_on : State → Bool
 goes_on (state.Mark m) = can_grow m
 goes_on _ = true
 
--- what the token is at once, where none may
+-- the ending of the token at once, where no byte can go on with it
 abbrev pub ended_at : State → Option Ending
 ended_at (state.Mark m) = if can_grow m then None else Some (ending.Mark m)
 ended_at _ = None
 
--- how many bytes are kept: of a quoted token as many as the limit, and 32 of every other
+-- the number of bytes that are kept: the limit for a quoted token, and 32 for every other
 abbrev pub most : ℕ → State → ℕ
 most limit state.Text = limit
 most limit (state.Quote after_at) = limit
 most limit _ = 32
 
--- how many bytes of the token are kept where a byte is one of its
-abbrev pub most_behind : ℕ → Step → ℕ
+-- the number of bytes of the token that are kept at a step that keeps a byte
+abbrev pub most_behind : ℕ → ByteStep → ℕ
 most_behind limit (step_to.Keep s) = most limit s
 most_behind limit _ = 0
 
--- whether a token began with a quote
+-- tells whether a token began with a quote
 abbrev pub is_quoted : Ending → Bool
 is_quoted ending.Text = true
 is_quoted ending.Quote = true
@@ -105,7 +105,7 @@ is_gap state.Gap = true
 is_gap state.Comment = true
 is_gap _ = false
 
--- before a token, its first byte is on the line at hand
+-- before a token its first byte is on the line at hand
 abbrev pub marked : State → Sight → Sight
 marked s seen = record { first = if is_gap s then seen.lines.line else seen.first; kept = seen.kept; lines = seen.lines }
 
@@ -115,23 +115,23 @@ passed b seen = record { first = seen.first; kept = seen.kept; lines = past b se
 abbrev pub kept : ℕ → ℕ → Sight → Sight
 kept most b seen = record { first = seen.first; kept = with_byte most b seen.kept; lines = past b seen.lines }
 
--- what comes of a step
-abbrev pub turn_by : ℕ → Step → ℕ → Sight → Turn × Sight
+-- the outcome of a step
+abbrev pub turn_by : ℕ → ByteStep → ℕ → Sight → Turn × Sight
 turn_by limit (step_to.Skip s) b seen = (turn_to.On s, passed b seen)
 turn_by limit (step_to.Keep s) b seen = (turn_to.On s, kept (most limit s) b seen)
 turn_by limit (step_to.Close e) b seen = (turn_to.Last e, passed b seen)
 turn_by limit (step_to.Behind e) b seen = (turn_to.Behind e, seen)
 
--- whether the byte was left
+-- tells whether a byte was left behind the token
 abbrev pub is_behind : Turn → Bool
 is_behind (turn_to.Behind e) = true
 is_behind _ = false
 
--- what comes of a byte
+-- the outcome of a byte
 abbrev pub turn : CharSet → ℕ → State → ℕ → Sight → Turn × Sight
 turn set limit s b seen = turn_by limit (step_of set s b) b (marked s seen)
 
--- A token: how it ended, what was seen of it, and what is left behind it.
+-- A token: its ending, the part that was seen of it, and the bytes that are left behind it.
 pub record Found : Type 0 where
   pub ending : Ending
   pub seen : Sight
@@ -148,23 +148,23 @@ find set limit s seen (b ∷ bs) =
       | turn_to.Behind e ↦ record { ending = e; seen = t.1; rest = b ∷ bs }
     ]
 
--- Of some bytes that may follow, the token takes one at least.
+-- Bytes that may come next, of which the token takes at least one.
 pub record TakesMore (set : CharSet) (limit : ℕ) (s : State) (seen : Sight) : Type 0 where
   pub more : List ℕ
   pub takes : length (find set limit s seen more).rest < length more
 
--- the token that is found behind a byte of which this came
+-- the token that is found behind a byte with this outcome
 abbrev pub found_after : CharSet → ℕ → Turn → Sight → List ℕ → Found
 found_after set limit (turn_to.On next) seen bs = find set limit next seen bs
 found_after set limit (turn_to.Last e) seen bs = record { ending = e; seen = seen; rest = bs }
 found_after set limit (turn_to.Behind e) seen bs = record { ending = e; seen = seen; rest = bs }
 
--- whether the token goes on
+-- tells whether the token goes on
 abbrev pub is_on : Turn → Bool
 is_on (turn_to.On _) = true
 is_on _ = false
 
--- whether a token that goes on is one with which a byte that may come can
+-- tells whether a byte that comes can go on with the token, if the token goes on
 abbrev pub is_open : Turn → Bool
 is_open (turn_to.On s) = goes_on s
 is_open _ = true

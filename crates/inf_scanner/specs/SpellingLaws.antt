@@ -14,7 +14,7 @@ use Rattle.inf_scanner.specs.declared.lines.Lines.{Lines}
 use Rattle.inf_scanner.specs.declared.scanner.Ending.{Ending}
 use Rattle.inf_scanner.specs.declared.scanner.Ending.TheVariants as ending
 
--- whether there is a first byte, and it passes a test
+-- tells whether there is a first byte that passes a test
 abbrev pub begins_with : (ℕ → Bool) → List ℕ → Bool
 begins_with test [] = false
 begins_with test (b ∷ bs) = test b
@@ -23,36 +23,36 @@ abbrev pub is_nothing : List ℕ → Bool
 is_nothing [] = true
 is_nothing (b ∷ bs) = false
 
--- White space and whole comments, before these bytes. A comment goes from its exclamation mark to the end of the line, or
--- to the end of the source, where nothing is behind it.
+-- Tells whether bytes are white space and whole comments, in front of other bytes. A comment goes from its exclamation mark to the end
+-- of the line, or to the end of the source, where no byte is behind it.
 abbrev pub is_gap : CharSet → Bool → List ℕ → List ℕ → Bool
 is_gap set in_comment [] behind = not in_comment || is_nothing behind
 is_gap set true (b ∷ bs) behind = is_gap set (not (is_line_end b)) bs behind
 is_gap set false (b ∷ bs) behind = if b == 33 then is_gap set true bs behind else is_white set b && is_gap set false bs behind
 
--- a byte of a gap that is in no comment
+-- tells whether a byte begins a gap
 abbrev pub begins_gap : CharSet → ℕ → Bool
 begins_gap set b = is_white set b || b == 33
 
--- Whether bytes can stand behind a single quote, where the one before them may be a `@`: no end of a line, and a single
--- quote only right behind a `@`.
+-- Tells whether bytes may be in a quote, where the byte before them may be a `@`: none ends a line, and a single quote comes only right
+-- behind a `@`.
 abbrev pub is_in_quote : Bool → List ℕ → Bool
 is_in_quote after_at [] = true
 is_in_quote after_at (b ∷ bs) = (not (is_line_end b) && not (b == 39 && not after_at)) && is_in_quote (b == 64) bs
 
--- whether a `@` stands at the end
+-- tells whether the last byte is a `@`
 abbrev pub ends_at : Bool → List ℕ → Bool
 ends_at after_at [] = after_at
 ends_at after_at (b ∷ bs) = ends_at (b == 64) bs
 
--- no mark is this one and what is behind it
+-- no mark is this one and the byte behind it
 abbrev pub no_longer : List ℕ → Ending → Type 0
 no_longer [] e = Unit {0}
 no_longer (b ∷ behind) (ending.Mark m) = longer_mark m b ≡ None
 no_longer (b ∷ behind) e = Unit {0}
 
--- The span of a token with these bytes, before what is behind it: a run and a mark is as long as it can be; a text or quote
--- has its quotes besides, and one that is not closed goes to the end of the source, or of the line.
+-- The span of a token with these bytes, in front of other bytes: a run or a mark is as long as it can be; a text or a quote has
+-- its quotes besides, and one that is not closed goes to the end of the source, or of the line.
 abbrev pub Spans : CharSet → Ending → List ℕ → List ℕ → List ℕ → Type 0
 Spans set (ending.Run n) bytes span behind =
     (span ≡ bytes) × (0 < length bytes) × (list_all is_run_byte bytes ≡ true) × (begins_with is_run_byte behind ≡ false)
@@ -66,14 +66,14 @@ Spans set ending.Unclosed bytes span behind =
 Spans set ending.Unfit bytes span behind = (length span ≡ 1) × (bytes ≡ [])
 Spans set ending.End bytes span behind = (span ≡ []) × (bytes ≡ []) × (behind ≡ [])
 
--- how many bytes of a token are kept
+-- the number of bytes that are kept of a token
 abbrev pub most_of : ℕ → Ending → ℕ
 most_of limit ending.Text = limit
 most_of limit ending.Quote = limit
 most_of limit ending.Unclosed = limit
 most_of limit _ = 32
 
--- what is kept of a token's bytes: so many, and whether it has more
+-- the bytes that are kept of a token, at most `most`, and whether it has more
 abbrev pub kept_of : ℕ → List ℕ → Kept
 kept_of most bytes = record { bytes = take most bytes; is_cut = nat_lt most (length bytes) }
 
@@ -82,7 +82,7 @@ abbrev pub past_all : List ℕ → Lines → Lines
 past_all [] lines = lines
 past_all (b ∷ bs) lines = past_all bs (past b lines)
 
--- how many lines end in these bytes: at each carriage return, and at each line feed that stands not right behind one
+-- the number of lines that end in these bytes: at each carriage return, and at each line feed that is not right behind one
 abbrev pub lines_ended : Bool → List ℕ → ℕ
 lines_ended after_return [] = 0
 lines_ended after_return (b ∷ bs) =
@@ -94,7 +94,7 @@ pub record Piece : Type 0 where
   pub span : List ℕ
   pub read : Read
 
--- The token at the front of these bytes, which begin on this line: its gap, its span, its bytes and its lines.
+-- The token at the front of these bytes, which begin on this line, with its gap, its span, its bytes and its lines.
 pub record IsSpelled (set : CharSet) (limit : ℕ) (lines : Lines) (rest : List ℕ) (p : Piece) : Type 0 where
   pub ending : Ending
   pub bytes : List ℕ
@@ -109,7 +109,7 @@ pub record IsSpelled (set : CharSet) (limit : ℕ) (lines : Lines) (rest : List 
   pub stops : begins_with (begins_gap set) (p.span ++ p.read.rest) ≡ false
   pub is_more : 0 < length rest
 
--- pieces one behind the other, up to the end of the bytes
+-- pieces, one behind the other, up to the end of the bytes
 abbrev pub AreSpelled : CharSet → ℕ → Lines → List ℕ → List Piece → Type 0
 AreSpelled set limit lines rest [] = rest ≡ []
 AreSpelled set limit lines rest (p ∷ pieces) =
@@ -119,8 +119,7 @@ abbrev pub joined : List Piece → List ℕ
 joined [] = []
 joined (p ∷ pieces) = p.gap ++ (p.span ++ joined pieces)
 
--- A source is its gaps and the spans of the tokens that are read one after another, in one way: each byte stands in one of
--- them, once.
+-- A source is its gaps and the spans of the tokens that are read one after another, in one way: each byte is in one of them, once.
 pub record IsSpelledOnce (set : CharSet) (limit : ℕ) (source : List ℕ) : Type 0 where
   pub pieces : List Piece
   pub whole : joined pieces ≡ source

@@ -8,7 +8,7 @@ use Rattle.inf_scanner.specs.declared.lines.Lines.{Lines}
 use Rattle.inf_scanner.specs.declared.scanner.State.TheVariants as state
 use Rattle.inf_scanner.specs.declared.tokens.TokenKind.{TokenKind}
 
--- A token that was read: what it is, its first byte's line, its bytes that are kept, and the lines and the bytes behind it.
+-- A token that was read: its kind, the line of its first byte, its bytes that are kept, and the lines and the bytes behind it.
 pub record Read : Type 0 where
   pub kind : TokenKind
   pub line : ℕ
@@ -20,6 +20,6 @@ abbrev pub read_of : CharSet → Found → Read
 read_of set f =
     record { kind = kind_of set f.ending f.seen.kept; line = f.seen.first; kept = f.seen.kept; lines = f.seen.lines; rest = f.rest }
 
--- the next token of these bytes, which begin on this line; at their end that is the end, again and again
+-- the next token of these bytes, which begin on this line; at the end of the source the end, again and again
 abbrev pub next_token : CharSet → ℕ → Lines → List ℕ → Read
 next_token set limit lines rest = read_of set (find set limit state.Gap (begun lines) rest)

@@ -1,4 +1,4 @@
-//! What a token is, once its bytes are known.
+//! The kind of a token, once its bytes are known.
 ghost use Rattle.std.specs.Prelude.{◌≡◌, ◌<◌, ◌≤◌, ◌+◌, ◌*◌, true, IsErr, IfOk, IfSome};
 ghost use Rattle.inf_scanner.specs.Scanning.{is_quoted};
 ghost use Rattle.inf_scanner.specs.Kinds.{digit_of, kind_of, number_of, quote_kind, quoted_kind, refusal, signed_kind, text_kind};
@@ -10,7 +10,7 @@ use crate::tokens::{BadToken, DictionaryWord, TokenKind};
 use inf_text::{CharSet, Mode, Text, TextFault, TextItem, are_plain, dict_word, read_text};
 use std::alloc::{AllocError, Global};
 
-/// What stands at the end of a quote.
+/// The sign at the end of a quote.
 #[derive(Clone, Copy)]
 enum Sign {
     None,
@@ -20,7 +20,7 @@ enum Sign {
     Plural,
 }
 
-/// The value of a digit in base 2, 10 or 16.
+/// Returns the value of a digit in base 2, 10 or 16, if the byte is one.
 fn digit_of(base: u32, byte: u8) -> Option<u32>
     ensures value { result ≡ digit_of base byte }
     ensures small { IfSome result (λ d. d < 16) }
@@ -34,7 +34,7 @@ fn digit_of(base: u32, byte: u8) -> Option<u32>
     }
 }
 
-/// The number that digits write in base 2, 10 or 16, if there are any and it is at most 65535.
+/// Returns the number that digits write in base 2, 10 or 16, if there are any, all are digits, and it is at most 65535.
 fn value_of(base: u32, digits: &[u8]) -> Option<u16>
     requires { base ≤ 16 }
     ensures { result ≡ value_of base digits.now }
@@ -52,7 +52,7 @@ fn value_of(base: u32, digits: &[u8]) -> Option<u16>
     Some(value as u16)
 }
 
-/// The number that a run spells: decimal, `$` and hexadecimal, or `$$` and binary.
+/// Returns the number that a run spells, if it is one: decimal, hexadecimal behind `$`, or binary behind `$$`.
 fn number_of(run: &[u8]) -> Option<u16>
     ensures { result ≡ number_of run.now }
 {
@@ -63,7 +63,7 @@ fn number_of(run: &[u8]) -> Option<u16>
     }
 }
 
-/// What a text or a quote is that can't be read.
+/// Returns the kind of a text or a quote that cannot be read; fails where memory ran out.
 fn refused(fault: TextFault) -> Result<TokenKind, AllocError>
     ensures { result ≡ refusal fault }
 {
@@ -75,7 +75,7 @@ fn refused(fault: TextFault) -> Result<TokenKind, AllocError>
     }
 }
 
-/// What the bytes between double quotes are. Most can be read as a text by themselves.
+/// Returns the kind of a token with these bytes between double quotes. Most texts are plain, which are read without more.
 fn text_kind(alloc: Global, set: CharSet, bytes: &[u8]) -> Result<TokenKind, AllocError>
     ensures ok { IfOk result (λ kind. kind ≡ text_kind set bytes.now) }
 {
@@ -97,7 +97,7 @@ fn word_of(text: &Text, is_plural: bool) -> TokenKind
     })
 }
 
-/// What the text of a quote is, by the sign behind it: without one a single character is itself.
+/// Returns the kind of a quote with this text, by the sign behind it: a single character without a sign is itself.
 fn quoted_kind(text: &Text, sign: Sign) -> TokenKind
     ensures { result ≡ quoted_kind sign text.now }
 {
@@ -108,7 +108,7 @@ fn quoted_kind(text: &Text, sign: Sign) -> TokenKind
     }
 }
 
-/// What the bytes between single quotes are, but for the sign at their end.
+/// Returns the kind of a quote with these bytes, which has this sign at its end.
 fn signed_kind(
     alloc: Global,
     set: CharSet,
@@ -123,7 +123,7 @@ fn signed_kind(
     }
 }
 
-/// What the bytes between single quotes are: the sign `//` or `//p` at their end makes a word of them.
+/// Returns the kind of a token with these bytes between single quotes: the sign `//` or `//p` at their end makes a word of them.
 fn quote_kind(alloc: Global, set: CharSet, bytes: &[u8]) -> Result<TokenKind, AllocError>
     ensures ok { IfOk result (λ kind. kind ≡ quote_kind set bytes.now) }
 {
@@ -139,7 +139,7 @@ fn quote_kind(alloc: Global, set: CharSet, bytes: &[u8]) -> Result<TokenKind, Al
     signed_kind(alloc, set, bytes, Sign::None)
 }
 
-/// What a token is, by its end and its bytes.
+/// Returns the kind of a token, by its ending and its bytes.
 pub fn kind_of(
     alloc: Global,
     set: CharSet,

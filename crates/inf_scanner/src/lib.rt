@@ -1,4 +1,4 @@
-//! Tokens byte by byte: what each byte of a source does, and what a token is by its bytes.
+//! Tokens byte by byte: the step that each byte of a source makes, and the kind of a token by its bytes.
 #![tactic(auto)]
 
 mod kinds;
@@ -11,6 +11,6 @@ mod tokens;
 
 pub use kinds::kind_of;
 pub use lines::Lines;
-pub use scanner::{Ending, Seen, State, Step, Turn};
+pub use scanner::{ByteStep, Ending, Seen, State, Turn};
 pub use spelling::Spelling;
 pub use tokens::{BadToken, DictionaryWord, Mark, Place, Token, TokenKind};

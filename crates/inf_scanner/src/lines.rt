@@ -1,9 +1,8 @@
-//! Lines of a source.
+//! The lines of a source.
 ghost use Rattle.std.specs.Prelude.{◌≡◌, ◌+◌, ◌<◌, ◌≤◌, ◌^◌};
 ghost use Rattle.inf_scanner.specs.Lines.{past, first_line};
 
-/// The line at hand, and whether the byte before it was a carriage return: a line feed behind that ends no
-/// other line.
+/// The line at hand, and whether the byte before it was a carriage return, behind which a line feed ends no other line.
 #[derive(Clone, Copy)]
 pub struct Lines {
     pub line: u32,
@@ -11,7 +10,7 @@ pub struct Lines {
 }
 
 impl Lines {
-    /// At the front of a source.
+    /// Returns the line at the front of a source.
     pub(crate) fn first() -> Lines
         ensures { result ≡ first_line }
     {
@@ -21,7 +20,7 @@ impl Lines {
         }
     }
 
-    /// Goes past a byte.
+    /// Passes a byte, which may end the line.
     pub(crate) fn pass(&mut self, byte: u8)
         requires { self.old.line + 1 < 2 ^ 32 }
         ensures past { self.new ≡ past byte self.old }

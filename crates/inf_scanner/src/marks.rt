@@ -1,10 +1,10 @@
-//! The marks, byte by byte: each front of a mark is a mark.
+//! The marks, byte by byte: each front of a mark is a mark itself.
 ghost use Rattle.std.specs.Prelude.{◌≡◌, ℕ, IsTrue, not};
 ghost use Rattle.inf_scanner.specs.Marks.{can_grow, first_mark, longer_mark};
 
 use crate::tokens::Mark;
 
-/// The mark of one byte.
+/// Returns the mark that a single byte is, if it is one.
 pub(crate) fn first_mark(byte: u8) -> Option<Mark>
     ensures { result ≡ first_mark byte }
 {
@@ -38,7 +38,7 @@ pub(crate) fn first_mark(byte: u8) -> Option<Mark>
     Some(mark)
 }
 
-/// The mark that a mark and one more byte are.
+/// Returns the mark that `mark` with one more byte is, if it is one.
 pub(crate) fn longer_mark(mark: Mark, byte: u8) -> Option<Mark>
     ensures { result ≡ longer_mark mark byte }
 {
@@ -63,7 +63,7 @@ pub(crate) fn longer_mark(mark: Mark, byte: u8) -> Option<Mark>
     }
 }
 
-/// Whether no mark is this one and one more byte.
+/// Returns whether `mark` with one more byte is never a mark.
 pub(crate) fn is_whole(mark: Mark) -> bool
     ensures grows { result ≡ not (can_grow mark) }
     ensures none { IsTrue result → (byte : ℕ) → longer_mark mark byte ≡ None }

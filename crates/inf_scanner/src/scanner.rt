@@ -1,4 +1,4 @@
-//! Tokens byte by byte: each byte is passed over, is kept, or ends the token.
+//! Tokens byte by byte: each byte is skipped, is kept, or ends the token.
 ghost use Rattle.std.specs.Prelude.{◌≡◌, ℕ, ◌+◌, ◌<◌, ◌≤◌, ◌^◌, ◌++◌, List, drop, length, true, IfOk, IfSome, IsErr, OnErr};
 ghost use Rattle.inf_characters.specs.declared.characters.CharSet.{CharSet as Set};
 ghost use Rattle.inf_scanner.specs.Lines.{first_line};
@@ -16,22 +16,22 @@ use inf_characters::{is_line_end, is_white};
 use inf_text::CharSet;
 use std::alloc::{AllocError, Global};
 
-/// What is being read.
+/// The part of a source that is being read.
 #[derive(Clone, Copy)]
 pub enum State {
-    /// White space, before a token.
+    /// White space before a token.
     Gap,
     Comment,
-    /// A name, or a number where the run begins with a digit or has a `$`.
+    /// A name; where the flag is set a number, since the run begins with a digit or has a `$`.
     Run(bool),
     Mark(Mark),
-    /// Behind a double quote.
+    /// A text, behind its opening double quote.
     Text,
-    /// Behind a single quote; whether the byte before is a `@`.
+    /// A quote, behind its opening single quote; the flag says whether the byte before is a `@`.
     Quote(bool),
 }
 
-/// What a token is, told by its bytes one after another.
+/// The end of a token: together with the bytes it decides the kind of the token.
 #[derive(Clone, Copy)]
 pub enum Ending {
     Run(bool),
@@ -43,26 +43,26 @@ pub enum Ending {
     End,
 }
 
-/// What a byte does.
+/// The step that a byte makes.
 #[derive(Clone, Copy)]
-pub enum Step {
-    /// It is passed over.
+pub enum ByteStep {
+    /// The byte is skipped.
     Skip(State),
-    /// It is one of the token's.
+    /// The byte is one of the token's.
     Keep(State),
-    /// It is passed over, and is the token's last.
+    /// The byte is skipped, and is the last of the token.
     Close(Ending),
-    /// It stands behind the token.
+    /// The byte comes behind the token.
     Behind(Ending),
 }
 
-/// What came of a byte.
+/// The outcome of a byte.
 #[derive(Clone, Copy)]
 pub enum Turn {
     On(State),
-    /// The byte was the token's last.
+    /// The byte was the last of the token.
     Last(Ending),
-    /// The byte stands behind the token.
+    /// The byte comes behind the token.
     Behind(Ending),
 }
 
@@ -72,14 +72,14 @@ fn is_run_byte(byte: u8) -> bool
     is_name_byte(byte) || byte == b'$'
 }
 
-/// White space that ends no line, in both character sets.
+/// Returns whether a byte is white space that ends no line, in both character sets.
 fn is_blank(byte: u8) -> bool
     ensures { result ≡ is_blank byte }
 {
     matches!(byte, b' ' | b'\t' | 12)
 }
 
-/// Which bytes stand in names, but for `$`: a look into a table takes fewer steps than the tests of a byte.
+/// For each byte whether it may be in a name, but for `$`: a look into a table takes fewer steps than the tests of a byte.
 #[rattlefmt::skip]
 const NAME_BYTES: [bool; 256] = [
     false, false, false, false, false, false, false, false, false, false, false, false, false, false, false, false,
@@ -100,21 +100,21 @@ const NAME_BYTES: [bool; 256] = [
     false, false, false, false, false, false, false, false, false, false, false, false, false, false, false, false,
 ];
 
-/// For each byte whether it stands in names.
+/// Returns for each byte whether it may be in a name, but for `$`.
 fn name_bytes() -> &'static [bool; 256]
     ensures { result.now ≡ name_bytes }
 {
     &NAME_BYTES
 }
 
-/// A byte that stands in names, but for `$`.
+/// Returns whether a byte may be in a name, but for `$`.
 fn is_name_byte(byte: u8) -> bool
     ensures { result ≡ is_name_byte byte }
 {
     name_bytes()[byte as usize]
 }
 
-/// A byte that ends no line, text or quote, and is no `@`.
+/// Returns whether a byte ends no line, text or quote, and is no `@`.
 fn is_plain(byte: u8) -> bool
     ensures { result ≡ is_plain byte }
 {
@@ -127,7 +127,7 @@ fn begins_number(byte: u8) -> bool
     byte.is_ascii_digit() || byte == b'$'
 }
 
-/// How many blanks stand at the front.
+/// Counts the blanks at the front.
 fn blank_len(bytes: &[u8]) -> usize
     ensures { result ≡ prefix_len is_blank bytes.now }
 {
@@ -141,7 +141,7 @@ fn blank_len(bytes: &[u8]) -> usize
     len
 }
 
-/// How many bytes of a name stand at the front.
+/// Counts the bytes of names at the front.
 fn name_len(bytes: &[u8]) -> usize
     ensures { result ≡ prefix_len is_name_byte bytes.now }
 {
@@ -155,7 +155,7 @@ fn name_len(bytes: &[u8]) -> usize
     len
 }
 
-/// How many plain bytes stand at the front.
+/// Counts the plain bytes at the front.
 fn plain_len(bytes: &[u8]) -> usize
     ensures { result ≡ prefix_len is_plain bytes.now }
 {
@@ -169,7 +169,7 @@ fn plain_len(bytes: &[u8]) -> usize
     len
 }
 
-/// How many bytes at the front are known to leave a state as it is, and to end no line.
+/// Counts the bytes at the front that are known to leave `state` as it is, and to end no line.
 fn run_len(state: State, bytes: &[u8]) -> usize
     ensures { result ≡ prefix_len (stays state) bytes.now }
 {
@@ -182,53 +182,53 @@ fn run_len(state: State, bytes: &[u8]) -> usize
     }
 }
 
-/// The first byte of a token, or one before it.
-fn begin(set: CharSet, byte: u8) -> Step
+/// Returns the step that the first byte of a token makes, or a byte before it.
+fn begin(set: CharSet, byte: u8) -> ByteStep
     ensures { result ≡ begin set byte }
 {
     if let Some(mark) = first_mark(byte) {
-        return Step::Keep(State::Mark(mark));
+        return ByteStep::Keep(State::Mark(mark));
     }
     if is_white(set, byte) {
-        return Step::Skip(State::Gap);
+        return ByteStep::Skip(State::Gap);
     }
     if is_run_byte(byte) {
-        return Step::Keep(State::Run(begins_number(byte)));
+        return ByteStep::Keep(State::Run(begins_number(byte)));
     }
     match byte {
-        b'!' => Step::Skip(State::Comment),
-        b'"' => Step::Skip(State::Text),
-        b'\'' => Step::Skip(State::Quote(false)),
-        _ => Step::Close(Ending::Unfit),
+        b'!' => ByteStep::Skip(State::Comment),
+        b'"' => ByteStep::Skip(State::Text),
+        b'\'' => ByteStep::Skip(State::Quote(false)),
+        _ => ByteStep::Close(Ending::Unfit),
     }
 }
 
-/// What a byte does.
-fn step_of(set: CharSet, state: State, byte: u8) -> Step
+/// Returns the step that a byte makes in a state.
+fn step_of(set: CharSet, state: State, byte: u8) -> ByteStep
     ensures { result ≡ step_of set state byte }
 {
     match state {
         State::Gap => begin(set, byte),
-        State::Comment if is_line_end(byte) => Step::Skip(State::Gap),
-        State::Comment => Step::Skip(State::Comment),
+        State::Comment if is_line_end(byte) => ByteStep::Skip(State::Gap),
+        State::Comment => ByteStep::Skip(State::Comment),
         State::Run(is_number) if is_run_byte(byte) => {
-            Step::Keep(State::Run(is_number || byte == b'$'))
+            ByteStep::Keep(State::Run(is_number || byte == b'$'))
         }
-        State::Run(is_number) => Step::Behind(Ending::Run(is_number)),
+        State::Run(is_number) => ByteStep::Behind(Ending::Run(is_number)),
         State::Mark(mark) => match longer_mark(mark, byte) {
-            Some(longer) => Step::Keep(State::Mark(longer)),
-            None => Step::Behind(Ending::Mark(mark)),
+            Some(longer) => ByteStep::Keep(State::Mark(longer)),
+            None => ByteStep::Behind(Ending::Mark(mark)),
         },
-        State::Text if byte == b'"' => Step::Close(Ending::Text),
-        State::Text => Step::Keep(State::Text),
-        State::Quote(_) if is_line_end(byte) => Step::Behind(Ending::Unclosed),
-        State::Quote(false) if byte == b'\'' => Step::Close(Ending::Quote),
-        State::Quote(_) => Step::Keep(State::Quote(byte == b'@')),
+        State::Text if byte == b'"' => ByteStep::Close(Ending::Text),
+        State::Text => ByteStep::Keep(State::Text),
+        State::Quote(_) if is_line_end(byte) => ByteStep::Behind(Ending::Unclosed),
+        State::Quote(false) if byte == b'\'' => ByteStep::Close(Ending::Quote),
+        State::Quote(_) => ByteStep::Keep(State::Quote(byte == b'@')),
     }
 }
 
 impl State {
-    /// What stands at the end of the source.
+    /// Returns the ending of the token at the end of the source.
     pub fn at_end(self) -> Ending
         ensures { result ≡ at_end self }
     {
@@ -240,7 +240,7 @@ impl State {
         }
     }
 
-    /// What the token is at once, where no byte can go on with it.
+    /// Returns the ending of the token at once, where no byte can go on with it: a mark that is the front of no other.
     fn ended(self) -> Option<Ending>
         ensures value { result ≡ ended_at self }
         ensures found { IfSome result (λ e. (set : Set) (limit : ℕ) (seen : Sight) (rest : List ℕ) →
@@ -252,7 +252,7 @@ impl State {
         }
     }
 
-    /// How many bytes of it are kept, where `limit` is for a quoted token.
+    /// Returns the number of bytes that are kept of the token: `limit` of a quoted one, and else 32.
     fn most(self, limit: u32) -> usize
         ensures { result ≡ most limit self }
     {
@@ -262,7 +262,7 @@ impl State {
         }
     }
 
-    /// Whether it stands before a token.
+    /// Returns whether this state is before a token.
     fn is_gap(self) -> bool
         ensures { result ≡ is_gap self }
     {
@@ -270,7 +270,7 @@ impl State {
     }
 }
 
-/// What was seen of a token: its first byte's line, its bytes, and the line behind them.
+/// The part of a token that was seen: the line of its first byte, its bytes, and the line behind them.
 #[derive(Drop)]
 pub struct Seen {
     pub first: u32,
@@ -279,7 +279,7 @@ pub struct Seen {
 }
 
 impl Seen {
-    /// At the front of a source, where nothing was seen yet.
+    /// Returns the state at the front of a source, where no byte was seen yet.
     pub fn new(alloc: Global) -> Result<Seen, AllocError>
         ensures { IfOk result (λ seen. sight seen ≡ begun first_line) }
     {
@@ -290,7 +290,7 @@ impl Seen {
         })
     }
 
-    /// Forgets what was seen of the token before.
+    /// Begins the next token: forgets the bytes of the one before.
     pub fn begin(&mut self)
         ensures { sight self.new ≡ begun self.old.lines }
     {
@@ -298,7 +298,7 @@ impl Seen {
         self.spelling.clear();
     }
 
-    /// Sets the token's line to the one at hand, as long as no token has begun.
+    /// Sets the line of the token to the line at hand, as long as no token has begun.
     pub fn mark(&mut self, state: State)
         ensures { sight self.new ≡ marked state (sight self.old) }
     {
@@ -307,8 +307,8 @@ impl Seen {
         }
     }
 
-    /// Takes bytes up to the end of the token, or all of them. Answers how many, and what came of the last that it looked at. A mark
-    /// that none is longer than ends at once, without a look at what follows.
+    /// Takes bytes up to the end of the token, or all of them. Returns their number, and the outcome of the last byte that it
+    /// looked at. A mark that is the front of no other ends at once, without a look at the byte behind it.
     pub fn take_all(
         &mut self,
         set: CharSet,
@@ -347,8 +347,8 @@ impl Seen {
         }
     }
 
-    // Takes at once the bytes at the front that leave the state as it is, and a name or number that begins behind
-    // blanks. Answers how many, and what is read then.
+    // Takes at once the bytes at the front that leave the state as it is, and a name or number that begins behind blanks. Returns
+    // their number, and the state behind them.
     fn take_run(
         &mut self,
         limit: u32,
@@ -375,8 +375,8 @@ impl Seen {
         }
     }
 
-    // Takes at once the bytes at the front that leave the state as it is, and answers how many. Most runs are
-    // short, so a call would cost more than the run.
+    // Takes at once the bytes at the front that leave the state as it is, and returns their number. Most runs are short, for
+    // which a call would cost more than the run.
     #[inline(always)]
     fn pass_run(&mut self, limit: u32, state: State, bytes: &[u8]) -> Result<usize, AllocError>
         ensures found { IfOk result (λ n. (set : CharSet) (rest : List ℕ) → find set limit state (sight self.new) (drop n bytes.now ++ rest)
@@ -396,7 +396,7 @@ impl Seen {
         Ok(len)
     }
 
-    // Takes a byte.
+    // Takes a byte, and returns its outcome.
     fn take(&mut self, set: CharSet, limit: u32, state: State, byte: u8) -> Result<Turn, AllocError>
         requires { self.old.lines.line + 1 < 2 ^ 32 }
         ensures turn { IfOk result (λ t. (t, sight self.new) ≡ turn set limit state byte (sight self.old)) }
@@ -407,20 +407,20 @@ impl Seen {
     {
         self.mark(state);
         match step_of(set, state, byte) {
-            Step::Skip(next) => {
+            ByteStep::Skip(next) => {
                 self.lines.pass(byte);
                 Ok(Turn::On(next))
             }
-            Step::Keep(next) => {
+            ByteStep::Keep(next) => {
                 self.spelling.push(next.most(limit), byte)?;
                 self.lines.pass(byte);
                 Ok(Turn::On(next))
             }
-            Step::Close(ending) => {
+            ByteStep::Close(ending) => {
                 self.lines.pass(byte);
                 Ok(Turn::Last(ending))
             }
-            Step::Behind(ending) => Ok(Turn::Behind(ending)),
+            ByteStep::Behind(ending) => Ok(Turn::Behind(ending)),
         }
     }
 }

@@ -1,4 +1,4 @@
-//! What is kept of the token at hand.
+//! The bytes of the token at hand, as far as they are kept.
 ghost use Rattle.std.specs.Prelude.{◌≡◌, ◌<◌, IfOk, IsErr, OnOk};
 ghost use Rattle.inf_scanner.specs.Kept.{nothing_kept, with_byte};
 ghost use Rattle.inf_scanner.specs.Runs.{with_bytes};
@@ -6,7 +6,7 @@ ghost use Rattle.inf_scanner.specs.Runs.{with_bytes};
 use std::alloc::{AllocError, Global};
 use std::marker::Model;
 
-/// The bytes of a token, as far as there is room for them. Contracts see these and whether more came.
+/// The bytes of a token, as far as there is room for them. Contracts see these bytes and whether there were more.
 #[derive(Drop)]
 pub struct Spelling {
     bytes: Vec<u8>,
@@ -26,7 +26,7 @@ impl Model for Spelling {
 }
 
 impl Spelling {
-    /// Nothing yet, with room for as many bytes as a name may have.
+    /// Returns a spelling of no bytes, with room for 32, which is the most of a name.
     pub(crate) fn new(alloc: Global) -> Result<Spelling, AllocError>
         ensures { IfOk result (λ s. s ≡ nothing_kept) }
     {
@@ -44,7 +44,7 @@ impl Spelling {
         self.is_cut = false;
     }
 
-    /// Keeps a byte, if fewer than `most` are kept. There is always room for as many as a name may have.
+    /// Keeps a byte if fewer than `most` are kept, and else notes that the spelling is cut. There is always room for 32 bytes.
     pub(crate) fn push(&mut self, most: usize, byte: u8) -> Result<(), AllocError>
         ensures ok { OnOk result (self.new ≡ with_byte most byte self.old) }
         ensures memory { IsErr result → 32 < most }
@@ -57,7 +57,7 @@ impl Spelling {
         Ok(())
     }
 
-    /// Keeps bytes, up to `most` in all. There is always room for as many as a name may have.
+    /// Keeps bytes, up to `most` in all; where there are more, notes that the spelling is cut. There is always room for 32 bytes.
     pub(crate) fn extend(&mut self, most: usize, bytes: &[u8]) -> Result<(), AllocError>
         ensures ok { OnOk result (self.new ≡ with_bytes most bytes.now self.old) }
         ensures memory { IsErr result → 32 < most }
@@ -71,7 +71,7 @@ impl Spelling {
         Ok(())
     }
 
-    /// The bytes that are kept.
+    /// Returns the bytes that are kept.
     pub fn as_slice(&self) -> &[u8]
         ensures { result.now ≡ self.now.bytes }
     {

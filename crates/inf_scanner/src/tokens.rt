@@ -1,4 +1,4 @@
-//! What a token is.
+//! Tokens and their kinds.
 ghost use Rattle.std.specs.Prelude.{◌≡◌};
 
 use inf_text::Zscii;
@@ -88,16 +88,16 @@ pub enum Mark {
     At,
 }
 
-/// What is wrong with a bad token.
+/// The fault of a bad token.
 #[derive(Clone, Copy, Debug, PartialEq, Eq)]
 pub enum BadToken {
     /// A byte that begins no token.
     Unfit,
-    /// A text without its closing quote, to the end of the file; or a quote without it, to the end of its line.
+    /// A text without its closing quote, up to the end of the file; or a quote without it, up to the end of its line.
     Unclosed,
-    /// A quote of nothing.
+    /// A quote with nothing between its quotes.
     EmptyQuote,
-    /// A run that begins with a digit or has a `$`, and is no number of at most 32 bytes up to 65535.
+    /// A run that begins with a digit or has a `$`, but is no number of at most 32 bytes up to 65535.
     Number,
     /// A name of more than 32 bytes.
     LongName,
@@ -114,18 +114,18 @@ pub enum BadToken {
 /// A word in single quotes, as the dictionary has it.
 #[derive(Clone, Copy, Debug, PartialEq, Eq)]
 pub struct DictionaryWord {
-    /// Its nine Z-characters (Z-Machine Standard 1.1, section 13.3).
+    /// The nine Z-characters of the word (Z-Machine Standard 1.1, section 13.3).
     pub text: [u8; 6],
     /// Whether `//p` marks it as a plural.
     pub is_plural: bool,
 }
 
-/// What a token is.
+/// The kind of a token, with its value.
 #[derive(Clone, Copy, Debug, PartialEq, Eq)]
 pub enum TokenKind {
     Name,
     Number(u16),
-    /// A text between double quotes, which can be read as one.
+    /// A text between double quotes that can be read.
     Text,
     /// A character in single quotes.
     Char(Zscii),
@@ -136,7 +136,7 @@ pub enum TokenKind {
     End,
 }
 
-/// Where a token begins: the number of its file, and its line there, counted from 1.
+/// The place where a token begins: the number of its file, and its line there, counted from 1.
 #[derive(Clone, Copy, Debug, PartialEq, Eq)]
 pub struct Place {
     pub file: u16,

@@ -1,4 +1,4 @@
--- What the settings bound stays under them.
+-- The amounts that the settings bound stay under them.
 use Rattle.std.specs.Prelude.{nat_lt, is_none, ◌||◌}
 use Rattle.std.proofs.Common.{◌≡◌, ℕ, ◌≤◌, Bool, true, false, cond, List, length, Option, Some, None, refl, sym, ap, subst, ◌∙◌, arith}
 use Rattle.std.proofs.lemmas.Bool.{ltb-false}
@@ -54,7 +54,7 @@ quoted_within site j t quoted most few before =
     (λ _. of_both (λ n. n ≤ most) (nat_lt quoted (quoted_bytes t)) (quoted_bytes t) quoted (λ _. kind_within t.kind t.bytes most few)
     (λ _. before))
 
--- What holds of the settings
+-- The bounds of the settings
 
 left_false : (a b : Bool) → (a || b) ≡ false → a ≡ false
 left_false true b e = e
@@ -64,7 +64,7 @@ right_false : (a b : Bool) → (a || b) ≡ false → b ≡ false
 right_false true b e = let never : true ≡ false = e in cc
 right_false false b e = e
 
--- a session in which something was still to be read goes on
+-- the bounds of a session hold on, where something was still to be read
 pub bounded_still : {B : Type 0} (s t : Session B) → t.setup ≡ s.setup
     → (s.quoted ≤ most_quoted (chosen s.setup) → t.quoted ≤ most_quoted (chosen s.setup)) → ended s ≡ false → IsBounded s → IsBounded t
 bounded_still s t setup longest going b = (

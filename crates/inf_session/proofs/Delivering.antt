@@ -1,10 +1,10 @@
--- What was written of the last lines, and of all.
+-- The lines that were written of the last ones, and of all.
 use Rattle.std.specs.Prelude.{option_map}
 use Rattle.std.proofs.Common.{◌≡◌, ℕ, List, [], ◌++◌, take, drop, take-append-drop, append_assoc, arith, Option, Some, None, Result, Ok}
 use Rattle.std.proofs.Common.{Err, IfOk, refl, sym, subst, ◌∙◌}
 use Rattle.inf_report.specs.Reports.{closing}
-use Rattle.inf_sinks.specs.Sinks.{Takes}
-use Rattle.inf_sinks.specs.declared.sinks.Sink.{Ghosts as Sink}
+use Rattle.inf_devices.specs.Sinks.{Takes}
+use Rattle.inf_devices.specs.declared.sinks.Sink.{Ghosts as Sink}
 use Rattle.inf_session.specs.Delivered.{Appends, Delivers, EndsClean, TakesFront}
 use Rattle.inf_session.specs.Ending.{Outcome}
 use Rattle.inf_session.specs.declared.compiled.Compiled.{Compiled}
@@ -16,7 +16,7 @@ use Rattle.inf_session.proofs.Leadings.{takes_none, takes_then}
 pub takes_no_front : (lines : List ℕ) (old : Option (List ℕ)) → TakesFront lines old old
 takes_no_front lines old = record { front = []; takes = takes_none old; begins = record { rest = lines; is_cut = refl } }
 
--- some of the bytes were written
+-- a front of the lines was written
 pub takes_part : (lines : List ℕ) (n : ℕ) (old new : Option (List ℕ)) → Takes old new (take n lines) → TakesFront lines old new
 takes_part lines n old new taken =
     record { front = take n lines; takes = taken; begins = record { rest = drop n lines; is_cut = sym (take-append-drop n lines) } }
@@ -24,7 +24,7 @@ takes_part lines n old new taken =
 pub appends_none : {S : Type 0} (m : Sink S) (old : S) → Appends m old old
 appends_none m old = record { lines = []; takes = takes_none (m.taken old); failures = omega arith }
 
--- some lines behind others
+-- some lines were written behind others
 pub appends_then : {S : Type 0} (m : Sink S) (a b c : S) → Appends m a b → Appends m b c → Appends m a c
 appends_then m a b c p q = record {
   lines = p.lines ++ q.lines;
@@ -32,7 +32,7 @@ appends_then m a b c p q = record {
   failures = omega (arith, p.failures, q.failures);
 }
 
--- the last of them are the last of all
+-- the last lines that were written then are the last of all
 pub ends_behind : {S : Type 0} (m : Sink S) (a b c : S) → Appends m a b → EndsClean (m.taken b) (m.taken c) →
     EndsClean (m.taken a) (m.taken c)
 ends_behind m a b c p q = record {
@@ -42,7 +42,7 @@ ends_behind m a b c p q = record {
       (takes_then (m.taken a) (m.taken b) (m.taken c) p.lines (q.front ++ closing 0 q.warnings) p.takes q.takes);
 }
 
--- of an ending whose messages end so
+-- the last line of an ending without an error is the one that tells none
 pub ends_clean : (e : Outcome) (c : Compiled) (old new : Option (List ℕ)) → (e.status ≡ status.Success → IsClean e.messages) →
     Delivers e c old new
     → c.status ≡ status.Success → EndsClean old new
@@ -54,7 +54,7 @@ mapped_none : {T U : Type 0} (f : T → U) (o : Option T) → option_map f o ≡
 mapped_none f None e = refl
 mapped_none f (Some x) e = let never : Some (f x) ≡ None = e in cc
 
--- of an ending that has no story where it has an error
+-- an ending with an error has no story
 pub has_none : (e : Outcome) (c : Compiled) (old new : Option (List ℕ)) → (e.status ≡ status.Errors → e.story ≡ None) → Delivers e c old new
     → c.status ≡ status.Errors → c.story ≡ None
 has_none e c old new none d is = mapped_none (λ v. v.items) c.story (d.story ∙ none (sym d.status ∙ is))

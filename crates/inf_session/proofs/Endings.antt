@@ -1,13 +1,13 @@
--- What the ends of compilations come to: one with an error has no story, and the messages of another end with the line that tells none.
+-- The ends of compilations: one with an error has no story, and the messages of another end with the line that tells no error.
 use Rattle.std.specs.Prelude.{not, ◌&&◌, ◌==◌, Result, IfOk}
 use Rattle.std.proofs.Common.{◌≡◌, ◌⊎◌, inl, inr, ℕ, ◌%◌, [], Bool, true, false, cond, List, ◌++◌, Option, Some, None, refl, sym, ap, subst}
 use Rattle.std.proofs.Common.{◌∙◌}
 use Rattle.std.proofs.lemmas.Bool.{eqb-true}
 use Rattle.inf_settings.specs.Bounds.{Limits}
 use Rattle.inf_area.specs.declared.targets.Value.{Value}
-use Rattle.inf_cells.specs.Scales.{most_bytes}
-use Rattle.inf_cells.specs.declared.scale.Scale.{Scale}
-use Rattle.inf_cells.specs.declared.scale.Scale.TheVariants as scale
+use Rattle.inf_area.specs.Scales.{most_bytes}
+use Rattle.inf_area.specs.declared.scale.Scale.{Scale}
+use Rattle.inf_area.specs.declared.scale.Scale.TheVariants as scale
 use Rattle.inf_code.specs.Code.{Routines}
 use Rattle.inf_link.specs.declared.link.LinkFault.{LinkFault}
 use Rattle.inf_link.specs.declared.link.LinkFault.TheVariants as link_fault
@@ -36,7 +36,7 @@ pub most_is_small : (s : Scale) → most_bytes s % 4294967296 ≡ most_bytes s
 most_is_small scale.Four = refl
 most_is_small scale.Eight = refl
 
--- What a compilation ends with whose last names are told is what it ends with.
+-- The outcome of a compilation whose last names are told is its outcome.
 pub told_is_finished : {E : Type 0} (limits : Limits) (serial : List ℕ) (files : FileNames) (w told : Compilation)
     (result : Result CodeOutcome E)
     → told ≡ record (begun_at limits files first_place w) {
@@ -48,7 +48,7 @@ pub told_is_finished : {E : Type 0} (limits : Limits) (serial : List ℕ) (files
 told_is_finished limits serial files w told result same given =
     subst (λ v. IfOk result (λ t. seen t ≡ begun (told_of serial v) files v.output v.report (main_of v.output.names))) same given
 
--- A story that would be too long for its version, as it is told.
+-- The fault of a story that would be too long for its version, as it is told.
 pub longest_told : {E : Type 0} (t : Telling) (files : FileNames) (main : ℕ) (names : List Value) (code : Routines)
     (strings : StringArea) (tables : AllTables) (r : Reported)
     (s : Scale) (bytes : List ℕ) (most : ℕ) (fault : LinkFault)
@@ -107,7 +107,7 @@ pub record IsClean (lines : List ℕ) : Type 0 where
   pub warnings : ℕ
   pub is : lines ≡ front ++ closing 0 warnings
 
--- each of two tests
+-- both tests hold where their conjunction does
 both_hold : (over : Bool) (zeros : Bool) → (not over && zeros) ≡ true → (over ≡ false) × (zeros ≡ true)
 both_hold true zeros e = cc
 both_hold false true e = (refl, refl)

@@ -1,9 +1,9 @@
--- Where turns lead: what has ended stays, turns follow one another, and what was written is only added to.
+-- Where turns lead: an end stays, turns follow one another, and lines are only added to those that were written.
 use Rattle.std.proofs.Common.{◌≡◌, ◌⊎◌, inl, inr, ℕ, suc, zero, ◌+◌, ◌<◌, ◌||◌, List, [], ◌∷◌, ◌++◌, Bool, true, false, Option, Some, None}
 use Rattle.std.proofs.Common.{cond, refl, sym, ap, subst, ◌∙◌, append_assoc, append-nil, arith}
 use Rattle.inf_settings.specs.Bounds.{Limits}
-use Rattle.inf_files.specs.Files.{Openings, Sources}
-use Rattle.inf_sinks.specs.Sinks.{Takes}
+use Rattle.inf_devices.specs.Files.{Openings, Sources}
+use Rattle.inf_devices.specs.Sinks.{Takes}
 use Rattle.inf_unit.proofs.Cases.{of_both}
 use Rattle.inf_sources.specs.Inclusions.{Inclusion, Nesting, Opens, OpensNone, OpensTooMany, Waiting, inclusion}
 use Rattle.inf_sources.specs.Open.{Open, opened_since}
@@ -35,7 +35,7 @@ front_then xs ys zs a b = record {
 pub front_cut : (xs ys zs : List ℕ) → IsFront (xs ++ ys) zs → IsFront xs zs
 front_cut xs ys zs f = front_then xs (xs ++ ys) zs (front_more xs ys) f
 
--- What a turn leaves of what was written
+-- The lines that were written, behind a turn
 
 abbrev SameTold : State → State → Type 0
 SameTold s t = t.told ≡ s.told
@@ -96,7 +96,7 @@ pub run_ended : (limits : Limits) (sources : Sources) (o : Choices) (n : ℕ) (s
 run_ended limits sources o zero s e = refl
 run_ended limits sources o (suc n) s e = ap (λ b. cond b s (run limits sources o n (turn limits sources o s))) e
 
--- one turn more
+-- one turn more behind others
 more_by : (limits : Limits) (sources : Sources) (o : Choices) (n : ℕ) (s : State) (b : Bool) → has_ended s ≡ b
     → ((m : ℕ) → n ≡ suc m → has_ended (run limits sources o m (turn limits sources o s)) ≡ false → run limits sources o (suc m)
     (turn limits sources o s) ≡ turn limits
@@ -128,7 +128,7 @@ run_begins limits sources o (suc n) s =
     (turn_begins limits sources o s)
     (run_begins limits sources o n (turn limits sources o s)))
 
--- what was written after some turns begins what is at the end
+-- the lines that were written after some turns are a front of those that are written at the end
 begins_by : (limits : Limits) (sources : Sources) (o : Choices) (m n : ℕ) (s : State) (b : Bool) → has_ended s ≡ b
     → (has_ended (run limits sources o n (turn limits sources o s)) ≡ true → IsFront (run limits sources o m (turn limits sources o s)).told
     (run limits sources o n (turn limits sources o s)).told)
@@ -150,7 +150,7 @@ end_begins limits sources o (suc m) zero s e =
 end_begins limits sources o (suc m) (suc n) s e =
     begins_by limits sources o m n s (has_ended s) refl (λ later. end_begins limits sources o m n (turn limits sources o s) later) e
 
--- two ends are the same
+-- two ends that turns reach from one state are the same
 same_by : (limits : Limits) (sources : Sources) (o : Choices) (m n : ℕ) (s : State) (b : Bool) → has_ended s ≡ b
     → (has_ended (run limits sources o m (turn limits sources o s)) ≡ true → has_ended (run limits sources o n (turn limits sources o s)) ≡
     true → run limits sources o m
@@ -172,7 +172,7 @@ same_end limits sources o (suc m) zero s e f = run_ended limits sources o (suc m
 same_end limits sources o (suc m) (suc n) s e f =
     same_by limits sources o m n s (has_ended s) refl (λ x y. same_end limits sources o m n (turn limits sources o s) x y) e f
 
--- What a sink took
+-- The lines that a sink took
 
 pub takes_then : (old mid new : Option (List ℕ)) (xs ys : List ℕ) → Takes old mid xs → Takes mid new ys → Takes old new (xs ++ ys)
 takes_then None mid new xs ys a b = subst (λ m. Takes m new ys) a b
@@ -222,7 +222,7 @@ cuts_then limits sources o n was mid old between new going a b = record {
       (subst (λ t. IsFront ((told ++ a.lines) ++ b.front) t.told) more (b.begins (told ++ a.lines)));
 }
 
--- nothing of a turn was written
+-- none of the lines of a turn was written
 pub cut_at_once : (limits : Limits) (sources : Sources) (o : Choices) (was : List ℕ → State) (old new : Option (List ℕ)) →
     ((told : List ℕ) → (was told).told ≡ told) → new ≡ old
     → CutsShort (turn limits sources o) was old new
@@ -281,7 +281,7 @@ same_both : (b : Bool) (s : State) → cond b s s ≡ s
 same_both true s = refl
 same_both false s = refl
 
--- where no part has ended reading has not
+-- where no part has ended, reading has not ended
 or_not : (a b : Bool) → (a || b) ≡ false → a ≡ false
 or_not true b e = cc
 or_not false b e = refl
@@ -312,7 +312,7 @@ part_goes limits sources o n s going e =
     (part limits sources o n (turn limits sources o s)))) going
     ∙ ap (λ b. cond b (turn limits sources o s) (part limits sources o n (turn limits sources o s))) e
 
--- one turn more
+-- one turn more in front of a part
 longer_by : (limits : Limits) (sources : Sources) (o : Choices) (n : ℕ) (s : State) (b : Bool) → has_ended s ≡ false →
     is_parted (turn limits sources o s) ≡ b
     → (has_ended (turn limits sources o s) ≡ false → is_parted (part limits sources o (suc n) (turn limits sources o s)) ≡ false
@@ -372,7 +372,7 @@ part_then limits sources o n was mid now old between new going open_still a b = 
 
 -- Where reading was given up for a file
 
--- all was written that some turns write
+-- all lines were written that some turns write
 pub wrote_all : (f : State → State) (was mid : List ℕ → State) (old between new : Option (List ℕ)) →
     ((told : List ℕ) → (mid told).told ≡ told)
     → Writes f was mid old between → new ≡ between → WroteAll f was old new
@@ -382,7 +382,7 @@ wrote_all f was mid old between new told_is a e = record {
   same = λ told. ap (λ (s : State). s.told) (sym (a.same told)) ∙ told_is (told ++ a.lines);
 }
 
--- behind others
+-- all lines were written that some turns write, behind others
 pub wrote_on : (limits : Limits) (sources : Sources) (o : Choices) (a b : ℕ) (was mid : List ℕ → State) (old between new : Option (List ℕ))
     → Writes (run limits sources o a) was mid old between → WroteAll (run limits sources o b) mid between new → WroteAll
     (run limits sources o (a + b)) was old
@@ -396,9 +396,9 @@ wrote_on limits sources o a b was mid old between new w all = record {
       ∙ all.same (told ++ w.lines) ∙ append_assoc told w.lines all.lines;
 }
 
--- What has been opened where reading was given up
+-- The sources that have been opened where reading was given up
 
--- in a turn, behind others
+-- the sources that a turn opens, behind others
 pub opened_then : (limits : Limits) (sources : Sources) (o : Choices) (n : ℕ) (was mid : List ℕ → State) (old between : Option (List ℕ))
     (openings : List (List ℕ))
     → ((told : List ℕ) → has_ended (mid told) ≡ false) → Writes (run limits sources o n) was mid old between → OpensWithin
@@ -415,7 +415,7 @@ opened_then limits sources o n was mid old between openings going w (inr h) = (
       (ap has_ended (sym (w.same told)) ∙ going (told ++ w.lines)))),
 )
 
--- in some turns, behind others
+-- the sources that some turns open, behind others
 pub opened_on : (limits : Limits) (sources : Sources) (o : Choices) (a b : ℕ) (was mid : List ℕ → State) (old between : Option (List ℕ))
     (openings : List (List ℕ))
     → Writes (run limits sources o a) was mid old between → OpensAll (run limits sources o b) mid openings → OpensAll
@@ -424,14 +424,14 @@ opened_on limits sources o a b was mid old between openings w h = λ told.
     h (told ++ w.lines) ∙ ap (λ (s : State). (run limits sources o b s).nesting.openings) (w.same told)
     ∙ ap (λ (s : State). s.nesting.openings) (sym (run_sum limits sources o a b (was told)))
 
--- behind turns that came to their end
+-- the sources that were opened behind turns that came to their end
 pub opened_behind : (limits : Limits) (sources : Sources) (o : Choices) (n : ℕ) (was now : List ℕ → State) (old new : Option (List ℕ))
     (openings : List (List ℕ))
     → Writes (run limits sources o n) was now old new → OpensAll (λ s. s) now openings → OpensAll (run limits sources o n) was openings
 opened_behind limits sources o n was now old new openings w h =
     λ told. h (told ++ w.lines) ∙ ap (λ (s : State). s.nesting.openings) (w.same told)
 
--- Given up for a file
+-- Reading that was given up for a file
 
 not_tried_more : (failed more : Type 0) (sources : Sources) (directories : List (List ℕ)) (text : List ℕ) (n : Nesting)
     (openings : List (List ℕ)) → (failed → more)
@@ -469,7 +469,7 @@ stops_more limits failed more sources o s start now files name later (inl h) = i
 stops_more limits failed more sources o s start now files name later (inr h) =
     inr (stops_at_more failed more sources o (stepped limits o s) (opened_since start now) name later h)
 
--- behind some turns
+-- reading was given up behind some turns
 pub given_up : (limits : Limits) (failed : Type 0) (sources : Sources) (o : Choices) (n : ℕ) (was mid : List ℕ → State)
     (old between new : Option (List ℕ))
     (start now : Openings) (files : Open)
@@ -485,7 +485,7 @@ given_up limits failed sources o n was mid old between new start now files name 
   stops = λ told. subst (λ (s : State). StopsFor limits failed sources o s start now files name) (w.same told) (stops (told ++ w.lines));
 }
 
--- behind others
+-- reading was given up, with turns before
 pub given_up_on : (limits : Limits) (failed more : Type 0) (sources : Sources) (o : Choices) (a : ℕ) (was mid : List ℕ → State)
     (old between new : Option (List ℕ)) (start now : Openings) (files : Open)
     (name : List ℕ) → (failed → more) → Writes (run limits sources o a) was mid old between → GivenUp limits failed sources o mid between

@@ -1,7 +1,7 @@
--- What has been opened where a turn was given up.
+-- The sources that have been opened where a turn was given up.
 use Rattle.std.proofs.Common.{◌≡◌, inl, inr, ℕ, List, Bool, false, cond, refl, sym, ap, ◌∙◌}
 use Rattle.inf_settings.specs.Bounds.{Limits}
-use Rattle.inf_files.specs.Files.{Openings, Sources}
+use Rattle.inf_devices.specs.Files.{Openings, Sources}
 use Rattle.inf_characters.specs.declared.characters.CharSet.{CharSet}
 use Rattle.inf_scanner.specs.declared.tokens.Place.{Place}
 use Rattle.inf_unit.proofs.Cases.{of_both}
@@ -36,7 +36,7 @@ included_opens sources o unit text set limit conditionals is_system (Opens name)
 included_opens sources o unit text set limit conditionals is_system (OpensNone why) s =
     ap (λ (n : Nesting). n.openings) (sym (none_opened unit text why s))
 
--- it was tried
+-- an inclusion was tried
 pub tried : {B : Type 0} (sources : Sources) (o : Choices) (unit : Place) (text : List ℕ) (set : CharSet) (limit : ℕ)
     (conditionals : List Conditional) (is_system : Bool) (start old new : Openings)
     (before : Session B) (after : Open)
@@ -51,7 +51,7 @@ tried sources o unit text set limit conditionals is_system start old new before 
     (inclusion sources o.directories text (nesting sources start old before.open_files))
     (state sources start old before told))
 
--- it could not be tried, or its file is one too many
+-- an inclusion could not be tried, or its file is one too many
 pub in_vain : {B : Type 0} (sources : Sources) (o : Choices) (unit : Place) (text : List ℕ) (start old : Openings) (before : Session B)
     (openings : List (List ℕ))
     → OpenedInVain vain.Device (inclusion sources o.directories text (nesting sources start old before.open_files))
@@ -62,7 +62,7 @@ in_vain sources o unit text start old before openings (inr t) =
     inr (λ told. t.openings_are ∙ sym (ap (λ (i : Inclusion). (included_by sources o unit text i
     (state sources start old before told)).nesting.openings) t.is_opened))
 
--- What a directive asks
+-- The request of a directive
 
 pub not_ended : (m : Recovery) → (m ≡ mode.Ended → ⊥) → is_mode_ended m ≡ false
 not_ended mode.Reads h = refl
@@ -98,7 +98,7 @@ carried_out_within sources o unit text was mid openings going reads asks same (i
     inr (λ told. h told ∙ ap (λ (s : State). (included sources o unit text s).nesting.openings) (same told)
     ∙ ap (λ (s : State). s.nesting.openings) (heeds sources o unit text (was told) (going told) (reads told) (asks told)))
 
--- Behind it
+-- Behind the request
 
 rested_nesting : (s : State) → (rested s).nesting ≡ s.nesting
 rested_nesting s =
@@ -113,7 +113,7 @@ followed_within sources o was openings (inr h) =
 
 -- A turn
 
--- behind its token
+-- the sources that are opened behind the token of a turn
 pub turned_within : (limits : Limits) (sources : Sources) (o : Choices) (was mid : List ℕ → State) (openings : List (List ℕ)) →
     ((told : List ℕ) → mid told ≡ stepped limits o (was told))
     → OpensWithin (followed sources o) mid openings → OpensWithin (turn limits sources o) was openings

@@ -1,6 +1,7 @@
--- What steps come to, of a source and of the veneer behind it, and how many are left.
+-- The results of steps, of a source and of the veneer behind it, and the number of steps that are left.
 use Rattle.std.specs.Prelude.{◌&&◌, is_none}
-use Rattle.std.proofs.Common.{◌≡◌, ◌⊎◌, inl, inr, suc, ◌+◌, ◌-◌, ◌<◌, ◌≤◌, Bool, true, false, cond, Result, Ok, Err, IfOk, refl, sym, ap, subst, ◌∙◌, arith}
+use Rattle.std.proofs.Common.{◌≡◌, ◌⊎◌, inl, inr, suc, ◌+◌, ◌-◌, ◌<◌, ◌≤◌, Bool, true, false, cond, Result, Ok, Err, IfOk, refl, sym, ap}
+use Rattle.std.proofs.Common.{subst, ◌∙◌, arith}
 use Rattle.inf_session.specs.Choices.{chosen, most_quoted}
 use Rattle.inf_session.specs.Standing.{HasObjects, IsBounded, came_to, ended, is_done, is_fatal, next_of}
 use Rattle.inf_session.specs.Veneer.{most_texts, next_text}
@@ -37,7 +38,7 @@ pub if_ok_two : {T E : Type 0} (r : Result T E) (P Q R : T → Type 0) → ((x :
 if_ok_two (Ok x) P Q R h p q = h x p q
 if_ok_two (Err f) P Q R h p q = tt
 
--- How many steps are left
+-- The number of steps that are left
 
 left_ended : {B : Type 0} (s : Session B) → ended s ≡ true → steps_left s ≡ most_texts - s.passed
 left_ended s e = ap (λ b. cond b (most_texts - s.passed) (suc most_texts + weight s.open_files)) e
@@ -61,7 +62,7 @@ pub part_falls : {B : Type 0} (s t : Session B) → ended s ≡ false
     → (ended t ≡ true) ⊎ (weight t.open_files < weight s.open_files) → (is_done t ≡ true) ⊎ (steps_left t < steps_left s)
 part_falls s t was falls = inr (falls_by s t (ended t) refl was falls)
 
--- What holds of the settings
+-- The bounds of the settings
 
 still_by : {B : Type 0} (s t : Session B) (b : Bool) → is_fatal s ≡ b → (is_none (next_of s) ≡ true → t ≡ s) → is_fatal t ≡ false
     → is_fatal s ≡ false

@@ -1,14 +1,14 @@
--- What the session stands for behind a file that was left or entered, a refused inclusion, and a turn.
+-- The state behind a file that was left or entered, a refused inclusion, and a turn.
 use Rattle.std.proofs.Common.{◌≡◌, ℕ, List, [], ◌∷◌, ◌++◌, length, drop, reverse, get_or, Bool, Option, refl, sym, ap, subst, ◌∙◌}
 use Rattle.std.proofs.Common.{append_assoc, Result, Ok, Err, IfErr}
 use Rattle.inf_settings.specs.Bounds.{Limits}
-use Rattle.inf_files.specs.Files.{Openings, Sources, opened}
+use Rattle.inf_devices.specs.Files.{Openings, Sources, opened}
 use Rattle.inf_sources.specs.Cursors.{Cursor}
 use Rattle.inf_sources.specs.Inclusions.{Nesting, Waiting, closed, resumed}
 use Rattle.inf_sources.specs.Open.{AreNested, IsNested, Open, cursor_of, lexers_of, nesting, rest_of, waiting_at}
 use Rattle.inf_sources.specs.declared.open_file.OpenFile.{OpenFile}
 use Rattle.inf_sources.proofs.Places.{innermost_of, reverse_last}
-use Rattle.inf_sinks.specs.Sinks.{Takes}
+use Rattle.inf_devices.specs.Sinks.{Takes}
 use Rattle.inf_conditionals.specs.Ends.{file_ended, file_told, with_among}
 use Rattle.inf_conditionals.specs.Open.{Conditions}
 use Rattle.inf_unit.specs.Messages.{Reported, flushed}
@@ -24,7 +24,7 @@ use Rattle.inf_session.specs.declared.faults.Fault.TheVariants as fault
 
 -- Files that wait
 
--- one does
+-- one file waits
 pub record OneWaits (waiting : List Waiting) (f : OpenFile) : Type 0 where
   pub cursor : Cursor
   pub others : List Waiting
@@ -47,7 +47,7 @@ one_waits s start now o outer f n e =
           ∙ ap (λ (fs : List OpenFile). waiting_at s now.all (inner.place ∷ inner.rest) fs) around;
     }
 
--- none does
+-- no file waits
 none_at : (s : Sources) (now : Openings) (places : List ℕ) → waiting_at s now.all places [] ≡ []
 none_at s now [] = refl
 none_at s now (p ∷ places) = refl
@@ -57,7 +57,7 @@ none_waits s start now f e =
     ap (λ (fs : List OpenFile). waiting_at s now.all (drop 1 (reverse now.open_places)) (reverse fs)) e
     ∙ none_at s now (drop 1 (reverse now.open_places))
 
--- a file was left, and reading goes on in the one that waits, as that was
+-- the state where a file was left, and reading goes on in the one that waits, as that was
 abbrev pub going_on : Nesting → Conditions → Bool → State → State
 going_on n c is_system s = record s {
   nesting = n;
@@ -72,7 +72,7 @@ resumes waiting first others s e =
     ap (λ (ws : List Waiting). going_on (resumed ws s.nesting) (with_among first.conditionals s.conditions) first.is_system s) e
     ∙ sym (ap (λ (ws : List Waiting). left_by ws s) e)
 
--- with the conditionals of the file
+-- the state with the conditionals of the file, and the messages about them
 abbrev pub closed_as : Conditions → Reported → State → State
 closed_as c r s = record s { conditions = c; work = record s.work { report = r } }
 
@@ -93,7 +93,7 @@ left_is s n c back r f ended told given e one =
     ∙ ap (λ (m : Nesting). going_on m (with_among among (file_closed s).conditions) f.is_system (file_closed s)) e
     ∙ resumes s.nesting.waiting first one.others (file_closed s) one.is
 
--- nothing was left
+-- no file was left
 pub stays : (s : State) (n : Nesting) (c : Conditions) (r : Reported) → c ≡ file_ended s.conditions →
     r ≡ file_told s.nesting.names s.conditions s.work.report
     → n ≡ s.nesting → s.nesting.waiting ≡ [] → record (closed_as c r s) { nesting = n } ≡ left s
@@ -144,9 +144,9 @@ read_caused (fault.Read name) P Q A h p = h _ p
 read_caused fault.Messages P Q A h p = tt
 read_caused (fault.Story n) P Q A h p = tt
 
--- A turn, with what it tells
+-- A turn, with its messages
 
--- there is nothing to tell
+-- the state with no message that is not written
 abbrev pub emptied : State → State
 emptied s = record s { work = record s.work { report = flushed s.work.report } }
 
@@ -163,7 +163,7 @@ turn_writes limits sources o was mid now final old new lines first next out last
       last (told ++ lines) ∙ sym (out told) ∙ ap told_out (next told) ∙ ap (λ (s : State). told_out (followed sources o s)) (first told);
 }
 
--- it was made, and a front of its lines was written
+-- a turn was made, and a front of its lines was written
 pub turn_cut : (limits : Limits) (sources : Sources) (o : Choices) (was mid now : List ℕ → State) (old new : Option (List ℕ))
     (lines front rest : List ℕ)
     → ((told : List ℕ) → mid told ≡ stepped limits o (was told)) → ((told : List ℕ) → now told ≡ followed sources o (mid told))
@@ -181,7 +181,7 @@ turn_cut limits sources o was mid now old new lines front rest first next out cu
       };
 }
 
--- The sources and the choices stay what they were.
+-- The sources and the choices stay as they were.
 pub as_before : {B : Type 0} (s t : Sources) (o p : Choices) (start now after : Openings) (before next : Session B) → t ≡ s → p ≡ o
     → ((told : List ℕ) → state t start after next told ≡ followed t p (state t start now before told))
     → (told : List ℕ) → state s start after next told ≡ followed s o (state s start now before told)

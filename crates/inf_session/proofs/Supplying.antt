@@ -1,7 +1,8 @@
--- Where reading what is used of the veneer leads, and what it writes.
+-- Where the reading of the rest of the veneer leads, and the lines that it writes.
 use Rattle.std.specs.Prelude.{slice_get, nat_le, is_some, ◌==◌}
 use Rattle.std.specs.List.{list_all}
-use Rattle.std.proofs.Common.{◌≡◌, ℕ, suc, zero, ◌-◌, ◌+◌, ◌<◌, ◌≤◌, List, [], ◌++◌, length, Bool, true, false, Option, Some, None, unwrap_or}
+use Rattle.std.proofs.Common.{◌≡◌, ℕ, suc, zero, ◌-◌, ◌+◌, ◌<◌, ◌≤◌, List, [], ◌++◌, length, Bool, true, false, Option, Some, None}
+use Rattle.std.proofs.Common.{unwrap_or}
 use Rattle.std.proofs.Common.{cond, refl, sym, ap, subst, ◌∙◌, append_assoc, append-nil, arith}
 use Rattle.std.proofs.lemmas.Bool.{leb-true}
 use Rattle.std.proofs.lemmas.List.Sums.{AllPass-from_list_all}
@@ -9,9 +10,9 @@ use Rattle.std.proofs.lemmas.Option.{get_or_from_slice_get, slice_get_within}
 use Rattle.inf_settings.specs.Bounds.{Limits}
 use Rattle.inf_scanner.specs.declared.tokens.Place.{Place}
 use Rattle.inf_names.specs.Symbols.{Table}
-use Rattle.inf_sinks.specs.Sinks.{Takes}
+use Rattle.inf_devices.specs.Sinks.{Takes}
 use Rattle.inf_sources.specs.Inclusions.{Nesting}
-use Rattle.inf_files.specs.Files.{Openings, Sources}
+use Rattle.inf_devices.specs.Files.{Openings, Sources}
 use Rattle.inf_characters.specs.declared.characters.CharSet.{CharSet}
 use Rattle.inf_text_lexer.specs.TextReaders.{TextReader, at_line}
 use Rattle.inf_unit.specs.Messages.{veneer_file}
@@ -60,7 +61,7 @@ pub text_few : (n : ℕ) → length (veneer_text n) ≤ 1000
 text_few n = few_by (text_of n)
     (λ x e. leb-true (length x) 1000 (numbered_all (λ (x : List ℕ). nat_le (length x) 1000) all_texts n x texts_few e))
 
--- Which routine is read
+-- The routine that is read
 
 none_then : (b : Bool) (n : ℕ) (others : Option ℕ) → cond b (Some n) others ≡ None → (b ≡ false) × (others ≡ None)
 none_then true n others e = let never : Some n ≡ None = e in cc
@@ -82,7 +83,7 @@ first_within (suc k) n m names at e =
     within_by (is_wanted (suc n) names) n m (first_wanted k (suc n) names) (omega (arith, at)) e
     (λ later. first_within k (suc n) m names (omega (arith, at)) later)
 
--- the search for the next one goes on
+-- the search for the next routine goes on
 pub first_next : (n : ℕ) (names : Table Place) → n < most_texts → is_wanted (n + 1) names ≡ false
     → first_wanted (most_texts - n) n names ≡ first_wanted (most_texts - (n + 1)) (n + 1) names
 first_next n names few unwanted =
@@ -104,7 +105,7 @@ left_less true true p q e more = let b = more refl in omega (arith, b.0, b.1)
 left_less true false p q e more = omega arith
 left_less false is p q e more = let never : false ≡ true = e in cc
 
--- Where none is wanted none is read
+-- Where no routine is wanted none is read
 
 none_left : (limits : Limits) (o : Choices) (k n : ℕ) (s : State) → first_wanted k n s.work.output.names ≡ None
     → supplied_by limits o k n s ≡ s
@@ -132,7 +133,7 @@ next_in s = next_text s.work.report.counts.is_over s.passed s.work.output.names
 pub supplied_none : (limits : Limits) (o : Choices) (s : State) → next_in s ≡ None → supplied limits o s ≡ s
 supplied_none limits o s e = none_by limits o s s.work.report.counts.is_over refl e
 
--- The first that is wanted is read, and then those behind it
+-- The first routine that is wanted is read, and then those behind it
 
 read_by : (limits : Limits) (o : Choices) (k n m : ℕ) (s : State) (b : Bool) → k ≡ most_texts - suc n
     → cond b (Some (suc n)) (first_wanted k (suc n) s.work.output.names) ≡ Some m
@@ -170,7 +171,7 @@ pub next_within : (is_fatal : Bool) (passed m : ℕ) (names : Table Place) → n
 next_within is_fatal passed m names e =
     first_within (most_texts - passed) passed m names refl (some_then is_fatal (first_wanted (most_texts - passed) passed names) m e).1
 
--- What is written is only added to
+-- Lines are only added to those that were written
 
 text_told : (limits : Limits) (o : Choices) (k : ℕ) (s : State) → (text_turns limits o k s).told ≡ s.told
 text_told limits o zero s = refl
@@ -207,9 +208,10 @@ by_begins limits o (suc k) n s =
 pub supplied_begins : (limits : Limits) (o : Choices) (s : State) → IsFront s.told (supplied limits o s).told
 supplied_begins limits o s = by_begins limits o (most_texts - s.passed) s.passed s
 
--- The same step by another name
+-- A step by another name
 
-pub writes_as : (f g : State → State) (was now : List ℕ → State) (old new : Option (List ℕ)) → ((told : List ℕ) → f (was told) ≡ g (was told))
+pub writes_as : (f g : State → State) (was now : List ℕ → State) (old new : Option (List ℕ)) → ((told : List ℕ) → f (was told)
+    ≡ g (was told))
     → Writes f was now old new → Writes g was now old new
 writes_as f g was now old new same w =
     record { lines = w.lines; takes = w.takes; same = λ told. w.same told ∙ same told }
@@ -238,7 +240,7 @@ cut_nothing f was old told_is begins = record {
 
 -- A text
 
--- the lexer at its front
+-- the lexer at the front of a text
 pub text_front_is : {B : Type 0} (o : Choices) (s : Session B) (sources : Sources) (start now : Openings) (told : List ℕ) (l : TextReader)
     (set : CharSet) (limit n : ℕ) (text : List ℕ)
     → l ≡ at_line set limit veneer_file n text → set ≡ s.open_files.lexer.set → limit ≡ most_quoted o → text ≡ veneer_text n
@@ -248,14 +250,14 @@ text_front_is o s sources start now told l set limit n text at by most bytes =
     ∙ ap (λ limit. at_line s.open_files.lexer.set limit veneer_file n text) most
     ∙ ap (λ text. at_line s.open_files.lexer.set (most_quoted o) veneer_file n text) bytes
 
--- its turns
+-- the turns of a text
 pub text_turned_is : (limits : Limits) (o p : Choices) (n : ℕ) (text : List ℕ) (s t : State) → text ≡ veneer_text n → p ≡ o
     → t ≡ text_turns limits p (length text + 1) s → t ≡ text_turns limits o (suc (length (veneer_text n))) s
 text_turned_is limits o p n text s t bytes same turned =
     let most : length text + 1 ≡ suc (length (veneer_text n)) = omega (arith, ap length bytes) in
     turned ∙ ap (λ (p : Choices). text_turns limits p (length text + 1) s) same ∙ ap (λ m. text_turns limits o m s) most
 
--- it was read, and its lines were written
+-- a text was read, and its lines were written
 pub text_leads : (limits : Limits) (o : Choices) (n : ℕ) (was begun after : List ℕ → State) (first last : TextReader) (told : List ℕ)
     → begun told ≡ text_begun (was told) → first ≡ text_front o n (was told)
     → in_text last (after told) ≡ text_turns limits o (suc (length (veneer_text n))) (in_text first (begun told))
@@ -295,7 +297,7 @@ text_cut limits o n was after old new lines front rest leads out cut takes = rec
 
 -- One routine behind another
 
--- What is left of the veneer leads from here to where all led from the start, whatever was written before.
+-- The rest of the veneer leads from here to the state to which the whole led from the start, whatever was written before.
 pub record LeadsOn (step : State → State) (was now : List ℕ → State) (old new : Option (List ℕ)) : Type 0 where
   pub lines : List ℕ
   pub takes : Takes old new lines
@@ -317,7 +319,8 @@ leads_then limits o was mid now old between new a b = record {
 }
 
 pub leads_all : (limits : Limits) (o : Choices) (was now : List ℕ → State) (old new : Option (List ℕ))
-    → ((told : List ℕ) → next_in (now told) ≡ None) → LeadsOn (supplied limits o) was now old new → Writes (supplied limits o) was now old new
+    → ((told : List ℕ) → next_in (now told) ≡ None) → LeadsOn (supplied limits o) was now old new
+    → Writes (supplied limits o) was now old new
 leads_all limits o was now old new none a = record {
   lines = a.lines;
   takes = a.takes;

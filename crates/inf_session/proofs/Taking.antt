@@ -1,4 +1,4 @@
--- What a token does, by what each call of its turn says.
+-- The state behind a token, by the results of the calls of its turn.
 use Rattle.std.proofs.Common.{◌≡◌, ◌≤◌, ℕ, List, Bool, true, length, refl, ap, ◌∙◌}
 use Rattle.inf_settings.specs.Bounds.{Limits}
 use Rattle.inf_scanner.specs.declared.tokens.Place.{Place}
@@ -39,14 +39,14 @@ with_taken s n x = record {
 abbrev pub moved : State → Nesting
 moved s = record s.nesting { cursor = behind s.nesting.cursor (read s.nesting.cursor) }
 
--- what is read and was compiled, with other lines and names
+-- the reading and the compiled work, with other lines and names
 abbrev pub reporting : ReaderState → Reported → Out → ReaderState
 reporting s r o = record s { work = record s.work { report = r; output = o } }
 
 abbrev pub taken_as : Conditions → ReaderState → ℕ → Taken
 taken_as c x quoted = record { conditions = c; stand = x; quoted = quoted }
 
--- by what becomes of it among conditionals
+-- the state behind a token, by its judgement among conditionals
 abbrev by_behind : Limits → Context → SourceToken → Site → ReaderState → ℕ → Behind → Taken
 by_behind limits context t site s quoted b =
     taken_as (silent b.now) (judged_taken limits context t b.judged (said_told limits b.now.said context s))

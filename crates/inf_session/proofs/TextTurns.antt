@@ -1,6 +1,7 @@
--- What the tokens of a text in memory do, one after another.
+-- The turns of the tokens of a text in memory, one after another.
 use Rattle.std.specs.Prelude.{Result}
-use Rattle.std.proofs.Common.{◌≡◌, ℕ, suc, zero, ◌-◌, ◌<◌, ◌≤◌, List, [], ◌∷◌, length, length-take, Bool, true, false, Option, Some, None, OnOk}
+use Rattle.std.proofs.Common.{◌≡◌, ℕ, suc, zero, ◌-◌, ◌<◌, ◌≤◌, List, [], ◌∷◌, length, length-take, Bool, true, false, Option, Some, None}
+use Rattle.std.proofs.Common.{OnOk}
 use Rattle.std.proofs.Common.{cond, refl, sym, ap, subst, ◌∙◌, arith}
 use Rattle.std.proofs.lemmas.Bool.{cond_both, le-leb}
 use Rattle.inf_characters.specs.declared.characters.CharSet.{CharSet}
@@ -32,7 +33,7 @@ use Rattle.inf_session.specs.Taking.{Taken, token_at, token_taken}
 use Rattle.inf_session.specs.Veneer.{in_text, text_cursor, text_turns}
 use Rattle.inf_session.proofs.Taking.{step_is, token_is, with_taken}
 
--- What is kept of a token
+-- The bytes that are kept of a token
 
 short_by : (k : TokenKind) (bytes : List ℕ) → (is_run k ≡ true → length bytes ≤ 32) → is_short k bytes ≡ true
 short_by kind.Name bytes few = le-leb (length bytes) 32 (few refl)
@@ -89,7 +90,7 @@ next_few set limit lines (b ∷ bytes) is =
     let cut = ap (λ (k : Kept). length k.bytes) s.is.keeps in
     omega (arith, most, kept, cut, length-take (most_of limit s.is.ending) s.is.bytes)
 
--- of a quoted one as many bytes are kept as it may have
+-- at most as many bytes are kept of a quoted token as it may have
 pub text_few : (before after : TextReader) (token : Token) → token ≡ text_token before.file (next_of before)
     → after ≡ behind (next_of before) before → is_quoted_kind token.kind ≡ true → length after.kept.bytes ≤ before.limit
 text_few before after token is on quoted =
@@ -111,7 +112,8 @@ pub text_turned : (limits : Limits) (o : Choices) (s mid now : State) (before af
     (bytes : List ℕ) (x : Taken)
     → token ≡ text_token before.file (next_of before) → after ≡ behind (next_of before) before → bytes ≡ after.kept.bytes
     → context ≡ context_of o (in_text before s)
-    → x ≡ token_taken limits context (token_at (is_between s.reading) token.kind bytes token.place s.work) s.conditions (stand_of s) s.quoted
+    → x ≡ token_taken limits context (token_at (is_between s.reading) token.kind bytes token.place s.work) s.conditions (stand_of s)
+    s.quoted
     → mid ≡ with_taken s s.nesting x → now ≡ rested mid
     → in_text after now ≡ rested (stepped limits o (in_text before s))
 text_turned limits o s mid now before after token context bytes x is on spelled same taken goes last =

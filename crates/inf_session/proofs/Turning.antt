@@ -1,20 +1,20 @@
--- What turning to another character set leaves of the open files.
+-- The open files behind a turn to another character set.
 use Rattle.std.proofs.Common.{◌≡◌, ◌+◌, ◌-◌, ◌≤◌, ℕ, suc, List, [], ◌∷◌, length, map, min, refl, sym, ap, subst, ◌∙◌, arith}
 use Rattle.inf_characters.specs.declared.characters.CharSet.{CharSet}
-use Rattle.inf_files.specs.Files.{Openings, Sources, last_count}
-use Rattle.inf_files.specs.declared.files.Files.{Ghosts as Files}
+use Rattle.inf_devices.specs.Files.{Openings, Sources, last_count}
+use Rattle.inf_devices.specs.declared.files.Files.{Ghosts as Files}
 use Rattle.inf_sources.specs.Calls.{Went, given_all}
 use Rattle.inf_sources.specs.Choosing.{file_with, open_with}
 use Rattle.inf_sources.specs.Open.{AllGiven, IsNested, Open}
 use Rattle.inf_sources.specs.declared.open_file.OpenFile.{OpenFile}
 use Rattle.inf_sources.proofs.Calls.{went_none}
 
--- as many files wait
+-- the number of files that wait stays
 as_many : (set : CharSet) (files : List OpenFile) → length (map (file_with set) files) ≡ length files
 as_many set [] = refl
 as_many set (f ∷ files) = ap suc (as_many set files)
 
--- No file is asked for anything.
+-- No file is asked for anything at such a turn.
 pub turned_went : {S : Type 0} (f : Files S) (s : S) (set : CharSet) (before after : Open) → after ≡ open_with set before
     → ((start now : Openings) → IsNested start now before → IsNested start now after)
     → ((sources : Sources) (n : ℕ) (now : Openings) → AllGiven sources n now before → AllGiven sources n now after)

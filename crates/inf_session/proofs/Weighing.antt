@@ -37,7 +37,7 @@ weigh_append n m (x ∷ xs) ys e =
     let rest = weigh_append (suc n) m xs ys (omega (arith, e)) in
     omega (arith, rest)
 
--- of files and the innermost
+-- the weight of the outer files and the innermost one
 weight_is : (outer : List Reader) (r : Reader) → weigh_from 0 (outer ++ r ∷ []) ≡ weigh_from 0 outer + scale (15 - length outer) (room r)
 weight_is outer r =
     let split = weigh_append 0 (length outer) outer (r ∷ []) (omega arith) in
@@ -51,7 +51,7 @@ lexers_length : (files : List OpenFile) → length (lexers_of files) ≡ length 
 lexers_length [] = refl
 lexers_length (f ∷ files) = ap suc (lexers_length files)
 
--- What one turn comes to
+-- The fall of the weight in one turn
 
 abbrev pub Falls : Open → Open → Type 0
 Falls before after = weight after < weight before
@@ -66,7 +66,7 @@ stays_less before mid after outer less same =
     let more = scale_more (15 - length (lexers_of before.outer)) (room mid.lexer) (room before.lexer) less in
     omega (arith, was, now, more)
 
--- it goes on by another character set, which weighs nothing
+-- the file goes on by another character set, which weighs nothing
 set_weighs : (set : CharSet) (n : ℕ) (files : List OpenFile) (r : Reader) →
     weigh_from n (lexers_of (map (file_with set) files) ++ reader_with set r ∷ []) ≡ weigh_from n (lexers_of files ++ r ∷ [])
 set_weighs set n [] r = refl
@@ -78,7 +78,7 @@ turns_less before mid after set outer less turned =
     let same : weight after ≡ weight mid = ap weight turned ∙ set_weighs set 0 mid.outer mid.lexer in
     subst (λ n. n < weight before) (sym same) (stays_less before mid mid outer less refl)
 
--- it was left, with all that it could still have
+-- the file was left, with all that it could still have
 leaves_less : (before mid after : Open) → lexers_of mid.outer ≡ lexers_of before.outer →
     lexers_of mid.outer ≡ lexers_of after.outer ++ after.lexer ∷ [] → Falls before after
 leaves_less before mid after outer left =
@@ -86,7 +86,7 @@ leaves_less before mid after outer left =
     let some = scale_more (15 - length (lexers_of after.outer ++ after.lexer ∷ [])) 0 (room before.lexer) (omega arith) in
     omega (arith, was, some)
 
--- another was entered, which can have no more than what was taken weighs
+-- another file was entered, which can have no more than the weight of the bytes that were taken
 enters_less : (before mid after : Open) → lexers_of mid.outer ≡ lexers_of before.outer → room mid.lexer < room before.lexer
     → after.lexer.window.given ≡ 0 → after.lexer.window.left ≡ [] → lexers_of after.outer ≡ lexers_of mid.outer ++ mid.lexer ∷ [] → length
     (lexers_of mid.outer) < 15 →
@@ -128,19 +128,19 @@ falls before mid after is_at_end outer (inr less) (Turns set going turned) =
 falls before mid after is_at_end outer (inr less) (Enters going none empty is deep) =
     enters_less before mid after (ap lexers_of outer) less none empty is (omega (arith, deep, lexers_length mid.outer))
 
--- a token was taken of what was in view and given
+-- a token was taken of the bytes that were in view and given
 pub room_less : (before after : Reader) → before.window.given + length after.window.left < after.window.given + length before.window.left
     → after.window.given ≤ 16777216 → room after < room before
 room_less before after less few = omega (arith, less, few)
 
--- a turn that does not end reading weighs less than what weighed less before
+-- a turn that does not end reading leaves a smaller weight than the one before
 pub falls_then : (over ended : Bool) (first mid last : ℕ) → (over ≡ true) ⊎ (mid < first) → over ≡ false → (ended ≡ true) ⊎ (last < mid) →
     (ended ≡ true) ⊎ (last < first)
 falls_then over ended first mid last (inl is) going after = let never : true ≡ false = sym is ∙ going in cc
 falls_then over ended first mid last (inr less) going (inl is) = inl is
 falls_then over ended first mid last (inr less) going (inr more) = inr (omega (arith, less, more))
 
--- how far a loop can still go, by whether reading has ended
+-- the bound of a loop falls, by whether reading has ended
 pub ends_or_falls : (last over : Bool) (m n : ℕ) → over ≡ false → (last ≡ true) ⊎ (n < m) → cond last 0 (suc n) < cond over 0 (suc m)
 ends_or_falls last true m n going after = cc
 ends_or_falls true false m n going after = omega arith

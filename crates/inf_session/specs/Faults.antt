@@ -1,9 +1,10 @@
--- What holds of a fault of each kind.
+-- The causes of a fault of each kind.
 use Rattle.std.specs.Prelude.{ℕ, List, string_bytes}
 use Rattle.inf_session.specs.declared.faults.Fault.{Fault}
 use Rattle.inf_session.specs.declared.faults.Fault.TheVariants as fault
 
--- A fault of reading, with the name that it tells, and one of writing messages have their causes. There is none of the story.
+-- A fault of reading, with the name that it tells, and one of writing messages have their causes. A fault of writing the
+-- story never comes.
 abbrev pub Caused : Fault → (List ℕ → Type 0) → Type 0 → Type 0
 Caused fault.Memory P Q = Unit {0}
 Caused (fault.Read name) P Q = P (string_bytes name)

@@ -1,15 +1,15 @@
--- What some turns of reading lead to, and what they write.
+-- The states to which some turns of reading lead, and the lines that they write.
 use Rattle.std.specs.Prelude.{◌≡◌, ℕ, ◌-◌, ◌<◌, ◌⊎◌, List, ◌++◌, map, Option, false}
 use Rattle.inf_settings.specs.Bounds.{Limits}
 use Rattle.inf_scanner.specs.declared.tokens.Place.{Place}
-use Rattle.inf_files.specs.Files.{Openings, Sources}
+use Rattle.inf_devices.specs.Files.{Openings, Sources}
 use Rattle.inf_lexer.specs.Unread.{unread}
 use Rattle.inf_sources.specs.Cursors.{Cursor, Unfinished}
 use Rattle.inf_sources.specs.Inclusions.{Nesting, OpenedInVain, OpensTooMany, cursors, inclusion, innermost_name}
 use Rattle.inf_sources.specs.Open.{Open, files_of, lexers, opened_since}
 use Rattle.inf_sources.specs.declared.faults.IncludeFault.TheVariants as fault
 use Rattle.inf_unit.specs.Directives.{Include}
-use Rattle.inf_sinks.specs.Sinks.{Takes}
+use Rattle.inf_devices.specs.Sinks.{Takes}
 use Rattle.inf_reader.specs.Reading.{is_mode_ended}
 use Rattle.inf_session.specs.Choices.{Choices}
 use Rattle.inf_session.specs.Session.{State, has_ended, run, stepped}
@@ -19,34 +19,34 @@ pub record IsFront (front whole : List ℕ) : Type 0 where
   pub rest : List ℕ
   pub is_cut : whole ≡ front ++ rest
 
--- One step of reading leads from what was to what is now, whatever was written before, and wrote these lines.
+-- One step of reading leads from the state before to the state now, whatever was written before, and wrote these lines.
 pub record Writes (step : State → State) (was now : List ℕ → State) (old new : Option (List ℕ)) : Type 0 where
   pub lines : List ℕ
   pub takes : Takes old new lines
   pub same : (told : List ℕ) → now (told ++ lines) ≡ step (was told)
 
--- It was given up, and wrote no more than a front of what the step writes.
+-- A step of reading was given up, and wrote no more than a front of the lines that the step writes.
 pub record CutsShort (step : State → State) (was : List ℕ → State) (old new : Option (List ℕ)) : Type 0 where
   pub front : List ℕ
   pub takes : Takes old new front
   pub begins : (told : List ℕ) → IsFront (told ++ front) (step (was told)).told
 
--- What was written is all that some reading writes, whatever was written before.
+-- The lines that were written are all that some reading writes, whatever was written before.
 pub record WroteAll (step : State → State) (was : List ℕ → State) (old new : Option (List ℕ)) : Type 0 where
   pub lines : List ℕ
   pub takes : Takes old new lines
   pub same : (told : List ℕ) → (step (was told)).told ≡ told ++ lines
 
--- What has been opened is all that some reading opens.
+-- The sources that have been opened are all that some reading opens.
 abbrev pub OpensAll : (State → State) → (List ℕ → State) → List (List ℕ) → Type 0
 OpensAll step was openings = (told : List ℕ) → openings ≡ (step (was told)).nesting.openings
 
--- Where a step of reading was given up, it is what was opened before, or all that the step opens.
+-- Where a step of reading was given up, the sources that have been opened are those before the step, or all that the step opens.
 abbrev pub OpensWithin : (State → State) → (List ℕ → State) → List (List ℕ) → Type 0
 OpensWithin step was openings = OpensAll (λ s. s) was openings ⊎ OpensAll step was openings
 
--- Reading was given up in a token, where these files are open: it is not ended by what was given of the innermost file, of a source
--- that has too many bytes by as many as it may have. The device failed, or the source has too many.
+-- Reading was given up in a token, where these files are open: the bytes that were given of the innermost file do not end the
+-- token, but for those past as many as a source may have. The device failed, or the source has too many bytes.
 pub record StopsInToken (failed : Type 0) (sources : Sources) (s : State) (start now : Openings) (files : Open) (name : List ℕ) : Type 0
   where
     pub cause : failed ⊎ (16777216 < files.lexer.window.given)
@@ -63,7 +63,7 @@ pub record NotTried (failed : Type 0) (sources : Sources) (directories : List (L
   pub cause : failed ⊎ OpensTooMany (inclusion sources directories text n) n openings
   pub openings_are : OpenedInVain fault.Device (inclusion sources directories text n) n openings
 
--- Reading was given up behind a token that ends a directive, which asks for a file by this name.
+-- Reading was given up behind a token that ends a directive, which asks for a file with the name `name`.
 pub record StopsAtInclusion (failed : Type 0) (sources : Sources) (o : Choices) (s : State) (openings : List (List ℕ)) (name : List ℕ) :
     Type 0 where
   pub unit : Place
@@ -72,13 +72,14 @@ pub record StopsAtInclusion (failed : Type 0) (sources : Sources) (o : Choices) 
   pub goes_on : s.work.report.counts.is_over ≡ false
   pub not_tried : NotTried failed sources o.directories name s.nesting openings
 
--- The next token was not read, or the file was not entered that it asks for.
+-- The next token was not read, or the file for which it asks was not entered.
 abbrev pub StopsFor : Limits → Type 0 → Sources → Choices → State → Openings → Openings → Open → List ℕ → Type 0
 StopsFor limits failed sources o s start now files name =
     StopsInToken failed sources s start now files name ⊎ StopsAtInclusion failed sources o (stepped limits o s) (opened_since start now)
     name
 
--- Reading was given up for the file of a name: what was written is all that so many turns write, and behind them reading stops so.
+-- Reading was given up for the file with the name `name`: the lines that were written are all that `turns` turns write, and behind
+-- them reading stops for this file.
 pub record GivenUp (limits : Limits) (failed : Type 0) (sources : Sources) (o : Choices) (was : List ℕ → State) (old new : Option (List ℕ))
     (start now : Openings) (files : Open) (name : List ℕ) : Type 0 where
   pub turns : ℕ

@@ -1,12 +1,12 @@
--- How a source is read with the files that it includes: token by token of the innermost file. Conditionals choose which tokens
--- the grammar sees. A directive may ask for another file, which is read before what follows it, or that reading ends. Where the
--- end of an included file was read, reading goes on in the file that includes it.
--- Designer's Manual, fourth edition, sections 38 and 39.
+-- The reading of a source with the files that it includes: token by token of the innermost file. Conditionals choose which tokens
+-- the grammar sees. A directive may ask for another file, which is read before the tokens that follow the directive, or that
+-- reading ends. Where the end of an included file was read, reading goes on in the file that includes it. Designer's Manual, fourth
+-- edition, sections 38 and 39.
 use Rattle.std.specs.Prelude.{◌≡◌, ℕ, List, [], ◌∷◌, ◌++◌, nat_lt, Option, Some, None, Bool, true, false, ◌&&◌, ◌||◌}
 use Rattle.std.specs.Prelude.{if◌then◌else◌, zero, suc}
 use Rattle.inf_settings.specs.Bounds.{Limits}
 use Rattle.inf_scanner.specs.declared.tokens.Place.{Place}
-use Rattle.inf_files.specs.Files.{Sources}
+use Rattle.inf_devices.specs.Files.{Sources}
 use Rattle.inf_conditionals.specs.Ends.{file_ended, file_told, piece_ended, piece_told, with_among}
 use Rattle.inf_conditionals.specs.Judging.{is_none_pending, may_part}
 use Rattle.inf_conditionals.specs.Open.{Conditions, no_conditions}
@@ -33,9 +33,9 @@ use Rattle.inf_reader.specs.declared.recovery.Recovery.TheVariants as mode
 use Rattle.inf_session.specs.Choices.{Choices, most_quoted}
 use Rattle.inf_session.specs.Taking.{token_at, token_taken}
 
--- The files that are open with what is still to come of each; the conditionals; how the next token is read; what was compiled,
--- with the messages that are not written yet; the messages that are; whether all reading has ended but for the veneer's; how many bytes
--- the longest quoted token has; and the number of the last routine of the veneer that was read.
+-- The files that are open, each with the bytes that are still to come of it; the conditionals; how the next token is read; the
+-- compiled work, with the messages that are not written yet; the messages that are written; whether all reading has ended but for
+-- the veneer's; the number of bytes of the longest quoted token; and the number of the last routine of the veneer that was read.
 pub record State : Type 0 where
   pub nesting : Nesting
   pub conditions : Conditions
@@ -46,13 +46,12 @@ pub record State : Type 0 where
   pub quoted : ℕ
   pub passed : ℕ
 
--- Messages about a whole source stand at its first line.
+-- The place of messages about a whole source: its first line.
 abbrev pub first_place : Place
 first_place = record { file = 0; line = 1 }
 
--- Each story has four objects, whose property tables have 30 bytes and their addresses four references, and a low string of two bytes.
--- Where they alone would
--- pass a setting, this is told before the first token.
+-- The setting that the first objects or the first low string alone would pass, which is told before the first token. Each story has
+-- four objects, whose property tables have 30 bytes and their addresses four references, and a low string of two bytes.
 abbrev pub tables_full : Settings → Option Setting
 tables_full settings =
     if nat_lt (number_of Objects settings) 4 then Some Objects else
@@ -60,14 +59,14 @@ tables_full settings =
     if nat_lt (number_of LowStrings settings) 2 then Some LowStrings else
     if nat_lt (number_of References settings) 4 then Some References else None
 
--- how the first token of a main source is read, and what there is before it: the letters that were chosen hold
+-- the reading of the first token of a main source, and the work before it, for which the chosen letters hold
 abbrev pub begun_with : Choices → FileNames → ReaderState
 begun_with o names =
     let s = begun_stand o.settings in
     let w = letters_chosen o.letters s.work in
     record s { work = record w { report = with_full names first_place (tables_full o.settings) w.report } }
 
--- before the first token of what these open files are, where these messages were written
+-- the state before the first token of the open files `n`, where the messages `told` were written
 abbrev pub first_state : Choices → Nesting → List ℕ → State
 first_state o n told =
     let s = begun_with o n.names in
@@ -82,15 +81,15 @@ first_state o n told =
       passed = 0;
     }
 
--- before the first token of the main source of this name: behind its head
+-- the state before the first token of the main source with the name `name`: behind its head
 abbrev pub start : Sources → Choices → List ℕ → State
 start sources o name = first_state o (past_head (main_opened (set_of o.letters) (most_quoted o) sources name)) []
 
--- how it is read and what was compiled
+-- the reading of the next token, and the compiled work
 abbrev pub stand_of : State → ReaderState
 stand_of s = record { reading = s.reading; work = s.work }
 
--- what is handed down to all that is compiled: the character set is the one by which the innermost file is read
+-- the context that is handed down to all that is compiled: its character set is the one by which the innermost file is read
 abbrev pub context_of : Choices → State → Context
 context_of o s = record { names = s.nesting.names; set = s.nesting.cursor.set; settings = o.settings }
 
@@ -104,7 +103,7 @@ token_of s =
     let r = read s.nesting.cursor in
     token_at (is_between s.reading) r.kind r.kept.bytes (record { file = s.nesting.cursor.file; line = r.line }) s.work
 
--- it is taken
+-- the state after the next token is taken
 abbrev pub stepped : Limits → Choices → State → State
 stepped limits o s =
     let n = token_taken limits (context_of o s) (token_of s) s.conditions (stand_of s) s.quoted in
@@ -119,7 +118,7 @@ stepped limits o s =
       passed = s.passed;
     }
 
--- At the end of a file the conditionals are told that are open in it.
+-- The state where the conditionals that are open in a file are told, at its end.
 abbrev pub file_closed : State → State
 file_closed s =
     record s {
@@ -127,7 +126,7 @@ file_closed s =
       work = record s.work { report = file_told s.nesting.names s.conditions s.work.report };
     }
 
--- An included file is closed then, and reading goes on in the one that includes it, as that was.
+-- The state where an included file is closed then, and reading goes on in the one that includes it, as that was.
 abbrev pub left_by : List Waiting → State → State
 left_by [] s = s
 left_by (w ∷ waiting) s = record s {
@@ -140,21 +139,21 @@ left_by (w ∷ waiting) s = record s {
 abbrev pub left : State → State
 left s = left_by s.nesting.waiting (file_closed s)
 
--- a fatal message, at the place of the unit that asks for a file
+-- the state with a fatal message, at the place of the unit that asks for a file
 abbrev pub refused_with : Place → Message → State → State
 refused_with unit m s = record s { work = record s.work { report = with_fatal (location s.nesting.names unit) m s.work.report } }
 
--- why no file is opened for a text is told
+-- the state where the reason is told why no file is opened for a text
 abbrev pub none_included : Place → List ℕ → Included → State → State
 none_included unit text answer.Entered s = s
 none_included unit text answer.NotThere s = refused_with unit (NoInclude text) s
 none_included unit text answer.TooDeep s = refused_with unit TooManyFiles s
 
--- in a file that was entered no conditional is open, and no routine may be replaced yet
+-- the state in a file that was entered: no conditional is open, and no routine may be replaced yet
 abbrev pub file_begun : State → State
 file_begun s = record s { conditions = with_among [] s.conditions; work = record s.work { is_system = false } }
 
--- the file that an inclusion opens is the innermost, and is read by the character set of the one that includes it
+-- the state where the file that an inclusion opens is the innermost, and is read by the character set of the one that includes it
 abbrev pub included_by : Sources → Choices → Place → List ℕ → Inclusion → State → State
 included_by sources o unit text (Opens name) s =
     file_begun (record s {
@@ -162,32 +161,32 @@ included_by sources o unit text (Opens name) s =
     })
 included_by sources o unit text (OpensNone why) s = none_included unit text why s
 
--- the file that the text of an inclusion names is entered, for a unit at a place
+-- the state where the file that the text of an inclusion names is entered, for a unit at a place
 abbrev pub included : Sources → Choices → Place → List ℕ → State → State
 included sources o unit text s = included_by sources o unit text (inclusion sources o.directories text s.nesting) s
 
--- what was asked is done
+-- the state in which nothing is asked any more
 abbrev pub asked_nothing : State → State
 asked_nothing s = record s { work = record s.work { asked = Nothing } }
 
--- what a directive asks of the reading
+-- the state after a request of a directive to the reading
 abbrev pub answered : Request → Sources → Choices → State → State
 answered (Include text unit) sources o s = included sources o unit text s
 answered End sources o s = record s { is_over = true }
 answered (Characters set) sources o s = record s { nesting = nesting_with set s.nesting }
 answered Nothing sources o s = s
 
--- behind a fatal message nothing is done, and at the end of a file nothing is asked
+-- the state behind a token: behind a fatal message nothing is done, and at the end of a file nothing is asked
 abbrev pub carried_out : Sources → Choices → State → State
 carried_out sources o s =
     if s.work.report.counts.is_over then s else
     if is_mode_ended s.reading.mode then left s else answered s.work.asked sources o (asked_nothing s)
 
--- between the directives, and in no conditional one
+-- whether the reading is between two directives, and in no conditional one
 abbrev pub is_resting : State → Bool
 is_resting s = is_between s.reading && is_none_pending s.conditions.pending
 
--- Behind a directive the conditionals are told that are open in it.
+-- The state where the conditionals that are open in a directive are told, behind its end.
 abbrev pub piece_closed : State → State
 piece_closed s = record s {
   conditions = piece_ended s.work.output.names.declared s.conditions;
@@ -197,35 +196,35 @@ piece_closed s = record s {
 abbrev pub rested : State → State
 rested s = if has_ended s then s else if is_resting s then piece_closed s else s
 
--- how reading goes on behind a token
+-- the state where reading goes on behind a token
 abbrev pub followed : Sources → Choices → State → State
 followed sources o s = rested (carried_out sources o s)
 
--- the messages so far are written
+-- the state where the messages so far are written
 abbrev pub told_out : State → State
 told_out s = record s { work = record s.work { report = flushed s.work.report }; told = s.told ++ s.work.report.lines }
 
--- one turn takes a token, does what it asks, and writes what there is to tell
+-- the state after one turn, which takes a token, does as it asks, and writes the messages
 abbrev pub turn : Limits → Sources → Choices → State → State
 turn limits sources o s = told_out (followed sources o (stepped limits o s))
 
--- A part ends between two directives; of a conditional one, behind the side that it leaves out.
+-- A part ends between two directives; a part with a conditional one ends behind the side that it leaves out.
 abbrev pub is_parted : State → Bool
 is_parted s = has_ended s || (is_between s.reading && may_part s.conditions)
 
--- at most n turns, up to the end of a part
+-- at most `n` turns, up to the end of a part
 abbrev pub part : Limits → Sources → Choices → ℕ → State → State
 part limits sources o zero s = s
 part limits sources o (suc n) s =
     if has_ended s then s else
     if is_parted (turn limits sources o s) then turn limits sources o s else part limits sources o n (turn limits sources o s)
 
--- at most n turns
+-- at most `n` turns
 abbrev pub run : Limits → Sources → Choices → ℕ → State → State
 run limits sources o zero s = s
 run limits sources o (suc n) s = if has_ended s then s else run limits sources o n (turn limits sources o s)
 
--- Reading ends here: some turns lead here, and this is an end.
+-- Reading ends in the state `final`: some turns lead there, and it is an end.
 pub record IsRead (limits : Limits) (sources : Sources) (o : Choices) (s final : State) : Type 0 where
   pub turns : ℕ
   pub leads : run limits sources o turns s ≡ final

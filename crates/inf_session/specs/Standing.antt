@@ -1,14 +1,14 @@
--- What the code's session stands for, with a reader that keeps to its sources.
+-- The state for which the code's session stands, with a reader that keeps to its sources.
 use Rattle.std.specs.Prelude.{◌≡◌, ℕ, ◌≤◌, List, Bool, false, ◌&&◌, ◌||◌, if◌then◌else◌, length, max, min, [], ◌∷◌, Option, is_none}
 use Rattle.inf_code.specs.Code.{code_count, reference_count}
 use Rattle.inf_arrays.specs.Arrays.{all_of, arrays_size}
 use Rattle.inf_verbs.specs.Verbs.{verbs_size}
-use Rattle.inf_world.specs.World.{bytes_now, object_count}
+use Rattle.inf_tables.specs.World.{bytes_now, object_count}
 use Rattle.inf_tables.specs.LowStrings.{low_size}
 use Rattle.inf_tables.specs.Tables.{references_with}
 use Rattle.inf_conditionals.specs.Judging.{is_none_pending, may_part}
 use Rattle.inf_reader.specs.Handing.{is_between}
-use Rattle.inf_files.specs.Files.{Openings, Sources}
+use Rattle.inf_devices.specs.Files.{Openings, Sources}
 use Rattle.inf_sources.specs.Open.{nesting}
 use Rattle.inf_settings.specs.Settings.{number_of}
 use Rattle.inf_settings.specs.declared.setting.Setting.{Setting}
@@ -25,7 +25,8 @@ use Rattle.inf_session.specs.declared.session.Session.{Session}
 use Rattle.inf_session.specs.declared.session.Step.{Step}
 use Rattle.inf_session.specs.declared.session.Step.TheVariants as step
 
--- The openings were these before the main source was opened, and are these now; these messages were written.
+-- The state for a session, where the openings were `start` before the main source was opened, and are `now` now; the messages
+-- `told` were written.
 abbrev pub state : {B : Type 0} → Sources → Openings → Openings → Session B → List ℕ → State
 state sources start now s told = record {
   nesting = nesting sources start now s.open_files;
@@ -38,7 +39,7 @@ state sources start now s told = record {
   passed = s.passed;
 }
 
--- nothing more is read
+-- whether no more of the source is read
 abbrev pub ended : {B : Type 0} → Session B → Bool
 ended s = s.is_over || has_ended_at (standing s.progress)
 
@@ -54,17 +55,17 @@ is_fatal s = (standing s.progress).work.report.counts.is_over
 abbrev pub next_of : {B : Type 0} → Session B → Option ℕ
 next_of s = next_text (is_fatal s) s.passed s.progress.work.output.names
 
--- nothing is left to be read
+-- whether nothing is left to be read
 abbrev pub is_done : {B : Type 0} → Session B → Bool
 is_done s = ended s && is_none (next_of s)
 
--- that the first four objects and the first low string alone pass no setting
+-- the first four objects and the first low string alone pass no setting
 abbrev pub HasObjects : Settings → Type 0
 HasObjects settings =
     (4 ≤ number_of Objects settings) × (30 ≤ number_of PropertyTables settings) × (2 ≤ number_of LowStrings settings) ×
     (4 ≤ number_of References settings)
 
--- What holds of the settings wherever a source is read: no quoted token so far was longer than it may be, and, unless a fatal message
+-- The bounds that hold wherever a source is read: no quoted token so far was longer than it may be, and, unless a fatal message
 -- came, there is room for the first four objects.
 abbrev pub IsBounded : {B : Type 0} → Session B → Type 0
 IsBounded s =
@@ -76,23 +77,21 @@ abbrev pub AreWithin : List ℕ → List Setting → Settings → Type 0
 AreWithin (n ∷ counts) (s ∷ bounding) settings = (n ≤ number_of s settings) × AreWithin counts bounding settings
 AreWithin _ _ settings = Unit {0}
 
--- between two directives, and in no conditional one
+-- whether the reading is between two directives, and in no conditional one
 abbrev pub resting : {B : Type 0} → Session B → Bool
 resting s = is_between (reading s.progress.reader) && is_none_pending s.conditionals.pending
 
--- at the end of a part
+-- whether the reading is at the end of a part
 abbrev pub parted : {B : Type 0} → Session B → Bool
 parted s = ended s || (is_between (reading s.progress.reader) && may_part s.conditionals)
 
--- what a step came to that ended here: a fatal message; or nothing, where nothing was to be read any more; or a part
+-- the result of a step that ended here: a fatal message; or the end, where nothing was left to be read before; or a part
 abbrev pub came_to : {B : Type 0} → Bool → Session B → Step
 came_to had_ended s = if is_fatal s then step.Fatal else if had_ended then step.End else step.More
 
--- How much there is so far of what each setting bounds, in the order of the settings: the longest quoted token, the tokens of the longest
--- expression, the names, the
--- most labels of a routine, the words, objects, verbs and actions, the bytes of grammar, properties, arrays, low strings, code and strings,
--- and the references; of
--- tokens, labels and references at most as many as there may be.
+-- The amounts so far that the settings bound, in the order of the settings: the bytes of the longest quoted token, the tokens of the
+-- longest expression, the names, the most labels of a routine, the words, objects, verbs and actions, the bytes of grammar, properties,
+-- arrays, low strings, code and strings, and the references. Tokens, labels and references are at most as many as there may be.
 abbrev pub held : {B : Type 0} → Session B → List ℕ
 held s =
     let settings = (chosen s.setup).settings in

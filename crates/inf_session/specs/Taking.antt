@@ -1,4 +1,4 @@
--- What a token does that was read.
+-- The taking of a token that was read.
 use Rattle.std.specs.Prelude.{ℕ, List, length, nat_lt, is_none, Bool, ◌&&◌, ◌||◌, if◌then◌else◌}
 use Rattle.inf_settings.specs.Bounds.{Limits}
 use Rattle.inf_scanner.specs.declared.tokens.BadToken.TheVariants as bad
@@ -20,7 +20,7 @@ abbrev pub token_at : Bool → TokenKind → List ℕ → Place → Compilation 
 token_at is_between kind bytes place w =
     record { kind = kind; bytes = bytes; place = place; is_class = is_between && is_class kind bytes w }
 
--- how many bytes stand between the quotes of a token that has such: of one that is too long as many as it may have
+-- the number of bytes between the quotes of a token that has quotes: of one that is too long as many as it may have
 abbrev pub quoted_of_kind : TokenKind → List ℕ → ℕ
 quoted_of_kind kind.Text bytes = length bytes
 quoted_of_kind (kind.Char c) bytes = length bytes
@@ -36,18 +36,21 @@ quoted_of_kind _ bytes = 0
 abbrev pub quoted_bytes : SourceToken → ℕ
 quoted_bytes t = quoted_of_kind t.kind t.bytes
 
--- those of the longest one behind a token: one that is not handed on, or passed over behind a bad one, is not among them
+-- the number of bytes of the longest quoted token behind a token: one that is not handed on, or is passed over behind a bad
+-- one, does not count
 abbrev pub quoted_behind : Site → Filtered → SourceToken → ℕ → ℕ
 quoted_behind site j t quoted =
     if site.is_quiet || is_none j.token then quoted else if nat_lt quoted (quoted_bytes t) then quoted_bytes t else quoted
 
--- the conditionals behind a token, how the next is read and what was compiled, and how many bytes the longest quoted token has
+-- the conditionals behind a token, the reading of the next one and the compiled work, and the number of bytes of the longest
+-- quoted token
 pub record Taken : Type 0 where
   pub conditions : Conditions
   pub stand : ReaderState
   pub quoted : ℕ
 
--- The conditionals say what becomes of it, and what there is to tell of a condition, and the reader takes what is handed on.
+-- The state behind a token, which is taken as the conditionals judge it: they say what there is to tell of a condition, and
+-- the reader takes the tokens that are handed on.
 abbrev pub token_taken : Limits → Context → SourceToken → Conditions → ReaderState → ℕ → Taken
 token_taken limits context t c s quoted =
     let site = site_of context.settings s.reading in

@@ -1,6 +1,6 @@
 //! The results of a compilation, and the end of one.
 ghost use Rattle.std.specs.Prelude.{◌≡◌, None, IfOk, IfErr, OnErr};
-ghost use Rattle.inf_files.specs.Files.{Rose};
+ghost use Rattle.inf_devices.specs.Files.{Rose};
 ghost use Rattle.inf_compilation.specs.Works.{work as work_of};
 ghost use Rattle.inf_session.specs.Delivered.{Appends, Delivers, EndsClean, TakesFront};
 ghost use Rattle.inf_session.specs.Ending.{finished, seen};
@@ -9,9 +9,9 @@ ghost use Rattle.inf_session.specs.Faults.{Caused};
 use crate::ending::{Outcome, finish};
 use crate::faults::Fault;
 use inf_compilation::compilation::Compilation;
+use inf_devices::sinks::{Sink, write_whole};
 use inf_lexer::Stack;
 use inf_settings::bounds::Bounds;
-use inf_sinks::sinks::{Sink, write_whole};
 use std::alloc::Global;
 
 /// The way in which a compilation ended.

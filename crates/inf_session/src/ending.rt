@@ -1,6 +1,6 @@
 //! The end of a compilation, and its outcome.
 ghost use Rattle.std.specs.Prelude.{◌≡◌, IfOk, OnOk, Some, option_map};
-ghost use Rattle.inf_cells.specs.Scales.{most_bytes};
+ghost use Rattle.inf_area.specs.Scales.{most_bytes};
 ghost use Rattle.inf_report.specs.Meant.{meant};
 ghost use Rattle.inf_story.specs.Stories.{too_long};
 ghost use Rattle.inf_unit.specs.Messages.{with_closing, with_error, with_fatal};
@@ -12,8 +12,7 @@ ghost use Rattle.inf_session.specs.Ending.{named, refused, seen, statistics_by, 
 ghost use Rattle.inf_session.specs.Session.{first_place};
 
 use crate::compiled::Status;
-use inf_area::Value;
-use inf_cells::Scale;
+use inf_area::{Scale, Value};
 use inf_code::code::Code;
 use inf_compilation::compilation::Compilation;
 use inf_lexer::{Place, Stack};
@@ -34,7 +33,7 @@ pub struct Outcome {
     pub status: Status,
 }
 
-/// Numbers that are told of a story when it is laid out.
+/// The numbers that are told of a story when it is laid out.
 #[derive(Clone, Copy)]
 pub(crate) struct Telling {
     release: u16,
@@ -44,7 +43,7 @@ pub(crate) struct Telling {
     symbols: usize,
 }
 
-/// Returns what is told of the story of `work`: its serial number is `date`, where no directive told another.
+/// Returns the numbers that are told of the story of `work`: its serial number is `date`, where no directive told another.
 fn told_of<B: Bounds>(date: &[u8; 6], work: &Compilation<B>) -> Telling
     ensures { result ≡ told_of date.now (work_of work.now) }
 {
@@ -60,8 +59,8 @@ fn told_of<B: Bounds>(date: &[u8; 6], work: &Compilation<B>) -> Telling
 /// The place of the messages about a whole source.
 pub(crate) const FIRST_LINE: Place = Place { file: 0, line: 1 };
 
-/// Ends the compilation of a source that was read. Code begins, unless it has begun. A name that was used and never declared is
-/// an error, and that there is no routine `Main`. A story comes only where no error was found.
+/// Ends the compilation of a source that was read. Code begins, unless it has begun. A name that was used and never declared is an
+/// error, and so is the lack of a routine `Main`. A story comes only where no error was found.
 pub(crate) fn finish<B: Bounds>(
     alloc: Global,
     files: &Stack,
@@ -84,7 +83,7 @@ fn tell_last<B: Bounds>(files: &Stack, work: &mut Compilation<B>) -> Result<(), 
     tell_undeclared(&work.output.names, files, &mut work.report)
 }
 
-/// Ends a compilation of which all is told but that there is no routine `Main`.
+/// Ends a compilation of which all is told but for the lack of a routine `Main`.
 fn finish_told<B: Bounds>(
     alloc: Global,
     files: &Stack,
@@ -98,7 +97,8 @@ fn finish_told<B: Bounds>(
     finish_at(alloc, files, serial, main, work)
 }
 
-/// Ends a compilation of which all is told, whose first routine is at this place in the code, or not there.
+/// Ends a compilation of which all is told, where `main` is the place in the code of the first routine, if there is one. The lack
+/// of this routine is an error.
 fn finish_at<B: Bounds>(
     alloc: Global,
     files: &Stack,
@@ -114,7 +114,7 @@ fn finish_at<B: Bounds>(
     }
 }
 
-/// Ends a compilation of which all is told, whose first routine is at this place in the code.
+/// Ends a compilation of which all is told, whose first routine is at the place `main` in the code.
 fn finish_from<B: Bounds>(
     alloc: Global,
     files: &Stack,
@@ -137,7 +137,7 @@ fn is_clean(report: &Diagnostics) -> bool
     !report.is_over() && report.errors() == 0
 }
 
-/// The outcome of a compilation with an error about the whole source.
+/// Returns the outcome of a compilation with an error about the whole source.
 fn failed(
     files: &Stack,
     mut report: Diagnostics,
@@ -151,7 +151,7 @@ fn failed(
     refused(report)
 }
 
-/// The outcome of a compilation with a fatal error about the whole source.
+/// Returns the outcome of a compilation with a fatal error about the whole source.
 fn given_up(
     files: &Stack,
     mut report: Diagnostics,
@@ -172,7 +172,7 @@ fn report_of<B: Bounds>(work: Compilation<B>) -> Diagnostics
     report
 }
 
-/// The code of some work, what a story has beside it, and what was told in it.
+/// Returns the code of `work`, the contents of its story beside the code, and its messages.
 fn parts_of<B: Bounds>(work: Compilation<B>) -> (Code<B>, Contents<B>, Diagnostics)
     ensures { (result.0 ≡ work.output.code) × (result.1.names ≡ work.output.names) × (result.1.strings ≡ work.output.strings)
         × (result.1.tables ≡ work.output.tables) × (result.2 ≡ work.report) }
@@ -182,9 +182,8 @@ fn parts_of<B: Bounds>(work: Compilation<B>) -> (Code<B>, Contents<B>, Diagnosti
     (code, contents, report)
 }
 
-/// Ends the compilation of a source without an error, in which the routine at a place is called first. A name that is no number in a story
-/// is an
-/// error.
+/// Ends the compilation of a source without an error, in which the routine at the place `main` is called first. A name that is no
+/// number in a story is an error.
 fn laid<B: Bounds>(
     alloc: Global,
     files: &Stack,
@@ -199,7 +198,8 @@ fn laid<B: Bounds>(
     named(alloc, files, told, main, names, code, contents, report)
 }
 
-/// Ends it with the story in which names are these values. Without them one of the names is no number in a story, which is an error.
+/// Ends the compilation with the story in which `names` are the values of names. Without these values one of the names is no number
+/// in a story, which is an error.
 fn named<B: Bounds>(
     alloc: Global,
     files: &Stack,
@@ -219,7 +219,7 @@ fn named<B: Bounds>(
     }
 }
 
-/// The most bytes of a story whose packed addresses are multiplied by this.
+/// Returns the most bytes of a story whose packed addresses are multiplied by `scale`.
 #[tactic(auto, using(crate::proofs::Endings::most_is_small))]
 fn most_of(scale: Scale) -> u32
     ensures { result ≡ most_bytes scale }
@@ -227,7 +227,7 @@ fn most_of(scale: Scale) -> u32
     scale.most_bytes() as u32
 }
 
-/// Ends it with its story. One that would be too long is a fatal error.
+/// Ends the compilation with its story. A story that would be too long is a fatal error.
 fn linked<B: Bounds>(
     alloc: Global,
     files: &Stack,
@@ -288,7 +288,7 @@ fn tell_statistics(
     }
 }
 
-/// The outcome of a compilation without an error, of whose source this was counted.
+/// Returns the outcome of a compilation without an error, for which `counts` are the counts of its source.
 fn compiled(
     story: Story,
     has_statistics: bool,
@@ -311,7 +311,7 @@ fn compiled(
     })
 }
 
-/// The outcome of a compilation with an error or a fatal one.
+/// Returns the outcome of a compilation with an error or a fatal one.
 fn refused(mut report: Diagnostics) -> Result<Outcome, AllocError>
     ensures { IfOk result (λ t. seen t ≡ refused report) }
 {

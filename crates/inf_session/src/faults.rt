@@ -12,13 +12,13 @@ pub enum Fault {
     /// No memory was left.
     #[error("no memory was left")]
     Memory,
-    /// The source of this name could not be opened or read, or is too long.
+    /// The source of this name could not be opened or read, or has too many bytes.
     #[error("{0} could not be read")]
     Read(String),
     /// The messages could not be written.
     #[error("the messages could not be written")]
     Messages,
-    /// The story could not be written; this many of its bytes were.
+    /// The story could not be written, but for this number of its bytes.
     #[error("the story could not be written")]
     Story(usize),
 }

@@ -1,6 +1,6 @@
 //! The reading of a main source and of the files that it includes.
 ghost use Rattle.std.specs.Prelude.{◌≡◌, ℕ, ◌<◌, ◌≤◌, ◌⊎◌, List, Ok, OnOk, OnErr, IfErr, IfOk, IsTrue, None, false, true, length};
-ghost use Rattle.inf_files.specs.Files.{Openings, Rose, Sources};
+ghost use Rattle.inf_devices.specs.Files.{Openings, Rose, Sources};
 ghost use Rattle.inf_reader.specs.Reading.{has_ended_at, is_mode_ended};
 ghost use Rattle.inf_reader.specs.Standing.{standing};
 ghost use Rattle.inf_lexer.specs.Names.{can_name};
@@ -27,21 +27,21 @@ use crate::setup::Setup;
 use crate::tokens::take;
 use inf_compilation::context::Context;
 use inf_conditionals::conditionals::Conditionals;
-use inf_files::files::Files;
+use inf_devices::files::Files;
+use inf_devices::sinks::Sink;
 use inf_lexer::{LexFault, Place};
 use inf_reader::progress::Progress;
 use inf_reader::recovery::Recovery;
 use inf_report::messages::Message;
 use inf_settings::bounds::Bounds;
 use inf_settings::setting::Setting;
-use inf_sinks::sinks::Sink;
 use inf_sources::IncludeFault;
 use inf_sources::open_files::{Included, OpenFiles};
 use inf_unit::directives::Request;
 use inf_unit::messages::location;
 use std::alloc::{AllocError, Global};
 
-/// The reading of a main source and of the files that it includes, and what was compiled of them so far.
+/// The reading of a main source and of the files that it includes, and the work that was compiled of them so far.
 #[derive(Drop)]
 pub struct Session<'a, B: Bounds> {
     pub(crate) alloc: Global,
@@ -69,8 +69,8 @@ pub enum Step {
 }
 
 impl<'a, B: Bounds> Session<'a, B> {
-    /// Makes a session by `setup` behind the head of the main source of `open_files`, of which no token was read yet. Where there is no
-    /// memory the files are given back.
+    /// Makes a session by `setup` behind the head of the main source of `open_files`, of which no token was read yet. Where no
+    /// memory is left `open_files` are given back.
     pub fn new(
         alloc: Global,
         setup: Setup<'a>,
@@ -103,7 +103,7 @@ impl<'a, B: Bounds> Session<'a, B> {
         })
     }
 
-    /// Returns whether nothing more is read.
+    /// Returns whether no more of the source is read.
     pub(crate) fn has_ended(&self) -> bool
         ensures { result ≡ ended self.now }
     {
@@ -153,7 +153,8 @@ impl<'a, B: Bounds> Session<'a, B> {
         Ok(())
     }
 
-    /// Reads one part of the source, as `step` does. Behind its end, or a fatal message, it answers the same again and changes nothing.
+    /// Reads one part of the source, as `step` does. Behind the end of the source, or a fatal message, a further call returns the
+    /// same again and changes nothing.
     pub(crate) fn read_part<F: Files, M: Sink>(
         &mut self,
         files: &mut F,
@@ -215,7 +216,7 @@ impl<'a, B: Bounds> Session<'a, B> {
         Ok(self.came_to(false))
     }
 
-    /// Ends the compilation behind the last step: writes the last messages, and gives the story, where no error was found. The
+    /// Ends the compilation behind the last step: writes the last messages, and returns the story, where no error was found. The
     /// serial number has six digits. The files that are still open are given back.
     ///
     /// The faults are those of `translate`, but for that of reading and that of the story.
@@ -247,14 +248,14 @@ impl<'a, B: Bounds> Session<'a, B> {
         (open_files, compiled)
     }
 
-    /// Returns whether a part has ended here, and none has begun.
+    /// Returns whether a part has ended and no other has begun.
     fn has_parted(&self) -> bool
         ensures { result ≡ parted self.now }
     {
         self.has_ended() || (self.progress.is_between() && self.conditionals.may_part())
     }
 
-    /// Returns the result of a step that ended here, before which all was read if `had_ended`.
+    /// Returns the result of a step that ended here, where all was read before the step if `had_ended`.
     pub(crate) fn came_to(&self, had_ended: bool) -> Step
         ensures { result ≡ came_to had_ended self.now }
     {
@@ -267,17 +268,17 @@ impl<'a, B: Bounds> Session<'a, B> {
         }
     }
 
-    /// Returns whether the reading stands between two directives, and in no conditional one.
+    /// Returns whether the reading is between two directives, and in no conditional one.
     fn is_resting(&self) -> bool
         ensures { result ≡ resting self.now }
     {
         self.progress.is_between() && self.conditionals.is_resting()
     }
 
-    /// Returns, for each setting in their order, the amount so far of what it bounds: the bytes of the longest quoted token, the tokens of
-    /// the longest expression, the names, the most labels of a routine, the words, objects, verbs and actions, the bytes of grammar,
-    /// properties, arrays, low strings, code and strings, and the references; of tokens, labels and references at most as many as there may
-    /// be. None is above its setting unless a fatal message came.
+    /// Returns, for each setting in their order, the amount so far that it bounds: the bytes of the longest quoted token, the
+    /// tokens of the longest expression, the names, the most labels of a routine, the words, objects, verbs and actions, the bytes
+    /// of grammar, properties, arrays, low strings, code and strings, and the references. Tokens, labels and references are at most
+    /// as many as there may be. No amount is above its setting unless a fatal message came.
     pub fn held(&self) -> [usize; 15]
         ensures counts { result ≡ held self.now }
         ensures within { let settings = (chosen self.now.setup).settings in
@@ -308,7 +309,7 @@ impl<'a, B: Bounds> Session<'a, B> {
         held
     }
 
-    /// One turn takes a token, does what it asks, and writes what there is to tell.
+    /// Makes one turn: takes a token, does as it asks, and writes the messages.
     fn turn<F: Files, M: Sink>(&mut self, files: &mut F, messages: &mut M) -> Result<(), Fault>
         requires is_open { length self.old.open_files.outer < F.depth files.old }
         requires goes { self.old.open_files.lexer.has_failed ≡ false }
@@ -396,8 +397,8 @@ impl<'a, B: Bounds> Session<'a, B> {
         Ok(())
     }
 
-    /// Goes on behind a token: does what a directive asks, or leaves a file that has ended, and tells the conditionals that had
-    /// to end here.
+    /// Goes on behind a token: does as a directive asks, or leaves a file that has ended, and tells the conditionals that had to
+    /// end here.
     fn follow<F: Files>(&mut self, files: &mut F) -> Result<(), Fault>
         requires is_open { length self.old.open_files.outer < F.depth files.old }
         requires goes { self.old.open_files.lexer.has_failed ≡ false }
@@ -429,8 +430,8 @@ impl<'a, B: Bounds> Session<'a, B> {
         Ok(())
     }
 
-    /// Does what a directive asks of the reading that ended with the last token. At the end of an included file reading goes
-    /// on in the file that includes it.
+    /// Does as a directive asks of the reading that ended with the last token. At the end of an included file reading goes on in
+    /// the file that includes it.
     fn carry_out<F: Files>(&mut self, files: &mut F) -> Result<(), Fault>
         requires is_open { length self.old.open_files.outer < F.depth files.old }
         requires goes { self.old.open_files.lexer.has_failed ≡ false }
@@ -500,7 +501,7 @@ impl<'a, B: Bounds> Session<'a, B> {
         )
     }
 
-    /// Enters the file that the text of an inclusion names, or tells, at the place of its unit, why there is none.
+    /// Enters the file that the text of an inclusion names, or tells, at the place of its unit, the reason why no file is entered.
     fn include<F: Files>(&mut self, files: &mut F, text: &[u8], unit: Place) -> Result<(), Fault>
         requires goes { self.old.open_files.lexer.has_failed ≡ false }
         requires set { IsSet self.old }
@@ -546,7 +547,7 @@ impl<'a, B: Bounds> Session<'a, B> {
         Ok(())
     }
 
-    /// At the end of a file, tells the conditionals that are open in it. An included file is closed, and reading goes on in the
+    /// Leaves a file at its end: tells the conditionals that are open in it. An included file is closed, and reading goes on in the
     /// one that includes it.
     fn leave<F: Files>(&mut self, files: &mut F) -> Result<(), Fault>
         requires is_open { length self.old.open_files.outer < F.depth files.old }
@@ -578,7 +579,7 @@ impl<'a, B: Bounds> Session<'a, B> {
     }
 }
 
-/// The text of an inclusion, which is of ASCII where it can name a file.
+/// Returns the text of an inclusion as a string: it is of ASCII where it can name a file; `?` where it is no UTF-8.
 fn shown(text: &[u8]) -> &str
     ensures { can_name text.now ≡ true → result.now ≡ text.now }
 {

@@ -15,16 +15,16 @@ use inf_settings::setting::Setting;
 use inf_settings::settings::Settings;
 use std::alloc::{AllocError, Global};
 
-/// The objects of each story, which are as many references: the addresses of their property tables.
+/// Number of the objects that each story has, and of the references to the addresses of their property tables.
 const FIRST_OBJECTS: u32 = 4;
 
-/// The bytes of these tables.
+/// Number of bytes of these property tables.
 const FIRST_PROPERTY_BYTES: u32 = 30;
 
-/// The bytes of the low string that each story has: three spaces.
+/// Number of bytes of the low string that each story has: three spaces.
 const FIRST_LOW_STRING_BYTES: u32 = 2;
 
-/// The choices of the words of a command for a compilation: what their letters say, the settings, and the directories in which included
+/// The choices of the words of a command for a compilation: their letters, the settings, and the directories in which included
 /// files are looked for.
 #[derive(Clone, Copy)]
 pub struct Setup<'a> {
@@ -36,8 +36,9 @@ pub struct Setup<'a> {
 }
 
 impl Setup<'_> {
-    /// Makes the progress before the first token of a main source, the first of `files`: the letters hold. A setting that the first four
-    /// objects or the first low string alone would pass is told at the first line of the source, and ends the compilation.
+    /// Makes the progress before the first token of a main source, the first of `files`, for which the chosen letters hold. Where
+    /// the first four objects or the first low string alone would pass a setting, this is told at the first line of the source, and
+    /// ends the compilation.
     pub(crate) fn begin<B: Bounds>(
         &self,
         alloc: Global,
@@ -53,7 +54,7 @@ impl Setup<'_> {
         Ok(progress)
     }
 
-    /// The first setting that the first four objects or the first low string alone would pass.
+    /// Returns the first setting that the first four objects or the first low string alone would pass.
     fn tables_full(&self) -> Option<Setting>
         ensures { result ≡ tables_full self.now.settings.now }
     {

@@ -1,6 +1,6 @@
 //! The steps of a session.
 ghost use Rattle.std.specs.Prelude.{◌≡◌, ℕ, ◌<◌, ◌⊎◌, IfErr, IfOk, Ok, OnErr, OnOk, false, length, true};
-ghost use Rattle.inf_files.specs.Files.{Openings, Rose, Sources};
+ghost use Rattle.inf_devices.specs.Files.{Openings, Rose, Sources};
 ghost use Rattle.inf_sources.specs.Calls.{Honestly, IsUnreadable, StaysFit, Went};
 ghost use Rattle.inf_sources.specs.Open.{opened_since};
 ghost use Rattle.inf_session.specs.Choices.{chosen};
@@ -14,15 +14,15 @@ ghost use Rattle.inf_session.specs.Weights.{steps_left};
 
 use crate::faults::Fault;
 use crate::session::{Session, Step};
-use inf_files::files::Files;
+use inf_devices::files::Files;
+use inf_devices::sinks::Sink;
 use inf_settings::bounds::Bounds;
-use inf_sinks::sinks::Sink;
 
 impl<'a, B: Bounds> Session<'a, B> {
-    /// Reads one part: a directive, with the side that it leaves out; what of a bad one is passed over; the end of a file; or, behind the
-    /// end of the main source or a directive that ends all, the next routine of the veneer that is used and not declared. Each message
-    /// is written as soon as it is found, one about a routine of the veneer at the end of that routine. Behind the end, or a fatal
-    /// message, it answers the same again and changes nothing.
+    /// Reads one part: a directive, with the side that it leaves out; the tokens that are passed over behind a bad one; the end of
+    /// a file; or, behind the end of the main source or a directive that ends all, the next routine of the veneer that is used and
+    /// not declared. Each message is written as soon as it is found, one about a routine of the veneer at the end of that routine.
+    /// Behind the end, or a fatal message, a further call returns the same again and changes nothing.
     ///
     /// The faults are those of `translate`, but for that of the story.
     pub fn step<F: Files, M: Sink>(

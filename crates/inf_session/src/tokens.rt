@@ -1,4 +1,4 @@
-//! What a token does that was read.
+//! The taking of a token that was read.
 ghost use Rattle.std.specs.Prelude.{◌≡◌, IfOk, true};
 ghost use Rattle.inf_compilation.specs.Context.{handed};
 ghost use Rattle.inf_compilation.specs.Works.{work as work_of};
@@ -19,8 +19,9 @@ use inf_settings::bounds::Bounds;
 use inf_unit::tokens::SourceToken;
 use std::alloc::AllocError;
 
-/// Takes a token that was read with these bytes. The conditionals say what becomes of it, and what there is to tell of a condition,
-/// and the reader takes what is handed on. Gives how many bytes the longest quoted token then has, which had `quoted` before.
+/// Takes the token `token`, which was read with the bytes `bytes`. The conditionals say whether it is handed on and what there is
+/// to tell of a condition, and the reader takes the tokens that are handed on. Returns the number of bytes of the longest quoted
+/// token then, before which it was `quoted`.
 pub(crate) fn take<B: Bounds>(
     context: &Context<'_>,
     token: Token,
@@ -59,7 +60,7 @@ fn quoted_behind(site: Site, judged: Filtered, token: &SourceToken<'_>, quoted: 
     if quoted < bytes { bytes } else { quoted }
 }
 
-/// Returns the number of bytes between the quotes of `token`, if it has such.
+/// Returns the number of bytes between the quotes of `token`; 0 where it has no quotes.
 fn quoted_bytes(token: &SourceToken<'_>) -> usize
     ensures { result ≡ quoted_bytes (spelled token.now) }
 {
@@ -77,7 +78,7 @@ fn quoted_bytes(token: &SourceToken<'_>) -> usize
     }
 }
 
-/// A token with these bytes that comes to a place of the reading: at the front of a piece a name may be that of a class.
+/// Returns the token with the bytes `bytes` that comes to a place of the reading: at the front of a piece a name may be that of a class.
 fn token_at<'t, B: Bounds>(
     is_between: bool,
     token: Token,

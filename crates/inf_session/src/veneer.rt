@@ -1,7 +1,7 @@
-//! The routines that the compiler supplies where a source uses them and has none of its own.
+//! The routines of the veneer: the compiler supplies them where a source uses them and has none of its own.
 ghost use Rattle.std.specs.Prelude.{◌≡◌, ℕ, ◌≤◌, ◌<◌, ◌⊎◌, List, IfErr, IfOk, IfSome, Ok, OnErr};
 ghost use Rattle.std.specs.Prelude.{OnOk, false, is_none, is_some, length, true};
-ghost use Rattle.inf_files.specs.Files.{Openings, Rose, Sources};
+ghost use Rattle.inf_devices.specs.Files.{Openings, Rose, Sources};
 ghost use Rattle.inf_session.specs.Choices.{chosen, most_quoted};
 ghost use Rattle.inf_session.specs.Delivered.{Appends};
 ghost use Rattle.inf_session.specs.Faults.{Caused};
@@ -16,17 +16,17 @@ use crate::session::{Session, Step};
 use crate::tokens::take;
 use inf_compilation::context::Context;
 use inf_conditionals::conditionals::Conditionals;
+use inf_devices::sinks::Sink;
 use inf_names::symbols::Found;
 use inf_reader::reader::Reader;
 use inf_settings::bounds::Bounds;
 use inf_settings::setting::Setting;
-use inf_sinks::sinks::Sink;
 use inf_text_lexer::TextLexer;
 use inf_unit::messages::VENEER_FILE;
 use inf_veneer::{COUNT, veneer, veneer_name};
 use std::alloc::AllocError;
 
-/// Returns the text of the veneer of this number.
+/// Returns the text of the veneer with the number `number`; an empty one where there is none.
 fn text_of(number: usize) -> &'static [u8]
     ensures text { result.now ≡ veneer_text number }
     ensures few { length result.now ≤ 1000 }
@@ -38,8 +38,8 @@ fn text_of(number: usize) -> &'static [u8]
 }
 
 impl<'a, B: Bounds> Session<'a, B> {
-    /// Reads what is left of the veneer: each routine that is used and not declared, in their order. What one tells is written at its
-    /// end. Behind a fatal message none is read.
+    /// Reads the rest of the veneer: each routine that is used and not declared, in their order. The messages of a routine are
+    /// written at its end. Behind a fatal message none is read.
     pub fn supply<M: Sink>(&mut self, messages: &mut M) -> Result<(), Fault>
         ensures supplied { (sources : Sources) → (start now : Openings) →
             OnOk result (Writes (supplied B.most (chosen self.old.setup)) (state sources start now self.old)
@@ -58,7 +58,7 @@ impl<'a, B: Bounds> Session<'a, B> {
         Ok(())
     }
 
-    /// Reads the next routine of the veneer that is used and not declared, and tells what this came to.
+    /// Reads the next routine of the veneer that is used and not declared, and returns the result of this step.
     pub(crate) fn step_veneer<M: Sink>(&mut self, messages: &mut M) -> Result<Step, Fault>
         ensures supplied { (sources : Sources) → (start now : Openings) →
             OnOk result (Writes (next_supplied B.most (chosen self.old.setup)) (state sources start now self.old)
@@ -83,8 +83,8 @@ impl<'a, B: Bounds> Session<'a, B> {
         Ok(self.came_to(!was_read))
     }
 
-    /// Reads the next routine of the veneer that is used and not declared, and writes at its end what it tells. Behind a fatal message
-    /// there is none. Answers whether one was read; where none was, nothing has changed.
+    /// Reads the next routine of the veneer that is used and not declared, and writes its messages at its end. Behind a fatal
+    /// message there is no routine to read. Returns whether a routine was read; where none was, nothing has changed.
     fn read_veneer<M: Sink>(&mut self, messages: &mut M) -> Result<bool, Fault>
         ensures supplied { (sources : Sources) → (start now : Openings) →
             OnOk result (Writes (next_supplied B.most (chosen self.old.setup)) (state sources start now self.old)
@@ -112,7 +112,8 @@ impl<'a, B: Bounds> Session<'a, B> {
         }
     }
 
-    /// The number of the next routine of the veneer that is used and not declared; none behind a fatal message.
+    /// Returns the number of the next routine of the veneer that is used and not declared; `None` behind a fatal message, or where
+    /// there is no such routine.
     fn next_wanted(&self) -> Option<usize>
         ensures next { result ≡ next_of self.now }
         ensures behind { IfSome result (λ n. (self.now.passed < n) × (n ≤ most_texts)) }
@@ -130,7 +131,7 @@ impl<'a, B: Bounds> Session<'a, B> {
         None
     }
 
-    /// Returns whether the veneer's routine of a number is used and not declared.
+    /// Returns whether the routine of the veneer with the number `number` is used and not declared.
     fn wants(&self, number: usize) -> bool
         ensures { result ≡ is_wanted number self.now.progress.work.output.names }
     {
@@ -140,7 +141,7 @@ impl<'a, B: Bounds> Session<'a, B> {
         }
     }
 
-    /// Reads the veneer's text of a number, and writes what it tells.
+    /// Reads the text of the veneer with the number `number`, and writes its messages.
     fn read_text<M: Sink>(&mut self, number: usize, messages: &mut M) -> Result<(), Fault>
         requires { number ≤ most_texts }
         ensures read { (sources : Sources) → (start now : Openings) →
@@ -170,7 +171,7 @@ impl<'a, B: Bounds> Session<'a, B> {
         Ok(())
     }
 
-    /// Nothing of the source is open where a text of the veneer begins.
+    /// Begins a text of the veneer, where nothing of the source is open: neither a conditional nor a unit.
     fn begin_text(&mut self) -> Result<(), AllocError>
         ensures begun { (sources : Sources) → (start now : Openings) → (told : List ℕ) →
             OnOk result (state sources start now self.new told ≡ text_begun (state sources start now self.old told)) }

@@ -8,7 +8,7 @@ use Rattle.inf_settings.specs.Words.{capped, decimal_from, decimal_of, greatest}
 step_capped : (n m d : ℕ) → min n greatest ≡ min m greatest → min (n * 10 + d) greatest ≡ min (m * 10 + d) greatest
 step_capped n m d same = omega (arith, same)
 
--- two numbers that stop at the same one write the same with the digits behind them
+-- two numbers that are the same once capped stay so with the same digits behind them
 pub capped_alike : (n m : ℕ) (ds : List ℕ) → min n greatest ≡ min m greatest → capped (decimal_from n ds) ≡ capped (decimal_from m ds)
 capped_alike n m [] same = ap Some same
 capped_alike n m (d ∷ ds) same =
@@ -27,7 +27,7 @@ digit_next n d ds low high =
 stops : (n d next : ℕ) → next ≡ min (min (n * 10) greatest + (d - 48)) greatest → min next greatest ≡ min (n * 10 + (d - 48)) greatest
 stops n d next is = omega (arith, is)
 
--- one digit more, in a number that stops at the greatest
+-- one more digit is read behind a number that stops at the greatest one
 pub decimal_next : (n next : ℕ) (ds : List ℕ) (i : ℕ) → i < length ds → 48 ≤ get_or ds i 0 → get_or ds i 0 ≤ 57
     → next ≡ min (min (n * 10) greatest + (get_or ds i 0 - 48)) greatest
     → capped (decimal_from next (drop (i + 1) ds)) ≡ capped (decimal_from n (drop i ds))
@@ -36,13 +36,13 @@ decimal_next n next ds i within low high is =
     (capped_alike next (n * 10 + (get_or ds i 0 - 48)) (drop (suc i) ds) (stops n (get_or ds i 0) next is)
     ∙ sym (digit_next n (get_or ds i 0) (drop (suc i) ds) low high))
 
--- all digits were read
+-- the number is the one that was reached once all digits are read
 pub decimal_end : (n : ℕ) (ds : List ℕ) (i : ℕ) → length ds ≤ i → n ≤ greatest → capped (decimal_from n (drop i ds)) ≡ Some n
 decimal_end n ds i past small =
     let least : min n greatest ≡ n = omega (arith, small) in
     rw (drop_all i ds past, least) refl
 
--- where there is a digit
+-- digits write a number where there is at least one
 pub decimal_some : (ds : List ℕ) → 0 < length ds → capped (decimal_from 0 ds) ≡ capped (decimal_of ds)
 decimal_some [] is = absurd (omega (arith, is))
 decimal_some (d ∷ ds) is = refl

@@ -1,4 +1,4 @@
--- Looking for a setting by its name.
+-- A setting is looked for by its name.
 use Rattle.std.proofs.Common.{◌≡◌, ℕ, ◌+◌, ◌<◌, false, List, length, get_or, drop, drop-cons, add-one, refl}
 use Rattle.std.specs.Str.{bytes_eq}
 use Rattle.inf_settings.specs.Settings.{name_of, named_among}

@@ -1,4 +1,4 @@
--- What the code's assignments stand for.
+-- Assignments of the code as a name and a number.
 use Rattle.inf_settings.specs.Words.{Assigned}
 use Rattle.inf_settings.specs.declared.words.Assignment.{Assignment}
 

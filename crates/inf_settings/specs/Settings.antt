@@ -1,4 +1,4 @@
--- The settings: their names, their order, the numbers that they have from the start and may have (Designer's Manual, fourth
+-- The settings: their names, their order, their default numbers, and the numbers that they may have (Designer's Manual, fourth
 -- edition, section 39).
 use Rattle.std.specs.Prelude.{ℕ, List, [], ◌∷◌, codes, Bool, ◌&&◌, nat_le, if◌then◌else◌, Option, Some, None, Result, Ok, Err}
 use Rattle.std.specs.Str.{bytes_eq}
@@ -51,7 +51,7 @@ all_settings =
     QuotedText ∷ ExpressionNodes ∷ Symbols ∷ Labels ∷ DictionaryEntries ∷ Objects ∷ Verbs ∷ Actions ∷
     GrammarLines ∷ PropertyTables ∷ Arrays ∷ LowStrings ∷ Code ∷ Strings ∷ References ∷ []
 
--- the setting of a name, told with case
+-- the setting with a name, in which case counts
 abbrev pub named_among : List ℕ → List Setting → Option Setting
 named_among name [] = None
 named_among name (s ∷ settings) = if bytes_eq name (name_of s) then Some s else named_among name settings
@@ -59,14 +59,14 @@ named_among name (s ∷ settings) = if bytes_eq name (name_of s) then Some s els
 abbrev pub named : List ℕ → Option Setting
 named name = named_among name all_settings
 
--- the numbers that a setting may have
+-- tells whether a setting may have a number
 abbrev pub is_fit : ℕ → Bool
 is_fit n = nat_le 1 n && nat_le n 1048576
 
 abbrev pub fit : ℕ → Option ℕ
 fit n = if is_fit n then Some n else None
 
--- the numbers from the start
+-- the default numbers of all settings
 abbrev pub defaults : Settings
 defaults = record {
   quoted_text = 4000;
@@ -104,7 +104,7 @@ number_of Code s = s.code
 number_of Strings s = s.strings
 number_of References s = s.references
 
--- the settings after one is set to a number
+-- the settings where one has another number
 abbrev pub with_number : Setting → ℕ → Settings → Settings
 with_number QuotedText n s = record s { quoted_text = n }
 with_number ExpressionNodes n s = record s { expression_nodes = n }
@@ -122,7 +122,7 @@ with_number Code n s = record s { code = n }
 with_number Strings n s = record s { strings = n }
 with_number References n s = record s { references = n }
 
--- what setting the setting of a name to a number answers, and the settings behind it
+-- the answer to setting the setting with a name to a number; and below, the settings behind it
 abbrev pub answer_to : Option Setting → ℕ → Result Unit SetFault
 answer_to None n = Err Unknown
 answer_to (Some s) n = if is_fit n then Ok tt else Err OutOfRange

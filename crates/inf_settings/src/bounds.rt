@@ -1,4 +1,4 @@
-//! What there may be, as a type.
+//! The limits of a compilation, as a type.
 ghost use Rattle.std.specs.Prelude.{◌≡◌, ℕ};
 ghost use Rattle.inf_settings.specs.declared.setting.Setting.{Setting as Bounding};
 ghost use Rattle.inf_settings.specs.Bounds.{AreSet, unbounded};
@@ -8,27 +8,27 @@ use crate::setting::Setting;
 use crate::settings::Settings;
 use std::marker::Brand;
 
-/// What there may be. No value has such a type: what grows under a setting has it as a parameter, so that no call can change
-/// what there may be of it.
+/// The limits of a compilation, as a type without values. A value that grows under a setting has the type as a parameter; thus no
+/// call can change the limit.
 pub trait Bounds {
-    /// How much there may be of what a setting limits.
+    /// The limit of each setting.
     ghost most: { Bounding → ℕ };
 }
 
-/// As much as a number of the program can be.
+/// The greatest limits that numbers of the program can hold.
 pub struct Unbounded;
 
 impl Bounds for Unbounded {
     ghost most = { unbounded };
 }
 
-/// The same, where no call picks other limits.
+/// The greatest limits, for calls that pick no other ones.
 impl Bounds for Brand {
     ghost most = { unbounded };
 }
 
 impl Settings {
-    /// The number of a setting, for a type that stands for the numbers of all of them.
+    /// Returns the number of a setting, for a type that has the numbers of all settings as its limits.
     pub fn bound<B: Bounds>(&self, setting: Setting) -> u32
         requires { AreSet B.most self.now }
         ensures number { result ≡ number_of setting self.now }

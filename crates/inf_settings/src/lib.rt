@@ -1,4 +1,4 @@
-//! The settings of a compilation: how many there may be of what.
+//! The settings of a compilation: limits on the parts of a source and of a story.
 #![tactic(auto)]
 
 pub mod bounds;

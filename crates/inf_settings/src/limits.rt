@@ -24,7 +24,7 @@ impl Model for Limit {
 }
 
 impl Limit {
-    /// The number as a limit, if a setting can have it.
+    /// Returns the number as a limit, if a setting can have it.
     pub fn new(number: u32) -> Option<Limit>
         ensures { result ≡ fit number }
     {
@@ -34,7 +34,7 @@ impl Limit {
         Some(Limit { number })
     }
 
-    /// A number that is known to be fit.
+    /// Returns a number as a limit that is known to be one.
     pub(crate) fn known(number: u32) -> Limit
         requires positive { 1 ≤ number }
         requires small { number ≤ 1048576 }
@@ -43,7 +43,7 @@ impl Limit {
         Limit { number }
     }
 
-    /// The number.
+    /// Returns the number.
     pub fn number(&self) -> u32
         ensures value { result ≡ self.now }
         ensures positive { 1 ≤ result }

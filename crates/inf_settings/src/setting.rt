@@ -4,7 +4,7 @@ ghost use Rattle.inf_settings.specs.Settings.{name_of, named, place_of};
 
 use std::fmt;
 
-/// What a setting limits.
+/// A setting, by the things that it limits.
 #[derive(Clone, Copy, Debug, PartialEq, Eq)]
 pub enum Setting {
     /// The bytes of one quoted token.
@@ -59,7 +59,7 @@ pub const SETTINGS: [Setting; 15] = [
 ];
 
 impl Setting {
-    /// Its name, as words of a command and messages spell it.
+    /// Returns the name of the setting, as words of a command and messages spell it.
     pub fn name(self) -> &'static str
         ensures value { result.now ≡ name_of self }
         ensures own { named result.now ≡ Some self }
@@ -83,7 +83,7 @@ impl Setting {
         }
     }
 
-    /// Its place in the order of the settings, counted from 0.
+    /// Returns the place of the setting among all settings, counted from 0.
     pub fn place(self) -> usize
         ensures value { result ≡ place_of self }
         ensures few { result < 15 }
@@ -107,7 +107,7 @@ impl Setting {
         }
     }
 
-    /// The setting of this name, told with case.
+    /// Returns the setting with this name, if there is one. Case counts.
     pub fn named(name: &[u8]) -> Option<Setting>
         ensures { result ≡ named name.now }
     {

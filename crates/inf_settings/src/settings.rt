@@ -1,4 +1,4 @@
-//! The number that each setting has.
+//! The numbers of all settings.
 ghost use Rattle.std.specs.Prelude.{◌≡◌, ◌≤◌};
 ghost use Rattle.inf_settings.specs.Settings.{answer_to, defaults, named, number_of, with_named, with_number};
 
@@ -6,7 +6,7 @@ use crate::limits::Limit;
 use crate::setting::Setting;
 use thiserror::Error;
 
-/// Why a setting was not set.
+/// The reason for which a setting was not set.
 #[derive(Clone, Copy, Debug, PartialEq, Eq, Error)]
 pub enum SetFault {
     /// No setting has the name.
@@ -17,7 +17,7 @@ pub enum SetFault {
     OutOfRange,
 }
 
-/// The number of each setting.
+/// The numbers of all settings.
 #[derive(Debug, Drop)]
 pub struct Settings {
     quoted_text: Limit,
@@ -38,7 +38,7 @@ pub struct Settings {
 }
 
 impl Settings {
-    /// Each setting with the number that it has from the start.
+    /// Returns the settings, each with its default number.
     pub fn new() -> Settings
         ensures { result ≡ defaults }
     {
@@ -61,10 +61,9 @@ impl Settings {
         }
     }
 
-    /// Sets the setting of this name, told with case.
+    /// Sets the setting with this name, in which case counts.
     ///
-    /// Refuses a name that is no setting's, then a number that is not 1 to 1,048,576; the settings
-    /// then stay as they were.
+    /// Refuses a name that no setting has, then a number that is not 1 to 1,048,576; the settings then stay as they were.
     pub fn set(&mut self, name: &[u8], number: u32) -> Result<(), SetFault>
         ensures answer { result ≡ answer_to (named name.now) number }
         ensures numbers { self.new ≡ with_named (named name.now) number self.old }
@@ -101,7 +100,7 @@ impl Settings {
         }
     }
 
-    /// The number of a setting, 1 to 1,048,576.
+    /// Returns the number of a setting, 1 to 1,048,576.
     pub fn of(&self, setting: Setting) -> u32
         ensures value { result ≡ number_of setting self.now }
         ensures positive { 1 ≤ result }

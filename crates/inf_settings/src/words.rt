@@ -3,7 +3,7 @@ ghost use Rattle.std.specs.Prelude.{◌≡◌, ◌<◌, IfSome, length, option_m
 ghost use Rattle.inf_settings.specs.Words.{assignment_of, capped, decimal_of, sign_in};
 ghost use Rattle.inf_settings.specs.Assignments.{told};
 
-/// A name and a number, as a word of a command gives them.
+/// A name and a number, which a word of a command assigns.
 #[derive(Clone, Copy, Debug, PartialEq, Eq)]
 pub struct Assignment<'a> {
     pub name: &'a [u8],
@@ -12,8 +12,8 @@ pub struct Assignment<'a> {
 }
 
 impl<'a> Assignment<'a> {
-    /// What a word says that is `$`, a name, `=` and a number of decimal digits: no other word says
-    /// anything. Whether there is such a setting, and whether it can have the number, is not looked at.
+    /// Returns the assignment that a word makes: `$`, a name, `=` and a number of decimal digits; `None` for every other word.
+    /// Whether a setting has this name, and whether the setting can have the number, is not looked at.
     pub fn of(word: &'a [u8]) -> Option<Assignment<'a>>
         ensures { option_map told result ≡ assignment_of word.now }
     {
@@ -29,7 +29,7 @@ impl<'a> Assignment<'a> {
     }
 }
 
-/// The place of the first `=`.
+/// Returns the place of the first `=`, if there is one.
 fn sign_in(bytes: &[u8]) -> Option<usize>
     ensures value { result ≡ sign_in bytes.now }
     ensures within { IfSome result (λ sign. sign < length bytes.now) }
@@ -37,8 +37,8 @@ fn sign_in(bytes: &[u8]) -> Option<usize>
     bytes.iter().position(|byte| *byte == b'=')
 }
 
-/// The number that decimal digits write, if there are any and nothing else: the greatest one where
-/// it is greater.
+/// Returns the number that decimal digits write, or the greatest number where it is greater; `None` where there is no digit, or a
+/// byte that is none.
 fn decimal_of(digits: &[u8]) -> Option<u32>
     ensures { result ≡ capped (decimal_of digits.now) }
 {

@@ -18,7 +18,7 @@ use Rattle.inf_conditionals.specs.declared.words.ConditionalWord.TheVariants as 
 use Rattle.inf_conditionals.specs.Words.{word_of}
 use Rattle.inf_side_laws.specs.KeptSides.{asking}
 
--- whether it is the word of such a directive
+-- Tells whether a word is the word of a directive with a condition, of the wanted kind.
 abbrev asks : Bool → Option ConditionalWord → Bool
 asks true (Some word.Iftrue) = true
 asks false (Some word.Iffalse) = true
@@ -28,7 +28,8 @@ asks_so : (wanted : Bool) (w : Option ConditionalWord) → w ≡ Some (asking wa
 asks_so true w is = ap (asks true) is
 asks_so false w is = ap (asks false) is
 
--- whether the grammar takes the word at a place among the words, as the name of a class or not, if it is such a one
+-- Tells whether the grammar takes the word at this place among the words, as the name of a class or not, as the first token of such a
+-- directive.
 abbrev fits_at : Bool → ℕ → Bool
 fits_at is_class place = fits grammar known (first_word + (if is_class then names else 0) + place) condition_begun.stack
 
@@ -42,7 +43,7 @@ all_taken true false = refl
 all_taken false true = refl
 all_taken false false = refl
 
--- no name's place is behind them
+-- the place of a name is not behind those of the names
 place_one : (b : Bool) (n length : ℕ) → n ≤ length → cond b 0 (1 + n) ≤ suc length
 place_one true n length within = omega arith
 place_one false n length within = omega (arith, within)
@@ -75,7 +76,7 @@ fits_so wanted is_class (kind.Mark x) bytes is = cc
 fits_so wanted is_class (kind.Bad x) bytes is = cc
 fits_so wanted is_class kind.End bytes is = cc
 
--- wherever its directive begins
+-- the grammar takes the word wherever its directive begins
 pub asking_fits : (wanted : Bool) (t : SourceToken) (place : Place) → word_of (keyword t) ≡ Some (asking wanted) →
     fits grammar known (atom_of (record t { place = place })) condition_begun.stack ≡ true
 asking_fits wanted t place is = fits_so wanted t.is_class t.kind t.bytes is

@@ -1,4 +1,4 @@
--- Of each conditional one side is kept.
+-- One side of each conditional is kept.
 use Rattle.std.proofs.Common.{◌≡◌, ℕ, suc, ◌+◌, ◌≤◌, ◌==◌, max, List, [], ◌∷◌, ◌++◌, drop, length, map, reverse, cond, not, ◌&&◌, ◌||◌}
 use Rattle.std.proofs.Common.{Bool, true, false, Option, Some, None, is_none, unwrap_or, refl, sym, ap, subst, ◌∙◌, append_assoc, arith}
 use Rattle.std.proofs.lemmas.List.{append-nil, map-append, reverse-append}
@@ -74,7 +74,7 @@ word_is_name kind.End bytes w e = cc
 is_name : (t : SourceToken) (w : ConditionalWord) → word_of (keyword t) ≡ Some w → t.kind ≡ kind.Name
 is_name t w e = word_is_name t.kind t.bytes w e
 
--- a mark is none, and is not the end
+-- a mark is no word of a conditional, and is not the end
 mark_word : (k : TokenKind) (bytes : List ℕ) → (k ≡ kind.Name → ⊥) → word_of (keyword_of_kind k bytes) ≡ None
 mark_word kind.Name bytes other = absurd (other refl)
 mark_word (kind.Number n) bytes other = refl
@@ -121,19 +121,19 @@ name_plain is_within t is none = record { no_word = λ _. none; no_hash = ap (is
 
 -- Conditionals
 
--- where a `#` may be held back
+-- the conditionals, where a `#` may be held back
 abbrev pub state : Conditions → Option Place → List Conditional → List Conditional → Option LeftOut → ℕ → Conditions
 state c sign inner among left declared =
     record c { among = among; inner = inner; left_out = left; sign = sign; declared = declared; said = None }
 
--- between two parts
+-- the conditionals between two parts
 abbrev pub at : Conditions → List Conditional → List Conditional → Option LeftOut → ℕ → Conditions
 at c inner among left declared = state c None inner among left declared
 
 abbrev pub left_at : Bool → ℕ → Option LeftOut
 left_at is_inner n = Some (record { is_inner = is_inner; levels = n })
 
--- in a directive
+-- a directive that is being read
 abbrev pub directive : Bool → Place → Awaits → Pending
 directive is_inner place a = record { place = place; is_inner = is_inner; awaits = a }
 
@@ -285,7 +285,7 @@ end_stays t c is none no_sign = go c.left_out c.sign no_sign
         (ap (λ (b : Behind). b.now.among) same, ap (λ (b : Behind). b.now.inner) same)
     go None (Some place) e = cc
 
--- Where one is
+-- Where a side is left out
 
 abbrev side_at : Bool → LeftOut
 side_at is_inner = record { is_inner = is_inner; levels = 0 }
@@ -303,7 +303,7 @@ plain_left is_within t c inner among b n declared is few =
     ∙ ap (λ o. passed (left_inside base (side_at b) (level_behind o n) (sign_behind o t.token) declared)) (is.no_word refl)
     ∙ ap (λ h. passed (left_inside base (side_at b) n (cond h (Some t.token.place) None) declared)) is.no_hash
 
--- behind a `#`
+-- a plain token behind a `#` in a side that is left out leaves it as it was
 signed_left : (t : At) (place : Place) (c : Conditions) (inner among : List Conditional) (b : Bool) (n declared : ℕ) → IsSignedPlain t →
     n + 1 ≤ most_levels
     → judged_at t (state c (Some place) inner among (left_at b n) declared) ≡ passed (at c inner among (left_at b n) declared)
@@ -326,7 +326,7 @@ sign_left t sign c inner among b n declared hash few =
     ∙ ap (λ o. passed (left_inside base (side_at b) (level_behind o n) (sign_behind o t.token) declared)) none
     ∙ ap (λ h. passed (left_inside base (side_at b) n (cond h (Some t.token.place) None) declared)) hash
 
--- a word that ends no side
+-- a word that ends no side that is left out goes deeper or less deep in it
 word_left : (w : ConditionalWord) (t : At) (sign : Option Place) (c : Conditions) (inner among : List Conditional) (b : Bool)
     (n declared : ℕ) → word_of (keyword t.token) ≡ Some w → n + 1 ≤ most_levels
     → ends_side (second inner among) n (Some w) ≡ false
@@ -338,7 +338,7 @@ word_left w t sign c inner among b n declared is few stays =
     (ap (λ o. ends_side (second inner among) n o) is ∙ stays) few
     ∙ ap (λ o. passed (left_inside base (side_at b) (level_behind o n) (sign_behind o t.token) declared)) is
 
--- and one that does, behind which these conditionals are open
+-- A word that ends a side that is left out leaves these conditionals open.
 abbrev Acted : ConditionalWord → Bool → Conditions → List Conditional → List Conditional → List Conditional → List Conditional → Type 0
 Acted w b c inner among inner_now among_now = (sign : Option Place) (declared : ℕ)
     → record (ended_by w (state c sign inner among (left_at b 0) declared)) { left_out = None; sign = None } ≡ at c inner_now among_now None
@@ -384,7 +384,7 @@ mid false t c sign inner among left declared goes calm = go t.ended
       ap (λ x. places (reverse x)) (calm refl).0,
     )
 
--- where a side is left out
+-- Calm in a side that is left out between directives: no conditional is open inside a directive.
 abbrev pub CalmLeft : Bool → List Conditional → Bool → Type 0
 CalmLeft is_inner inner b = is_inner ≡ false → (inner ≡ []) × (b ≡ false)
 
@@ -392,7 +392,7 @@ pub calm_at : (is_inner : Bool) (inner : List Conditional) (b : Bool) (n : ℕ) 
     Calm is_inner inner (left_at b n)
 calm_at is_inner inner b n calm e = ((calm e).0, ap (λ x. cond x None (left_at b n)) (calm e).1)
 
--- Facts of what is open
+-- Facts of the conditionals that are open
 
 pub not_kept : (deep : List Open) (x : Open) (around : List Open) → x.stays ≡ false → are_kept (deep ++ x ∷ around) ≡ false
 not_kept [] x around left = ap (λ b. b && are_kept around) left
@@ -413,21 +413,21 @@ kept_head x around e = go x.stays e
     go true e = (refl, e)
     go false e = cc
 
--- what is turned
+-- a conditional in its second side stays as it is where it is turned
 other_same : (x : Open) → x.is_second ≡ true → other_side x ≡ x
 other_same x e = ap (λ b. cond b x (record x { is_second = true; stays = not x.stays })) e
 
 other_is : (x : Open) → x.is_second ≡ false → other_side x ≡ record x { is_second = true; stays = not x.stays }
 other_is x e = ap (λ b. cond b x (record x { is_second = true; stays = not x.stays })) e
 
--- what stays as it is
+-- conditionals in their second sides are kept as they were where one is turned
 kept_still : (x : Open) (around : List Open) → x.is_second ≡ true → are_kept (x ∷ around) ≡ true → are_kept (other_side x ∷ around) ≡ true
 kept_still x around e stay = ap (λ (o : Open). o.stays && are_kept around) (other_same x e) ∙ stay
 
 left_still : (x : Open) → x.is_second ≡ true → x.stays ≡ false → (other_side x).stays ≡ false
 left_still x e left = ap (λ (o : Open). o.stays) (other_same x e) ∙ left
 
--- and what turns
+-- the side of a conditional that is turned from its first side is the other way round
 left_turned : (x : Open) → x.is_second ≡ false → x.stays ≡ true → (other_side x).stays ≡ false
 left_turned x e stays = ap (λ (o : Open). o.stays) (other_is x e) ∙ ap not stays
 
@@ -466,9 +466,9 @@ no_lone w first end s left = go end.site.is_quiet
     go true = refl
     go false = ap (λ x. cond (x && is_lone w (seconds (s.inside ++ s.between))) (begins first ∷ []) []) left
 
--- What is handed on
+-- The tokens that are handed on
 
--- the conditionals by what is open, but for what was opened in a side that is left out
+-- the conditionals of the open ones, but for those that were opened in a side that is left out
 abbrev pub conditional_of : Open → Conditional
 conditional_of x = record { place = x.place; is_second = x.is_second }
 
@@ -479,9 +479,8 @@ abbrev pub outer : List Open → List Open
 outer [] = []
 outer (x ∷ around) = cond (are_kept around) (x ∷ outer around) (outer around)
 
--- Of none of the conditionals that are open a side is left out, or of one that was opened inside a directive or between directives, and so
--- many
--- others are open in it.
+-- The open conditionals by their sides: no side is left out; or a side of one that was opened inside a directive is left out, or of one
+-- that was opened between directives, with those in it that are open there.
 pub data Stands : Type 0 where
   AllStay : (inside between : List Open) → are_kept inside ≡ true → are_kept between ≡ true → Stands
   InnerLeft : (deep : List Open) (x : Open) (inside between : List Open) → x.stays ≡ false → are_kept inside ≡ true →
@@ -516,7 +515,7 @@ levels_of (OuterLeft deep x between left sb) = length deep
 abbrev pub stands_at : Conditions → Stands → ℕ → Conditions
 stands_at c st declared = at c (inner_of st) (among_of st) (left_of st) declared
 
--- What is open at last
+-- The conditionals that are open at last
 
 outer_kept : (around : List Open) → are_kept around ≡ true → outer around ≡ around
 outer_kept [] stay = refl
@@ -560,12 +559,12 @@ unended_is (x ∷ around) = go (are_kept around) (unended_is around)
 pub told_places : (around : List Open) (cs : List Conditional) → cs ≡ conditionals (outer around) → places (reverse cs) ≡ unended around
 told_places around cs e = ap (λ x. places (reverse x)) e ∙ sym (unended_is around)
 
--- at the end of a directive
+-- the conditionals that are reported at the end of a directive are those that are missing their end there
 pub ended_told : (e : Option ℕ) (st : Stands) (declared : ℕ) (c : Conditions) → ended_places e (inner_of st) ≡ missing_in e (stack_of st)
 ended_told None st declared c = refl
 ended_told (Some now) st declared c = told_places (stack_of st).inside (inner_of st) (are_open st).inside
 
--- What is kept is handed on, or a conditional directive takes it, which is read inside of others, with these conditions.
+-- Kept tokens are handed on, or a conditional directive takes them, which is read inside of others, with these conditions.
 pub data Reader : Type 0 where
   Hands : Reader
   Reads : (p : Pending) (others : List Pending) (ks : List Condition) → Reader
@@ -578,7 +577,7 @@ abbrev pub Holds : Reader → Conditions → Type 0
 Holds Hands c = c.pending ≡ []
 Holds (Reads p others ks) c = (c.pending ≡ p ∷ others) × (c.conditions ≡ ks)
 
--- behind a token, and behind some
+-- the reader behind a token, and behind some tokens
 abbrev pub read_one : SourceToken → Reader → Reader
 read_one t Hands = Hands
 read_one t (Reads p others []) = Reads p others []
@@ -596,7 +595,7 @@ abbrev pub handed_to : Reader → List SourceToken → List Handing
 handed_to r [] = []
 handed_to r (t ∷ tokens) = handed_one r t ++ handed_to (read_one t r) tokens
 
--- one that a directive takes and that is not its last
+-- A directive takes a token that is not its last one.
 abbrev TakenBy : Awaits → SourceToken → List Condition → Type 0
 TakenBy (awaits.Condition wanted) t (k ∷ ks) = (fits grammar known (atom_of t) k.stack ≡ true) × (is_whole (condition_took t k) ≡ false)
 TakenBy a t ks = ⊥
@@ -648,7 +647,7 @@ within_same : (tokens : List SourceToken) (r : Reader) → within (read_on token
 within_same [] r = refl
 within_same (t ∷ tokens) r = within_same tokens (read_one t r) ∙ within_one t r
 
--- a condition
+-- a condition reads tokens
 pub read_condition : (tokens : List SourceToken) (p : Pending) (others : List Pending) (k : Condition) (ks : List Condition) →
     read_on tokens (Reads p others (k ∷ ks)) ≡ Reads p others (condition_behind tokens k ∷ ks)
 read_condition [] p others k ks = refl
@@ -667,7 +666,7 @@ last_taken : (tokens : List SourceToken) (end : At) (k : Condition) → AreTaken
 last_taken [] end k are = are
 last_taken (t ∷ tokens) end k are = last_taken tokens end (condition_took t k) are.1.1
 
--- what is open at last, how many names are declared, and in how many levels of a side at most
+-- The conditionals that are open at last, the number of names that are declared, and the most levels in a side.
 pub record Last : Type 0 where
   pub around : Around
   pub declared : ℕ
@@ -741,7 +740,7 @@ joined r first second c tokens more places others between last a b = record {
     read_both [] second r = refl
     read_both (t ∷ first) second r = read_both first second (read_one t r)
 
--- what is told of more names and levels
+-- more names and levels are allowed for the same tokens
 pub relaxed : (r : Reader) (all : List At) (c : Conditions) (tokens : List SourceToken) (places : List Place) (s : Around)
     (declared declared_so n m : ℕ) → declared ≡ declared_so → n ≤ m
     → Led r all c tokens places (last_at s declared n) → Led r all c tokens places (last_at s declared_so m)
@@ -762,7 +761,7 @@ relaxed r all c tokens places s declared declared_so n m e few is =
 
 -- Tokens
 
--- nothing more
+-- no more tokens lead to where they are
 pub rests : (r : Reader) (c : Conditions) (last : Last) → StandsAt r last c → Led r [] c [] [] last
 rests r c last e = record { hands = refl; tells = refl; ends = e }
 
@@ -782,14 +781,14 @@ passes r t all c now next tokens missing places last e to told rest = record {
       (sym (ap (λ (b : Behind). ended_behind t.ended (silent b.now)) e ∙ to)) rest.ends;
 }
 
--- in the midst of a directive
+-- a token in the midst of a directive leads on
 pub goes_by : (r : Reader) (t : At) (all : List At) (c now next : Conditions) (tokens : List SourceToken) (places : List Place)
     (last : Last) → judged_at t c ≡ passed now
     → (ended_behind t.ended (silent now) ≡ next) × (ended_places t.ended now.inner ≡ []) → Led r all next tokens places last → Led r
     (t ∷ all) c tokens places last
 goes_by r t all c now next tokens places last e both rest = passes r t all c now next tokens [] places last e both.0 both.1 rest
 
--- one that is kept, alone or behind a `#`
+-- a token that is kept, alone or behind a `#`, leads on
 keeps : (t : At) (c : Conditions) (missing : List Place) (last : Last) → judged_at t c ≡ kept c →
     StandsAt Hands last (ended_behind t.ended (silent c)) → ended_places t.ended c.inner ≡ missing →
     Led Hands (t ∷ []) c (t.token ∷ []) missing last
@@ -821,7 +820,7 @@ keeps_both t place c now missing last e rest told = record {
   ends = subst (λ (x : Conditions). StandsAt Hands last x) (sym (ap (λ (b : Behind). ended_behind t.ended (silent b.now)) e)) rest;
 }
 
--- between directives, and inside one
+-- a token behind a `#` between directives, and inside one
 front_kept : (place : Place) (t : At) (c : Conditions) (inner among : List Conditional) (declared : ℕ) → IsSignedPlain t
     → judged_at t (reading false place awaits.Word c inner among declared) ≡ both_kept_so place (at c inner among None declared)
 front_kept place t c inner among declared is =
@@ -832,11 +831,11 @@ front_kept place t c inner among declared is =
     (behind_front (word_of (keyword t.token)) t.token p here)) is.no_hash
     ∙ ap (λ o. behind_front o t.token p here) is.no_word
 
--- what is read of conditions is given up there
+-- the conditionals, with the directives and conditions that are being read given up
 abbrev given_up_so : Conditions → Conditions
 given_up_so c = record c { pending = []; conditions = [] }
 
--- what becomes of it before a token that is no word of a conditional
+-- the result of a token that is no word of a conditional, with the `#` before it
 abbrev pub with_sign : Forwarded → Place → Behind → Behind
 with_sign h place b = record b { judged = record b.judged { sign = Some (record { place = place; handed = h }) } }
 
@@ -850,7 +849,7 @@ sign_comes : (place : Place) (t : At) (c : Conditions) (inner among : List Condi
 sign_comes place t c inner among declared none =
     ap (λ o. behind_sign o place t.site t.out t.token (state c (Some place) inner among None declared)) none
 
--- it is given up, as one that is kept or as one that does not fit
+-- A `#` is given up, as one that is kept or as one that does not fit.
 abbrev pub GivesUp : Forwarded → Place → Site → Conditions → List Conditional → List Conditional → ℕ → Type 0
 GivesUp h place site c inner among declared =
     sign_offered c.pending place site (at c inner among None declared)
@@ -860,7 +859,7 @@ pub sign_free : (place : Place) (site : Site) (c : Conditions) (inner among : Li
     → GivesUp handed.Kept place site c inner among declared
 sign_free place site c inner among declared none = ap (λ ps. sign_offered ps place site (at c inner among None declared)) none
 
--- and then the token is kept
+-- behind a `#` that is given up a plain token is kept
 pub given_up_kept : (h : Forwarded) (place : Place) (t : At) (c : Conditions) (inner among : List Conditional) (declared : ℕ)
     → GivesUp h place t.site c inner among declared → word_of (keyword t.token) ≡ None → is_mark mark.Hash t.token.kind ≡ false
     → judged_at t (state c (Some place) inner among None declared)
@@ -876,7 +875,7 @@ inside_kept : (place : Place) (t : At) (c : Conditions) (inner among : List Cond
 inside_kept place t c inner among declared none is =
     given_up_kept handed.Kept place t c inner among declared (sign_free place t.site c inner among declared none) is.no_word is.no_hash
 
--- a directive has ended, which is lone or not
+-- the result where a directive has ended, which is lone or not
 abbrev ended_so : Conditions → Option Place → Option Place → Behind
 ended_so now alone place = record { now = now; judged = record none_handed { unmatched = alone; ended = place } }
 
@@ -905,7 +904,7 @@ takes r t c now missing last none e rest told = record {
       rest;
 }
 
--- behind the end of a directive, or where none ends
+-- conditionals behind the end of a directive, or where none ends, are those that are open there
 pub ended_stands : (r : Reader) (e : Option ℕ) (st : Stands) (declared n : ℕ) (c : Conditions) → Holds r c →
     levels_of st ≤ n
     → StandsAt r (last_at (ended_in e (stack_of st)) (unwrap_or e declared) n) (ended_behind e (stands_at c st declared))
@@ -935,7 +934,7 @@ inner_front (Reads p others ks) sign c holds inside =
 pub outer_front : (sign : At) (c : Conditions) → c.pending ≡ [] → sign.site.is_between ≡ true → is_front sign c ≡ true
 outer_front sign c none between = ap (λ ps. sign.site.is_between && is_none_pending ps) none ∙ ap (λ b. b && true) between
 
--- No directive ends among them, or then none is open inside one.
+-- No directive ends among the first tokens, or then no conditional is open inside one.
 abbrev pub SignGoes : Bool → Option At → Type 0
 SignGoes b None = Unit {0}
 SignGoes b (Some sign) = GoesOn b sign
@@ -985,7 +984,7 @@ begins_kept r q true w a (Some sign) t all c after inner among declared places l
     (signed_inner w place t c inner among now is ∙ waits now)
     (mid m.b t (awaits_it true place a after) None inner among None now m.word m.calm) rest)
 
--- where a side is left out, one that ends none
+-- a word in a side that is left out, which ends none
 begins_left : (r : Reader) (is_inner is_within : Bool) (w : ConditionalWord) (m : ℕ) (sign : Option At) (t : At) (all : List At)
     (c : Conditions) (inner among : List Conditional) (b : Bool) (n declared : ℕ) (places : List Place) (last : Last)
     → Begins false is_inner is_within sign t → word_of (keyword t.token) ≡ Some w → GoesOn is_inner t → CalmLeft is_inner inner b → n + 1 ≤
@@ -1010,7 +1009,7 @@ begins_left r is_inner is_within w m (Some sign) t all c inner among b n declare
     (word_left w t (Some place) c inner among b n now is few stays ∙ ap (λ l. passed (at c inner among (left_at b l) now)) level)
     (mid is_inner t c None inner among (left_at b m) now goes (calm_at is_inner inner b m calm)) rest)
 
--- and one that ends it
+-- a word in a side that is left out, which ends it
 begins_end : (r : Reader) (is_inner is_within : Bool) (w : ConditionalWord) (sign : Option At) (t : At) (all : List At) (c : Conditions)
     (inner among inner_now among_now : List Conditional) (b : Bool) (declared : ℕ) (places : List Place) (last : Last)
     → Begins false is_inner is_within sign t → word_of (keyword t.token) ≡ Some w → GoesOn is_inner t → CalmLeft is_inner inner b
@@ -1043,7 +1042,7 @@ begins_end r is_inner is_within w (Some sign) t all c inner among inner_now amon
 
 -- The tokens of a condition
 
--- with a condition of which more is to be read
+-- the conditionals with a condition of which more is to be read
 abbrev pub with_condition : Condition → Conditions → Conditions
 with_condition k c = record c { conditions = k ∷ c.conditions }
 
@@ -1064,7 +1063,7 @@ begun_asking is_inner false t place c inner among declared is =
     let first : SourceToken = record t { place = place } in
     ap (λ (b : Bool). cond b (passed (asking_on place is_inner false (condition_took first condition_begun) here)) (unfit here)) is
 
--- a token that it takes, whatever then is
+-- a token that the condition takes, whatever comes then
 next_taken : (is_inner wanted : Bool) (place : Place) (t : At) (k : Condition) (c : Conditions) (inner among : List Conditional)
     (declared : ℕ) → is_mark mark.Hash t.token.kind ≡ false → fits grammar known (atom_of t.token) k.stack ≡ true
     → judged_at t (reading is_inner place (awaits.Condition wanted) (with_condition k c) inner among declared)
@@ -1079,7 +1078,7 @@ next_taken is_inner wanted place t k c inner among declared plain is_taken =
     (cond (fits grammar known (atom_of t.token) k.stack) then (unfit here))) plain
     ∙ ap (λ (b : Bool). cond b then (unfit here)) is_taken
 
--- one that is not the last
+-- a token that the condition takes, and that is not the last
 next_goes : (is_inner wanted : Bool) (place : Place) (t : At) (k : Condition) (c : Conditions) (inner among : List Conditional)
     (declared : ℕ) → is_mark mark.Hash t.token.kind ≡ false → fits grammar known (atom_of t.token) k.stack ≡ true
     → is_whole (condition_took t.token k) ≡ false
@@ -1097,7 +1096,7 @@ next_goes is_inner wanted place t k c inner among declared plain is_taken whole 
     (taken (asking_on place is_inner wanted next (saying quiet (too_much t.site.longest t.token next) (tokens_counted quiet next here)))))
     whole
 
--- and the last
+-- a token that the condition takes, and that is the last
 next_ends : (is_inner wanted : Bool) (place : Place) (t : At) (k : Condition) (c : Conditions) (inner among : List Conditional)
     (declared : ℕ) → is_mark mark.Hash t.token.kind ≡ false → fits grammar known (atom_of t.token) k.stack ≡ true
     → is_whole (condition_took t.token k) ≡ true
@@ -1120,7 +1119,7 @@ bool_cases : (P : Bool → Type 0) (b : Bool) → P true → P false → P b
 bool_cases P true x y = x
 bool_cases P false x y = y
 
--- by what it is
+-- a statement follows from both values of a truth value
 bool_cases_of : (b : Bool) (P : Type 0) → (b ≡ true → P) → (b ≡ false → P) → P
 bool_cases_of true P x y = x refl
 bool_cases_of false P x y = y refl
@@ -1142,7 +1141,7 @@ asking_level : (wanted : Bool) (n : ℕ) → level_behind (Some (asking wanted))
 asking_level true n = omega arith
 asking_level false n = omega arith
 
--- what is behind the first tokens is shorter, and begins with these names
+-- the tokens behind the first ones of a directive are fewer than all of its tokens
 pub fewer : (first : First) (tokens : List At) → length tokens + 1 ≤ length (first_tokens first tokens)
 fewer first tokens = go first.sign
   where
@@ -1170,12 +1169,12 @@ pub none_open : (is_inner : Bool) (s : Around) → NoneInside is_inner s → is_
 none_open false s right e = right
 none_open true s right e = cc
 
--- what waits around a directive
+-- the directives around another one are held by the same reader
 holds_on : (r : Reader) (c base : Conditions) → Holds r c → Holds r (record base { pending = c.pending; conditions = c.conditions })
 holds_on Hands c base holds = holds
 holds_on (Reads p others ks) c base holds = holds
 
--- where all is kept, while a directive is read
+-- The conditionals while a directive is read, where all sides are kept.
 pub record KeptAt (p : Pending) (others : List Pending) (ks : List Condition) (last : Last) (c : Conditions) : Type 0 where
   pub base : Conditions
   pub inside_kept : are_kept last.around.inside ≡ true
@@ -1217,7 +1216,7 @@ Leads d parts = (r : Reader) (s : Around) (declared n : ℕ) (c : Conditions) �
     → n + length (all_tokens parts) ≤ most_levels
     → Led r (all_tokens parts) c (kept_sides d s parts) (told_parts d s parts) (last_behind d parts s declared n)
 
--- of one that is kept
+-- parts between the tokens of a directive that is kept
 within_led_so : (tokens : List SourceToken) → (d : Answers) (parts : Parts) → Leads d parts → (r : Reader) (rest : List At)
     (is_inner : Bool) (place : Place) (a : Awaits) (c : Conditions) (ks after : List Condition) (s : Around) (declared n : ℕ)
     (start : Conditions) (places : List Place) (last : Last)
@@ -1263,14 +1262,14 @@ pub within_led : (d : Answers) (parts : Parts) → Leads d parts → (r : Reader
     → Led r (all_tokens parts ++ rest) start [] (told_parts d s parts ++ places) last
 within_led = within_led_so []
 
--- of which nothing is kept
+-- a reader takes the tokens of parts of which none is kept
 pub takes_none : (tokens : List SourceToken) (r : Reader) → tokens ≡ [] → TakesAll r tokens
 takes_none tokens r e = subst (TakesAll r) (sym e) tt
 
 pub reads_none : (tokens : List SourceToken) (r : Reader) → tokens ≡ [] → read_on tokens r ≡ r
 reads_none tokens r e = ap (λ ts. read_on ts r) e
 
--- of one that stands in a side that is left out
+-- parts between the tokens of a directive in a side that is left out
 left_led : (d : Answers) (parts : Parts) → Leads d parts → (r : Reader) (rest : List At) (s : Around) (declared n : ℕ)
     (start : Conditions) (places : List Place) (last : Last)
     → StandsAt r (last_at s declared n) start → AreParts d (within r) s declared parts → kept_sides d s parts ≡ [] → n + length
@@ -1340,7 +1339,7 @@ opened_at is_inner b place c inner among declared =
 abbrev new_open : Place → Bool → Open
 new_open place b = record { place = place; is_second = false; stays = b }
 
--- one is opened more
+-- one more conditional is opened
 opened_stands : (r : Reader) (is_inner b : Bool) (place : Place) (t : At) (inside between : List Open) (declared n : ℕ)
     (c : Conditions) → Holds r c
     → are_kept inside ≡ true → are_kept between ≡ true → NoneInsideBehind true is_inner t (record { inside = inside; between = between })
@@ -1408,7 +1407,7 @@ opened_told false b place t inside between declared c si sb = go t.ended
     go None = refl
     go (Some now) = told_places inside (conditionals inside) (sym (ap conditionals (outer_kept inside si)))
 
--- the semicolon of an `Ifnot`
+-- The semicolon of an `Ifnot` or an `Endif` leads on.
 abbrev LastLed : ConditionalWord → (Around → Around) → Effect → Type 0
 LastLed w act e = (r : Reader) (is_inner : Bool) (first : First) (t : At) (inside between : List Open) (declared n : ℕ)
     (c : Conditions) → Holds r c
@@ -1462,7 +1461,7 @@ turns_inner is_inner place t c z inner among declared is =
     go true = refl
     go false = refl
 
--- the conditionals of what was turned, or of what stays as it is
+-- turning a conditional in its second side leaves the conditionals as they are
 still_is : (x : Open) (around : List Open) → x.is_second ≡ true → conditionals (other_side x ∷ around) ≡ conditionals (x ∷ around)
 still_is x around e = ap (λ (o : Open). conditionals (o ∷ around)) (other_same x e)
 
@@ -1474,7 +1473,7 @@ told_as : (r : Reader) (t : At) (c : Conditions) (alone told missing : List Plac
     Led r (t ∷ []) c [] (alone ++ missing) last → Led r (t ∷ []) c [] (told ++ missing) last
 told_as r t c alone told missing last e is = subst (λ ps. Led r (t ∷ []) c [] (ps ++ missing) last) e is
 
--- where what is open now is known
+-- a semicolon leads on to conditionals that are known to be open
 stands_told : (r : Reader) (t : At) (st : Stands) (s : Around) (declared n : ℕ) (c x : Conditions) →
     stands_at c st declared ≡ x → stack_of st ≡ s → Holds r c → levels_of st ≤ n
     → StandsAt r (last_at (ended_in t.ended s) (declared_behind t declared) n) (ended_behind t.ended x) ×
@@ -1555,7 +1554,7 @@ turns_last r is_inner first t (y ∷ inside) between declared n c holds si sb is
     (ended_stands r t.ended (InnerLeft [] (other_side y) inside between (left_turned y e (kept_head y inside si).0)
     (kept_head y inside si).1 sb) declared n c holds (omega arith)))) both.1)
 
--- and that of an `Endif`
+-- the semicolon of an `Endif` leads on
 closes_last : LastLed word.Endif closed effect.Closes
 closes_last r is_inner first t [] [] declared n c holds si sb is =
     let place = begins first in
@@ -1649,7 +1648,7 @@ opens_left r q is_inner is_within w first all more (OuterLeft deep x between gon
       few = omega (arith, few_st);
     }))
 
--- a word that may end the side
+-- A word that may end the side leads on.
 abbrev pub LeftLed : ConditionalWord → (Around → Around) → Type 0
 LeftLed w act = (r q : Reader) (is_inner is_within : Bool) (first : First) (all : List At) (st : Stands) (declared n : ℕ)
     (c : Conditions) (places : List Place) (last : Last)
@@ -1825,7 +1824,7 @@ PartLeads d part = (r : Reader) (s : Around) (declared n : ℕ) (c : Conditions)
     → n + length (part_tokens part) ≤ most_levels
     → Led r (part_tokens part) c (kept_of part s) (told_of d part s) (last_part d part s declared n)
 
--- where all is kept
+-- where all sides are kept, a statement has to be shown of `AllStay` alone
 kept_only : (P : Stands → Type 0) →
     ((inside between : List Open) (si : are_kept inside ≡ true) (sb : are_kept between ≡ true) → P (AllStay inside between si sb)) →
     (st : Stands) → all_kept (stack_of st) ≡ true → P st
@@ -1848,7 +1847,7 @@ told_so r all c tokens places told last e is = subst (λ ps. Led r all c tokens 
 
 -- Plain tokens
 
--- a condition takes one
+-- a condition takes a plain token
 reads_one : (a : Awaits) (ks : List Condition) (is_inner : Bool) (place : Place) (others : List Pending) (t : At)
     (inside between : List Open) (declared n : ℕ) (c : Conditions)
     → c.pending ≡ directive is_inner place a ∷ others → c.conditions ≡ ks → are_kept inside ≡ true → are_kept between ≡ true
@@ -1933,9 +1932,9 @@ plain_leads d t r (OuterLeft deep x between left sb) declared n c holds few_st a
     plain_gone d t r (OuterLeft deep x between left sb) declared n c (not_kept deep x between left) holds few_st
     (subst (λ k. IsPlain k (within r) t) (not_kept deep x between left) are) few
 
--- and those behind a `#`
+-- Plain tokens behind a `#`
 
--- a condition takes that
+-- a condition takes the `#`
 sign_taken : (is_inner wanted : Bool) (place sign : Place) (site : Site) (k : Condition) (c : Conditions)
     (inner among : List Conditional) (declared : ℕ)
     → fits grammar known (atom_of (hash sign)) k.stack ≡ true
@@ -1947,7 +1946,7 @@ sign_taken is_inner wanted place sign site k c inner among declared is_taken =
     let p = directive is_inner place (awaits.Condition wanted) in
     ap (λ (b : Bool). cond b (asked_on wanted site (hash sign) (condition_took (hash sign) k) p here) (unfit here)) is_taken
 
--- the conditionals behind it, where the condition goes on
+-- the conditionals behind a `#` that a condition took, which goes on
 abbrev pub behind_taken : Place → Site → Condition → Conditions → Conditions
 behind_taken sign site k here =
     saying site.is_quiet (too_much site.longest (hash sign) k) (tokens_counted site.is_quiet k here)
@@ -1966,7 +1965,7 @@ sign_read is_inner wanted place sign t k c inner among declared no_word is_taken
     sign_comes sign t (awaits_it is_inner place a (with_condition k c)) inner among declared no_word
     ∙ ap (signed_by sign t) (sign_taken is_inner wanted place sign t.site k c inner among declared is_taken)
 
--- and the token behind it
+-- a condition takes the `#` and the token behind it
 both_read : (is_inner wanted : Bool) (place sign : Place) (t : At) (k : Condition) (c : Conditions) (inner among : List Conditional)
     (declared : ℕ) → IsSignedPlain t
     → (let now = condition_took (hash sign) k in
@@ -1990,7 +1989,7 @@ both_read is_inner wanted place sign t k c inner among declared is is_taken is_n
     ∙ ap (λ (b : Bool). with_sign handed.Condition sign (cond b
     (decided (verdict_of declared t.out next) wanted t.site.is_quiet next p here) (asked_on wanted t.site t.token next p here))) whole
 
--- or that does not fit
+-- a condition takes the `#`, and the token behind it does not fit
 pub taken_unfit : (is_inner wanted : Bool) (place sign : Place) (t : At) (k : Condition) (c : Conditions) (inner among : List Conditional)
     (declared : ℕ) → word_of (keyword t.token) ≡ None → is_mark mark.Hash t.token.kind ≡ false
     → (let now = condition_took (hash sign) k in
@@ -2172,9 +2171,9 @@ signed_leads d is_inner sign t r (OuterLeft deep x between left sb) declared n c
     signed_left_led d is_inner sign t r (OuterLeft deep x between left sb) false (length deep) declared n c refl few_st gone
     (λ _. (refl, refl)) holds few_st is are.1.1 few
 
--- A `#` before another one
+-- A `#` before another `#`
 
--- A `#` may be held back where this one comes.
+-- A `#` may be held back where another one comes.
 pub same_first : (r : Reader) (t : At) (all : List At) (c held_back : Conditions) (tokens : List SourceToken) (places : List Place)
     (last : Last) → judged_at t held_back ≡ judged_at t c
     → Led r (t ∷ all) c tokens places last → Led r (t ∷ all) held_back tokens places last
@@ -2186,7 +2185,7 @@ same_first r t all c held_back tokens places last e is = record {
       (sym (ap (λ (b : Behind). ended_behind t.ended (silent b.now)) e)) is.ends;
 }
 
--- Where it is given up, it is handed on then.
+-- A `#` that is given up is handed on where another one comes.
 pub hash_freed : (h : Forwarded) (place : Place) (t : At) (c : Conditions) (inner among : List Conditional) (declared : ℕ)
     → GivesUp h place t.site c inner among declared → is_mark mark.Hash t.token.kind ≡ true → t.site.is_between ≡ false
     → judged_at t (state c (Some place) inner among None declared)
@@ -2303,7 +2302,7 @@ before_left_led d is_inner sign part leads r st b m declared n c is_left_at few_
     (mid is_inner sign c (Some place) inner among (left_at b m) declared is.goes_on (calm_at is_inner inner b m calm))
     again)))
 
--- Of a token becomes the same behind these as behind those.
+-- A token has the same result behind these conditionals as behind those.
 pub record TokenSame (t : At) (c other : Conditions) : Type 0 where
   pub hands : handed_on (judged_at t c).judged t.token ≡ handed_on (judged_at t other).judged t.token
   pub lone : (judged_at t c).judged.unmatched ≡ (judged_at t other).judged.unmatched
@@ -2327,7 +2326,7 @@ pub same_behind : (t : At) (all : List At) (c other : Conditions) → TokenSame 
     all_behind (t ∷ all) c ≡ all_behind (t ∷ all) other
 same_behind t all c other is = ap (λ x. all_behind all (ended_behind t.ended x)) is.next
 
--- A condition takes a `#` that is held back, and then another one is as it is where that was taken before.
+-- Where a condition takes a `#` that is held back, another `#` has the result that it has where the first was taken before.
 pub taken_same : (is_inner wanted : Bool) (place sign : Place) (k : Condition) (t : At) (c : Conditions) (inner among : List Conditional)
     (declared : ℕ) → fits grammar known (atom_of (hash sign)) k.stack ≡ true → is_mark mark.Hash t.token.kind ≡ true
     → (let a = awaits.Condition wanted in let now = condition_took (hash sign) k in
@@ -2558,7 +2557,7 @@ fronted_leads d sign parts t leads Hands (AllStay [] between si sb) declared n c
     (ended_stands Hands t.ended (AllStay l.around.inside l.around.between bi bb) l.declared m after holds (omega arith))
     (ended_told t.ended (AllStay l.around.inside l.around.between bi bb) l.declared after))))
 
--- What is led behind a `#` is so from where that is held back.
+-- Tokens that are led behind a `#` are led from where that is held back.
 pub behind_sign_led : (r : Reader) (sign : At) (all : List At) (c now then : Conditions) (tokens : List SourceToken) (places : List Place)
     (last : Last) → judged_at sign c ≡ passed now
     → (ended_behind sign.ended (silent now) ≡ then) × (ended_places sign.ended now.inner ≡ []) → Led r (sign ∷ all) c tokens places last →
@@ -2580,7 +2579,7 @@ behind_sign_led r sign all c now then tokens places last e both is = record {
       (ap (λ (b : Behind). ended_behind sign.ended (silent b.now)) e ∙ both.0) is.ends;
 }
 
--- where it begins a directive
+-- tokens that are led where a `#` begins a directive
 pub front_led : (r : Reader) (sign : At) (all : List At) (c : Conditions) (inner among : List Conditional) (declared : ℕ)
     (tokens : List SourceToken) (places : List Place) (last : Last) → c.pending ≡ []
     → sign.site.is_between ≡ true → is_mark mark.Hash sign.token.kind ≡ true → sign.ended ≡ None
@@ -2711,7 +2710,7 @@ mids_of false is_within w first s is none = go (first_ends first) refl
         let both =
         goes first.sign first.word.ended ends in record { b = true; word = both.1; sign_goes = both.0; calm = λ e. absurd (no_false e) }
 
--- with the parts that are read
+-- parts in a directive that is kept are among the tokens of one that is read
 among_kept : (d : Answers) (is_within : Bool) (s : Around) (declared : ℕ) (parts : Parts) → all_kept s ≡ true →
     AreParts d (among is_within s) s declared parts → AreParts d true s declared parts
 among_kept d is_within s declared parts e are = subst (λ b. AreParts d (b || is_within) s declared parts) e are
@@ -2881,7 +2880,7 @@ closing_leads d is_inner first parts end leads r st declared n c holds few_st ar
         holds few) st e
     go false e = ending_left word.Endif closed closes_left d is_inner first parts end leads r st declared n c holds few_st few e
 
--- what is opened more in a side that is left out is left out
+-- a conditional that is opened in a side that is left out is left out, too
 more_left : (is_inner : Bool) (x : Open) (s : Around) → all_kept s ≡ false → all_kept (opened_more is_inner x s) ≡ false
 more_left is_inner x s left = of_both (λ (y : Around). all_kept y ≡ false) (is_inner && are_kept s.between)
     (record s { inside = x ∷ s.inside }) (record s { between = x ∷ s.between }) (λ _. inside_so x.stays) (λ _. between_so x.stays)
@@ -3031,7 +3030,7 @@ asking_leads d is_inner wanted first parts end leads r st declared n c holds few
         (asking_kept d is_inner wanted first parts end leads r declared n c holds few) st e
     go false e = asking_left d is_inner wanted first parts end leads r st declared n c holds few_st few e
 
--- One with a name
+-- A directive with a name
 
 abbrev named_open : Answers → Bool → First → At → Open
 named_open d if_declared first name = first_side first if_declared (d.is_declared name)
@@ -3349,7 +3348,7 @@ mutual
   led d NoParts = none_leads d
   led d (Then part parts) = then_leads d part parts (part_led d part) (led d parts)
 
--- What is open at last
+-- The conditionals that are open at last
 
 pub open_of : (r : Reader) (last : Last) (c : Conditions) → StandsAt r last c → AreOpen last.around c.inner c.among
 open_of r last c e =

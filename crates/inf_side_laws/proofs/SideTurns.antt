@@ -3,7 +3,7 @@ use Rattle.std.proofs.Common.{◌≡◌, ℕ, zero, suc, ◌+◌, ◌≤◌, [],
 use Rattle.std.proofs.Common.{ap, subst, ◌∙◌, arith}
 use Rattle.std.proofs.lemmas.List.{map-append}
 use Rattle.inf_settings.specs.Bounds.{Limits}
-use Rattle.inf_files.specs.Files.{Sources}
+use Rattle.inf_devices.specs.Files.{Sources}
 use Rattle.inf_unit.specs.Directives.{Request, Characters, End, Include, Nothing}
 use Rattle.inf_unit.specs.Tokens.{SourceToken, keyword}
 use Rattle.inf_unit.proofs.Cases.{of_both}
@@ -68,7 +68,7 @@ turn_conditions limits sources o s going none =
     ∙ ap (ended_behind (ends_there (carried_out sources o (stepped limits o s))))
     (carried_out_conditions sources o (stepped limits o s) going none)
 
--- What it hands on
+-- The tokens that a turn hands on
 
 shown_as : (h : Forwarded) (t : SourceToken) → map shown (given_as h t) ≡ handed_as h t
 shown_as handed.Kept t = refl
@@ -130,7 +130,7 @@ readings_start_clear sources o name =
 
 -- A side that is left out inside a directive
 
--- a turn in it
+-- A turn in a side that is left out inside a directive stands still.
 record Still (limits : Limits) (sources : Sources) (o : Choices) (s : State) (side : LeftOut) : Type 0 where
   none_given : given_by o s ≡ []
   reading : (turn limits sources o s).reading ≡ s.reading

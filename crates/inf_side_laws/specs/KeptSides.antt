@@ -1,4 +1,4 @@
--- Which tokens of a file are kept, with conditionals between its directives and inside them: of each conditional one side is.
+-- The tokens of a file that are kept, with conditionals between its directives and inside them: one side of each conditional is.
 use Rattle.std.specs.Prelude.{◌≡◌, ◌≤◌, ◌&&◌, ◌||◌, ℕ, List, [], ◌∷◌, ◌++◌, drop, length, map, reverse, Bool, true, false, not}
 use Rattle.std.specs.Prelude.{if◌then◌else◌, Option, Some, None, is_none, unwrap_or}
 use Rattle.inf_names.specs.Symbols.{declared_before}
@@ -27,9 +27,9 @@ use Rattle.inf_reader.specs.Handing.{hash}
 use Rattle.inf_conditional_laws.specs.LoneEnds.{is_lone}
 use Rattle.inf_conditional_laws.specs.MissingEnds.{with_all_at}
 
--- What is handed on
+-- The tokens that are handed on
 
--- a token that is handed on, as one that is kept or as one that does not fit
+-- A token that is handed on, as one that is kept or as one that does not fit.
 pub record Handing : Type 0 where
   pub handed : Forwarded
   pub token : SourceToken
@@ -37,7 +37,7 @@ pub record Handing : Type 0 where
 abbrev pub as_kept : SourceToken → Handing
 as_kept t = record { handed = handed.Kept; token = t }
 
--- of a token, by what becomes of it: first a `#` that was held back before it
+-- the tokens that are handed on for one token, by its result: first a `#` that was held back before it
 abbrev pub handed_as : Forwarded → SourceToken → List Handing
 handed_as handed.Condition t = []
 handed_as h t = record { handed = h; token = t } ∷ []
@@ -53,7 +53,7 @@ handed_token (Some h) t = handed_as h t
 abbrev pub handed_on : Filtered → SourceToken → List Handing
 handed_on j t = handed_sign j.sign ++ handed_token j.token t
 
--- a token at a site, where names are known, and how many names are declared behind it, where a directive is taken to end there
+-- A token at a site, where names are known, and the number of names that are declared behind it, where a directive is taken to end there.
 pub record At : Type 0 where
   pub site : Site
   pub out : Out
@@ -63,7 +63,7 @@ pub record At : Type 0 where
 abbrev pub judged_at : At → Conditions → Behind
 judged_at t c = judged t.site t.out t.token c
 
--- the conditionals behind it: what there was to tell of a condition is told, and perhaps a directive has ended
+-- the conditionals behind a token: the message about a condition was reported, and perhaps a directive has ended
 abbrev pub ended_behind : Option ℕ → Conditions → Conditions
 ended_behind None c = c
 ended_behind (Some declared) c = piece_ended declared c
@@ -71,19 +71,18 @@ ended_behind (Some declared) c = piece_ended declared c
 abbrev pub going_on : At → Conditions → Conditions
 going_on t c = ended_behind t.ended (silent (judged_at t c).now)
 
--- what is handed on of all of them
+-- the tokens that are handed on for some tokens
 abbrev pub all_handed_on : List At → Conditions → List Handing
 all_handed_on [] c = []
 all_handed_on (t ∷ tokens) c = handed_on (judged_at t c).judged t.token ++ all_handed_on tokens (going_on t c)
 
--- the conditionals behind all of them
+-- the conditionals behind some tokens
 abbrev pub all_behind : List At → Conditions → Conditions
 all_behind [] c = c
 all_behind (t ∷ tokens) c = all_behind tokens (going_on t c)
 
--- and what is told of it: where directives begin that are without their other end, and at the end of a directive where those do that were
--- opened
--- inside of it
+-- the places that are reported for some tokens: where directives begin that are without their other end, and at the end of a directive
+-- where those do that were opened inside of it
 abbrev pub lone_places : Option Place → List Place
 lone_places None = []
 lone_places (Some place) = place ∷ []
@@ -100,9 +99,9 @@ all_told [] c = []
 all_told (t ∷ tokens) c =
     lone_places (judged_at t c).judged.unmatched ++ (ended_places t.ended (judged_at t c).now.inner ++ all_told tokens (going_on t c))
 
--- What stands in a file
+-- The parts of a file
 
--- the word of a directive, perhaps behind a `#`, with which it begins then
+-- The word of a directive, perhaps behind a `#`, with which the directive begins then.
 pub record First : Type 0 where
   pub sign : Option At
   pub word : At
@@ -121,17 +120,12 @@ signed_tokens (Some sign) tokens = sign ∷ tokens
 abbrev pub first_tokens : First → List At → List At
 first_tokens first tokens = signed_tokens first.sign (first.word ∷ tokens)
 
--- A token that belongs to no conditional directive, alone or behind a `#`; a `#` before another one, with which a part begins; a `#` that
--- begins a
--- directive, with parts before the next token of that, or before the word of a conditional one, which is given with the same `#`; a
--- directive with
--- a name, which opens a conditional, where the name is to be declared or not, and one with a condition, which is to be true or not; and an
--- `Ifnot`
--- and an `Endif`, each with its semicolon. A directive stands inside another one or between the others, and parts stand between the tokens
--- of a
--- conditional one: before and behind its name, among those of its condition, and before its semicolon. In a side that is left out the word
--- of a
--- directive may stand alone, whatever comes behind it.
+-- A part: a token that belongs to no conditional directive, alone or behind a `#`; a `#` before another one, with which a part begins; a
+-- `#` that begins a directive, with parts before the next token of that, or before the word of a conditional one, which is given with the
+-- same `#`; a directive with a name, which opens a conditional, where the name is to be declared or not, and one with a condition, which
+-- is to be true or not; and an `Ifnot` and an `Endif`, each with its semicolon. A directive is inside another one or between the others,
+-- and parts may come between the tokens of a conditional one: before and behind its name, among those of its condition, and before its
+-- semicolon. In a side that is left out the word of a directive may come alone, whatever is behind it.
 mutual
   pub data Part : Type 0 where
     Plain : (token : At) → Part
@@ -167,7 +161,7 @@ abbrev mutual
   all_tokens NoParts = []
   all_tokens (Then part parts) = part_tokens part ++ all_tokens parts
 
--- how many names are declared behind a token
+-- the number of names that are declared behind a token
 abbrev pub declared_behind : At → ℕ → ℕ
 declared_behind t declared = unwrap_or t.ended declared
 
@@ -182,7 +176,8 @@ abbrev pub declared_tokens : List At → ℕ → ℕ
 declared_tokens [] declared = declared
 declared_tokens (t ∷ tokens) declared = declared_tokens tokens (declared_behind t declared)
 
--- A condition with what of its directive is still to be read: behind further tokens, and behind all of them.
+-- The word of a directive, at the place where the directive begins; below, a condition behind further tokens, and behind all of its
+-- tokens.
 abbrev pub placed_word : First → SourceToken
 placed_word first = record first.word.token { place = begins first }
 
@@ -193,22 +188,21 @@ condition_behind (t ∷ tokens) k = condition_behind tokens (condition_took t k)
 abbrev pub whole_condition : First → List SourceToken → At → Condition
 whole_condition first tokens end = condition_took end.token (condition_behind tokens (condition_took (placed_word first) condition_begun))
 
--- what is told of each name at its place, whether one of the directives before declared it, and of each condition, whether it is true
--- behind its last
--- token
+-- The answers for names and conditions: for each name at its place, whether one of the directives before declared it, and for each
+-- condition, whether it is true behind its last token.
 pub record Answers : Type 0 where
   pub is_declared : At → Bool
   pub is_true : Condition → At → Bool
 
--- What is kept of it
+-- The tokens that are kept
 
--- a conditional that is open: where its directive begins, whether it is in its second side, and whether the side that it is in stays
+-- A conditional that is open: where its directive begins, whether it is in its second side, and whether this side stays.
 pub record Open : Type 0 where
   pub place : Place
   pub is_second : Bool
   pub stays : Bool
 
--- those that were opened inside the directive at hand, and those between directives, the latest first
+-- The open conditionals: those that were opened inside the directive at hand, and those between directives, the latest first.
 pub record Around : Type 0 where
   pub inside : List Open
   pub between : List Open
@@ -216,7 +210,7 @@ pub record Around : Type 0 where
 abbrev pub none_around : Around
 none_around = record { inside = []; between = [] }
 
--- A token is kept where of each conditional around it the side stays that it is in.
+-- Tells whether a token is kept: where the side stays that each conditional around it is in.
 abbrev pub are_kept : List Open → Bool
 are_kept [] = true
 are_kept (x ∷ around) = x.stays && are_kept around
@@ -224,9 +218,8 @@ are_kept (x ∷ around) = x.stays && are_kept around
 abbrev pub all_kept : Around → Bool
 all_kept s = are_kept s.inside && are_kept s.between
 
--- One is opened more, whose first side stays where its name was declared or its condition is true, or where not. It belongs to the
--- directive in
--- which it was opened, unless that stands in a side that is left out between directives.
+-- The first side of a conditional that is opened, which stays where its name was declared or its condition is true, or where not. The
+-- conditional belongs to the directive in which it was opened, unless that is in a side that is left out between directives.
 abbrev pub first_side : First → Bool → Bool → Open
 first_side first wanted is_so = record { place = begins first; is_second = false; stays = if wanted then is_so else not is_so }
 
@@ -234,7 +227,7 @@ abbrev pub opened_more : Bool → Open → Around → Around
 opened_more is_inner x s =
     if is_inner && are_kept s.between then record s { inside = x ∷ s.inside } else record s { between = x ∷ s.between }
 
--- the other side of the latest conditional begins, if it was in its first one; of both sides one stays
+-- the latest conditional in its other side, if it was in its first one; of both sides one stays
 abbrev pub other_side : Open → Open
 other_side x = if x.is_second then x else record x { is_second = true; stays = not x.stays }
 
@@ -249,7 +242,7 @@ turned_by (x ∷ inside) s = record s { inside = other_side x ∷ inside }
 abbrev pub turned : Around → Around
 turned s = turned_by s.inside s
 
--- the latest one is closed
+-- the open conditionals without the latest one
 abbrev pub closed_by : List Open → Around → Around
 closed_by [] s = record s { between = drop 1 s.between }
 closed_by (x ∷ inside) s = record s { inside = inside }
@@ -257,7 +250,7 @@ closed_by (x ∷ inside) s = record s { inside = inside }
 abbrev pub closed : Around → Around
 closed s = closed_by s.inside s
 
--- Those that were opened inside a directive end with it.
+-- The conditionals that were opened inside a directive end with it.
 abbrev pub ended_in : Option ℕ → Around → Around
 ended_in None s = s
 ended_in (Some declared) s = record s { inside = [] }
@@ -269,13 +262,13 @@ acted act parts s = if all_kept s then act (parts s) else parts (act s)
 abbrev pub before_parts : (act : Around → Around) → Around → Around
 before_parts act s = if all_kept s then s else act s
 
--- what a word does there
+-- the open conditionals behind a word in a side that is left out
 abbrev pub passed_by : Bool → First → ConditionalWord → Around → Around
 passed_by is_inner first word.Ifnot s = turned s
 passed_by is_inner first word.Endif s = closed s
 passed_by is_inner first w s = opened_more is_inner (first_side first true true) s
 
--- the tokens that are kept of a part; none of a conditional directive is
+-- the tokens that are kept of a part; no token of a conditional directive is
 abbrev pub kept_of : Part → Around → List SourceToken
 kept_of (Plain t) s = if all_kept s then t.token ∷ [] else []
 kept_of (Signed is_inner sign t) s = if all_kept s then hash sign.token.place ∷ t.token ∷ [] else []
@@ -283,7 +276,7 @@ kept_of (Before is_inner sign part) s = (if all_kept s then hash sign.token.plac
 kept_of (Fronted sign within t) s = hash sign.token.place ∷ t.token ∷ []
 kept_of _ s = []
 
--- what is open behind a part, and behind parts; and the tokens of these that are kept
+-- the open conditionals behind a part, and behind parts; and the tokens of these that are kept
 abbrev mutual
   pub behind_part : Answers → Part → Around → Around
   behind_part answers (Plain t) s = ended_in t.ended s
@@ -312,7 +305,7 @@ abbrev mutual
   kept_sides answers s NoParts = []
   kept_sides answers s (Then part parts) = kept_of part s ++ kept_sides answers (behind_part answers part s) parts
 
--- the parts of a directive stand here
+-- the open conditionals at the parts of a directive, with a name or with a condition
 abbrev pub opening_parts : Answers → Bool → Bool → First → At → Around → Around
 opening_parts answers is_inner if_declared first name s =
     before_parts (opened_more is_inner (first_side first if_declared (answers.is_declared name))) s
@@ -322,21 +315,21 @@ asking_parts answers is_inner wanted first within end s =
     before_parts (opened_more is_inner (first_side first wanted (answers.is_true (whole_condition first (kept_sides answers s within) end)
     end))) s
 
--- and here behind its name
+-- the open conditionals behind the name of a directive
 abbrev pub behind_name : Answers → Parts → At → Around → Around
 behind_name answers before name s = ended_in name.ended (behind_parts answers s before)
 
--- where those began that are open, in order, but for what was opened in a side that is left out
+-- the places where the open conditionals began, in order, but for those that were opened in a side that is left out
 abbrev pub unended : List Open → List Place
 unended [] = []
 unended (x ∷ around) = unended around ++ (if are_kept around then x.place ∷ [] else [])
 
--- those that were opened inside a directive are told at its end
+-- the places that are reported at the end of a directive: of the conditionals that were opened inside it
 abbrev pub missing_in : Option ℕ → Around → List Place
 missing_in None s = []
 missing_in (Some declared) s = unended s.inside
 
--- where directives begin that have no conditional to turn or to end, of those that are kept and do not end among tokens that are passed
+-- the places of directives that have no conditional to turn or to end, of those that are kept and do not end among tokens that are passed
 -- over
 abbrev pub seconds : List Open → List Bool
 seconds around = map (λ (x : Open). x.is_second) around
@@ -345,11 +338,11 @@ abbrev pub lone_at : ConditionalWord → First → At → Around → List Place
 lone_at w first end s =
     if end.site.is_quiet then [] else if all_kept s && is_lone w (seconds (s.inside ++ s.between)) then begins first ∷ [] else []
 
--- where it ends, and in a side that is left out where it begins
+-- the open conditionals where a directive acts: where it ends, and in a side that is left out where it begins
 abbrev pub acting : Answers → Parts → Around → Around
 acting answers within s = if all_kept s then behind_parts answers s within else s
 
--- what is told of parts, in order
+-- the places that are reported for parts, in order
 abbrev mutual
   pub told_of : Answers → Part → Around → List Place
   told_of answers (Plain t) s = missing_in t.ended s
@@ -383,19 +376,19 @@ abbrev mutual
   told_parts answers s NoParts = []
   told_parts answers s (Then part parts) = told_of answers part s ++ told_parts answers (behind_part answers part s) parts
 
--- What parts are
+-- The form of parts
 
--- whether a word of a conditional counts without a `#`: where it is left out, and where it is kept between directives
+-- Tells whether a word of a conditional counts without a `#`: where it is left out, and where it is kept between directives.
 abbrev pub counts : Bool → Bool → At → Bool
 counts is_kept is_within t = not is_kept || (not is_within && t.site.is_between)
 
--- a token that is neither the end of the file, nor a `#`, nor a word of a conditional where that counts
+-- The token is neither the end of the file, nor a `#`, nor a word of a conditional where that counts.
 pub record IsPlain (is_kept is_within : Bool) (t : At) : Type 0 where
   pub no_word : counts is_kept is_within t ≡ true → word_of (keyword t.token) ≡ None
   pub no_hash : is_mark mark.Hash t.token.kind ≡ false
   pub goes_on : is_end t.token.kind ≡ false
 
--- no directive ends behind a token that is inside one
+-- No directive ends behind a token that is inside one.
 abbrev pub GoesOn : Bool → At → Type 0
 GoesOn true t = t.ended ≡ None
 GoesOn false t = Unit {0}
@@ -404,15 +397,14 @@ pub record IsSign (is_inner : Bool) (sign : At) : Type 0 where
   pub is : is_mark mark.Hash sign.token.kind ≡ true
   pub goes_on : GoesOn is_inner sign
 
--- behind one a word always counts
+-- The token is plain behind a `#`, where a word always counts.
 pub record IsSignedPlain (t : At) : Type 0 where
   pub no_word : word_of (keyword t.token) ≡ None
   pub no_hash : is_mark mark.Hash t.token.kind ≡ false
   pub goes_on : is_end t.token.kind ≡ false
 
--- Where a directive is kept, between the others, it begins with a `#` or without, and inside of one with it. Among the tokens of a
--- conditional
--- one all stand inside, wherever reading stands.
+-- A directive that is kept between the others begins with a `#` or without, and one that is kept inside another begins with it. All
+-- tokens of a conditional directive are inside it, wherever reading is.
 abbrev pub Begins : Bool → Bool → Bool → Option At → At → Type 0
 Begins true false false None w = w.site.is_between ≡ true
 Begins true false false (Some sign) w = (sign.site.is_between ≡ true) × IsSign false sign
@@ -435,7 +427,7 @@ first_sign (Turning is_inner first within end) = first.sign
 first_sign (Closing is_inner first within end) = first.sign
 first_sign (Passed is_inner w first) = first.sign
 
--- It stands behind another one, where that is kept inside a directive. In a condition, wherever reading stands.
+-- A `#` comes before another one, where that is kept inside a directive; in a condition, wherever reading is.
 abbrev pub Follows : (is_kept is_inner is_within : Bool) → Option At → Type 0
 Follows is_kept is_inner is_within None = ⊥
 Follows false is_inner is_within (Some next) = is_mark mark.Hash next.token.kind ≡ true
@@ -448,7 +440,7 @@ pub record IsFirst (is_kept is_inner is_within : Bool) (w : ConditionalWord) (fi
   pub is : word_of (keyword first.word.token) ≡ Some w
   pub goes_on : GoesOn is_inner first.word
 
--- a name, where it is left out none that is such a word
+-- The token is a name, and in a side that is left out it is no word of a conditional.
 pub record IsName (is_kept : Bool) (t : At) : Type 0 where
   pub is : t.token.kind ≡ kind.Name
   pub no_word : is_kept ≡ false → word_of (keyword t.token) ≡ None
@@ -463,14 +455,14 @@ opening if_declared = if if_declared then word.Ifdef else word.Ifndef
 abbrev pub asking : Bool → ConditionalWord
 asking wanted = if wanted then word.Iftrue else word.Iffalse
 
--- Between directives no conditional is open that was opened inside one: none before a directive that stands there, and none behind it,
--- where its
+-- Between directives no conditional is open that was opened inside one: none before a directive there, and none behind it, where its
 -- first side may be left out.
 abbrev pub NoneInside : Bool → Around → Type 0
 NoneInside false s = s.inside ≡ []
 NoneInside true s = Unit {0}
 
--- Behind a `#` that began a directive some may be, where no directive ends among its first tokens.
+-- Tells whether a directive ends behind a `#` that began one: where none ends among its first tokens, some conditionals may be open
+-- inside it.
 abbrev pub sign_ends : Option At → Bool
 sign_ends None = false
 sign_ends (Some sign) = not (is_none sign.ended)
@@ -487,7 +479,7 @@ abbrev pub NoneInsideBehind : Bool → Bool → At → Around → Type 0
 NoneInsideBehind true false end s = end.ended ≡ None → s.inside ≡ []
 NoneInsideBehind _ _ end s = Unit {0}
 
--- a condition: the grammar takes its tokens, and the last one is the last of its directive
+-- The grammar takes the tokens of a condition, and the last one is the last of its directive.
 abbrev pub AreTaken : List SourceToken → At → Condition → Type 0
 AreTaken [] end k = (fits grammar known (atom_of end.token) k.stack ≡ true) × (is_whole (condition_took end.token k) ≡ true)
 AreTaken (t ∷ tokens) end k =
@@ -498,25 +490,24 @@ pub record IsCondition (answers : Answers) (first : First) (tokens : List Source
   pub agrees : (verdict_of declared end.out (whole_condition first tokens end)).is_true ≡ answers.is_true (whole_condition first tokens end)
       end
 
--- where it is kept, and else nothing is
+-- A directive that is kept has its condition, and of one that is left out no token is kept.
 abbrev pub IsAsked : Bool → Answers → First → List SourceToken → At → ℕ → Type 0
 IsAsked true answers first tokens end declared = IsCondition answers first tokens end declared
 IsAsked false answers first tokens end declared = tokens ≡ []
 
--- Behind parts between the tokens of a directive these are kept or left out as before, and elsewhere than in a condition none of the parts
--- is kept.
+-- Parts between the tokens of a directive leave it kept or left out as it was; elsewhere than in a condition none of the parts is kept.
 abbrev pub StayAs : Answers → Around → Parts → Type 0
 StayAs answers s parts = all_kept (behind_parts answers s parts) ≡ all_kept s
 
 abbrev pub AddsNone : Answers → Around → Parts → Type 0
 AddsNone answers s parts = StayAs answers s parts × (kept_sides answers s parts ≡ [])
 
--- whether parts stand among the tokens of a directive that is read, where the directive around them does or not
+-- Tells whether parts are among the tokens of a directive that is read, where `is_within` says whether the directive around them is.
 abbrev pub among : Bool → Around → Bool
 among is_within s = all_kept s || is_within
 
--- parts of a file, or of a directive, and what is told of their names and conditions, by how many names are declared by the directives
--- before
+-- Parts of a file, or of a directive, fit the answers for their names and conditions, by the number of names that are declared by the
+-- directives before.
 abbrev mutual
   pub IsPart : Answers → Bool → Around → ℕ → Part → Type 0
   IsPart answers is_within s declared (Plain t) = IsPlain (all_kept s) is_within t
@@ -583,7 +574,7 @@ abbrev mutual
 
 -- The law
 
--- nothing is open, left out, read or told
+-- No conditional is open, no side is left out, nothing is being read, and there is no message.
 pub record IsClear (c : Conditions) : Type 0 where
   pub none_among : c.among ≡ []
   pub none_inner : c.inner ≡ []
@@ -592,11 +583,9 @@ pub record IsClear (c : Conditions) : Type 0 where
   pub no_sign : c.sign ≡ None
   pub none_said : c.said ≡ None
 
--- Of each conditional one side is kept: just these tokens are handed on, each as one that is kept, and just these directives are told to be
--- without
--- their other end, in this order: where they end, or where the directive does in which they were opened; and where the file does then, or
--- the
--- directive at hand. No file has as many levels as are counted at most.
+-- Of each conditional one side is kept: just these tokens are handed on, each as one that is kept, and just these directives are reported
+-- to be without their other end, in this order: where they end, or where the directive does in which they were opened; and where the file
+-- does then, or the directive at hand. No file has as many levels as are counted at most.
 pub record KeepsSides (answers : Answers) (parts : Parts) (c : Conditions) : Type 0 where
   pub handed_on : all_handed_on (all_tokens parts) c ≡ map as_kept (kept_sides answers none_around parts)
   pub told : all_told (all_tokens parts) c ≡ told_parts answers none_around parts
@@ -606,7 +595,7 @@ pub record KeepsSides (answers : Answers) (parts : Parts) (c : Conditions) : Typ
   pub in_directive : (files : FileNames) (r : Reported) → let s = behind_parts answers none_around parts in piece_told files
       (all_behind (all_tokens parts) c) r ≡ with_all_at files (unended s.inside) r
 
--- a file with such conditionals, by what is told of its names and conditions
+-- A file has these parts, which fit the answers for its names and conditions.
 pub record IsFile (answers : Answers) (declared : ℕ) (parts : Parts) : Type 0 where
   pub are_parts : AreParts answers false none_around declared parts
   pub few : length (all_tokens parts) ≤ most_levels

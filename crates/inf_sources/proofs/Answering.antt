@@ -1,11 +1,11 @@
--- What an inclusion comes to, by what the names of the open files answer.
+-- The outcome of an inclusion, by the outcome of opening a file beside the open ones.
 use Rattle.std.proofs.Common.{◌≡◌, ◌⊎◌, inl, inr, ℕ, suc, ◌+◌, ◌-◌, ◌≤◌, List, [], ◌∷◌, ◌++◌, length, drop, reverse, cond, not, nat_le}
 use Rattle.std.proofs.Common.{Bool, true, false, Option, Some, unwrap_or, refl, sym, ap, subst, ◌∙◌, arith, length-append}
 use Rattle.std.specs.Prelude.{slice_get, Vec}
 use Rattle.std.proofs.lemmas.Bool.{le-leb, leb-true}
 use Rattle.std.proofs.lemmas.List.{length-reverse}
 use Rattle.std.specs.declared.alloc.Global.{Global}
-use Rattle.inf_files.specs.Files.{Openings, Sources}
+use Rattle.inf_devices.specs.Files.{Openings, Sources}
 use Rattle.inf_lexer.specs.Entering.{ClosedAgain, first_there, with_opened}
 use Rattle.inf_lexer.specs.Names.{Nest, can_name, candidates, entered, innermost_name, name_at, number_of}
 use Rattle.inf_lexer.specs.Readers.{Reader, at_front}
@@ -58,7 +58,7 @@ same_depth s start now files n e =
     ∙ waiting_length s now.all at.place at.rest (reverse files.outer) at.inner ∙ length-reverse files.outer in
     omega (arith, ap length e, length-append (files_of (lexers_of files.outer)) (files.lexer.file ∷ []), files_length files.outer, waits)
 
--- what an inclusion is by its three tests
+-- the outcome of an inclusion by its three tests
 abbrev by_tests : (can deep : Bool) → Option (List ℕ) → Inclusion
 by_tests can deep first = cond (not can) (OpensNone included.NotThere) (cond deep (OpensNone included.TooDeep) (by_first first))
 
@@ -109,7 +109,7 @@ first_is s directories text start now files first n e fit flat there =
     (is_false (nat_le 16 (length files.nest.open_files)) (λ h. flat (leb-true 16 (length files.nest.open_files) h)))
     ∙ ap (λ o. by_tests true false o) there
 
--- what was opened where the file was one too many
+-- the openings where the file was one too many
 pub opens_too_many : (s : Sources) (directories : List (List ℕ)) (text : List ℕ) (start old new : Openings) (before : Open) →
     IsNested start old before
     → IsNumbered before → (can_name text ≡ false → ⊥) → (16 ≤ length before.nest.open_files → ⊥)
@@ -122,7 +122,7 @@ opens_too_many s directories text start old new before n e fit flat c = record {
   openings_are = opened_and_closed start old new c.name n.more c.is_closed;
 }
 
--- or the device refused
+-- the openings where the device refused
 pub opened_in_vain : (s : Sources) (directories : List (List ℕ)) (text : List ℕ) (start old new : Openings) (before : Open) →
     IsNested start old before
     → IsNumbered before → (can_name text ≡ false → ⊥) → (16 ≤ length before.nest.open_files → ⊥)
@@ -133,7 +133,7 @@ opened_in_vain s directories text start old new before n e fit flat (inl same) =
 opened_in_vain s directories text start old new before n e fit flat (inr c) =
     inr (opens_too_many s directories text start old new before n e fit flat c)
 
--- what is open behind a file that was entered
+-- the open files behind a file that was entered
 pub entered_is : (s : Sources) (start old new : Openings) (before : Open) (name : List ℕ) (nest : Nest) (lexer : Reader)
     (outer : List OpenFile) (conditionals : Vec Conditional Global) (is_system : Bool) → IsNested start old before
     → new ≡ with_opened name old → nest ≡ entered name before.nest → lexer ≡ at_front before.nest.set before.nest.limit
@@ -163,7 +163,7 @@ entered_nested_of start old new before name nest lexer outer f waits n opens mor
     (subst (λ (o : List OpenFile). IsNested start (with_opened name old) (record { nest = nest; lexer = lexer; outer = o })) (sym more)
     (entered_nested start old before name nest lexer f waits n))
 
--- the numbers and settings behind it
+-- the numbers and settings of the open files behind a file that was entered
 pub entered_fits : (nest after : Nest) (outer new : List OpenFile) (f : OpenFile) (lexer : Reader) (name : List ℕ) →
     nest.open_files ≡ files_of (lexers_of outer) ++ f.lexer.file ∷ []
     → AllWait nest.set nest.limit (lexers_of outer) → Waits nest.set nest.limit f.lexer → new ≡ outer ++ f ∷ []

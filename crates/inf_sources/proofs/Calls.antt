@@ -1,8 +1,8 @@
--- What calls keep: one behind the other, and each kind of them.
+-- Facts that calls keep: one behind the other, and each kind of them.
 use Rattle.std.proofs.Common.{◌≡◌, ◌+◌, ◌-◌, ◌≤◌, inl, inr, ℕ, true, suc, List, [], ◌∷◌, ◌++◌, length, min, IsTrue, refl, sym, ap}
 use Rattle.std.proofs.Common.{subst, ◌∙◌, arith, length-append}
-use Rattle.inf_files.specs.Files.{Closes, Sources, last_count}
-use Rattle.inf_files.specs.declared.files.Files.{Ghosts as Files}
+use Rattle.inf_devices.specs.Files.{Closes, Sources, last_count}
+use Rattle.inf_devices.specs.declared.files.Files.{Ghosts as Files}
 use Rattle.inf_lexer.specs.Entering.{has_one_too_many}
 use Rattle.inf_lexer.specs.Names.{Nest}
 use Rattle.inf_lexer.specs.Readers.{Reader}
@@ -14,7 +14,7 @@ use Rattle.inf_sources.proofs.Counting.{many_names}
 use Rattle.inf_sources.proofs.Fronts.{left_given, read_fit, read_given}
 use Rattle.inf_sources.proofs.Nestings.{left_nested, nested_on}
 
--- no call
+-- no call keeps them
 pub went_none : {S : Type 0} (f : Files S) (old : S) (files : Open) → Went f old old files files
 went_none f old files = record {
   sources = refl;
@@ -37,7 +37,7 @@ given_then f a b c x y z sources honesty nested p q = λ honest start n given.
     (q (subst (λ t. IsTrue t) (sym honesty) honest) start (nested honest start n)
     (subst (λ (s : Sources). AllGiven s (length start.all) (f.openings b) y) (sym sources) (p honest start n given)))
 
--- one behind another
+-- a call behind another keeps them
 pub went_then : {S : Type 0} (f : Files S) (a b c : S) (x y z : Open) → Went f a b x y → Went f b c y z → Went f a c x z
 went_then f a b c x y z p q =
     let still : IsTrue (f.is_honest a) → IsTrue (f.is_honest b) = λ honest. subst (λ t. IsTrue t) (sym p.honesty) honest in
@@ -58,11 +58,11 @@ fit_then f a b c x y w p q = λ honest start n given fit.
     (subst (λ (s : Sources). AllGiven s (length start.all) (f.openings b) y) (sym w.sources) (w.stays_given honest start n given))
     (p honest start n given fit)
 
--- the open files may be told in another way
+-- the open files may be given by an equal record
 pub went_as : {S : Type 0} (f : Files S) (a b : S) (x y z : Open) → z ≡ y → Went f a b x y → Went f a b x z
 went_as f a b x y z e w = subst (λ (o : Open). Went f a b x o) (sym e) w
 
--- a file that was not read behind a call
+-- a file that was not read behind a call was not read
 pub unreadable_then : {S : Type 0} (f : Files S) (a b c : S) (x y z : Open) → Went f a b x y → IsUnreadable f b c y z →
     IsUnreadable f a c x z
 unreadable_then f a b c x y z w (inl (inl less)) = inl (inl (omega (arith, w.faults, less)))
@@ -141,7 +141,7 @@ went_in f old new before after sources honesty faults depth given opened waits s
   stays_given = stays;
 }
 
--- None was.
+-- No file was entered.
 pub went_by : {S : Type 0} (f : Files S) (old new : S) (before after : Open) → f.sources new ≡ f.sources old →
     f.is_honest new ≡ f.is_honest old
     → f.faults old ≤ f.faults new → f.depth new ≡ f.depth old → f.given new ≡ f.given old → min (f.opened old + 0) last_count ≤ f.opened new
@@ -160,7 +160,7 @@ went_by f old new before after sources honesty faults depth given opened same ne
       stays_given = stays;
     })
 
--- One was left.
+-- A file was left.
 pub went_out : {S : Type 0} (f : Files S) (old new : S) (before after : Open) → f.sources new ≡ f.sources old →
     f.is_honest new ≡ f.is_honest old
     → f.faults new ≡ f.faults old → f.depth new + 1 ≡ f.depth old → f.given new ≡ f.given old → f.opened new ≡ f.opened old

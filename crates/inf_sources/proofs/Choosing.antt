@@ -1,9 +1,9 @@
--- What is open where all files are read by another character set.
+-- The open files where all files are read by another character set.
 use Rattle.std.proofs.Common.{◌≡◌, ℕ, suc, ◌+◌, List, [], ◌∷◌, ◌++◌, length, drop, map, reverse, refl, sym, ap, subst, ◌∙◌}
 use Rattle.std.proofs.lemmas.List.{length-map}
 use Rattle.std.proofs.lemmas.Grind.{reverse_onto}
 use Rattle.inf_characters.specs.declared.characters.CharSet.{CharSet}
-use Rattle.inf_files.specs.Files.{Opening, Openings, Sources}
+use Rattle.inf_devices.specs.Files.{Opening, Openings, Sources}
 use Rattle.inf_lexer.specs.Readers.{Reader}
 use Rattle.inf_sources.specs.Calls.{given_all, given_to}
 use Rattle.inf_sources.specs.Choosing.{chosen, file_with, nesting_with, open_with, reader_with, waiting_with}
@@ -17,14 +17,14 @@ map_last : {X : Type 0} → (f : X → X) (xs : List X) (x : X) → map f (xs ++
 map_last f [] x = refl
 map_last f (y ∷ xs) x = ap (λ ys. f y ∷ ys) (map_last f xs x)
 
--- what is done to each is done to each backwards
+-- mapping each item backwards is mapping all and turning them
 reverse_each : {X : Type 0} → (f : X → X) (xs : List X) → reverse (map f xs) ≡ map f (reverse xs)
 reverse_each f [] = refl
 reverse_each f (x ∷ xs) =
     reverse_onto (map f xs) (f x) [] ∙ ap (λ ys. ys ++ f x ∷ []) (reverse_each f xs)
     ∙ sym (ap (map f) (reverse_onto xs x []) ∙ map_last f (reverse xs) x)
 
--- The lexers
+-- The lexers that read by another set
 
 readers_with : (set : CharSet) (files : List OpenFile) → lexers_of (map (file_with set) files) ≡ map (reader_with set) (lexers_of files)
 readers_with set [] = refl
@@ -39,7 +39,7 @@ files_with : (set : CharSet) (readers : List Reader) → files_of (map (reader_w
 files_with set [] = refl
 files_with set (r ∷ readers) = ap (λ fs. r.file ∷ fs) (files_with set readers)
 
--- are those of the same files,
+-- lexers that read by another set are those of the same files
 pub numbers_with : (set : CharSet) (files : List OpenFile) → files_of (lexers_of (map (file_with set) files)) ≡ files_of (lexers_of files)
 numbers_with set files = ap files_of (readers_with set files) ∙ files_with set (lexers_of files)
 
@@ -49,7 +49,7 @@ wait_with was set limit [] all = all
 wait_with was set limit (r ∷ readers) all =
     (record { of_set = refl; of_limit = all.0.of_limit; goes = all.0.goes }, wait_with was set limit readers all.1)
 
--- and wait as before.
+-- files that wait do so by another set
 pub all_wait_with : (was set : CharSet) (limit : ℕ) (files : List OpenFile) → AllWait was limit (lexers_of files)
     → AllWait set limit (lexers_of (map (file_with set) files))
 all_wait_with was set limit files all =
@@ -59,12 +59,12 @@ given_with : (set : CharSet) (readers : List Reader) → given_to (map (reader_w
 given_with set [] = refl
 given_with set (r ∷ readers) = ap (λ n. r.window.given + n) (given_with set readers)
 
--- They were given as much.
+-- Lexers that read by another set were given as many bytes.
 pub given_all_with : (set : CharSet) (o : Open) → given_all (open_with set o) ≡ given_all o
 given_all_with set o =
     ap (λ n. n + o.lexer.window.given) (ap given_to (readers_with set o.outer) ∙ given_with set (lexers_of o.outer))
 
--- What is still to come
+-- The rest of each file
 
 waiting_each : (set : CharSet) (s : Sources) (all : List Opening) (places : List ℕ) (files : List OpenFile)
     → waiting_at s all places (map (file_with set) files) ≡ map (waiting_with set) (waiting_at s all places files)

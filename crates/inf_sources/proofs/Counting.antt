@@ -5,7 +5,7 @@ use Rattle.std.specs.Prelude.{nat_le}
 use Rattle.std.specs.List.{list_any}
 use Rattle.std.specs.Str.{bytes_eq}
 use Rattle.std.proofs.lemmas.List.Sums.{prefix_len-le-length}
-use Rattle.inf_files.specs.Files.{Openings, Sources}
+use Rattle.inf_devices.specs.Files.{Openings, Sources}
 use Rattle.inf_lexer.specs.Entering.{Leaves, has_one_too_many}
 use Rattle.inf_lexer.specs.Names.{Nest, entered, number_of, with_name}
 use Rattle.inf_lexer.specs.declared.enter_faults.EnterFault.{EnterFault}

@@ -3,7 +3,7 @@ use Rattle.std.proofs.Common.{◌≡◌, ℕ, ◌-◌, List, [], ◌∷◌, ◌+
 use Rattle.std.proofs.Common.{length-append}
 use Rattle.std.proofs.Math.Seq.{take-append_seam}
 use Rattle.inf_characters.specs.declared.characters.CharSet.{CharSet}
-use Rattle.inf_files.specs.Files.{Opening, Openings, Sources}
+use Rattle.inf_devices.specs.Files.{Opening, Openings, Sources}
 use Rattle.inf_lexer.specs.Names.{Nest, left}
 use Rattle.inf_lexer.specs.Readers.{Reader}
 use Rattle.inf_sources.specs.Inclusions.{Waiting, closed, resumed}
@@ -39,12 +39,12 @@ without_last xs x =
     let last : length (xs ++ x ∷ []) - 1 ≡ length xs = omega (arith, length-append xs (x ∷ [])) in
     ap (λ n. take n (xs ++ x ∷ [])) last ∙ take-append_seam xs (x ∷ [])
 
--- where no file waits nothing is to come of one
+-- where no file waits no rest of one is to come
 pub none_wait : (s : Sources) (all : List Opening) (places : List ℕ) → waiting_at s all places [] ≡ []
 none_wait s all [] = refl
 none_wait s all (p ∷ places) = refl
 
--- What is known of the open files behind one that was left.
+-- The numbers and the settings of the open files behind one that was left.
 abbrev pub Fits : Nest → Reader → List Reader → Type 0
 Fits nest r readers =
     (nest.open_files ≡ files_of readers ++ r.file ∷ []) ×
@@ -60,7 +60,7 @@ left_fits nest after outer readers file r files waits e is =
       (last.of_set, (last.of_limit, waits_front nest.set nest.limit readers r all)),
     )
 
--- behind the last file nothing changes
+-- leaving the last file changes nothing
 pub left_none : (s : Sources) (start now : Openings) (nest : Nest) (lexer : Reader) (old new : List OpenFile) → length old ≡ 0 →
     old ≡ new ++ []
     → nesting s start now (record { nest = nest; lexer = lexer; outer = new }) ≡ closed

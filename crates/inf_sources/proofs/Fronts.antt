@@ -1,11 +1,11 @@
--- What was given of each opening is a front of its source, and each open file is tracked.
+-- Each opening has a front of its source as its given bytes, and each open file is tracked.
 use Rattle.std.proofs.Common.{◌≡◌, ◌⊎◌, inl, inr, ℕ, suc, zero, ◌-◌, ◌<◌, ◌≤◌, List, [], ◌∷◌, ◌++◌, length, reverse, get_or, unwrap_or}
 use Rattle.std.proofs.Common.{Some, refl, sym, ap, subst, ◌∙◌, arith, append_assoc, length-append}
 use Rattle.std.specs.Prelude.{slice_get}
 use Rattle.std.proofs.Math.Seq.{get_or-append_seam}
 use Rattle.std.proofs.lemmas.Bool.{cases_lt}
 use Rattle.inf_characters.specs.declared.characters.CharSet.{CharSet}
-use Rattle.inf_files.specs.Files.{Closes, Opening, Openings, Sources, opened}
+use Rattle.inf_devices.specs.Files.{Closes, Opening, Openings, Sources, opened}
 use Rattle.inf_lexer.specs.Entering.{ClosedAgain, with_closed, with_opened}
 use Rattle.inf_lexer.specs.Names.{Nest, entered, number_of}
 use Rattle.inf_lexer.specs.Readers.{Reader, at_front}
@@ -28,7 +28,7 @@ same_place (suc i) (suc at) = next (same_place i at)
     next (inl e) = inl (ap suc e)
     next (inr other) = inr (λ e. other (omega (arith, e)))
 
--- the next bytes were given
+-- the bytes given and the next ones are a front
 next_front : (s : Sources) (old new : Opening) (bytes : List ℕ) → IsFrontOf s old → unread_of s old ≡ bytes ++ unread_of s new →
     new.given ≡ old.given ++ bytes
     → new.name ≡ old.name → IsFrontOf s new
@@ -36,11 +36,11 @@ next_front s old new bytes front next given name =
     ap (λ (x : List ℕ). unwrap_or (s x) []) name ∙ front ∙ ap (λ (x : List ℕ). old.given ++ x) next
     ∙ sym (append_assoc old.given bytes (unread_of s new)) ∙ ap (λ (x : List ℕ). x ++ unread_of s new) (sym given)
 
--- What is known of names under their numbers stays.
+-- The names under their numbers are the same among more names.
 abbrev NamesStay : List (List ℕ) → List (List ℕ) → Type 0
 NamesStay known names = (i : ℕ) (name : List ℕ) → slice_get known i ≡ Some name → slice_get names i ≡ Some name
 
--- lexers of openings that did not change
+-- lexers of openings that did not change are tracked
 tracked_same : (s : Sources) (n : ℕ) (known names : List (List ℕ)) (old new : List Opening) (bound : ℕ) (places : List ℕ)
     (readers : List Reader) → NamesStay known names
     → AreNested bound places readers → ((i : ℕ) → i < bound → slice_get new i ≡ slice_get old i) → AreTracked s n known old places readers
@@ -57,9 +57,9 @@ tracked_same s n known names old new bound (p ∷ places) (r ∷ readers) stay h
       tracked_same s n known names old new p places readers stay h.1 (λ i less. same i (omega (arith, less, h.0))) t.1,
     )
 
--- The innermost gave some bytes
+-- The innermost file gave some bytes
 
--- what holds of it then, and held of each, holds of each
+-- a statement holds of each opening where it held of each before, and holds of the innermost one now
 read_each : (P : Opening → Type 0) (s : Sources) (n : ℕ) (old new : Openings) (bytes : List ℕ) → Gave s old new bytes → P (innermost new) →
     Each P n old.all → Each P n new.all
 read_each P s n old new bytes gave here each = λ i le lt. at i le lt (same_place i (innermost_place old))
@@ -155,7 +155,7 @@ read_fit s start old new before after nested names file along few window ends st
     read_each Fits s (length start.all) old new along.bytes gave
     (subst (λ (k : ℕ). Fits (get_or new.all k (opened []))) (sym now) (omega (arith, first.counted.count, few))) fit
 
--- One opening more
+-- One more opening
 
 each_more : (P : Opening → Type 0) (n : ℕ) (all : List Opening) (name : List ℕ) → P (opened name) → Each P n all →
     Each P n (all ++ opened name ∷ [])
@@ -183,7 +183,7 @@ fit_more n all name fit = each_more Fits n all name (omega arith) fit
 pub none_fit : (all : List Opening) (name : List ℕ) → Each Fits (length all) (all ++ opened name ∷ [])
 none_fit all name = fit_more (length all) all name (λ i le lt. absurd (omega (arith, le, lt)))
 
--- one file more
+-- one more file
 tracked_new : (s : Sources) (n : ℕ) (all : List Opening) (name : List ℕ) (nest : Nest) (set : CharSet) (limit : ℕ) → n ≤ length all
     → IsTracked s n (entered name nest).names (all ++ opened name ∷ []) (length all) (at_front set limit (number_of name nest.names))
 tracked_new s n all name nest set limit behind =
@@ -227,7 +227,7 @@ entered_given s start old new before after name set limit nested opens nest fron
           tracked)));
     })
 
--- the main source
+-- the main source alone
 pub main_given : (s : Sources) (old new : Openings) (files : Open) (name : List ℕ) (nest : Nest) (set : CharSet) (limit : ℕ) →
     new ≡ with_opened name old
     → files.nest ≡ entered name nest → files.lexer ≡ at_front set limit (number_of name nest.names) → files.outer ≡ [] → AllGiven s
@@ -249,7 +249,7 @@ main_given s old new files name nest set limit opens enters fronts outer =
           (tracked_new s n old.all name nest set limit (omega arith), tt))));
     })
 
--- one opening more, which was closed at once
+-- one more opening, which was closed at once
 closed_given : (s : Sources) (start old : Openings) (files : Open) (name : List ℕ) → IsNested start old files →
     AllGiven s (length start.all) old files
     → AllGiven s (length start.all) (with_closed name old) files

@@ -7,7 +7,7 @@ use Rattle.std.specs.Str.{bytes_eq}
 use Rattle.std.proofs.lemmas.Slice.Eq.{bytes_eq-Decides}
 use Rattle.inf_lexer.specs.Names.{number_of, with_name}
 
--- those behind them change nothing
+-- names behind others change none of these
 stays_before : (names more : List (List ℕ)) (i : ℕ) (x : List ℕ) → slice_get names i ≡ Some x → slice_get (names ++ more) i ≡ Some x
 stays_before [] more i x e = cc
 stays_before (n ∷ names) more zero x e = e
@@ -21,7 +21,7 @@ names_stay name names i x e = by (list_any (bytes_eq name) names)
     by true = e
     by false = stays_before names (name ∷ []) i x e
 
--- the first name that is the same is the name, wherever it is
+-- the number of a name is the place of the first that equals it
 found_at : (name : List ℕ) (names : List (List ℕ)) → list_any (bytes_eq name) names ≡ true →
     slice_get names (number_of name names) ≡ Some name
 found_at name [] e = cc
@@ -49,7 +49,7 @@ added_at name (n ∷ names) e = by (bytes_eq name n) refl (λ rest. added_at nam
         let next : 1 + position_or_len (bytes_eq name) names ≡ suc (position_or_len (bytes_eq name) names) = omega arith in
         ap (λ i. slice_get ((n ∷ names) ++ name ∷ []) i) next ∙ later rest
 
--- a name stands at its number
+-- a name is found at its number
 pub named_at : (name : List ℕ) (names : List (List ℕ)) → slice_get (with_name name names) (number_of name names) ≡ Some name
 named_at name names = by (list_any (bytes_eq name) names) refl
   where

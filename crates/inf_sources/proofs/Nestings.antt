@@ -1,4 +1,4 @@
--- What is open after a token was read, and after a file was left.
+-- The open files after a token was read, and after a file was left.
 use Rattle.std.proofs.Common.{◌≡◌, ℕ, suc, ◌-◌, List, [], ◌∷◌, ◌++◌, length, drop, reverse, get_or, sym, ap, subst, ◌∙◌, arith}
 use Rattle.std.proofs.Common.{length-append, Bool, false, Option, Some, None}
 use Rattle.std.specs.Prelude.{IfNone, is_some}
@@ -6,7 +6,7 @@ use Rattle.std.proofs.lemmas.List.{drop-map, reverse-reverse}
 use Rattle.inf_scanner.specs.Tokens.{Read, next_token}
 use Rattle.inf_scanner.specs.declared.lines.Lines.{Lines}
 use Rattle.inf_scanner.specs.declared.tokens.Token.{Token}
-use Rattle.inf_files.specs.Files.{Closes, Opening, Openings, Sources, opened}
+use Rattle.inf_devices.specs.Files.{Closes, Opening, Openings, Sources, opened}
 use Rattle.inf_lexer.specs.Names.{Nest, left}
 use Rattle.inf_lexer.specs.Heads.{HeadRead, next_head_word}
 use Rattle.inf_lexer.specs.Readers.{Reader, head_out, read_out}
@@ -38,12 +38,12 @@ nested_on start old new before after n places count outer = record {
 abbrev made : List (List ℕ) → List (List ℕ) → Cursor → List Waiting → Nesting
 made names openings cursor waiting = record { names = names; openings = openings; cursor = cursor; waiting = waiting }
 
--- what the names of later openings are
+-- the names of later openings are the same where all names are
 names_behind : (n : ℕ) (old new : List Opening) → names_of new ≡ names_of old → names_of (drop n new) ≡ names_of (drop n old)
 names_behind n old new e =
     sym (drop-map (λ (o : Opening). o.name) n new) ∙ ap (λ names. drop n names) e ∙ drop-map (λ (o : Opening). o.name) n old
 
--- what is given of the innermost opening changes no name
+-- bytes that the innermost opening gives change no name
 names_given : (s : Sources) (old new : Openings) (bytes : List ℕ) → Gave s old new bytes → names_of new.all ≡ names_of old.all
 names_given s old new bytes gave =
     names_same old.all new.all (innermost_place old) gave.count gave.others
@@ -111,7 +111,7 @@ reads_on s start old new before after token bytes n gave nest outer e file same 
       goes_on = nesting_on s start old new before after bytes (behind c r) n gave nest outer cursor;
     }
 
--- a word of its head was read
+-- a word of the innermost file's head was read
 pub reads_head_on : (s : Sources) (start old new : Openings) (before after : Open) (is_word : Bool) (place from : HeadPlace)
     (word bytes : List ℕ) → IsNested start old before → Gave s old new bytes → after.nest ≡ before.nest → after.outer ≡ before.outer
     → head_out is_word place word after.lexer (to_come s new after.lexer.window)
@@ -191,7 +191,7 @@ left_nesting s start old new before after f n closes outer back nest =
     ∙ sym (ap (λ (waiting : List Waiting). closed (made before.nest.names (names_of (drop (length start.all) old.all))
     (cursor_of before.lexer (to_come s old before.lexer.window)) waiting)) waits)
 
--- where nothing was left this is known
+-- where no file waits the statement for this case holds
 pub none_left : {T : Type 0} (o : Option T) (P : Type 0) → is_some o ≡ false → IfNone o P → P
 none_left None P e h = h
 none_left (Some x) P e h = cc

@@ -1,11 +1,11 @@
--- What is open after a file was entered.
+-- The open files after a file was entered.
 use Rattle.std.proofs.Common.{◌≡◌, ◌⊎◌, inl, inr, ℕ, suc, zero, ◌<◌, ◌≤◌, List, [], ◌∷◌, ◌++◌, length, drop, reverse, get_or, Some}
 use Rattle.std.proofs.Common.{unwrap_or, refl, sym, ap, subst, ◌∙◌, arith, length-append}
 use Rattle.std.specs.Prelude.{slice_get, Bool, Vec}
 use Rattle.std.proofs.Math.Seq.{get_or-append_seam}
 use Rattle.std.specs.declared.alloc.Global.{Global}
 use Rattle.inf_characters.specs.declared.characters.CharSet.{CharSet}
-use Rattle.inf_files.specs.Files.{Opening, Openings, Sources, opened}
+use Rattle.inf_devices.specs.Files.{Opening, Openings, Sources, opened}
 use Rattle.inf_lexer.specs.Entering.{ClosedAgain, with_closed, with_opened}
 use Rattle.inf_lexer.specs.Names.{Nest, entered, number_of}
 use Rattle.inf_lexer.specs.Readers.{Reader, at_front}
@@ -27,7 +27,7 @@ innermost_is old name =
     ap (λ n. get_or (old.all ++ opened name ∷ []) n (opened [])) (last_is old name)
     ∙ get_or-append_seam old.all (opened name) [] (opened [])
 
--- all of a source that was opened is still to be given
+-- an opened source has all its bytes still to give
 pub all_unread : (s : Sources) (old : Openings) (name : List ℕ) → unread s (with_opened name old) ≡ unwrap_or (s name) []
 all_unread s old name = ap (λ (o : Opening). drop (length o.given) (unwrap_or (s o.name) [])) (innermost_is old name)
 
@@ -96,7 +96,7 @@ main_nested old name nest lexer =
       others = ap (λ ps. drop 1 ps) places;
     }
 
--- one file more
+-- One more file
 
 pub entered_nested : (start old : Openings) (before : Open) (name : List ℕ) (nest : Nest) (lexer : Reader) (f : OpenFile) →
     f.lexer ≡ before.lexer → IsNested start old before
@@ -159,7 +159,7 @@ entered_nesting s start old before name set limit conditionals is_system n =
     (front_is s old name set limit number)
     ∙ ap (λ x. made (names_of (drop (length start.all) old.all) ++ name ∷ []) (front set limit number (unwrap_or (s name) [])) x) all_wait
 
--- one that was closed at once
+-- A file that was closed at once
 
 closed_nested : (start old : Openings) (before : Open) (name : List ℕ) → IsNested start old before →
     IsNested start (with_closed name old) before
@@ -182,7 +182,7 @@ pub opened_and_closed : (start old new : Openings) (name : List ℕ) → length 
 opened_and_closed start old new name more closes =
     ap (λ (o : Openings). opened_since start o) closes ∙ drop_more (length start.all) old.all (opened name) more
 
--- what a call leaves
+-- The open files behind a call
 
 pub only_name : (name x : List ℕ) (place : ℕ) → slice_get (name ∷ []) place ≡ Some x → x ≡ name
 only_name name x zero e = cc

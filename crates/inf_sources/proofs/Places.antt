@@ -1,18 +1,18 @@
--- The places of the openings that are open, and what stands at them.
+-- The places of the openings that are open, and the openings at them.
 use Rattle.std.proofs.Common.{◌≡◌, ℕ, suc, zero, ◌-◌, ◌<◌, List, [], ◌∷◌, ◌++◌, length, drop, map, reverse, get_or, Some, None, unwrap_or}
 use Rattle.std.proofs.Common.{refl, sym, ap, ◌∙◌, arith, length-append}
 use Rattle.std.specs.Prelude.{slice_get}
 use Rattle.std.proofs.Math.Seq.{get_or-append_seam}
 use Rattle.std.proofs.lemmas.Grind.{reverse_onto}
 use Rattle.std.proofs.lemmas.List.{reverse-append, reverse-reverse}
-use Rattle.inf_files.specs.Files.{Opening, Openings, Sources, opened}
+use Rattle.inf_devices.specs.Files.{Opening, Openings, Sources, opened}
 use Rattle.inf_lexer.specs.Readers.{Reader}
 use Rattle.inf_sources.specs.Cursors.{Cursor}
 use Rattle.inf_sources.specs.Inclusions.{cursors, cursors_of}
 use Rattle.inf_sources.specs.Open.{AreNested, IsNested, Open, files_of, lexers, lexers_of, nesting, rest_of, waiting_as, waiting_at}
 use Rattle.inf_sources.specs.declared.open_file.OpenFile.{OpenFile}
 
--- the last of some numbers
+-- the last of some numbers is found at its place
 last_place : (outer : List ℕ) (place : ℕ) → get_or (outer ++ place ∷ []) (length (outer ++ place ∷ []) - 1) 0 ≡ place
 last_place outer place =
     let last : length (outer ++ place ∷ []) - 1 ≡ length outer = omega (arith, length-append outer (place ∷ [])) in
@@ -21,7 +21,7 @@ last_place outer place =
 pub reverse_last : {X : Type 0} → (xs : List X) (x : X) → reverse (xs ++ x ∷ []) ≡ x ∷ reverse xs
 reverse_last xs x = reverse-append xs (x ∷ [])
 
--- is the first of them backwards
+-- the last place is the first of them backwards
 pub last_of : (places : List ℕ) (p : ℕ) (rest : List ℕ) → reverse places ≡ p ∷ rest → get_or places (length places - 1) 0 ≡ p
 last_of places p rest e =
     let whole : places ≡ reverse rest ++ p ∷ [] = sym (reverse-reverse places) ∙ ap reverse e ∙ reverse_onto rest p [] in
@@ -40,7 +40,7 @@ pub innermost_of : (bound : ℕ) (places : List ℕ) (r : Reader) (readers : Lis
 innermost_of bound [] r readers h = absurd h
 innermost_of bound (p ∷ places) r readers h = record { place = p; rest = places; is = refl; less = h.0; inner = h.1 }
 
--- which lexer is the innermost does not matter
+-- the innermost lexer does not matter to the nesting
 pub nested_as : (bound : ℕ) (places : List ℕ) (r q : Reader) (readers : List Reader) → AreNested bound places (r ∷ readers) →
     AreNested bound places (q ∷ readers)
 nested_as bound [] r q readers h = absurd h
@@ -64,7 +64,7 @@ or_of (o ∷ all) (suc i) = or_of all i
 pub or_same : (old new : List Opening) (i : ℕ) → slice_get new i ≡ slice_get old i → get_or new i (opened []) ≡ get_or old i (opened [])
 or_same old new i e = or_of new i ∙ ap (λ o. unwrap_or o (opened [])) e ∙ sym (or_of old i)
 
--- files that wait have the same to come where their openings did not change
+-- files that wait have the same rests where their openings did not change
 pub waiting_same : (s : Sources) (old new : List Opening) (bound : ℕ) (places : List ℕ) (files : List OpenFile) →
     AreNested bound places (lexers_of files)
     → ((i : ℕ) → i < bound → slice_get new i ≡ slice_get old i) → waiting_at s new places files ≡ waiting_at s old places files
@@ -84,7 +84,7 @@ waiting_length s all bound (p ∷ places) [] h = refl
 waiting_length s all bound [] (f ∷ files) h = absurd h
 waiting_length s all bound (p ∷ places) (f ∷ files) h = ap suc (waiting_length s all p places files h.1)
 
--- the numbers of open files
+-- the numbers of the files that wait are those of their lexers
 waiting_files : (s : Sources) (all : List Opening) (bound : ℕ) (places : List ℕ) (files : List OpenFile) →
     AreNested bound places (lexers_of files)
     → map (λ (c : Cursor). c.file) (cursors_of (waiting_at s all places files)) ≡ files_of (lexers_of files)

@@ -1,9 +1,9 @@
--- Of a quoted token as many bytes are kept as it may have, at most.
+-- A quoted token keeps at most as many bytes as it may have.
 use Rattle.std.proofs.Common.{◌≡◌, ℕ, List, [], ◌∷◌, ◌++◌, length, Bool, true, false, Option, Some, None, refl, sym, ap, ◌∙◌, arith}
 use Rattle.std.proofs.Common.{length-take}
 use Rattle.std.proofs.lemmas.Bool.{cond_both}
 use Rattle.inf_characters.specs.declared.characters.CharSet.{CharSet}
-use Rattle.inf_files.specs.Files.{Openings, Sources}
+use Rattle.inf_devices.specs.Files.{Openings, Sources}
 use Rattle.inf_lexer.specs.Readers.{Reader, read_out}
 use Rattle.inf_lexer.specs.Unread.{Heard, View}
 use Rattle.inf_scanner.specs.Kept.{Kept}
@@ -56,7 +56,7 @@ next_few set limit lines (b ∷ bytes) is =
     let cut = ap (λ (k : Kept). length k.bytes) s.is.keeps in
     omega (arith, most, kept, cut, length-take (most_of limit s.is.ending) s.is.bytes)
 
--- what a lexer has read, with any reader
+-- a lexer keeps few bytes of a quoted token, with any reader
 pub heard_few : (h : Bool) (s : Sources) (old new : Openings) (before after : View) (set : CharSet) (limit most : ℕ) (lines : Lines)
     (token : Token) (lexer : Reader)
     → limit ≡ most → Heard Read h s old new before after (read_out token lexer) (next_token set limit lines) → KeepsFew most token.kind

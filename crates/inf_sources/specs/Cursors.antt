@@ -1,4 +1,4 @@
--- What is still to come of a file, and its next token.
+-- The rest of a file that is still to come, and its next token.
 use Rattle.std.specs.Prelude.{ℕ, List}
 use Rattle.inf_characters.specs.declared.characters.CharSet.{CharSet}
 use Rattle.inf_scanner.specs.Lines.{first_line}
@@ -6,8 +6,8 @@ use Rattle.inf_scanner.specs.Tokens.{Read, next_token}
 use Rattle.inf_scanner.specs.declared.lines.Lines.{Lines}
 use Rattle.inf_lexer.specs.Readers.{StaysUnfinished}
 
--- The bytes that are still to come of a file, the line on which they begin, the file's number, its character set, and how many
--- bytes a text or quote may have.
+-- The rest of a file: the bytes that are still to come, the line on which they begin, the file's number, its character set, and the most
+-- bytes that a text or quote may have.
 pub record Cursor : Type 0 where
   pub rest : List ℕ
   pub lines : Lines
@@ -19,14 +19,14 @@ pub record Cursor : Type 0 where
 abbrev pub front : CharSet → ℕ → ℕ → List ℕ → Cursor
 front set limit file bytes = record { rest = bytes; lines = first_line; file = file; set = set; limit = limit }
 
--- the next token
+-- the next token of the rest
 abbrev pub read : Cursor → Read
 read c = next_token c.set c.limit c.lines c.rest
 
--- what is still to come behind a token
+-- the rest behind a token
 abbrev pub behind : Cursor → Read → Cursor
 behind c r = record c { rest = r.rest; lines = r.lines }
 
--- what is still to come, but for what was not given and so many bytes before it, does not end the next token
+-- The rest does not end the next token where the bytes `unread`, and `past` bytes before them, are cut off.
 abbrev pub Unfinished : Cursor → ℕ → List ℕ → Type 0
 Unfinished c past unread = StaysUnfinished c.set c.limit c.lines c.rest past unread

@@ -1,4 +1,4 @@
--- What is read of the head of the innermost file.
+-- The reading of the head of the innermost file.
 use Rattle.std.specs.Prelude.{◌≡◌, ℕ, zero, suc, List, Bool}
 use Rattle.inf_lexer.specs.Heads.{HeadRead, WholeHead, next_head_word, whole_head}
 use Rattle.inf_lexer.specs.Readers.{HeadStaysOpen}
@@ -12,7 +12,7 @@ use Rattle.inf_sources.specs.Inclusions.{Nesting}
 abbrev pub read_head : HeadPlace → Cursor → HeadRead
 read_head from c = next_head_word from c.lines c.rest
 
--- what is still to come behind it
+-- the rest behind a word of a head
 abbrev pub behind_head : Cursor → HeadRead → Cursor
 behind_head c r = record c { rest = r.rest; lines = r.lines }
 
@@ -23,7 +23,8 @@ pub record ReadsHead (is_word : Bool) (place : HeadPlace) (word : List ℕ) (fro
   pub spelled : word ≡ (read_head from was.cursor).word
   pub goes_on : now ≡ record was { cursor = behind_head was.cursor (read_head from was.cursor) }
 
--- what is still to come of a head that goes on at this place ends neither its next word nor the head
+-- The rest of a head that goes on at `from` ends neither its next word nor the head, where the bytes `unread`, and `past` bytes before
+-- them, are cut off.
 abbrev pub UnfinishedHead : HeadPlace → Cursor → ℕ → List ℕ → Type 0
 UnfinishedHead from c past unread = HeadStaysOpen from c.lines c.rest past unread
 
@@ -31,11 +32,11 @@ UnfinishedHead from c past unread = HeadStaysOpen from c.lines c.rest past unrea
 abbrev pub head_in : Cursor → WholeHead
 head_in c = whole_head c.lines c.rest
 
--- what is still to come behind all of it
+-- the open files with the innermost one behind all of its head
 abbrev pub past_head : Nesting → Nesting
 past_head n = record n { cursor = record n.cursor { rest = (head_in n.cursor).rest; lines = (head_in n.cursor).lines } }
 
--- where a head goes on, and what is still to come then
+-- The place where a head goes on, and the rest there.
 pub record HeadAt : Type 0 where
   pub place : HeadPlace
   pub lines : Lines
@@ -44,17 +45,17 @@ pub record HeadAt : Type 0 where
 abbrev pub head_at : HeadPlace → Cursor → HeadAt
 head_at p c = record { place = p; lines = c.lines; rest = c.rest }
 
--- at the front of a file
+-- the head at the front of a file
 abbrev pub head_front : Cursor → HeadAt
 head_front c = head_at Line c
 
--- behind one word
+-- the head behind one word more
 abbrev pub behind_word : HeadAt → HeadAt
 behind_word h =
     let r = next_head_word h.place h.lines h.rest in
     record { place = r.place; lines = r.lines; rest = r.rest }
 
--- behind so many words
+-- the head behind `n` words more
 abbrev pub behind_words : ℕ → HeadAt → HeadAt
 behind_words zero h = h
 behind_words (suc n) h = behind_words n (behind_word h)
@@ -62,7 +63,7 @@ behind_words (suc n) h = behind_words n (behind_word h)
 abbrev pub UnfinishedAt : HeadAt → ℕ → List ℕ → Type 0
 UnfinishedAt h past unread = HeadStaysOpen h.place h.lines h.rest past unread
 
--- Behind so many words of a head, what is still to come ends neither the next one nor the head.
+-- Behind some words of a head, its rest ends neither the next one nor the head.
 pub record StopsInHead (front : HeadAt) (past : ℕ) (unread : List ℕ) : Type 0 where
   pub words : ℕ
   pub not_ended : UnfinishedAt (behind_words words front) past unread

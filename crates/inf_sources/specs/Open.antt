@@ -1,10 +1,10 @@
--- What the code's open files stand for, with a reader that keeps to its sources.
+-- The nesting of the code's open files, with a reader that keeps to its sources.
 use Rattle.std.specs.Prelude.{◌≡◌, ℕ, suc, ◌<◌, ◌≤◌, List, [], ◌∷◌, ◌++◌, length, map, drop, reverse, get_or, unwrap_or, Some, slice_get}
 use Rattle.std.specs.Prelude.{Bool, true, false, if◌then◌else◌, Vec}
 use Rattle.std.specs.declared.alloc.Global.{Global}
 use Rattle.inf_characters.specs.declared.characters.CharSet.{CharSet}
 use Rattle.inf_scanner.specs.declared.tokens.Token.{Token}
-use Rattle.inf_files.specs.Files.{Opening, Openings, Sources, opened}
+use Rattle.inf_devices.specs.Files.{Opening, Openings, Sources, opened}
 use Rattle.inf_lexer.specs.Names.{Nest}
 use Rattle.inf_lexer.specs.Readers.{Reader}
 use Rattle.inf_lexer.specs.Unread.{to_come, unread_of, View}
@@ -27,7 +27,7 @@ waits lexer conditionals is_system = record { lexer = lexer; conditionals = cond
 abbrev pub lexers_of : List OpenFile → List Reader
 lexers_of files = map (λ (f : OpenFile). f.lexer) files
 
--- those of all that are open, the innermost first
+-- the lexers of all files that are open, the innermost first
 abbrev pub lexers : Open → List Reader
 lexers files = files.lexer ∷ lexers_of (reverse files.outer)
 
@@ -45,15 +45,15 @@ abbrev pub AllWait : CharSet → ℕ → List Reader → Type 0
 AllWait set limit [] = Unit {0}
 AllWait set limit (r ∷ readers) = Waits set limit r × AllWait set limit readers
 
--- what is still to come of a file that this lexer reads
+-- the rest of a file that this lexer reads
 abbrev pub cursor_of : Reader → List ℕ → Cursor
 cursor_of r rest = record { rest = rest; lines = r.lines; file = r.file; set = r.set; limit = r.limit }
 
--- what is still to come of the source of an opening, of which this is in view
+-- the rest of the source of an opening, of which `view` is in view
 abbrev pub rest_of : Sources → Opening → View → List ℕ
 rest_of sources o view = view.left ++ (if view.is_over then [] else unread_of sources o)
 
--- a file that waits, of which this is still to come
+-- a file that waits, with the bytes that are its rest
 abbrev pub waiting_as : OpenFile → List ℕ → Waiting
 waiting_as f rest =
     record { cursor = cursor_of f.lexer rest; conditionals = reverse f.conditionals.items; is_system = f.is_system }
@@ -77,23 +77,23 @@ nesting sources start now files = record {
   waiting = waiting_at sources now.all (drop 1 (reverse now.open_places)) (reverse files.outer);
 }
 
--- each lexer has its opening, and each was opened behind those around it
+-- Each lexer has its opening, and each was opened behind those around it.
 abbrev pub AreNested : ℕ → List ℕ → List Reader → Type 0
 AreNested bound places [] = Unit {0}
 AreNested bound [] (r ∷ readers) = ⊥
 AreNested bound (p ∷ places) (r ∷ readers) = (p < bound) × AreNested p places readers
 
--- the open files were opened behind the others, one inside the other
+-- The open files were opened behind the others, one inside the other.
 pub record IsNested (start now : Openings) (files : Open) : Type 0 where
   pub more : length start.all ≤ length now.all
   pub nested : AreNested (length now.all) (reverse now.open_places) (lexers files)
   pub others : drop (suc (length files.outer)) (reverse now.open_places) ≡ reverse start.open_places
 
--- What was given of an opening is a front of its source,
+-- The bytes given of an opening are a front of its source.
 abbrev pub IsFrontOf : Sources → Opening → Type 0
 IsFrontOf sources o = unwrap_or (sources o.name) [] ≡ o.given ++ unread_of sources o
 
--- of at most as many bytes as a source may have.
+-- An opening was given at most as many bytes as a source may have.
 abbrev pub Fits : Opening → Type 0
 Fits o = length o.given ≤ 16777216
 
@@ -101,12 +101,12 @@ pub record IsGiven (sources : Sources) (o : Opening) : Type 0 where
   pub is_cut : IsFrontOf sources o
   pub fits : Fits o
 
--- what holds of each opening behind n others
+-- `P` holds of each opening behind `n` others.
 abbrev pub Each : (Opening → Type 0) → ℕ → List Opening → Type 0
 Each P n all = (i : ℕ) → n ≤ i → i < length all → P (get_or all i (opened []))
 
--- The lexer of an opening counts the bytes that were given of it, of which it has at most 4,096 in view. Where it read the end,
--- nothing more is to come, and it is known that the source was read to its end; where it did not, that it was not.
+-- The lexer of an opening counts the bytes that were given of it, of which it has at most 4,096 in view. Where it read the end, nothing
+-- more is to come, and the source is known to be read to its end; where it did not, the source is known not to be.
 pub record IsCounted (sources : Sources) (o : Opening) (view : View) : Type 0 where
   pub count : length o.given ≡ view.given
   pub window : length view.left ≤ 4096
@@ -119,14 +119,14 @@ pub record IsTracked (sources : Sources) (n : ℕ) (names : List (List ℕ)) (al
   pub named : slice_get names r.file ≡ Some (get_or all place (opened [])).name
   pub counted : IsCounted sources (get_or all place (opened [])) r.window
 
--- each open file is so
+-- Each open file is tracked.
 abbrev pub AreTracked : Sources → ℕ → List (List ℕ) → List Opening → List ℕ → List Reader → Type 0
 AreTracked sources n names all places [] = Unit {0}
 AreTracked sources n names all [] (r ∷ readers) = ⊥
 AreTracked sources n names all (p ∷ places) (r ∷ readers) =
     IsTracked sources n names all p r × AreTracked sources n names all places readers
 
--- All that was opened behind n openings was given so.
+-- Each opening behind `n` others was given a front of its source, and each open file is tracked.
 pub record AllGiven (sources : Sources) (n : ℕ) (now : Openings) (files : Open) : Type 0 where
   pub each : Each (IsFrontOf sources) n now.all
   pub tracked : AreTracked sources n files.nest.names now.all (reverse now.open_places) (lexers files)
@@ -138,6 +138,6 @@ pub record Reads (token : Token) (spelling : List ℕ) (was now : Nesting) : Typ
   pub bytes : spelling ≡ (read was.cursor).kept.bytes
   pub goes_on : now ≡ record was { cursor = behind was.cursor (read was.cursor) }
 
--- all files were closed that were opened since
+-- the openings with all files closed that were opened since
 abbrev pub closed_to : Openings → Openings → Openings
 closed_to start now = record now { open_places = start.open_places }

@@ -1,11 +1,11 @@
--- How many bytes are kept of a token that begins with a quote.
+-- The number of bytes that are kept of a token that begins with a quote.
 use Rattle.std.specs.Prelude.{◌≡◌, ◌≤◌, ℕ, length, Bool, true, false}
 use Rattle.inf_scanner.specs.Kept.{Kept}
 use Rattle.inf_scanner.specs.declared.tokens.BadToken.TheVariants as bad
 use Rattle.inf_scanner.specs.declared.tokens.TokenKind.{TokenKind}
 use Rattle.inf_scanner.specs.declared.tokens.TokenKind.TheVariants as kind
 
--- a text or a quote, or what is none for its end, its size or its characters
+-- Tells whether a token is a text or a quote, or is bad for its end, its size or its characters.
 abbrev pub is_quoted_kind : TokenKind → Bool
 is_quoted_kind kind.Text = true
 is_quoted_kind (kind.Char c) = true
@@ -18,6 +18,6 @@ is_quoted_kind (kind.Bad bad.BadCode) = true
 is_quoted_kind (kind.Bad bad.TooLong) = true
 is_quoted_kind _ = false
 
--- of a quoted token as many as it may have
+-- A quoted token keeps at most as many bytes as it may have.
 abbrev pub KeepsFew : ℕ → TokenKind → Kept → Type 0
 KeepsFew limit k kept = is_quoted_kind k ≡ true → length kept.bytes ≤ limit

@@ -1,10 +1,10 @@
-//! Why an inclusion could not be tried.
+//! The reasons why an inclusion could not be tried.
 ghost use Rattle.std.specs.Prelude.{◌≡◌};
 
 use std::alloc::AllocError;
 use thiserror::Error;
 
-/// Why an inclusion could not be tried.
+/// The reason why an inclusion could not be tried.
 #[derive(Clone, Copy, Debug, PartialEq, Eq, Drop, Error)]
 pub enum IncludeFault {
     /// The file could not be opened, or 65,535 others were opened before.

@@ -8,16 +8,16 @@ use inf_scanner::Place;
 pub struct Conditional {
     /// The place where its directive begins.
     pub place: Place,
-    /// Whether its second side has begun.
+    /// Tells whether its second side has begun.
     pub is_second: bool,
 }
 
-/// A file that waits for one that it includes: all that is needed to go on in it.
+/// A file that waits for one that it includes, with all that is needed to go on in it.
 #[derive(Drop)]
 pub struct OpenFile {
     pub lexer: Lexer,
     /// The conditionals that were opened between its directives, the latest last.
     pub conditionals: Vec<Conditional>,
-    /// Whether its routines may be replaced.
+    /// Tells whether its routines may be replaced.
     pub is_system: bool,
 }

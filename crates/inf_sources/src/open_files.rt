@@ -2,7 +2,7 @@
 ghost use Rattle.std.specs.Prelude.{◌≡◌, ◌≢◌, ◌+◌, ◌-◌, min, ◌≤◌, ◌<◌, ◌⊎◌, ◌++◌, [], ◌∷◌, false, true, if◌then◌else◌, is_ok, IfErr};
 ghost use Rattle.std.specs.Prelude.{IfNone, IfOk, IfSome, OnOk, OnErr, IsErrOf, IsOk, IsTrue, None, Some, length, map, reverse, slice_get};
 ghost use Rattle.std.specs.Prelude.{ℕ, IsErr, is_err, unwrap_or};
-ghost use Rattle.inf_files.specs.Files.{Openings, Rose, Sources, last_count};
+ghost use Rattle.inf_devices.specs.Files.{Openings, Rose, Sources, last_count};
 ghost use Rattle.inf_lexer.specs.Heads.{goes_on_at, is_behind};
 ghost use Rattle.inf_lexer.specs.Names.{can_name, innermost_name};
 ghost use Rattle.inf_lexer.specs.Readers.{Took, TookWord, at_front};
@@ -18,7 +18,7 @@ ghost use Rattle.inf_sources.specs.Open.{AllGiven, Each, Fits, IsNested, Reads, 
 use crate::faults::IncludeFault;
 use crate::open_file::{Conditional, OpenFile};
 use arrayvec::ArrayVec;
-use inf_files::files::Files;
+use inf_devices::files::Files;
 use inf_lexer::{EnterFault, HeadPlace, LexFault, Lexer, Stack, Token};
 use inf_text::CharSet;
 use std::alloc::Global;
@@ -36,7 +36,7 @@ pub enum Included {
     TooDeep,
 }
 
-/// Has some files that wait read by a character set.
+/// Sets the character set by which some files that wait will be read.
 fn set_all(files: &mut [OpenFile], set: CharSet)
     ensures { files.new ≡ map (file_with set) files.old }
 {
@@ -47,7 +47,7 @@ fn set_all(files: &mut [OpenFile], set: CharSet)
 
 /// The files that are open: their names, the lexer of the innermost, and the others as they were left.
 ///
-/// With an honest reader they stand for a `Nesting`: what is still to come of each.
+/// With an honest reader they have a `Nesting`: the rest of each file that is still to come.
 #[derive(Drop)]
 pub struct OpenFiles {
     alloc: Global,
@@ -71,10 +71,10 @@ impl Model for OpenFiles {
 }
 
 impl OpenFiles {
-    /// Enters the main source, by its whole name. Files are in this character set; a quoted token of theirs may have
-    /// `limit` bytes.
+    /// Enters the main source, by its whole name. Files are read by the character set `set`; a quoted token of theirs
+    /// may have `limit` bytes.
     ///
-    /// The faults: `BadName` for an empty name; `Absent` and `Device` of the reader; `Memory` where there is no room,
+    /// The errors: `BadName` for an empty name; `Absent` and `Device` of the reader; `Memory` where there is no room,
     /// which is asked for before the source is opened.
     pub fn enter_main<F: Files>(
         alloc: Global,
@@ -177,13 +177,13 @@ impl OpenFiles {
 
     /// Returns the next token of the innermost file; at its end that is the end, again and again.
     ///
-    /// `Read` comes where the file could not be read, or has more than 16,777,216 bytes; `Memory` where there is no room
-    /// for a quoted token.
+    /// Returns an error: `Read` where the file could not be read, or has more than 16,777,216 bytes; `Memory` where
+    /// there is no room for a quoted token.
     pub fn next<F: Files>(&mut self, files: &mut F) -> Result<Token, LexFault>
         requires is_open { length self.old.outer < F.depth files.old }
         requires goes { self.old.lexer.has_failed ≡ false }
 
-        // With an honest reader it is the next token of what is still to come, and nothing else changes.
+        // With an honest reader the token is the next one of the file's rest, and nothing else changes.
         ensures token { Honestly F.Files files.old self.old (λ start. IfOk result (λ token. Reads token self.new.lexer.kept.bytes
             (nesting (F.sources files.old) start (F.openings files.old) self.old)
             (nesting (F.sources files.old) start (F.openings files.new) self.new))) }
@@ -201,7 +201,7 @@ impl OpenFiles {
         ensures failed { OnErr result (self.new.lexer.has_failed ≡ true) }
         ensures same { (self.new.nest ≡ self.old.nest) × ((self.new.outer ≡ self.old.outer) × (self.new.lexer.file ≡ self.old.lexer.file)) }
 
-        // What it was given: at most 4,096 bytes behind the token.
+        // The lexer was given at most 4,096 bytes behind the token.
         ensures window { length self.new.lexer.window.left ≤ 4096 }
         ensures few { OnOk result (self.new.lexer.window.given ≤ 16777216) }
         ensures cause { IsErrOf result LexFault.Read → Rose (F.faults files.old) (F.faults files.new)
@@ -211,10 +211,11 @@ impl OpenFiles {
         Ok(token)
     }
 
-    /// Reads the next word of the head of the innermost file into `word`, as `Lexer::next_head_word` reads it: at most 256 bytes of it are
-    /// kept, and the answer tells whether there was one. `place` tells where the head goes on: `HeadPlace::Line` before the first call.
+    /// Reads the next word of the head of the innermost file into `word`, as `Lexer::next_head_word` reads it, keeping
+    /// at most 256 bytes, and returns whether there was one. `place` says where the head goes on: `HeadPlace::Line`
+    /// before the first call.
     ///
-    /// `Read` comes where the file could not be read, or has more than 16,777,216 bytes.
+    /// Returns the error `Read` where the file could not be read, or has more than 16,777,216 bytes.
     pub fn next_head_word<F: Files>(
         &mut self,
         files: &mut F,
@@ -249,15 +250,15 @@ impl OpenFiles {
         Ok(is_word)
     }
 
-    /// Enters the file that the text of an inclusion names, in these directories or beside the innermost file; it is then
-    /// the innermost. A name that no file has, one that is empty or has a byte over 127, and a seventeenth file open
-    /// nothing.
+    /// Enters the file that the text of an inclusion names, in these directories or beside the innermost file; that
+    /// file is then the innermost. A name that no file has, one that is empty or has a byte over 127, and a seventeenth
+    /// file open nothing.
     ///
-    /// The conditionals and the mark are those of the innermost file. They wait with it where a file is entered, which has
-    /// no conditional yet and no mark.
+    /// The conditionals and the mark are those of the innermost file. They wait with it where a file is entered, which
+    /// has no conditional yet and no mark.
     ///
-    /// `Device` comes where the reader failed, or 65,535 other names were opened before; `Memory` where there is no room,
-    /// which is asked for before each attempt to open a source.
+    /// Returns an error: `Device` where the reader failed, or 65,535 other names were opened before; `Memory` where
+    /// there is no room, which is asked for before each attempt to open a source.
     pub fn include<F: Files>(
         &mut self,
         files: &mut F,
@@ -268,7 +269,7 @@ impl OpenFiles {
     ) -> Result<Included, IncludeFault>
         requires goes { self.old.lexer.has_failed ≡ false }
 
-        // With an honest reader it is the first file that is there, which is read as the innermost one is.
+        // With an honest reader the file is the first one that is there, and is read as the innermost one is.
         ensures answer { Honestly F.Files files.old self.old
             (λ start. IfOk result (λ included. included ≡ answer_of (inclusion (F.sources files.old) (map (λ d. d.now) directories.now)
             text.now
@@ -284,7 +285,7 @@ impl OpenFiles {
             (opened_since start (F.openings files.new)))) }
         ensures fits { StaysFit F.Files files.old files.new self.old }
 
-        // With any reader.
+        // These hold with any reader.
         ensures went { Went F.Files files.old files.new self.old self.new }
         ensures entered { IfOk result (λ included. included ≡ Included.Entered →
             ((self.new.lexer.window.given ≡ 0) × (self.new.lexer.window.left ≡ []))
@@ -325,8 +326,8 @@ impl OpenFiles {
         }
     }
 
-    /// Closes the innermost file and goes on in the one that waits for it; gives back its conditionals and its mark. Where none
-    /// waits, nothing is closed.
+    /// Closes the innermost file, goes on in the one that waits for it, and returns that file's conditionals and mark.
+    /// Where none waits, closes nothing and returns `None`.
     pub fn leave<F: Files>(&mut self, files: &mut F) -> Option<(Vec<Conditional>, bool)>
         requires is_open { length self.old.outer < F.depth files.old }
         ensures left { IfSome result (λ back. (self.old.outer ≡ self.new.outer ++ waits self.new.lexer back.0 back.1 ∷ [])

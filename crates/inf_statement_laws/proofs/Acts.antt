@@ -1,4 +1,4 @@
--- What each action leaves of the statements that are open.
+-- The effect of each action on the statements that are open.
 use Rattle.std.proofs.Common.{◌≡◌, ℕ, List, [], ◌∷◌, Bool, true, false, ◌&&◌, Option, Some, None, refl, ◌∙◌, ap}
 use Rattle.std.specs.Prelude.{◌-◌, if◌then◌else◌, nat_lt, unwrap_or}
 use Rattle.inf_settings.specs.Bounds.{Limits}
@@ -36,14 +36,14 @@ use Rattle.inf_constructs.specs.declared.constructs.Case.TheVariants as case
 use Rattle.inf_constructs.specs.declared.constructs.Construct.{Construct}
 use Rattle.inf_constructs.specs.declared.constructs.Kind.{Kind}
 use Rattle.inf_constructs.specs.declared.constructs.Kind.TheVariants as kind
-use Rattle.inf_actions.specs.Acting.{act, ended as ended_as, is_crowded, is_long, is_tall, kind_of, noted, noted_of, operands_named, played}
+use Rattle.inf_reader.specs.Acting.{act, ended as ended_as, is_crowded, is_long, is_tall, kind_of, noted, noted_of, operands_named, played}
 use Rattle.inf_compilation.specs.declared.parts.Part.{Part}
 use Rattle.inf_compilation.specs.declared.parts.Part.TheVariants as part
 use Rattle.inf_statement_laws.specs.Happenings.{Acts, Happening, Takes, happen_quietly, happens_quietly, is_quiet, is_quiet_end}
 use Rattle.inf_statement_laws.specs.Happenings.{is_quiet_role}
 use Rattle.inf_statement_laws.specs.Laid.{happens, run}
 
--- the same are open, and as many are closed ahead
+-- Tells whether the same statements are open, and as many are closed ahead.
 abbrev pub SameOpen : Compilation → Compilation → Type 0
 SameOpen w v = (v.constructs ≡ w.constructs) × (v.closed ≡ w.closed)
 
@@ -71,7 +71,7 @@ took_same context t w =
 
 -- Units
 
--- that change no statement which is open
+-- units that leave all open statements unchanged
 abbrev is_quiet_part : Part → Bool
 is_quiet_part part.Step = false
 is_quiet_part part.Loop = false
@@ -179,7 +179,7 @@ quiet_run limits context (h ∷ hs) w q =
 
 -- Units that change the innermost
 
--- It is of some kind, or has some step: its labels are the same.
+-- Tells whether the innermost statement has changed in its kind alone, or in its step alone.
 abbrev pub KindIn : Construct → List Construct → List Construct → Type 0
 KindIn c around after = (k : Kind) × (after ≡ record c { kind = k } ∷ around)
 
@@ -208,7 +208,7 @@ step_ends limits context place w c around e =
     (named ready)
     c around e)
 
--- what a loop over objects goes over
+-- the objects that a loop over objects goes over
 looped_kind_by : (limits : Limits) (parent : Option Tree) (e : Tree) (v : ℕ) (c : Construct) (o : Out)
     → (k : Kind) × ((looped_by limits parent e v c o).0 ≡ record c { kind = k })
 looped_kind_by limits None e v c o = (_, refl)
@@ -304,7 +304,7 @@ case_ends limits context place w c around e =
     (λ _. (c.kind, e)) (λ _. (case_finished limits context (place_of part.Case place ready) ready c around
     (case_ready limits before c around e).0).0)
 
--- the number of those that are closed ahead stays, whatever is open
+-- the number of statements that are closed ahead stays, whatever is open
 pub case_none_ahead : (limits : Limits) (context : Context) (place : Place) (w : Compilation) →
     (act limits context place action.EndCase w).closed ≡ w.closed
 case_none_ahead limits context place w =
@@ -320,7 +320,7 @@ case_none_ahead limits context place w =
 
 -- The routine's own cases
 
--- nothing is open but these
+-- whether no statement is open but the routine's own cases
 abbrev pub own_alone : List Construct → Bool
 own_alone [] = true
 own_alone (c ∷ []) = are_cases c.kind
@@ -368,7 +368,7 @@ case_alone limits context place w h =
     ∙ entered_alone limits (is_default ready.unit.items) ready.constructs ready.output
     (ap own_alone (actions_named_same (are_own begun.constructs) begun).0 ∙ begun_alone limits before.constructs before.output h))
 
--- Whatever is done in a routine closes none ahead where none was closed
+-- Nothing in a routine closes statements ahead where none was closed
 
 -- an action of a routine
 abbrev pub is_inside_end : Ending → Bool

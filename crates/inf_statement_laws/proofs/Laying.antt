@@ -19,7 +19,7 @@ use Rattle.inf_constructs.specs.declared.constructs.Construct.{Construct}
 use Rattle.inf_constructs.specs.declared.constructs.Kind.{Kind}
 use Rattle.inf_constructs.specs.declared.constructs.Kind.TheVariants as kind
 use Rattle.inf_constructs.specs.declared.constructs.Over.TheVariants as over
-use Rattle.inf_actions.specs.Acting.{act}
+use Rattle.inf_reader.specs.Acting.{act}
 use Rattle.inf_compilation.specs.Actions.{Compilation, is_deep, nested}
 use Rattle.inf_compilation.specs.Parts.{closed_ahead, construct_closed, construct_ended, construct_joined, construct_opened}
 use Rattle.inf_compilation.specs.Parts.{constructs_laid}
@@ -41,7 +41,7 @@ pub run_then : (limits : Limits) (context : Context) (xs ys : List Happening) (w
 run_then limits context [] ys w = refl
 run_then limits context (x ∷ xs) ys w = run_then limits context xs ys (happens limits context x w)
 
--- The innermost of those that are open, with none closed ahead
+-- The innermost of the open statements, with none closed ahead
 
 record At (c : Construct) (around : List Construct) (w : Compilation) : Type 0 where
   is : w.constructs ≡ c ∷ around
@@ -79,7 +79,7 @@ closing_is : (limits : Limits) (closes : Moment) (c : Construct) (around : List 
 closing_is limits closes c around w at =
     ap (passed closes.behind) (closing_open limits w at.none_ahead ∙ ap (λ l. constructs_laid (ended limits l) w) at.is)
 
--- What is open behind something: the same, and in a `switch` its innermost may be of another kind.
+-- Tells whether the open statements are the same behind happenings; in a `switch` the innermost may be of another kind.
 abbrev pub Holds : Bool → List Construct → List Construct → Type 0
 Holds false before after = after ≡ before
 Holds true before after = (c : Construct) (around : List Construct) → before ≡ c ∷ around → KindIn c around after
@@ -106,11 +106,11 @@ at_body : (limits : Limits) (context : Context) (body : Nested false) → Inner 
 at_body limits context body inner c around w at =
     let i = inner w at.none_ahead in record { is = i.holds ∙ at.is; none_ahead = i.none_ahead }
 
--- the closing behind something that ran
+-- the closing behind other happenings
 abbrev close : Moment → List Happening
 close at = Acts at action.Close ∷ []
 
--- It ends where what ran has it as the innermost.
+-- Tells whether a statement ends where the happenings before its closing leave it as the innermost.
 record Ends (limits : Limits) (context : Context) (hs : List Happening) (v : Compilation) (c : Construct) (around : List Construct)
     (closes : Moment)
     (w : Compilation) : Type 0 where
@@ -134,7 +134,7 @@ body_closed limits context body inner c around closes v at =
     closed_behind limits context c around closes (happenings body) v (laid limits context body v) (inner v at.none_ahead).runs
     (at_body limits context body inner c around v at)
 
--- what is quiet, a body, and the closing
+-- quiet happenings, a body, and the closing
 quiet_body_closed : (limits : Limits) (context : Context) (q : Quiet) (body : Nested false) → Inner limits context body
     → (c : Construct) (around : List Construct) (closes : Moment) (v : Compilation) → At c around v
     → Ends limits context (q.all ++ (happenings body ++ close closes)) v c around closes
@@ -144,7 +144,7 @@ quiet_body_closed limits context q body inner c around closes v at =
     body_closed limits context body inner c around closes (run limits context q.all v) (at_quiet limits context q c around v at) in
     record { runs = run_then limits context q.all (happenings body ++ close closes) v ∙ ends.runs; none_ahead = ends.none_ahead }
 
--- behind the word of one
+-- the compilation behind the word of a statement
 abbrev word_read : Limits → Context → Moment → Kind → Compilation → Compilation
 word_read limits context opens k w = opened_at context opens (opened limits k w.output) w
 
@@ -152,7 +152,7 @@ at_word : (limits : Limits) (context : Context) (opens : Moment) (k : Kind) (w :
     → At (opened limits k w.output).0 w.constructs (word_read limits context opens k w)
 at_word limits context opens k w e = record { is = refl; none_ahead = e }
 
--- One that is laid as a whole
+-- A statement that is laid as a whole
 record Whole (limits : Limits) {b : Bool} (context : Context) (n : Nested b) (w : Compilation) : Type 0 where
   runs : run limits context (happenings n) w ≡ laid limits context n w
   none_ahead : (laid limits context n w).closed ≡ 0
@@ -264,7 +264,7 @@ at_step limits context (StepEnds step ends) c around w at =
           ∙ at_front.none_ahead;
     })
 
--- what is open already is held
+-- a statement that is open already is held
 held : (c : Construct) (around : List Construct) (w : Compilation) → At c around w → w ≡ record w { constructs = c ∷ around }
 held c around w at = ap (λ l. record w { constructs = l }) at.is
 
@@ -301,7 +301,7 @@ for_is limits context opens start joins test step bracket body closes w e inner 
       none_ahead = end.none_ahead;
     }
 
--- What is of another kind
+-- The innermost statement is of another kind
 
 kept_kind : (c : Construct) (around constructs : List Construct) → KindIn c around constructs
     → constructs ≡ with_kind_in constructs c ∷ around
@@ -475,7 +475,7 @@ alone_behind limits context (For opens start joins test step bracket body closes
 alone_behind limits context (Objectloop opens loop ends joins bracket body closes) w e h = h
 alone_behind limits context (Switch opens value cases brace closes) w e h = h
 
--- no depth is that of nothing but the routine's own cases
+-- the depth is not 0 where two statements are open, or one that is not the routine's own cases
 more_by : (k : Option Kind) (n : ℕ) → depth_by k (suc (suc n)) ≡ 0 → ⊥
 more_by None n e = omega (arith, e)
 more_by (Some k) n e = of_both (λ m. m ≡ 0 → ⊥) (are_cases k) (suc (suc n) - 1) (suc (suc n)) (λ _ f. omega (arith, f))
@@ -537,7 +537,7 @@ next_ahead limits count w =
     (ahead limits (suc count) w)) some
     ∙ ap (λ n. record (ahead limits count (construct_ended limits w)) { closed = n }) one_less
 
--- what is done before the next end, and behind it
+-- the effect before the next end comes behind it
 pub next_passed : (limits : Limits) (m : Between) (count : ℕ) (w : Compilation)
     → construct_closed limits (passed m (ahead limits (suc count) w)) ≡ passed m (construct_closed limits (ahead limits (suc count) w))
 next_passed limits m count w =

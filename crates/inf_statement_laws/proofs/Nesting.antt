@@ -52,13 +52,13 @@ abbrev pub quiet_of : (deep : ℕ) (symbols : List (Symbol Action)) (hs : List H
     → all_quiet symbols ≡ true → Quiet
 quiet_of deep symbols hs p q = record { all = hs; are = quiet_parts (OfRule deep) (quiet_rule deep) symbols hs p q }
 
--- Nested ones
+-- Nested statements
 
 record Nests (b : Bool) (hs : List Happening) : Type 0 where
   nested : Nested b
   same : happenings nested ≡ hs
 
--- one that holds others, by the rule that it is read by
+-- a statement that holds others, by the rule that reads its rest
 pub record Compound (b : Bool) (rest : Symbol Action) (hs : List Happening) : Type 0 where
   pub nested : Nested b
   pub same : happenings nested ≡ hs
@@ -108,7 +108,7 @@ nest_parts Of b below (Rule rule ∷ symbols) hs p m =
     let both = and_parts (may b rule) (all_may b symbols) m in
     then_nests b p.0 p.1 hs p.2 (below rule p.0 p.3 both.0) (nest_parts Of b below symbols p.1 p.4 both.1)
 
--- the body of one that holds others
+-- the body of a statement that holds others
 body_of : (deep : ℕ) → Below deep → (hs : List Happening) → OfRule deep (number statement) hs → Nests false hs
 body_of deep below hs o = below false (number statement) hs o statement_may
 
@@ -151,7 +151,7 @@ while_nests deep b hs below o =
       is = refl;
     }
 
--- What stands behind the body of an `if`: its `else`, or the closing alone.
+-- The end of an `if` behind its body: its `else`, or the closing alone.
 data ElseRead (deep : ℕ) (hs : List Happening) : Type 0 where
   Without : (closes : Moment) → hs ≡ Acts closes action.Close ∷ [] → ElseRead deep hs
   With : (joins : Moment) (word : Quiet) (other : List Happening) (closes : Moment) → OfRule deep (number statement) other
@@ -332,7 +332,7 @@ switch_nests deep b hs below o =
 plainly : {b : Bool} {rest : Symbol Action} {hs : List Happening} → Compound b rest hs → Nests b hs
 plainly c = record { nested = c.nested; same = c.same }
 
--- One of six
+-- One of the six rules
 data Rest : ℕ → Type 0 where
   AnIf : Rest (number if_rest)
   AWhile : Rest (number while_rest)

@@ -20,7 +20,7 @@ use Rattle.inf_grammar.specs.Routines.{closings}
 use Rattle.inf_compilation.specs.Context.{Context}
 use Rattle.inf_unit.specs.Tokens.{SourceToken}
 use Rattle.inf_unit.specs.Units.{first_place, names_in}
-use Rattle.inf_actions.specs.Acting.{act, acted}
+use Rattle.inf_reader.specs.Acting.{act, acted}
 use Rattle.inf_compilation.specs.Actions.{Compilation, took}
 use Rattle.inf_compilation.specs.Parts.{closed_ahead, construct_ended}
 use Rattle.inf_statement_laws.specs.Happenings.{Acts, AreOf, Between, Happening, Quiet, Takes, happen_quietly, is_quiet}
@@ -88,7 +88,7 @@ behind_ends_are : (events : List (Event Action)) (d : Option Between) (count : �
 behind_ends_are events None count hs are = are
 behind_ends_are events (Some m) count hs are = behind_some_are events count m hs are
 
--- tokens that fit up to where nothing is left are a text
+-- tokens that fit up to where no symbol is left are a text
 record Text (seen : List Seen) (symbols : List (Symbol Action)) : Type 0 where
   events : List (Event Action)
   is_text : IsText grammar symbols (map (λ (s : Seen). s.atom) seen) events
@@ -121,9 +121,9 @@ tokens_happen limits = record {
   directives = λ files place w. refl;
 }
 
--- What conditional directives close ahead
+-- The statements that conditional directives close ahead
 
--- so many endings
+-- the actions of `count` endings
 abbrev ends : ℕ → List Action
 ends zero = []
 ends (suc count) = action.Close ∷ ends count
@@ -151,7 +151,7 @@ ends_none limits context place zero w e = e
 ends_none limits context place (suc count) w e = ends_none limits context place count (act limits context place action.Close w)
     (inside_act limits context place action.Close w refl e)
 
--- those that were closed ahead end, and what was done meanwhile is done behind them
+-- the statements that were closed ahead end, and the effects meanwhile come behind their ends
 ahead_ends : (limits : Limits) (context : Context) (place : Place) (m : Between) (count : ℕ) (w : Compilation) → w.closed ≡ 0
     → acted limits context place (ends count) (passed m (ahead limits count w)) ≡ passed m (acted limits context place (ends count) w)
 ahead_ends limits context place m zero w e = ap (λ n. passed m (record w { closed = n })) (sym e)
@@ -160,7 +160,7 @@ ahead_ends limits context place m (suc count) w e =
     ∙ (ahead_ends limits context place m count (construct_ended limits w) e
     ∙ ap (λ v. passed m (acted limits context place (ends count) v)) (sym (closing_open limits w e)))
 
--- and so do their happenings
+-- the happenings of these ends have the same effect
 behind_ends_run : (limits : Limits) (context : Context) (t : SourceToken) (b m : Between) (count : ℕ) (rest : List Action)
     (others : List Happening)
     (w : Compilation)
@@ -295,12 +295,12 @@ routine_is_inside r =
 
 -- Reading
 
--- where what was done from a conditional directive on is still to be put behind ends
+-- whether the effect from a conditional directive on is still to be put behind ends
 abbrev Waits : Option Between → List (Symbol Action) → Type 0
 Waits None symbols = Unit {0}
 Waits (Some m) symbols = (count : ℕ) × (closings symbols ≡ suc count)
 
--- where a token's actions begin, by what they are from there on
+-- where a token's actions begin, by those from there on
 record Starts (limits : Limits) (context : Context) (d : Option Between) (s : Seen) (own : Between) (symbols : List (Symbol Action))
     (others : List Happening) (w : Compilation) : Type 0 where
   rest : List Action
@@ -354,7 +354,7 @@ behind_none : (m : Between) (hs : List Happening) → behind_some 0 m hs ≡ hs
 behind_none m [] = refl
 behind_none m (h ∷ hs) = refl
 
--- what all further tokens do
+-- the effect of all further tokens
 abbrev Further : Limits → Context → List Seen → List (Symbol Action) → Type 0
 Further limits context seen symbols =
     (d : Option Between) (w : Compilation) → w.closed ≡ 0 → Waits d symbols
@@ -455,7 +455,7 @@ are_routines bracket seen is f e =
           ++ behind_ends bracket.directive (closings n.left) (all_happenings seen n.left)) begins),
     )
 
--- up to what stands in it
+-- the compilation behind the header of a routine
 abbrev headed : Limits → Context → Routine → Compilation → Compilation
 headed limits context r w =
     run limits context r.semicolon.all (happens limits context (Acts r.heads action.EndLocals) (run limits context r.header.all w))

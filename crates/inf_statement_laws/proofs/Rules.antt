@@ -1,4 +1,5 @@
--- The rules by which statements are read, told by what their rows have; and that it is so, by evaluation over the table.
+-- The rules by which statements are read, given by the symbols of their rows; evaluation over the table shows that they are
+-- these.
 use Rattle.std.proofs.Common.{◌≡◌, ℕ, List, [], ◌∷◌, ◌++◌, Bool, true, false, not, ◌&&◌, ◌||◌, ◌==◌, refl, ap, subst, ◌⊎◌, inl, inr}
 use Rattle.std.proofs.lemmas.Bool.{agree_below, agree_below_at, and_parts, cases_lt}
 use Rattle.inf_machine.specs.declared.symbols.Symbol.{Symbol}
@@ -29,20 +30,21 @@ number (Token class) = 0
 number (Act a) = 0
 number (Rule rule) = rule
 
--- Rules of tokens and quiet actions alone, which the rules of expressions are, as the bits of a number. These are a rule's where all of its
--- rows have nothing else; another numbering of the rules has others, which the evaluations below then refuse.
+-- Rules of tokens and quiet actions alone, which the rules of expressions are, as the bits of a number. A rule is among
+-- these where all of its rows have nothing else; for another numbering of the rules, the evaluations below refuse this
+-- number.
 abbrev quiet_rules : ℕ
 quiet_rules = 0x40040812079018040818ffffffffc1839f6fffffffffffffab003c01ff3748
 
 unfoldable pub is_quiet_rule : ℕ → Bool
 is_quiet_rule rule = has quiet_rules rule
 
--- Rules of statements, and what stands behind the words of those that hold others
+-- Rules of statements, and the rules behind the words of those that hold others
 unfoldable pub is_holding : ℕ → Bool
 is_holding rule = (rule == number statement) || (rule == number statement_3) || (rule == number mark_statement) ||
     (rule == number mark_statement_1)
 
--- Rules of what stands in a `switch` or at the top of a routine, in which cases end, as the bits of a number
+-- Rules of a `switch` and of the top of a routine, in which cases end, as the bits of a number
 abbrev case_rules : ℕ
 case_rules = 0x7bffbf7edf86fe7fbf7e7000000003000000000000000000004000000000010
 
@@ -58,7 +60,7 @@ abbrev pub is_case : Action → Bool
 is_case action.EndCase = true
 is_case _ = false
 
--- what may stand among statements, and among cases
+-- the rules that may come among statements, and among cases
 abbrev pub may : Bool → ℕ → Bool
 may b rule = is_quiet_rule rule || (is_holding rule || (is_rest rule || (b && is_case_rule rule)))
 
@@ -148,7 +150,7 @@ pub embedded_may : may true (number value_3) ≡ true
 unfolding is_quiet_rule is_holding is_case_rule
 embedded_may = refl
 
--- what stands in a routine: items, one behind the other
+-- the text of a routine: items, one behind the other
 pub body_rows : grammar.rows_of (number directive_2) ≡ row (top_item ∷ directive_2 ∷ []) ∷ row [] ∷ []
 unfolding grammar
 body_rows = refl
@@ -157,7 +159,7 @@ pub embedded_rows : grammar.rows_of (number value_3) ≡ row (top_item ∷ value
 unfolding grammar
 embedded_rows = refl
 
--- What the rows of statements that hold others have
+-- The symbols in the rows of statements that hold others
 
 abbrev pub if_test : List (Symbol Action)
 if_test = 'open_parenthesis' ∷ !begin ∷ !outer ∷ expression ∷ !end_if ∷ 'close_parenthesis' ∷ []
@@ -278,7 +280,7 @@ pub step_row : HasRows for_rest_3 step_parts []
 unfolding grammar
 step_row = two_rows (row step_parts) (row []) (grammar.rows_of (number for_rest_3)) refl
 
--- What they have beside their own actions, and bodies, is quiet.
+-- The symbols beside their own actions, and bodies, are quiet.
 pub quiet_if_test : all_quiet if_test ≡ true
 unfolding is_quiet_rule
 quiet_if_test = refl
@@ -329,7 +331,7 @@ pub quiet_header : all_quiet header_parts ≡ true
 unfolding is_quiet_rule
 quiet_header = refl
 
--- a bracket begins one, of all pieces and directives
+-- a bracket begins a routine, of all pieces and directives
 pub piece_begins : taken grammar known (mark_atom mark.OpenBracket) (piece ∷ []) ≡ taken grammar known (mark_atom mark.OpenBracket)
     (directive ∷ [])
 unfolding grammar known

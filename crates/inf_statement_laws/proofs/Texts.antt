@@ -1,4 +1,4 @@
--- Texts of the grammar as trees: each rule with the happenings of one of its rows, so many rules deep.
+-- Texts of the grammar as trees of a depth: each rule with the happenings of one of its rows.
 use Rattle.std.proofs.Common.{◌≡◌, ℕ, zero, suc, List, [], ◌∷◌, ◌++◌, refl, sym, ◌∙◌, ap, subst, append_assoc, append-nil}
 use Rattle.inf_machine.specs.declared.symbols.Symbol.{Symbol}
 use Rattle.inf_machine.specs.declared.symbols.Symbol.TheVariants.{Token, Rule, Act}
@@ -8,7 +8,7 @@ use Rattle.inf_grammar.specs.Language.{grammar}
 use Rattle.inf_unit.specs.Tokens.{SourceToken}
 use Rattle.inf_statement_laws.specs.Happenings.{Acts, AreOf, Between, Happening, IsRead, Moment, Takes}
 
--- the happenings are those of some symbols, where it is told which are those of a rule
+-- the happenings of some symbols, where `Of` says which are those of a rule
 abbrev pub Parts : (ℕ → List Happening → Type 0) → List (Symbol Action) → List Happening → Type 0
 Parts Of [] hs = hs ≡ []
 Parts Of (Token class ∷ symbols) hs = (t : SourceToken × Between) × (rest : List Happening) × (hs ≡ Takes t.0 t.1 ∷ rest) × Parts Of symbols
@@ -74,7 +74,7 @@ pub raised : (deep rule : ℕ) (hs : List Happening) → OfRule deep rule hs →
 raised zero rule hs o = absurd o
 raised (suc deep) rule hs o = (o.0, o.1, raised_parts (OfRule deep) (OfRule (suc deep)) (raised deep) o.0.parts hs o.2)
 
--- what leads to the end
+-- the happenings of symbols that lead to the end
 abbrev pub Deep : List (Symbol Action) → List Happening → Type 0
 Deep symbols hs = (deep : ℕ) × Parts (OfRule deep) symbols hs
 

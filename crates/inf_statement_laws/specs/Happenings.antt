@@ -1,5 +1,5 @@
--- What happens to a compilation while a text of the grammar is read: actions act, each before a token at a place, and tokens are taken.
--- Behind a token, before the next one comes, more may be done, which leaves the statements that are open.
+-- The happenings of a compilation while a text of the grammar is read: actions act, each before a token at a place, and
+-- tokens are taken. Behind a token, before the next one comes, more may happen, which leaves the statements that are open.
 use Rattle.std.specs.Prelude.{◌≡◌, ℕ, ◌&&◌, Bool, true, false, List, [], ◌∷◌}
 use Rattle.inf_scanner.specs.declared.tokens.Place.{Place}
 use Rattle.inf_machine.specs.declared.symbols.Symbol.{Symbol}
@@ -17,15 +17,15 @@ use Rattle.inf_unit.specs.declared.roles.Ending.TheVariants as ending
 use Rattle.inf_unit.specs.declared.roles.Role.{Role}
 use Rattle.inf_unit.specs.declared.roles.Role.TheVariants as role
 
--- What is done between two tokens: conditional directives may tell something and begin code, and what was told is written. What is open
--- stays.
+-- The effect of conditional directives between two tokens: they may report something and begin code, and the report is
+-- written. Open statements stay open.
 pub record Between : Type 0 where
   pub report : Out → Reported → Reported
   pub output : Out → Out
   pub most_labels : Out → ℕ → ℕ
   pub asked : Request → Request
 
--- where an action acts, and what is done behind it, before another token comes
+-- the place where an action acts, and the effect behind it, before another token comes
 pub record Moment : Type 0 where
   pub place : Place
   pub behind : Between
@@ -34,31 +34,31 @@ pub data Happening : Type 0 where
   Acts : (at : Moment) (action : Action) → Happening
   Takes : (token : SourceToken) (behind : Between) → Happening
 
--- They are those of some events of the grammar, in order: the same actions, at any places, and for each token that was taken one, whichever
--- it is, and whatever is done behind it.
+-- Tells whether happenings are those of some events of the grammar, in order: the same actions, at any places, and for each
+-- token that was taken one, whichever it is, with any effect behind it.
 abbrev pub AreOf : List (Event Action) → List Happening → Type 0
 AreOf [] [] = Unit {0}
 AreOf (Did a ∷ events) (Acts at b ∷ happenings) = (b ≡ a) × AreOf events happenings
 AreOf (Took atom ∷ events) (Takes t m ∷ happenings) = AreOf events happenings
 AreOf _ _ = ⊥
 
--- They are those of a text of a symbol.
+-- Tells whether happenings are those of a text of a symbol.
 pub record IsRead (symbol : Symbol Action) (happenings : List Happening) : Type 0 where
   pub atoms : List ℕ
   pub events : List (Event Action)
   pub is_text : IsText grammar (symbol ∷ []) atoms events
   pub are : AreOf events happenings
 
--- what stands behind the words of the statements that hold others
+-- the rules behind the words of the statements that hold others
 abbrev pub rests : List (Symbol Action)
 rests = if_rest ∷ while_rest ∷ do_rest ∷ for_rest ∷ objectloop_rest ∷ switch_rest ∷ []
 
--- what stands between the header and the end of a routine, and of one that is a value of a property
+-- the rules between the header and the end of a routine, and of one that is a value of a property
 abbrev pub bodies : List (Symbol Action)
 bodies = directive_2 ∷ value_3 ∷ []
 
--- Whether an action neither opens a statement that holds others nor goes on with one nor ends one, whatever unit it may end. Those that
--- stand outside of statements count as ones that do.
+-- Whether an action neither opens a statement that holds others nor goes on with one nor ends one, whatever unit it may
+-- end. Actions outside of statements count as ones that do.
 abbrev pub is_quiet_end : Ending → Bool
 is_quiet_end ending.Statement = true
 is_quiet_end ending.Condition = true

@@ -1,6 +1,6 @@
--- What statements lay as a whole. Each that holds others is opened once, its parts run in their order with it as the innermost, and it is
--- closed with the labels that were handed out where its word was read. What was open around it is open behind it. No label is looked for
--- among those that are open. Designer's Manual, fourth edition, sections 1.7 to 1.9.
+-- The code of statements as a whole. Each that holds others is opened once, its parts run in their order with it as the
+-- innermost, and it is closed with the labels that were handed out where its word was read. The statements around it are
+-- open behind it. No label is looked for among open statements. Designer's Manual, fourth edition, sections 1.7 to 1.9.
 use Rattle.std.specs.Prelude.{Bool, false, List, [], ◌∷◌, None}
 use Rattle.inf_settings.specs.Bounds.{Limits}
 use Rattle.inf_scanner.specs.declared.tokens.Place.{Place}
@@ -13,7 +13,7 @@ use Rattle.inf_constructs.specs.declared.constructs.Case.TheVariants as case
 use Rattle.inf_constructs.specs.declared.constructs.Construct.{Construct}
 use Rattle.inf_constructs.specs.declared.constructs.Kind.TheVariants as kind
 use Rattle.inf_constructs.specs.declared.constructs.Over.TheVariants as over
-use Rattle.inf_actions.specs.Acting.{act}
+use Rattle.inf_reader.specs.Acting.{act}
 use Rattle.inf_compilation.specs.Actions.{Compilation, is_deep, nested, took}
 use Rattle.inf_statement_laws.specs.Happenings.{Acts, Between, Happening, Moment, Takes}
 use Rattle.inf_statement_laws.specs.Nested.{Case, Do, For, If, IfElse, Nested, Objectloop, Plain, Switch, Then, While, step_happenings}
@@ -28,7 +28,7 @@ passed m w = record w {
   asked = m.asked w.asked;
 }
 
--- The next token comes: the word of a statement waits no more to be told with a bad one behind it.
+-- The next token comes: the word of a statement no longer waits to be reported with a bad token behind it.
 abbrev pub next_comes : Compilation → Compilation
 next_comes w = record w { opening = None }
 
@@ -42,23 +42,23 @@ run limits context (h ∷ happenings) w = run limits context happenings (happens
 
 -- Statements that hold others
 
--- with one as the innermost of what is open around it, and with the code so far
+-- the compilation with a construct as the innermost of the open ones `around`, and with the code so far
 abbrev pub holding : Moment → Construct × Out → List Construct → Compilation → Compilation
 holding at c around w = passed at.behind (record w { constructs = c.0 ∷ around; output = c.1 })
 
--- One is opened where its word was read, where it is told if it stands too deep.
+-- A statement is opened where its word was read, and reported there if it is nested too deep.
 abbrev pub told_deep : Context → Place → Compilation → Compilation
 told_deep context place w = record w { report = (nested context (last_place w.unit.tokens place) (is_deep w 1) w).report }
 
 abbrev pub opened_at : Context → Moment → Construct × Out → Compilation → Compilation
 opened_at context at c w = holding at c w.constructs (told_deep context at.place w)
 
--- One ends: its end is laid on what its parts leave.
+-- A statement ends: its end is laid behind its parts.
 abbrev pub ended_as : Limits → Moment → Construct → List Construct → Compilation → Compilation
 ended_as limits at c around w = passed at.behind (record w { constructs = around; output = closed limits c w.output })
 
--- The unit of a loop over objects leaves it as one of another kind, and so does a case its `switch`. The unit of a step leaves it with
--- that. Its labels are those that it had.
+-- The kind and the step of a statement, as units leave them: the unit of a loop over objects changes its kind, and so does
+-- a case that of its `switch`; the unit of a step adds the step. The labels stay.
 abbrev pub with_kind_in : List Construct → Construct → Construct
 with_kind_in [] c = c
 with_kind_in (d ∷ constructs) c = record c { kind = d.kind }

@@ -1,4 +1,4 @@
--- What joins the happenings of a whole statement: it leaves what is open around it as it was, and lays what its nesting says.
+-- The happenings of a whole statement: they leave the statements around it as they were, and lay it by its nesting.
 use Rattle.std.specs.Prelude.{◌≡◌, ℕ, Bool, true, false, List, [], ◌∷◌, length, Some}
 use Rattle.inf_settings.specs.Bounds.{Limits}
 use Rattle.inf_scanner.specs.declared.tokens.Place.{Place}
@@ -16,7 +16,7 @@ use Rattle.inf_compilation.specs.Context.{Context}
 use Rattle.inf_unit.specs.Tokens.{SourceToken}
 use Rattle.inf_constructs.specs.Constructs.{depth}
 use Rattle.inf_constructs.specs.declared.constructs.Construct.{Construct}
-use Rattle.inf_actions.specs.Acting.{act, all_acted}
+use Rattle.inf_reader.specs.Acting.{act, all_acted}
 use Rattle.inf_compilation.specs.Actions.{Compilation, begun_at, took}
 use Rattle.inf_compilation.specs.Parts.{closed_ahead}
 use Rattle.inf_statement_laws.specs.Happenings.{Acts, AreOf, Between, Happening, IsRead, bodies, rests}
@@ -25,9 +25,9 @@ use Rattle.inf_statement_laws.specs.Laid.{laid, next_comes, passed, run, with_ki
 use Rattle.inf_statement_laws.specs.Readings.{Routine, Seen, all_fit, all_happenings, all_taken, body_laid, directive_between, left_behind}
 use Rattle.inf_statement_laws.specs.Readings.{plainly_at, routine_happenings, routine_laid, token_happenings}
 
--- What a token that fits does, and what is done behind it, is what its happenings do, one by one, from where it has come up to where the
--- next one comes. They are those of its events. And tokens that the machine takes, one after the other, are a text where nothing is left
--- behind them.
+-- A token that fits has the effect of its happenings, with those behind it, one by one, from where it has come up to where
+-- the next one comes. They are the happenings of its events. And tokens that the machine takes, one after the other, are a
+-- text where no symbol is left behind them.
 pub record TokensHappen (limits : Limits) : Type 0 where
   pub runs : (context : Context) (t : SourceToken) (m : Between) (actions : List Action) (w : Compilation)
       → next_comes (passed m (took context t (all_acted limits context t.place actions w)))
@@ -39,7 +39,7 @@ pub record TokensHappen (limits : Limits) : Type 0 where
   pub directives : (files : FileNames) (place : Place) (w : Compilation) →
       begun_at limits files place w ≡ passed (directive_between limits files place) w
 
--- The statements that are open are those that were open before, and none is closed ahead.
+-- Tells whether the statements that are open are those that were open before, and none is closed ahead.
 pub record StaysOpen (w v : Compilation) : Type 0 where
   pub same : v.constructs ≡ w.constructs
   pub none_ahead : v.closed ≡ 0
@@ -47,24 +47,25 @@ pub record StaysOpen (w v : Compilation) : Type 0 where
 abbrev pub LeavesOpen : Limits → Context → List Happening → Type 0
 LeavesOpen limits context hs = (w : Compilation) → w.closed ≡ 0 → StaysOpen w (run limits context hs w)
 
--- Whatever stands in a statement, and whatever is wrong with it, what is open around it stays as it is.
+-- The statements around a statement stay as they are, whatever it holds and whatever faults it has.
 pub record StatementsLeaveWhatIsOpen (limits : Limits) : Type 0 where
   pub of_statements : (context : Context) (hs : List Happening) → IsRead statement hs → LeavesOpen limits context hs
   pub of_rests : (context : Context) (rest : Symbol Action) (hs : List Happening) → IsOneOf rest rests → IsRead rest hs
       → LeavesOpen limits context hs
 
--- The happenings are those of a nested statement, and do what it lays as a whole.
+-- Tells whether happenings are those of a nested statement, and lay it as a whole.
 pub record IsWhole (limits : Limits) {b : Bool} (context : Context) (s : Nested b) (hs : List Happening) : Type 0 where
   pub same : happenings s ≡ hs
   pub lays : (w : Compilation) → w.closed ≡ 0 → run limits context hs w ≡ laid limits context s w
 
--- So it is with each statement. One that holds others is one of its own word.
+-- Each statement is nested and laid as a whole. One that holds others is one of its own word.
 pub record StatementsAreLaidWhole (limits : Limits) : Type 0 where
   pub of_statements : (context : Context) (hs : List Happening) → IsRead statement hs → (s : Nested false) × IsWhole limits context s hs
   pub of_rests : (context : Context) (rest : Symbol Action) (hs : List Happening) → IsOneOf rest rests → IsRead rest hs
       → (s : Nested false) × (rest_of s ≡ Some rest) × IsWhole limits context s hs
 
--- So it is with what stands in a routine, its own cases among it. Where no statement is open before it, none is open behind it.
+-- The text of a routine, with its own cases, is nested and laid as a whole. Where no statement is open before it, none is
+-- open behind it.
 abbrev pub EndsOpen : Limits → Context → List Happening → Type 0
 EndsOpen limits context hs =
     (w : Compilation) → w.closed ≡ 0 → depth w.constructs ≡ 0 → (depth (run limits context hs w).constructs ≡ 0) ×
@@ -76,14 +77,15 @@ pub record RoutinesAreLaidWhole (limits : Limits) : Type 0 where
   pub ends : (context : Context) (body : Symbol Action) (hs : List Happening) → IsOneOf body bodies → IsRead body hs →
       EndsOpen limits context hs
 
--- Tokens are those of a routine, and do what it lays as a whole, also with conditional directives among them, which close statements ahead.
+-- Tells whether tokens are those of a routine, and lay it as a whole, also with conditional directives among them, which
+-- close statements ahead.
 pub record AreRoutine (limits : Limits) (r : Routine) (seen : List Seen) : Type 0 where
   pub same : routine_happenings r ≡ all_happenings seen (directive ∷ [])
   pub lay : (context : Context) (w : Compilation) → w.closed ≡ 0
       → next_comes (all_taken limits context seen (directive ∷ []) w) ≡ routine_laid limits context r (next_comes w)
 
--- So a routine is read, from its bracket on, by tokens that fit up to where nothing is left: its header, what stands in it, and its end,
--- before which no statement is open where none was before the header.
+-- A routine is read, from its bracket on, by tokens that fit up to where no symbol is left: its header, its statements, and
+-- its end, before which no statement is open where none was before the header.
 pub record RoutinesAreReadWhole (limits : Limits) : Type 0 where
   pub are : (bracket : Seen) (seen : List Seen) → bracket.atom ≡ mark_atom mark.OpenBracket
       → all_fit (bracket ∷ seen) (directive ∷ []) ≡ true → left_behind (bracket ∷ seen) (directive ∷ []) ≡ []
@@ -93,13 +95,13 @@ pub record RoutinesAreReadWhole (limits : Limits) : Type 0 where
   pub end : (context : Context) (r : Routine) (w : Compilation) → w.closed ≡ 0 → w.constructs ≡ []
       → depth (body_laid limits context r w).constructs ≡ 0
 
--- So many statements end one behind the other.
+-- The happenings of statements that end one behind the other, at these places.
 abbrev pub endings : List Place → List Happening
 endings [] = []
 endings (place ∷ places) = Acts (plainly_at place) action.Close ∷ endings places
 
--- A conditional directive closes those ahead that end next, whatever the next token is. What it does is done as if behind their ends, and a
--- second one closes no more.
+-- A conditional directive closes ahead the statements that end next, whatever the next token is. Its effect is as if behind
+-- their ends, and a second one closes no more.
 pub record ClosingAheadIsClosing (limits : Limits) : Type 0 where
   pub behind : (context : Context) (places : List Place) (m : Between) (w : Compilation) → w.closed ≡ 0
       → run limits context (endings places) (passed m (closed_ahead limits (length places) w))
@@ -107,7 +109,8 @@ pub record ClosingAheadIsClosing (limits : Limits) : Type 0 where
   pub again : (count : ℕ) (m : Between) (w : Compilation) → w.closed ≡ 0
       → closed_ahead limits count (passed m (closed_ahead limits count w)) ≡ passed m (closed_ahead limits count w)
 
--- The unit of a loop over objects, of a step or of a case leaves the innermost with its labels, and all others as they are.
+-- The unit of a loop over objects, of a step or of a case leaves the innermost statement with its labels, and all others as
+-- they are.
 pub record UnitsKeepLabels (limits : Limits) : Type 0 where
   pub of_loops : (context : Context) (place : Place) (c : Construct) (around : List Construct) (w : Compilation) → w.constructs ≡ c ∷ around
       → let v = act limits context place action.EndObjectloop w in v.constructs ≡ with_kind_in v.constructs c ∷ around

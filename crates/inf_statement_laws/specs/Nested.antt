@@ -6,7 +6,7 @@ use Rattle.inf_syntax.specs.declared.actions.Action.TheVariants as action
 use Rattle.inf_syntax.specs.Parts.{do_rest, for_rest, if_rest, objectloop_rest, switch_rest, while_rest}
 use Rattle.inf_statement_laws.specs.Happenings.{Acts, Happening, Moment, Quiet}
 
--- the step of a `for`, which may lack
+-- the step of a `for`, which may be missing
 pub data Step : Type 0 where
   NoStep : Step
   StepEnds : (step : Quiet) (ends : Moment) → Step
@@ -15,8 +15,9 @@ abbrev pub step_happenings : Step → List Happening
 step_happenings NoStep = []
 step_happenings (StepEnds step ends) = step.all ++ Acts ends action.EndForStep ∷ []
 
--- Statements one behind the other, or what stands in one; in a `switch`, and at the top of a routine, cases may be among them. What holds
--- others begins where its word was read, and has its own actions, each at its moment, between its parts.
+-- Statements one behind the other, or those in one; in a `switch`, and at the top of a routine, cases may be among them. A
+-- statement that holds others begins where its word was read, and has its own actions, each at its moment, between its
+-- parts.
 pub data Nested : (has_cases : Bool) → Type 0 where
   Plain : {b : Bool} (plain : Quiet) → Nested b
   Then : {b : Bool} (first second : Nested b) → Nested b
@@ -32,7 +33,7 @@ pub data Nested : (has_cases : Bool) → Type 0 where
       → Nested b
   Switch : {b : Bool} (opens : Moment) (value : Quiet) (cases : Nested true) (brace : Quiet) (closes : Moment) → Nested b
 
--- what happens while it is read
+-- the happenings while a nested statement is read
 abbrev pub happenings : {b : Bool} → Nested b → List Happening
 happenings (Plain plain) = plain.all
 happenings (Then first second) = happenings first ++ happenings second
@@ -57,7 +58,7 @@ happenings (Objectloop opens loop ends joins bracket body closes) =
 happenings (Switch opens value cases brace closes) =
     Acts opens action.OpenSwitch ∷ (value.all ++ (happenings cases ++ (brace.all ++ Acts closes action.Close ∷ [])))
 
--- the rule by which the rest of one is read that holds others
+-- the rule by which the rest of a statement that holds others is read
 abbrev pub rest_of : {b : Bool} → Nested b → Option (Symbol Action)
 rest_of (If opens test body closes) = Some if_rest
 rest_of (IfElse opens test body joins word other closes) = Some if_rest

@@ -14,14 +14,14 @@ use Rattle.inf_output.specs.Output.{begun, full}
 use Rattle.inf_unit.specs.Messages.{FileNames, with_full}
 use Rattle.inf_compilation.specs.Context.{Context}
 use Rattle.inf_unit.specs.Tokens.{SourceToken}
-use Rattle.inf_actions.specs.Acting.{all_acted}
+use Rattle.inf_reader.specs.Acting.{all_acted}
 use Rattle.inf_compilation.specs.Actions.{Compilation, took}
 use Rattle.inf_compilation.specs.Parts.{closed_ahead}
 use Rattle.inf_statement_laws.specs.Happenings.{Acts, Between, Happening, Moment, Quiet, Takes}
 use Rattle.inf_statement_laws.specs.Laid.{happens, laid, passed, run}
 use Rattle.inf_statement_laws.specs.Nested.{Nested, happenings}
 
--- What is done between two tokens
+-- The effect between two tokens
 
 abbrev pub nothing_between : Between
 nothing_between = record { report = λ o r. r; output = λ o. o; most_labels = λ o n. n; asked = λ a. a }
@@ -37,7 +37,7 @@ then_between m n = record {
 abbrev pub plainly_at : Place → Moment
 plainly_at place = record { place = place; behind = nothing_between }
 
--- what a conditional directive does that ends at a place
+-- the effect of a conditional directive that ends at a place
 abbrev pub directive_between : Limits → FileNames → Place → Between
 directive_between limits files place = record nothing_between {
   report = λ o r. with_full files place (full limits (begun limits o)) r;
@@ -47,15 +47,15 @@ directive_between limits files place = record nothing_between {
 
 -- Tokens
 
--- A token with the atom as which the grammar sees it, what is done behind it, and what is done from where the first conditional directive
--- ends behind it, if one does.
+-- A token with its atom, by which the grammar knows it, the effect behind it, and the effect from where the first
+-- conditional directive ends behind it, if one does.
 pub record Seen : Type 0 where
   pub token : SourceToken
   pub atom : ℕ
   pub behind : Between
   pub directive : Option Between
 
--- whether they fit what is still to be read, one after the other, and what is left of that behind them
+-- whether tokens fit the symbols that are still to be read, one after the other, and the symbols that are left behind them
 abbrev pub all_fit : List Seen → List (Symbol Action) → Bool
 all_fit [] symbols = true
 all_fit (s ∷ seen) symbols = fits grammar known s.atom symbols && all_fit seen (taken grammar known s.atom symbols).left
@@ -64,12 +64,12 @@ abbrev pub left_behind : List Seen → List (Symbol Action) → List (Symbol Act
 left_behind [] symbols = symbols
 left_behind (s ∷ seen) symbols = left_behind seen (taken grammar known s.atom symbols).left
 
--- A conditional directive closes those statements ahead that end next, whatever the next token is.
+-- A conditional directive closes ahead the statements that end next, whatever the next token is.
 abbrev pub directed : Limits → Option Between → ℕ → Compilation → Compilation
 directed limits None count w = w
 directed limits (Some m) count w = passed m (closed_ahead limits count w)
 
--- Each is taken behind the actions on the way to it.
+-- Each token is taken behind the actions on the way to it.
 abbrev pub all_taken : Limits → Context → List Seen → List (Symbol Action) → Compilation → Compilation
 all_taken limits context [] symbols w = w
 all_taken limits context (s ∷ seen) symbols w =
@@ -78,14 +78,14 @@ all_taken limits context (s ∷ seen) symbols w =
     (directed limits s.directive (closings n.left)
     (passed s.behind (took context s.token (all_acted limits context s.token.place n.actions w))))
 
--- Their happenings
+-- The happenings of tokens
 
--- those of one, behind some actions
+-- the happenings of one token, behind some actions
 abbrev pub token_happenings : SourceToken → Between → List Action → List Happening
 token_happenings t m [] = Takes t m ∷ []
 token_happenings t m (a ∷ actions) = Acts (plainly_at t.place) a ∷ token_happenings t m actions
 
--- What is done from where a conditional directive ends is done behind the ends of the statements that it closes ahead.
+-- The effect from where a conditional directive ends comes behind the ends of the statements that it closes ahead.
 abbrev pub with_behind : Between → Happening → Happening
 with_behind m (Acts at a) = Acts (record at { behind = then_between at.behind m }) a
 with_behind m (Takes t b) = Takes t (then_between b m)
@@ -100,7 +100,7 @@ abbrev pub behind_ends : Option Between → ℕ → List Happening → List Happ
 behind_ends None count happenings = happenings
 behind_ends (Some m) count happenings = behind_some count m happenings
 
--- Where it closes none it is done behind the token.
+-- The effect of a directive that closes no statement comes behind the token.
 abbrev pub behind_token : Option Between → ℕ → Between → Between
 behind_token None count b = b
 behind_token (Some m) zero b = then_between b m
@@ -113,7 +113,7 @@ all_happenings (s ∷ seen) symbols =
     token_happenings s.token (behind_token s.directive (closings n.left) s.behind) n.actions
     ++ behind_ends s.directive (closings n.left) (all_happenings seen n.left)
 
--- A routine: its header, what stands in it, and its end
+-- A routine: its header, its statements, and its end
 
 pub record Routine : Type 0 where
   pub header : Quiet
@@ -128,7 +128,7 @@ routine_happenings r =
     r.header.all ++ Acts r.heads action.EndLocals
     ∷ (r.semicolon.all ++ (happenings r.body ++ Acts r.ends action.EndRoutine ∷ r.last.all))
 
--- up to its end, and behind it
+-- the compilation before the end of a routine, and behind it
 abbrev pub body_laid : Limits → Context → Routine → Compilation → Compilation
 body_laid limits context r w =
     laid limits context r.body (run limits context r.semicolon.all (happens limits context (Acts r.heads action.EndLocals)

@@ -1,5 +1,5 @@
-//! Laws about whole statements, by the definitions that the contracts of the compiler cite. Each function carries a law as its clauses, and
-//! does nothing.
+//! Laws of whole statements, by the definitions that the contracts of the compiler cite. Each function carries a law as its
+//! clauses, and does nothing.
 #![tactic(auto)]
 
 mod laws;

@@ -1,4 +1,4 @@
--- What the first of some trees is an operand of.
+-- The first of some trees as an operand.
 use Rattle.std.proofs.Common.{◌≡◌, List, [], ◌∷◌, Option, Some, None, refl, subst}
 use Rattle.std.specs.Prelude.{slice_get}
 use Rattle.inf_settings.specs.Bounds.{Limits}

@@ -1,4 +1,4 @@
--- What fits an opcode's row is what the opcode takes.
+-- Operands and ends that fit an opcode's row are those that the opcode takes.
 use Rattle.std.proofs.Common.{◌≡◌, ◌≤◌, ◌-◌, ◌==◌, ℕ, suc, Bool, true, false, not, cond, List, [], ◌∷◌, ◌&&◌, length, Option, refl, sym, ap}
 use Rattle.std.proofs.Common.{subst, ◌∙◌, arith}
 use Rattle.std.specs.Prelude.{is_some, nat_le}
@@ -22,7 +22,7 @@ same_as true false is = cc
 same_as false true is = cc
 same_as false false is = refl
 
--- what stands behind the operands, piece by piece
+-- The ends of a line that fit a row, one by one.
 pub record HasEnds (row : OpcodeRow) (e : Ends) : Type 0 where
   pub stores : is_some e.store ≡ row.stores
   pub branches : is_some e.branch ≡ row.branches
@@ -59,7 +59,7 @@ row_parts row operands has_variable e is =
       ends = ends_parts row e a.1;
     }
 
--- one whose first operand does
+-- the first operand is a variable where the opcode wants one
 has_first : (b v : Bool) → b ≡ true → cond b v true ≡ true → v ≡ true
 has_first true v is holds = holds
 has_first false v is holds = cc
@@ -68,7 +68,7 @@ some_tree : (limits : Limits) (trees : List Tree) → is_some (first_variable li
 some_tree limits [] is = cc
 some_tree limits (e ∷ trees) is = omega arith
 
--- an opcode that prints a text and takes nothing else
+-- a negated test that holds is one that does not
 not_true : (b : Bool) → not b ≡ true → b ≡ false
 not_true true is = cc
 not_true false is = refl
@@ -89,7 +89,7 @@ prints_text op is =
       text = d.0;
     }
 
--- The same of roots and of what they are.
+-- As many trees as roots lie at the roots.
 length-trees : (nodes : List Tree) (roots : List Root) → length (trees_from nodes roots) ≡ length roots
 length-trees nodes [] = refl
 length-trees nodes (r ∷ roots) = ap suc (length-trees nodes roots)
@@ -145,7 +145,7 @@ takes_others op count others first store branch counts takes =
     let len : length (first ∷ others) - 1 ≡ count = omega (arith, counts) in
     subst (λ n. TakesVariable op n store branch) len takes
 
--- what fits an opcode that is no jump fits its row
+-- a line that fits an opcode that is no jump fits its row
 by_row : (jumps : Bool) (jump row : Bool) → cond jumps jump row ≡ true → jumps ≡ false → row ≡ true
 by_row true jump row is fails = cc
 by_row false jump row is fails = is

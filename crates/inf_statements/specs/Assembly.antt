@@ -38,17 +38,17 @@ use Rattle.inf_statements.specs.declared.assembly.Ends.{Ends}
 
 -- Named labels
 
--- the label of a name that is used, and the labels then
+-- the label of a name that is used, and all labels then
 abbrev pub labelled : List ℕ → List NamedLabel → Laying (Label × List NamedLabel)
 labelled name labels o =
     ((label_of name (next_label o) labels, wanted name (next_label o) labels), record o { next = behind o.next })
 
--- the same where its place is given
+-- the label of a name whose place is given, and all labels then
 abbrev pub placed : List ℕ → List NamedLabel → Laying (Label × List NamedLabel)
 placed name labels o =
     ((label_of name (next_label o) labels, given name (next_label o) labels), record o { next = behind o.next })
 
--- What stands behind the operands of a line, or is no operand
+-- The ends of a line: all in it that is no operand
 
 abbrev pub no_ends : Ends
 no_ends = record { store = None; branch = None; text = None; jump = None }
@@ -67,7 +67,7 @@ ends_from (i ∷ items) e = ends_from items (with_end i e)
 abbrev pub ends_of : List Item → Ends
 ends_of items = ends_from items no_ends
 
--- What an opcode takes
+-- The operands and ends that an opcode takes
 
 abbrev pub same : Bool → Bool → Bool
 same true b = b
@@ -84,14 +84,14 @@ first_variable limits (e ∷ trees) = variable_of (meaning limits e).operand
 abbrev pub has_ends : OpcodeRow → Ends → Bool
 has_ends row e = same row.stores (is_some e.store) && same row.branches (is_some e.branch) && same row.has_text (is_some e.text)
 
--- so many operands, of which no instruction has more than eight and the first is a variable where the opcode wants one, and what stands
--- behind them
+-- Tells whether an opcode of `row` takes `operands` operands and the ends `e`. No instruction has more than eight operands, and the first
+-- is a variable where the opcode wants one.
 abbrev pub fits_row : OpcodeRow → ℕ → Bool → Ends → Bool
 fits_row row operands has_variable e =
     nat_le row.least operands && nat_le operands row.most && nat_le operands 8 && (if row.names_variable then has_variable else true) &&
     has_ends row e
 
--- a jump has one name, and nothing behind it
+-- Tells whether the ends are those of a jump, which has one name, and nothing behind it.
 abbrev pub fits_jump : Ends → Bool
 fits_jump e = is_some e.jump && not (is_some e.store) && not (is_some e.branch)
 
@@ -99,7 +99,7 @@ unfoldable pub fits : Limits → Opcode → List Tree → Ends → Bool
 fits limits op trees e =
     if (row_of op).jumps then fits_jump e else fits_row (row_of op) (length trees) (is_some (first_variable limits trees)) e
 
--- What is wrong with a line: its opcode, what it has, or where it stores
+-- The findings about a line: about its opcode, its operands and ends, or the variable in which it stores
 
 abbrev pub fits_some : Limits → Option Opcode → List Tree → Ends → Bool
 fits_some limits None trees e = false
@@ -115,7 +115,7 @@ stored_in _ = None
 abbrev pub store_variable : List Local → Table Place → List ℕ → Option ℕ
 store_variable locals names name = if is_stack name (number_of name locals) then Some 0 else stored_in (looked_name locals names name)
 
--- (what is no variable is an error of its line)
+-- the variable in which a line stores (0 where the name is no variable, which is a finding)
 abbrev pub store_of : List Local → Table Place → List SourceToken → Option ℕ → Option ℕ
 store_of locals names tokens None = None
 store_of locals names tokens (Some at) = Some (unwrap_or (store_variable locals names (bytes_at tokens at)) 0)
@@ -134,7 +134,7 @@ line_finding limits locals names tokens begun e trees =
     if fits_some limits (opcode_of (bytes_at tokens (next_place begun))) trees e then stores else least_of_both stores
     (Some (wrong_opcode (order (next_place begun))))
 
--- Its code
+-- The code of a line
 
 abbrev pub operands_in : Limits → List Tree → List Simple
 operands_in limits [] = []
@@ -171,7 +171,7 @@ line_instructed limits locals tokens op e trees labels o =
     let b = branched tokens e.branch labels o in
     (b.0.1, instructed limits (row_of op).names_variable op trees (store_of locals b.1.names tokens e.store) b.0.0 b.1)
 
--- the opcode itself, where it prints a text and takes nothing else
+-- Tells whether an opcode prints a text and takes nothing else.
 abbrev pub prints : OpcodeRow → Bool
 prints row = row.has_text && not row.jumps && not row.stores && not row.branches && (row.least == 0)
 
@@ -198,7 +198,7 @@ line_laid_as limits true set locals tokens op e trees labels =
     line_laid_by limits (row_of op).jumps (row_of op).has_text set locals tokens op e trees labels
 line_laid_as limits false set locals tokens op e trees labels = giving labels nothing
 
--- of a line without an error
+-- the code of a line that has no error, and the labels then
 unfoldable pub line_laid : Limits → CharSet → List Local → List SourceToken → Option Opcode → Ends → List Tree → List NamedLabel →
     Laying (List NamedLabel)
 line_laid limits set locals tokens None e trees labels o = (labels, o)

@@ -1,4 +1,4 @@
--- What the statements of a routine do, and what is wrong with them beside their expressions.
+-- The effects of a routine's statements, and the findings about them beside those about their expressions.
 use Rattle.std.specs.Prelude.{ℕ, List, ◌∷◌, Bool, true, false, if◌then◌else◌, Option, Some, None}
 use Rattle.inf_settings.specs.Bounds.{Limits}
 use Rattle.inf_characters.specs.declared.characters.CharSet.{CharSet}
@@ -28,9 +28,8 @@ use Rattle.inf_constructs.specs.declared.constructs.Construct.{Construct}
 use Rattle.inf_statements.specs.declared.statements.Statement.{Statement}
 use Rattle.inf_statements.specs.declared.statements.Statement.TheVariants as statement
 
--- What a statement goes by beside its trees: the character set of the source; its tokens, where among them it begins, and what it has
--- beside its
--- expressions; the locals of its routine; and the statements that hold it, the innermost first.
+-- The site of a statement, all that it goes by beside its trees: the character set of the source; its tokens, the place where it begins
+-- among them, and its items beside its expressions; the locals of its routine; and the statements that hold it, the innermost first.
 pub record Site : Type 0 where
   pub set : CharSet
   pub tokens : List SourceToken
@@ -39,11 +38,11 @@ pub record Site : Type 0 where
   pub locals : List Local
   pub constructs : List Construct
 
--- the name behind its first token
+-- the name behind the first token of a statement
 abbrev pub name_behind : Site → List ℕ
 name_behind s = bytes_at s.tokens (next_place s.begun)
 
--- What is wrong
+-- The findings
 
 -- `Label is given twice`, `No loop or switch to leave or continue`, `default must come once and last`
 abbrev pub given_twice : ℕ → Finding
@@ -62,7 +61,7 @@ unless_some (Some a) f = None
 abbrev pub only_if : Bool → Finding → Option Finding
 only_if b f = if b then Some f else None
 
--- with a statement that is no assembly line
+-- the finding about a statement that is no assembly line
 unfoldable pub statement_finding : Site → List NamedLabel → Statement → Option Finding
 statement_finding s labels statement.Break = unless_some (left_to false s.constructs) (nothing_to_leave (order s.begun))
 statement_finding s labels statement.Continue = unless_some (left_to true s.constructs) (nothing_to_leave (order s.begun))
@@ -70,18 +69,18 @@ statement_finding s labels statement.Place = only_if (is_given (name_behind s) l
 statement_finding s labels statement.Style = unless_some (style_of (name_behind s)) (wrong_kind (order (next_place s.begun)))
 statement_finding s labels _ = None
 
--- with an assembly line, by the trees that its operands are where names are only looked up
+-- the finding about an assembly line, by the trees of its operands, whose names are only looked up
 abbrev pub site_finding : Limits → Site → Table Place → List Tree → Option Finding
 site_finding limits s names trees = line_finding limits s.locals names s.tokens s.begun (ends_of s.items) trees
 
--- what it wants of its expressions
+-- the kind of expressions that a statement takes
 abbrev pub wanted_by : Statement → Wanted
 wanted_by statement.Assembly = wanted.Operand
 wanted_by _ = wanted.Value
 
--- What it does
+-- The effects
 
--- the text that it has beside its expressions
+-- the text that a statement has beside its expressions
 abbrev pub text_in : CharSet → List SourceToken → List Item → Option (List TextItem)
 text_in set tokens ((item.Text at) ∷ items) = text_at set tokens at
 text_in set tokens _ = None

@@ -1,4 +1,4 @@
--- What the leaves of a unit stand for.
+-- The operands of a unit's leaves.
 use Rattle.std.specs.Prelude.{ℕ, ◌+◌, ◌%◌, length, List, [], ◌∷◌, ◌++◌, codes, Bool, false, if◌then◌else◌, Option, Some, None, unwrap_or}
 use Rattle.std.specs.Str.{str_eq_ignore_ascii_case}
 use Rattle.inf_settings.specs.Bounds.{Limits}
@@ -6,8 +6,8 @@ use Rattle.inf_area.specs.declared.targets.AreaName.TheVariants as area
 use Rattle.inf_area.specs.declared.targets.SystemConstant.{SystemConstant}
 use Rattle.inf_area.specs.declared.targets.SystemConstant.TheVariants as constant
 use Rattle.inf_area.specs.declared.targets.Target.TheVariants as target
-use Rattle.inf_cells.specs.Scales.{version}
-use Rattle.inf_cells.specs.declared.scale.Scale.{Scale}
+use Rattle.inf_area.specs.Scales.{version}
+use Rattle.inf_area.specs.declared.scale.Scale.{Scale}
 use Rattle.inf_characters.specs.declared.characters.CharSet.{CharSet}
 use Rattle.inf_characters.specs.declared.texts.TextItem.{TextItem}
 use Rattle.inf_dictionary.specs.declared.uses.WordUse.TheVariants as word_use
@@ -49,7 +49,7 @@ function_of named.Children = function.Children
 function_of named.Random = function.Random
 function_of named.Indirect = function.Indirect
 
--- what a name stands for whose value is known, or that is a variable or a function
+-- the operand of a name whose value is known, or that is a variable or a function
 abbrev pub standing : Meaning → Option Operand
 standing (meaning.Number number) = Some (operand.Known number)
 standing (meaning.Variable number) = Some (operand.Variable number)
@@ -67,7 +67,7 @@ standing (meaning.Array place) = None
 standing (meaning.Routine place) = None
 standing (meaning.PackedAddress place) = None
 
--- every other name is a reference by its number among the names
+-- the operand of every other name: a reference by its number among the names
 abbrev pub referring : Option ℕ → Operand
 referring number = operand.Later (target.Name (unwrap_or number 0))
 
@@ -81,9 +81,9 @@ found_operand (found.Declared m place) number = operand_by (standing m) number
 found_operand found.Used number = referring number
 found_operand found.Unknown number = referring number
 
--- Looking
+-- Operands whose names are only looked up
 
--- a local hides a name
+-- the operand of a name, which a local hides
 abbrev pub looked_by : Option ℕ → List ℕ → Table Place → Operand
 looked_by (Some local) name names = operand.Variable local
 looked_by None name names = found_operand (found_in name names) None
@@ -91,7 +91,7 @@ looked_by None name names = found_operand (found_in name names) None
 abbrev pub looked_name : List Local → Table Place → List ℕ → Operand
 looked_name locals names name = looked_by (number_of name locals) name names
 
--- An operand of an assembly line that is a name by itself: `sp` is the stack, where no local has this name.
+-- Tells whether an operand of an assembly line that is a name by itself is the stack: it is `sp`, and no local has this name.
 abbrev pub is_stack : List ℕ → Option ℕ → Bool
 is_stack name (Some local) = false
 is_stack name None = str_eq_ignore_ascii_case name (codes "sp")
@@ -99,11 +99,11 @@ is_stack name None = str_eq_ignore_ascii_case name (codes "sp")
 abbrev pub looked_alone : List Local → Table Place → List ℕ → Operand
 looked_alone locals names name = if is_stack name (number_of name locals) then operand.Variable 0 else looked_name locals names name
 
--- a word of the dictionary is known by its text
+-- the operand of a word of the dictionary: a reference by its text
 abbrev pub word_operand : DictionaryWord → Operand
 word_operand word = operand.Later (target.Word word.text)
 
--- What the story as a whole is asked for, by a name behind a sign. Designer's Manual, fourth edition, section 39.
+-- The constant of the story as a whole that a name behind a sign asks for. Designer's Manual, fourth edition, section 39.
 abbrev pub system_constant : List ℕ → Option SystemConstant
 system_constant name =
     if str_eq_ignore_ascii_case name (codes "grammar_table") then Some constant.GrammarTable else
@@ -117,7 +117,7 @@ system_constant name =
     if str_eq_ignore_ascii_case name (codes "strings_offset") then Some constant.StringsOffset else
     if str_eq_ignore_ascii_case name (codes "highest_object_number") then Some constant.HighestObjectNumber else None
 
--- the version of the story is known, every other such number when the story is laid out
+-- the operand of a system constant, which is known when the story is laid out
 abbrev pub system_by : Option SystemConstant → Operand
 system_by (Some c) = operand.Later (target.System c)
 system_by None = operand.Unknown
@@ -126,7 +126,7 @@ abbrev pub system_operand : List ℕ → Scale → Operand
 system_operand name scale =
     if str_eq_ignore_ascii_case name (codes "version_number") then operand.Known (version scale) else system_by (system_constant name)
 
--- What a leaf that is no action stands for, where its name is only looked up, in a story of a version: a text is some string.
+-- the operand of a leaf that is no action, where its name is only looked up, in a story of a version: a text is some string
 abbrev pub looked : List Local → Table Place → Scale → List SourceToken → Leaf → Operand
 looked locals names scale tokens (leaf.Name at) = looked_name locals names (bytes_at tokens at)
 looked locals names scale tokens (leaf.Alone at) = looked_alone locals names (bytes_at tokens at)
@@ -137,7 +137,7 @@ looked locals names scale tokens (leaf.Text at) = operand.Later (target.Place ar
 looked locals names scale tokens (leaf.Action at) = operand.Unknown
 looked locals names scale tokens (leaf.System at) = system_operand (bytes_at tokens at) scale
 
--- An action that did not appear is the next one, where it would appear behind other new ones of its unit.
+-- The number of an action that did not appear is the next one, behind other new ones of its unit.
 abbrev pub word_sum : ℕ → ℕ → ℕ
 word_sum a b = (a % 65536 + b % 65536) % 65536
 
@@ -156,7 +156,7 @@ abbrev pub looked_action : Option Name → Out → Table Place → Table Place �
 looked_action None o ahead = (ahead, operand.Known 0)
 looked_action (Some n) o ahead = looked_action_by (action_number n.bytes o) n o ahead
 
--- a leaf behind others with new actions, and all of them
+-- the operand of a leaf behind others with new actions, and those of all leaves
 abbrev pub looked_leaf : List Local → Out → List SourceToken → Leaf → Table Place → Table Place × Operand
 looked_leaf locals o tokens (leaf.Action at) ahead = looked_action (name_at tokens at) o ahead
 looked_leaf locals o tokens l ahead = (ahead, looked locals o.names o.code.scale tokens l)
@@ -169,14 +169,14 @@ looked_from locals o tokens (l ∷ leaves) ahead operands =
 abbrev pub all_looked : List Local → Out → List SourceToken → List Leaf → List Operand
 all_looked locals o tokens leaves = looked_from locals o tokens leaves (no_names false) []
 
--- Settling
+-- Operands whose names and words are used
 
--- what was laid so far, and the operands of some leaves
+-- the output so far, and the operands of some leaves
 pub record Settled : Type 0 where
   pub out : Out
   pub operands : List Operand
 
--- a name that is one too many stands for nothing
+-- the operand of a name that was used: 0 where the name is one too many
 abbrev pub settled_as : Option (Found Place × Option ℕ) → Operand
 settled_as None = operand.Known 0
 settled_as (Some f) = found_operand f.0 f.1
@@ -194,21 +194,21 @@ settled_alone limits locals tokens at o =
     if is_stack (bytes_at tokens at) (number_of (bytes_at tokens at) locals) then (o, operand.Variable 0) else settled_name limits locals
     (name_at tokens at) o
 
--- a text, whose characters are these, is a string of the story, which is packed and added
+-- the operand of a text with these characters: a string of the story, which is packed and added
 abbrev pub settled_text : Limits → Option (List TextItem) → Out → Out × Operand
 settled_text limits None o = (o, operand.Unknown)
 settled_text limits (Some items) o = (with_text limits (packed items (used_in o.texts)) (text_packed o), operand.Later (string_at o))
 
--- a word of the dictionary, which is used
+-- the operand of a word of the dictionary, which is used
 abbrev pub settled_word : Limits → DictionaryWord → Out → Out × Operand
 settled_word limits word o = (with_word limits word.text word_use.Other word.is_plural o, word_operand word)
 
--- an action, which appears
+-- the operand of an action, which appears
 abbrev pub settled_action : Limits → Option Name → Out → Out × Operand
 settled_action limits None o = (o, operand.Known 0)
 settled_action limits (Some n) o = as_known (action_of limits n.bytes n.place o)
 
--- a leaf, whose name is used where it is no local
+-- the operand of a leaf, whose name is used where it is no local
 abbrev pub settled_leaf : Limits → CharSet → List Local → List SourceToken → Leaf → Out → Out × Operand
 settled_leaf limits set locals tokens (leaf.Name at) o = settled_name limits locals (name_at tokens at) o
 settled_leaf limits set locals tokens (leaf.Alone at) o = settled_alone limits locals tokens at o
@@ -219,7 +219,7 @@ settled_leaf limits set locals tokens (leaf.Text at) o = settled_text limits (te
 settled_leaf limits set locals tokens (leaf.Action at) o = settled_action limits (name_at tokens at) o
 settled_leaf limits set locals tokens (leaf.System at) o = (o, system_operand (bytes_at tokens at) o.code.scale)
 
--- what leaves add to a story that are texts, words or actions
+-- the output with a leaf added that is a text, a word or an action
 abbrev pub one_added : Limits → CharSet → List SourceToken → Leaf → Code
 one_added limits set tokens (leaf.Text at) o = (settled_text limits (text_at set tokens at) o).0
 one_added limits set tokens (leaf.Word word) o = (settled_word limits word o).0
@@ -233,13 +233,13 @@ leaf_added limits set tokens (l ∷ leaves) o = leaf_added limits set tokens lea
 abbrev pub with_settled : Out × Operand → List Operand → Settled
 with_settled s operands = record { out = s.0; operands = operands ++ s.1 ∷ [] }
 
--- the leaves from left to right
+-- the operands of leaves, from left to right
 abbrev pub settled : Limits → CharSet → List Local → List SourceToken → List Leaf → Settled → Settled
 settled limits set locals tokens [] s = s
 settled limits set locals tokens (l ∷ leaves) s =
     settled limits set locals tokens leaves (with_settled (settled_leaf limits set locals tokens l s.out) s.operands)
 
--- a unit names its locals
+-- the locals, with those noted that the leaves of a unit name
 abbrev pub leaf_named : List SourceToken → Leaf → List Local → List Local
 leaf_named tokens (leaf.Name at) locals = with_named (bytes_at tokens at) locals
 leaf_named tokens (leaf.Alone at) locals = with_named (bytes_at tokens at) locals
@@ -249,7 +249,7 @@ abbrev pub leaves_named : List SourceToken → List Leaf → List Local → List
 leaves_named tokens [] locals = locals
 leaves_named tokens (l ∷ leaves) locals = leaves_named tokens leaves (leaf_named tokens l locals)
 
--- and the locals in which it stores
+-- the locals, with those noted in which a unit stores
 abbrev pub store_named : List SourceToken → Item → List Local → List Local
 store_named tokens (item.Store at) locals = with_named (bytes_at tokens at) locals
 store_named tokens _ locals = locals

@@ -1,4 +1,4 @@
--- What is printed.
+-- The code of statements that print.
 use Rattle.std.specs.Prelude.{ℕ, List, [], ◌∷◌, Bool, true, false, slice_get, Option, Some, None}
 use Rattle.inf_settings.specs.Bounds.{Limits}
 use Rattle.inf_characters.specs.declared.characters.CharSet.{CharSet}
@@ -19,8 +19,8 @@ use Rattle.inf_unit.specs.declared.items.PrintRule.{PrintRule}
 use Rattle.inf_unit.specs.declared.items.PrintRule.TheVariants as rule
 use Rattle.inf_statements.specs.Statements.{one_worked, plain, printed, rest}
 
--- What is printed, in order. The last text of `print_ret` is an instruction of its own, and behind anything else a new line comes, and 1 is
--- returned.
+-- The items of a statement are printed in order. The last text of `print_ret` is an instruction of its own; behind any other last item a
+-- new line comes, and 1 is returned.
 abbrev pub text_opcode : Bool → List Item → Opcode
 text_opcode true [] = opcode.PrintRet
 text_opcode _ _ = opcode.Print
@@ -36,7 +36,7 @@ abbrev pub ended : Limits → Bool → Code
 ended limits true = plain limits opcode.NewLine ▸ plain limits opcode.Rtrue
 ended limits false = nothing
 
--- A value by a rule: by an instruction, by a routine of the veneer, or by the routine that is the expression before it.
+-- The code that prints a value by a rule: an instruction, a routine of the veneer, or the routine that is the expression before it.
 abbrev pub called_with : Limits → List Tree → Code
 called_with limits (f ∷ e ∷ trees) = call limits (part (meaning limits f)) (part (meaning limits e) ∷ []) None
 called_with limits _ = nothing
@@ -62,8 +62,7 @@ abbrev pub rest_behind : PrintRule → List Tree → List Tree
 rest_behind rule.Routine trees = rest (rest trees)
 rest_behind _ trees = rest trees
 
--- One item, with how many of those behind it there are: its code, the trees behind it, and whether something other than a text was printed
--- last.
+-- The code of one item, with `others` behind it; then the trees behind it, and whether something other than a text was printed last.
 abbrev pub item_code : Limits → CharSet → List SourceToken → Bool → List Item → Item → List Tree → Code
 item_code limits set tokens returns others (item.Text at) trees = printed limits (text_opcode returns others) (text_at set tokens at)
 item_code limits set tokens returns others item.Value trees = one_worked limits opcode.PrintNum trees

@@ -1,4 +1,4 @@
--- What the code's sites of statements stand for.
+-- The sites of statements as the code has them.
 use Rattle.inf_names.specs.LocalList.{listed}
 use Rattle.inf_statements.specs.Effects.{Site}
 use Rattle.inf_statements.specs.declared.effects.Site.{Site as CodeSite}

@@ -1,4 +1,4 @@
--- What statements are, and their code.
+-- Statements and their code.
 use Rattle.std.specs.Prelude.{◌≡◌, ℕ, ◌==◌, List, [], ◌∷◌, codes, map, Bool, true, false, slice_get, if◌then◌else◌, Option, Some, None}
 use Rattle.std.specs.Str.{str_eq_ignore_ascii_case}
 use Rattle.inf_settings.specs.Bounds.{Limits}
@@ -37,7 +37,7 @@ use Rattle.inf_constructs.specs.Cases.{SWITCHED}
 use Rattle.inf_statements.specs.declared.statements.Statement.{Statement}
 use Rattle.inf_statements.specs.declared.statements.Statement.TheVariants as statement
 
--- What a statement is that begins with this word of the grammar, or with a mark. Designer's Manual, fourth edition, sections 1.4 to 1.12.
+-- The statement that begins with this word of the grammar, or with a mark. Designer's Manual, fourth edition, sections 1.4 to 1.12.
 abbrev pub word_statement : Option Keyword → Statement
 word_statement (Some keyword.Print) = statement.Print
 word_statement (Some keyword.PrintRet) = statement.PrintReturn
@@ -64,7 +64,7 @@ mark_statement mark.Less = statement.Action
 mark_statement mark.DoubleLess = statement.ActionReturn
 mark_statement _ = statement.Expression
 
--- a text alone is printed, and one with an operator behind it is an expression
+-- the statement that begins with a text: one alone is printed, and one with an operator behind it is an expression
 abbrev pub text_statement : List Item → Statement
 text_statement [] = statement.Expression
 text_statement (i ∷ items) = statement.PrintReturn
@@ -75,7 +75,7 @@ statement_of_kind kind.Text t items = text_statement items
 statement_of_kind (kind.Mark m) t items = mark_statement m
 statement_of_kind _ t items = statement.Expression
 
--- one without tokens is empty
+-- the statement that begins with a token, and the empty one where there is none
 abbrev pub statement_by : Option SourceToken → List Item → Statement
 statement_by None items = statement.Empty
 statement_by (Some t) items = statement_of_kind t.kind t items
@@ -87,7 +87,7 @@ statement_in tokens begun items = statement_by (slice_get tokens begun) items
 abbrev pub plain : Limits → Opcode → Code
 plain limits op = instruction limits op [] None None
 
--- a text was packed, behind which it is too late to declare an abbreviation
+-- a text was packed, and it is too late now to declare an abbreviation
 abbrev pub text_packed : Code
 text_packed o = record o { texts = late o.texts }
 
@@ -116,7 +116,7 @@ abbrev pub rest : List Tree → List Tree
 rest [] = []
 rest (e ∷ trees) = trees
 
--- an expression without result
+-- the code of an expression without result
 abbrev pub alone : Limits → List Tree → Code
 alone limits [] = nothing
 alone limits (e ∷ trees) = (meaning limits e).alone
@@ -169,23 +169,23 @@ abbrev pub action_laid : Limits → List Tree → Code
 action_laid limits [] = nothing
 action_laid limits (e ∷ trees) = action_on limits (part (meaning limits e)) trees
 
--- a branch where the expression is not true
+-- the code of a branch where the expression is not true
 abbrev pub unless : Limits → List Tree → Label → Code
 unless limits [] label = nothing
 unless limits (e ∷ trees) label = (meaning limits e).branch false label
 
--- of the condition of what is open, if anything is
+-- the code that tests the condition of the open construct, if there is one
 abbrev pub tested : Limits → Option Label → List Tree → Code
 tested limits None trees = nothing
 tested limits (Some label) trees = unless limits trees label
 
--- what is switched on
+-- the code that stores the value that is switched on
 abbrev pub switched : Limits → List Tree → Code
 switched limits [] = nothing
 switched limits (e ∷ trees) = (meaning limits e).value SWITCHED
 
--- Attributes that an object is given or that are taken from it, one by one. With several of them an object that needs code is worked out
--- first.
+-- The code of attributes that an object is given or that are taken from it, one by one. With several of them an object that needs code is
+-- worked out first.
 abbrev pub attribute_code : Limits → Opcode → Part → List Tree → Code
 attribute_code limits op object [] = nothing
 attribute_code limits op object (a ∷ attributes) = worked limits op (object ∷ part (meaning limits a) ∷ []) None None
@@ -227,12 +227,12 @@ styled_by limits (Some style) = instruction limits opcode.SetTextStyle (Known st
 abbrev pub styled : Limits → List ℕ → Code
 styled limits name = styled_by limits (style_of name)
 
--- a jump out of, or on with, what is open
+-- the code of a jump out of, or on with, the open construct
 abbrev pub jumped_to : Limits → Option Label → Code
 jumped_to limits None = nothing
 jumped_to limits (Some label) = jumped limits label
 
--- that an opcode takes a text, and nothing else
+-- An opcode prints a text, and takes nothing else.
 pub record PrintsText (op : Opcode) : Type 0 where
   pub none : (row_of op).least ≡ 0
   pub stores : (row_of op).stores ≡ false

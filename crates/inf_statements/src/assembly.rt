@@ -31,15 +31,16 @@ use inf_unit::unit::{next_place, order};
 use inf_unit::unit_tokens::UnitTokens;
 use std::alloc::{AllocError, Global};
 
-/// The ends of an assembly line: all in it that is no operand. Tokens are told by their places among those of the unit.
+/// The ends of an assembly line: all in it that is no operand. Tokens are given by their places among those of the
+/// unit.
 #[derive(Clone, Copy, Debug, PartialEq, Eq)]
 pub struct Ends {
-    /// The name of the variable in which it stores.
+    /// The name of the variable in which the line stores.
     pub store: Option<usize>,
-    /// The name of the label to which it branches, and where its test is to hold or not.
+    /// The name of the label to which the line branches, and whether its test is to hold or not.
     pub branch: Option<(usize, bool)>,
     pub text: Option<usize>,
-    /// The name of the label to which it jumps.
+    /// The name of the label to which the line jumps.
     pub jump: Option<usize>,
 }
 
@@ -53,7 +54,7 @@ pub(crate) struct Line<'a> {
     pub ends: Ends,
 }
 
-/// The label of a name that is used.
+/// Returns the label of `name`, which is used.
 pub(crate) fn labelled<B: Bounds>(
     name: &[u8],
     labels: &mut Labels,
@@ -66,7 +67,7 @@ pub(crate) fn labelled<B: Bounds>(
     labels.want(name, new)
 }
 
-/// The label of a name whose place is given.
+/// Returns the label of `name`, whose place is given.
 pub(crate) fn placed<B: Bounds>(
     name: &[u8],
     labels: &mut Labels,
@@ -126,7 +127,7 @@ fn same(first: bool, second: bool) -> bool
     if first { second } else { !second }
 }
 
-/// The variable that an operand is.
+/// Returns the variable that `operand` is, if it is one.
 fn variable_of(operand: Option<Simple>) -> Option<u8>
     ensures { result ≡ variable_of operand }
 {
@@ -136,7 +137,7 @@ fn variable_of(operand: Option<Simple>) -> Option<u8>
     }
 }
 
-/// The variable that the first of some trees is.
+/// Returns the variable that the first of some trees is, if it is one.
 fn first_variable<B: Bounds>(nodes: &Nodes, roots: &[Root]) -> Option<u8>
     ensures { result ≡ first_variable B.most (trees_from nodes.now roots.now) }
 {
@@ -147,7 +148,7 @@ fn first_variable<B: Bounds>(nodes: &Nodes, roots: &[Root]) -> Option<u8>
 }
 
 impl Ends {
-    /// Whether these are what an opcode takes.
+    /// Returns whether these ends are those that an opcode of `row` takes.
     fn fit(self, row: OpcodeRow) -> bool
         ensures { result ≡ has_ends row self }
     {
@@ -156,7 +157,7 @@ impl Ends {
             && same(row.has_text, self.text.is_some())
     }
 
-    /// Whether these are those of a jump.
+    /// Returns whether these ends are those of a jump.
     fn are_of_jump(self) -> bool
         ensures { result ≡ fits_jump self }
     {
@@ -164,8 +165,8 @@ impl Ends {
     }
 }
 
-/// Tells whether the opcode of `row`, which is no jump, takes `operands` operands, the first of which is a variable if `has_variable`, and
-/// `ends`.
+/// Returns whether the opcode of `row`, which is no jump, takes `operands` operands, the first of which is a variable
+/// if `has_variable`, and `ends`.
 fn fits_row(row: OpcodeRow, operands: usize, has_variable: bool, ends: Ends) -> bool
     ensures { result ≡ fits_row row operands has_variable ends }
 {
@@ -181,7 +182,7 @@ fn fits_row(row: OpcodeRow, operands: usize, has_variable: bool, ends: Ends) -> 
         && ends.fit(row)
 }
 
-/// Whether an opcode takes these trees as operands and these ends.
+/// Returns whether `opcode` takes some trees as operands and `ends`.
 #[tactic(auto, unfolding(crate::specs::Assembly::fits))]
 fn fits<B: Bounds>(opcode: Opcode, nodes: &Nodes, roots: &[Root], ends: Ends) -> bool
     ensures { result ≡ fits B.most opcode (trees_from nodes.now roots.now) ends }
@@ -194,7 +195,7 @@ fn fits<B: Bounds>(opcode: Opcode, nodes: &Nodes, roots: &[Root], ends: Ends) ->
     fits_row(row, roots.len(), has_variable, ends)
 }
 
-/// The variable that an operand is.
+/// Returns the variable that `operand` is, if it is one.
 fn stored_in(operand: Operand) -> Option<u8>
     ensures { result ≡ stored_in operand }
 {
@@ -204,7 +205,7 @@ fn stored_in(operand: Operand) -> Option<u8>
     }
 }
 
-/// The variable of a name in which a line stores: `sp` is the stack, where no local has this name.
+/// Returns the variable of a name in which a line stores: `sp` is the stack, where no local has this name.
 fn store_variable<B: Bounds>(locals: &Locals, names: &Symbols<Place, B>, name: &[u8]) -> Option<u8>
     requires { length name.now ≤ 32 }
     ensures { result ≡ store_variable (listed locals.now) names.now name.now }
@@ -217,7 +218,7 @@ fn store_variable<B: Bounds>(locals: &Locals, names: &Symbols<Place, B>, name: &
 }
 
 impl Line<'_> {
-    /// The variable in which it stores, if it does. One that is none is an error of the line.
+    /// Returns the variable in which the line stores, if it does. A name of no variable is an error of the line.
     fn store<B: Bounds>(&self, names: &Symbols<Place, B>) -> Option<u8>
         ensures there { is_some result ≡ is_some self.now.ends.store }
         ensures value { result ≡ store_of (listed self.now.locals.now) names.now self.now.tokens.now self.now.ends.store }
@@ -268,7 +269,7 @@ impl Line<'_> {
     }
 }
 
-/// The operands that some trees are, which are eight at most.
+/// Returns the operands of some trees, which are eight at most.
 fn operands_in<B: Bounds>(nodes: &Nodes, roots: &[Root]) -> ArrayVec<Simple, MOST_OPERANDS>
     requires { length roots.now ≤ 8 }
     ensures value { result.items ≡ operands_in B.most (trees_from nodes.now roots.now) }
@@ -300,7 +301,7 @@ fn destination<B: Bounds>(
     }
 }
 
-/// The branch of a line, if it has one.
+/// Returns the branch of a line, if it has one.
 #[tactic(auto, unfolding(crate::specs::Assembly::branched))]
 fn branch_of<B: Bounds>(
     line: Line<'_>,
@@ -318,7 +319,7 @@ fn branch_of<B: Bounds>(
     Ok(Some(Branch { sense, target }))
 }
 
-/// The instruction of some trees whose first names a variable.
+/// Lays the instruction of some trees whose first names a variable.
 #[tactic(auto, using(crate::proofs::Fitting::takes_others))]
 fn lay_naming<B: Bounds>(
     opcode: Opcode,
@@ -340,7 +341,7 @@ fn lay_naming<B: Bounds>(
     out.instruct_naming(opcode, variable, &operands, store, branch)
 }
 
-/// The instruction of some trees, whose first names a variable or not.
+/// Lays the instruction of some trees, whose first names a variable if `names_variable`.
 #[tactic(auto, using(crate::proofs::Fitting::takes_count), unfolding(crate::specs::Assembly::instructed))]
 fn lay_parts<B: Bounds>(
     names_variable: bool,
@@ -363,7 +364,7 @@ fn lay_parts<B: Bounds>(
     out.instruct(opcode, &operands, store, branch)
 }
 
-/// The instruction of some trees, with what its opcode takes beside them.
+/// Lays the instruction of some trees, with the ends of its line.
 #[tactic(auto, using(crate::proofs::Fitting::few_roots))]
 fn lay_instructed<B: Bounds>(
     line: Line<'_>,
@@ -388,14 +389,14 @@ fn lay_instructed<B: Bounds>(
     lay_parts(names_variable, opcode, nodes, roots, store, branch, out)
 }
 
-/// Whether an opcode of a row prints a text, and takes nothing else.
+/// Returns whether an opcode of `row` prints a text, and takes nothing else.
 fn prints(row: OpcodeRow) -> bool
     ensures { result ≡ prints row }
 {
     row.has_text && !row.jumps && !row.stores && !row.branches && row.least == 0
 }
 
-/// The opcode itself, where it prints a text.
+/// Returns `opcode`, where it prints a text and takes nothing else.
 #[tactic(auto, using(crate::proofs::Fitting::prints_text))]
 fn printing_of(opcode: Opcode) -> Option<Opcode>
     ensures value { result ≡ printing_of opcode }
@@ -408,7 +409,7 @@ fn printing_of(opcode: Opcode) -> Option<Opcode>
     }
 }
 
-/// The text of an opcode that prints one.
+/// Lays the code of `opcode`, which prints the text of its line.
 fn lay_text<B: Bounds>(
     line: Line<'_>,
     opcode: Opcode,
@@ -425,7 +426,7 @@ fn lay_text<B: Bounds>(
     }
 }
 
-/// A jump to the label of a name.
+/// Lays a jump to the label of a line.
 fn lay_jump<B: Bounds>(
     line: Line<'_>,
     labels: &mut Labels,
@@ -440,7 +441,7 @@ fn lay_jump<B: Bounds>(
     out.jump(label)
 }
 
-/// A line of an opcode that takes what it has.
+/// Lays the code of a line whose operands and ends fit `opcode`.
 #[tactic(auto, using(crate::proofs::Fitting::fits_as_row))]
 fn lay_fit<B: Bounds>(
     line: Line<'_>,
@@ -466,7 +467,7 @@ fn lay_fit<B: Bounds>(
     lay_instructed(line, opcode, nodes, roots, labels, out)
 }
 
-/// A line without an error.
+/// Lays the code of a line that has no error.
 #[tactic(auto, unfolding(crate::specs::Assembly::line_laid))]
 pub(crate) fn lay_line<B: Bounds>(
     line: Line<'_>,

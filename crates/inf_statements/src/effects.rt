@@ -54,16 +54,16 @@ pub struct Site<'a> {
     /// The character set of the source.
     pub set: CharSet,
     pub tokens: &'a UnitTokens,
-    /// The place among its tokens where it begins.
+    /// The place among its tokens where the statement begins.
     pub begun: usize,
-    /// The items that it has beside its expressions.
+    /// The items that the statement has beside its expressions.
     pub items: &'a [Item],
     pub locals: &'a Locals,
-    /// The statements that hold it.
+    /// The statements that hold this one.
     pub constructs: &'a Constructs,
 }
 
-/// A finding of a number at a token, unless there is something.
+/// Returns a finding of `number` at `order`, unless something was found.
 fn unless_some(found: Option<Label>, order: u32, number: u8) -> Option<Finding>
     ensures { result ≡ unless_some found (record { order = order; number = number }) }
 {
@@ -74,7 +74,7 @@ fn unless_some(found: Option<Label>, order: u32, number: u8) -> Option<Finding>
 }
 
 impl Site<'_> {
-    /// The name behind its first token.
+    /// Returns the name behind the first token of the statement.
     fn name(&self) -> &[u8]
         ensures value { result.now ≡ name_behind (site self.now) }
         ensures few { length result.now ≤ 32 }
@@ -82,14 +82,14 @@ impl Site<'_> {
         self.tokens.bytes_at(next_place(self.begun))
     }
 
-    /// Returns the statement that stands at this site.
+    /// Returns the statement at this site.
     pub fn statement(&self) -> Statement
         ensures { result ≡ statement_in (site self.now).tokens (site self.now).begun (site self.now).items }
     {
         statement_in(self.tokens, self.begun, self.items)
     }
 
-    /// Returns the assembly line that stands at this site.
+    /// Returns the assembly line at this site.
     fn line(&self) -> Line<'_>
         ensures { let s = self.now in result ≡ record {
           alloc = s.alloc;
@@ -123,7 +123,7 @@ impl Site<'_> {
         })
     }
 
-    /// Returns the finding that the statement's style is none.
+    /// Returns the finding that the statement's style is unknown.
     fn style_finding(&self) -> Option<Finding>
         ensures { let s = site self.now in
             result ≡ unless_some (style_of (name_behind s)) (wrong_kind (order (next_place s.begun))) }
@@ -166,7 +166,7 @@ impl Site<'_> {
         self.line().finding(names, self.begun, nodes, roots)
     }
 
-    /// Returns what printing goes by at this site, where the statement returns if `returns`.
+    /// Returns the settings of printing at this site, where the statement returns if `returns`.
     fn printing(&self, returns: bool) -> Printing<'_>
         ensures { result ≡ record { alloc = self.now.alloc; set = self.now.set; tokens = self.now.tokens; returns = returns } }
     {
@@ -178,7 +178,7 @@ impl Site<'_> {
         }
     }
 
-    /// The code of a statement that has no named label.
+    /// Lays the code of a statement that has no named label.
     fn lay_code<B: Bounds>(
         &self,
         statement: Statement,
@@ -218,7 +218,7 @@ impl Site<'_> {
         }
     }
 
-    /// `string`, with the text that it has.
+    /// Lays the code of `string`, with the text of the statement.
     fn lay_string<B: Bounds>(
         &self,
         forest: &Forest,
@@ -234,7 +234,7 @@ impl Site<'_> {
         lay_string(packed.as_slice(), forest, tasks, out)
     }
 
-    /// The text that it has beside its expressions.
+    /// Returns the text that the statement has beside its expressions.
     fn last_text(&self) -> Result<Option<Text>, AllocError>
         ensures { IfOk result (λ text. text ≡ last_text (site self.now)) }
     {
@@ -247,7 +247,7 @@ impl Site<'_> {
         text_of(self.alloc, self.set, &token)
     }
 
-    /// A jump to the label of its name.
+    /// Lays a jump to the label of the statement's name.
     fn lay_jump<B: Bounds>(
         &self,
         labels: &mut Labels,
@@ -259,7 +259,7 @@ impl Site<'_> {
         out.jump(label)
     }
 
-    /// The place of the label of its name.
+    /// Places the label of the statement's name.
     fn lay_place<B: Bounds>(
         &self,
         labels: &mut Labels,
@@ -303,7 +303,7 @@ impl Site<'_> {
     }
 }
 
-/// Returns what `statement` takes as its expressions: operands in an assembly line, values in any other statement.
+/// Returns the kind of expressions that `statement` takes: operands in an assembly line, values in any other statement.
 pub fn wanted_by(statement: Statement) -> Wanted
     ensures { result ≡ wanted_by statement }
 {

@@ -1,10 +1,9 @@
-//! The statements of a routine: what they are told by, what is wrong with them beside their expressions, and their code.
+//! The statements of a routine: the tokens by which they are known, the findings about them beside those about their
+//! expressions, and their code.
 //!
-//! The statements that hold others are kept while they are open, each with its labels. `Constructs` of `specs/` says what each of them lays
-//! where
-//! it begins, between its parts and where it ends, `Cases` what the tests of a case are, `Printing`, `Statements` and `Assembly` what a
-//! statement
-//! is that holds none, and `Effects` puts these together.
+//! The statements that hold others are kept while they are open, each with its labels: these are the constructs of
+//! `inf_constructs`. In `specs/` here, `Printing`, `Statements` and `Assembly` have the statements that hold none, and
+//! `Effects` puts all together.
 #![tactic(auto)]
 
 mod assembly;

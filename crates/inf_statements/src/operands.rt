@@ -1,4 +1,4 @@
-//! The operands that the leaves of a unit stand for.
+//! The operands of a unit's leaves.
 ghost use Rattle.std.specs.Prelude.{◌≡◌, ◌≤◌, [], ◌∷◌, ◌++◌, List, IfOk, IfSome, OnOk, length, option_map};
 ghost use Rattle.inf_names.specs.LocalList.{listed};
 ghost use Rattle.inf_unit.specs.NameTokens.{named};
@@ -9,8 +9,7 @@ ghost use Rattle.inf_statements.specs.Operands.{settled_leaf, settled_name, sett
 ghost use Rattle.inf_statements.specs.Operands.{system_constant, system_operand, word_operand, word_sum};
 ghost use Rattle.inf_statements.specs.Printing.{text_at};
 
-use inf_area::{AreaName, SystemConstant, Target};
-use inf_cells::Scale;
+use inf_area::{AreaName, Scale, SystemConstant, Target};
 use inf_expressions::{Function, Operand};
 use inf_gathering::gathering::Leaf;
 use inf_names::locals::Locals;
@@ -39,7 +38,7 @@ fn function_of(function: NamedFunction) -> Function
     }
 }
 
-/// Returns the operand of a name that stands for `meaning`, if its value is known, or it is a variable or a function.
+/// Returns the operand of a name of this `meaning`, if its value is known, or it is a variable or a function.
 fn standing(meaning: Meaning) -> Option<Operand>
     ensures { result ≡ standing meaning }
 {
@@ -63,7 +62,7 @@ fn standing(meaning: Meaning) -> Option<Operand>
     }
 }
 
-/// A reference by a name's number among the names.
+/// Returns a reference by a name's number among the names.
 fn referring(number: Option<usize>) -> Operand
     ensures { result ≡ referring number }
 {
@@ -79,7 +78,7 @@ fn operand_by(known: Option<Operand>, number: Option<usize>) -> Operand
     }
 }
 
-/// Returns the operand of a name, by `found`, what looking for it found, and `number`, its number among the names.
+/// Returns the operand of a name, by `found`, the result of looking for it, and `number`, its number among the names.
 fn found_operand(found: Found<Place>, number: Option<usize>) -> Operand
     ensures { result ≡ found_operand found number }
 {
@@ -107,7 +106,7 @@ pub(crate) fn looked_name<B: Bounds>(
     }
 }
 
-/// Whether a name, which is that of a local or not, is the stack in an assembly line.
+/// Returns whether `name`, which is that of `local` or of none, is the stack in an assembly line.
 pub(crate) fn is_stack(name: &[u8], local: Option<u8>) -> bool
     ensures { result ≡ is_stack name.now local }
 {
@@ -202,14 +201,15 @@ fn looked<B: Bounds>(
     }
 }
 
-/// The sum of two numbers, modulo 65536.
+/// Returns the sum of two numbers, modulo 65536.
 fn word_sum(a: usize, b: usize) -> u16
     ensures { result ≡ word_sum a b }
 {
     ((a % 65536 + b % 65536) % 65536) as u16
 }
 
-/// The number of an action that did not appear and is only looked up, which other such ones may come ahead of.
+/// Returns the number of an action that did not appear and is only looked up, behind the new actions of `ahead`, and
+/// adds it to these.
 fn new_action<B: Bounds>(
     name: NameToken<'_>,
     out: &Output<B>,
@@ -244,7 +244,7 @@ pub fn looked_action<B: Bounds>(
     }
 }
 
-/// The number of an action, which appears.
+/// Returns the number of an action, which appears.
 fn settled_action<B: Bounds>(
     name: Option<NameToken<'_>>,
     out: &mut Output<B>,
@@ -294,7 +294,8 @@ pub fn all_looked<B: Bounds>(
     Ok(operands)
 }
 
-/// Returns the operand of a name that was used, by `found`, what looking for it found. It is 0 where the name is one too many.
+/// Returns the operand of a name that was used, by `found`, the result of looking for it. The operand is 0 where the
+/// name is one too many.
 fn settled_as(found: Option<(Found<Place>, Option<usize>)>) -> Operand
     ensures { result ≡ settled_as found }
 {
@@ -455,7 +456,7 @@ pub fn settled<B: Bounds>(
     Ok(operands)
 }
 
-/// A leaf of a unit with these tokens names its local.
+/// Notes the local that a leaf names, of a unit with `tokens`.
 fn name_leaf(locals: &mut Locals, tokens: &UnitTokens, leaf: Leaf)
     ensures { listed locals.new ≡ leaf_named tokens.now leaf (listed locals.old) }
 {

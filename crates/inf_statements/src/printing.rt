@@ -19,7 +19,7 @@ use inf_unit::texts::text_of;
 use inf_unit::unit_tokens::UnitTokens;
 use std::alloc::{AllocError, Global};
 
-/// The instruction that prints a text that is a token of the unit (Z-Machine Standard 1.1, section 4.8).
+/// Lays the instruction that prints the text at `at` of `tokens` (Z-Machine Standard 1.1, section 4.8).
 pub(crate) fn print_text<B: Bounds>(
     alloc: Global,
     set: CharSet,
@@ -41,7 +41,8 @@ pub(crate) fn print_text<B: Bounds>(
     out.emit(&Instruction::with_text(opcode, packed.as_slice()))
 }
 
-/// The opcode that prints a text which other items follow, or none: the last of a statement that returns has its own.
+/// Returns the opcode that prints a text with `others` behind it: the last text of a statement that returns has its
+/// own.
 fn text_opcode(returns: bool, others: &[Item]) -> Opcode
     ensures value { result ≡ text_opcode returns others.now }
     ensures prints { PrintsText result }
@@ -53,7 +54,7 @@ fn text_opcode(returns: bool, others: &[Item]) -> Opcode
     }
 }
 
-/// Lays the end of a statement that prints, where it returns and its last item is no text, as `ends` says.
+/// Lays the end of a statement that prints where `ends`: the statement returns and its last item is no text.
 fn end_items<B: Bounds>(ends: bool, out: &mut Output<B>) -> Result<(), AllocError>
     ensures { OnOk result (out.new ≡ ended B.most ends out.old) }
 {
@@ -64,7 +65,7 @@ fn end_items<B: Bounds>(ends: bool, out: &mut Output<B>) -> Result<(), AllocErro
     plain(Opcode::Rtrue, out)
 }
 
-/// The first of some trees is called with the second.
+/// Lays a call of the first of some trees with the second.
 fn call_with<B: Bounds>(
     nodes: &Nodes,
     roots: &[Root],
@@ -89,7 +90,7 @@ fn call_with<B: Bounds>(
     }
 }
 
-/// A routine of the veneer is called with the first of some trees.
+/// Lays a call of a routine of the veneer with the first of some trees.
 fn call_veneer<B: Bounds>(
     veneer: Veneer,
     nodes: &Nodes,
@@ -108,7 +109,7 @@ fn call_veneer<B: Bounds>(
     }
 }
 
-/// A value by a rule.
+/// Lays the code that prints a value by `rule`.
 #[tactic(auto, unfolding(crate::specs::Printing::rule_code))]
 fn print_by<B: Bounds>(
     rule: PrintRule,
@@ -149,7 +150,7 @@ fn roots_behind(item: Item, roots: &[Root]) -> &[Root]
     }
 }
 
-/// Whether a statement that returns is to end a line behind an item.
+/// Returns whether a statement that returns has to end the line behind `item`.
 fn ends_behind(item: Item, returns: bool) -> bool
     ensures { result ≡ ends_behind item returns }
 {
@@ -159,17 +160,17 @@ fn ends_behind(item: Item, returns: bool) -> bool
     }
 }
 
-/// The statement that prints: all that its items go by.
+/// The settings of a statement that prints: all that its items go by.
 #[derive(Clone, Copy)]
 pub(crate) struct Printing<'a> {
     pub alloc: Global,
     pub set: CharSet,
     pub tokens: &'a UnitTokens,
-    /// Whether it returns.
+    /// Tells whether the statement returns.
     pub returns: bool,
 }
 
-/// One item, with others behind it.
+/// Lays the code of one item, with `others` behind it.
 fn print_item<B: Bounds>(
     printing: Printing<'_>,
     item: Item,

@@ -33,10 +33,10 @@ use std::alloc::AllocError;
 /// The address at which the table of abbreviations begins, the string variables first.
 const ABBREVIATIONS: Target = Target::Place(AreaName::Abbreviations, 0);
 
-/// The variable for values that nobody wants.
+/// The variable for values that are not used.
 const TEMP: u8 = 255;
 
-/// A statement, told by its first token.
+/// A statement, known by its first token.
 #[derive(Clone, Copy, Debug, PartialEq, Eq)]
 pub enum Statement {
     /// A semicolon alone.
@@ -142,7 +142,7 @@ pub(crate) fn statement_in(tokens: &UnitTokens, begun: usize, items: &[Item]) ->
     }
 }
 
-/// An instruction of an opcode alone.
+/// Lays an instruction of `opcode` alone.
 pub(crate) fn plain<B: Bounds>(opcode: Opcode, out: &mut Output<B>) -> Result<(), AllocError>
     requires { Takes opcode 0 false false }
     ensures { OnOk result (out.new ≡ plain B.most opcode out.old) }
@@ -160,7 +160,7 @@ pub(crate) fn rest(roots: &[Root]) -> &[Root]
     }
 }
 
-/// An instruction of the first of some trees as its operand.
+/// Lays an instruction with the first of some trees as its operand.
 pub(crate) fn lay_one<B: Bounds>(
     opcode: Opcode,
     nodes: &Nodes,
@@ -194,7 +194,7 @@ pub fn lay_expression<B: Bounds>(
     }
 }
 
-/// A branch where an expression is not true.
+/// Lays a branch to `label` where the expression is not true.
 fn lay_unless<B: Bounds>(
     forest: &Forest,
     label: Label,
@@ -238,7 +238,7 @@ pub fn lay_switched<B: Bounds>(
     }
 }
 
-/// Returns what is simple: a number that is known as 1 or 0 has an instruction of its own.
+/// Lays the return of a simple operand: a number that is known as 1 or 0 has an instruction of its own.
 fn return_simple<B: Bounds>(operand: Simple, out: &mut Output<B>) -> Result<(), AllocError>
     ensures { (m : Meaning) → OnOk result (out.new ≡ returned_by B.most (Some operand) m out.old) }
 {
@@ -249,7 +249,8 @@ fn return_simple<B: Bounds>(operand: Simple, out: &mut Output<B>) -> Result<(), 
     }
 }
 
-/// Returns the first of some trees; 1 where there is none. What needs code is returned from the stack.
+/// Lays the return of the first of some trees; of 1 where there is none. A value that needs code is returned from the
+/// stack.
 pub(crate) fn lay_return<B: Bounds>(
     forest: &Forest,
     tasks: &mut Tasks,
@@ -267,7 +268,7 @@ pub(crate) fn lay_return<B: Bounds>(
     plain(Opcode::RetPopped, out)
 }
 
-/// `move`: the first of some trees goes into the second.
+/// Lays the code of `move`: the first of some trees goes into the second.
 pub(crate) fn lay_move<B: Bounds>(
     forest: &Forest,
     tasks: &mut Tasks,
@@ -309,7 +310,8 @@ pub(crate) fn lay_spaces<B: Bounds>(
     }
 }
 
-/// The string variable whose number is the first of some trees becomes a low string: its place among the abbreviations is written.
+/// Lays the code by which the string variable whose number is the first of some trees becomes a low string: its place
+/// among the abbreviations is written.
 fn set_string<B: Bounds>(
     low: Target,
     nodes: &Nodes,
@@ -332,7 +334,8 @@ fn set_string<B: Bounds>(
     }
 }
 
-/// `string`: the string variable whose number is the first of some trees becomes a new low string of these bytes.
+/// Lays the code of `string`: the string variable whose number is the first of some trees becomes a new low string of
+/// these bytes.
 pub(crate) fn lay_string<B: Bounds>(
     packed: &[u8],
     forest: &Forest,
@@ -345,7 +348,7 @@ pub(crate) fn lay_string<B: Bounds>(
     set_string(low, &forest.nodes, &forest.roots, tasks, out)
 }
 
-/// A call of the routine that processes actions.
+/// Lays a call of the routine that processes actions.
 fn lay_process<B: Bounds>(
     arguments: &[Argument],
     nodes: &Nodes,
@@ -357,7 +360,7 @@ fn lay_process<B: Bounds>(
     lay_routine_call(tasks, nodes, Veneer::Process, arguments, None, out)
 }
 
-/// An action with a noun, or with two.
+/// Lays an action with a noun, or with two.
 fn lay_action_on<B: Bounds>(
     action: Argument,
     nouns: &[Root],
@@ -377,7 +380,7 @@ fn lay_action_on<B: Bounds>(
     }
 }
 
-/// An action: a call of a routine of the veneer with the trees.
+/// Lays an action: a call of a routine of the veneer with the trees.
 pub(crate) fn lay_action<B: Bounds>(
     forest: &Forest,
     tasks: &mut Tasks,
@@ -393,7 +396,7 @@ pub(crate) fn lay_action<B: Bounds>(
     }
 }
 
-/// The opcode by which an attribute is given or taken away.
+/// Returns the opcode by which an attribute is given or taken away.
 fn attribute_opcode(item: Item) -> Opcode
     ensures value { result ≡ attribute_opcode item }
     ensures takes { Takes result 2 false false }
@@ -404,7 +407,7 @@ fn attribute_opcode(item: Item) -> Opcode
     }
 }
 
-/// The first of some trees is an attribute that an object is given or that is taken from it.
+/// Lays the code that gives an object the attribute that is the first of some trees, or takes it away.
 fn lay_attribute<B: Bounds>(
     opcode: Opcode,
     object: Argument,
@@ -426,7 +429,7 @@ fn lay_attribute<B: Bounds>(
     }
 }
 
-/// Attributes that an object is given or that are taken from it, one by one.
+/// Lays the code of attributes that an object is given or that are taken from it, one by one.
 fn lay_attributes<B: Bounds>(
     object: Argument,
     items: &[Item],
@@ -449,14 +452,15 @@ fn lay_attributes<B: Bounds>(
     Ok(())
 }
 
-/// Whether there are two or more.
+/// Returns whether there are two items or more.
 fn are_several(items: &[Item]) -> bool
     ensures { result ≡ are_several items.now }
 {
     matches!(items, [_, _, ..])
 }
 
-/// `give`: the first of some trees is an object. With several attributes one that needs code is worked out first.
+/// Lays the code of `give`: the first of some trees is an object. With several attributes an object that needs code is
+/// worked out first.
 pub(crate) fn lay_give<B: Bounds>(
     items: &[Item],
     forest: &Forest,
@@ -477,7 +481,8 @@ pub(crate) fn lay_give<B: Bounds>(
     lay_attributes(object, items, nodes, attributes, tasks, out)
 }
 
-/// The number of a style of text, by its name in any case (Z-Machine Standard 1.1, section 15, `set_text_style`).
+/// Returns the number of a style of text, by its name in any case (Z-Machine Standard 1.1, section 15,
+/// `set_text_style`).
 pub(crate) fn style_of(name: &[u8]) -> Option<u16>
     ensures { result ≡ style_of name.now }
 {
@@ -496,7 +501,7 @@ pub(crate) fn style_of(name: &[u8]) -> Option<u16>
     }
 }
 
-/// `style`: the style of a name.
+/// Lays the code of `style`: the style of `name`.
 pub(crate) fn lay_style<B: Bounds>(name: &[u8], out: &mut Output<B>) -> Result<(), AllocError>
     ensures { OnOk result (out.new ≡ styled B.most name.now out.old) }
 {
@@ -506,7 +511,7 @@ pub(crate) fn lay_style<B: Bounds>(name: &[u8], out: &mut Output<B>) -> Result<(
     }
 }
 
-/// A jump to a label, if there is one.
+/// Lays a jump to `label`, if there is one.
 pub(crate) fn lay_jump<B: Bounds>(
     label: Option<Label>,
     out: &mut Output<B>,

@@ -3,9 +3,9 @@ use Rattle.std.proofs.Common.{◌≡◌, ℕ, List, ◌∷◌, [], ◌++◌, app
 use Rattle.inf_area.specs.declared.fixups.Fixup.{Fixup}
 use Rattle.inf_area.specs.declared.targets.AreaName.{AreaName}
 use Rattle.inf_area.specs.declared.targets.AreaName.TheVariants as area
-use Rattle.inf_cells.specs.declared.cells.Cell.{Cell}
-use Rattle.inf_cells.specs.Cells.{bytes_of, fixups_of}
-use Rattle.inf_cells.proofs.Joining.{bytes_of-known, fixups_of-known}
+use Rattle.inf_area.specs.declared.cells.Cell.{Cell}
+use Rattle.inf_area.specs.Cells.{bytes_of, fixups_of}
+use Rattle.inf_area.proofs.Joining.{bytes_of-known, fixups_of-known}
 use Rattle.inf_code.specs.Code.{known}
 use Rattle.inf_dictionary.specs.Words.{dictionary_bytes}
 use Rattle.inf_link.specs.Areas.{area_of}
@@ -27,14 +27,14 @@ put_all : (done : List Fixup) (lists : List (List Fixup)) → put done lists ≡
 put_all done [] = sym (append-nil done)
 put_all done (xs ∷ lists) = put_all (done ++ xs) lists ∙ append_assoc done xs (all lists)
 
--- those of the areas that are written with theirs
+-- the fixups of the areas that are written with fixups
 abbrev written : (AreaName → List Fixup) → List (List Fixup)
 written fixups =
     fixups area.Abbreviations ∷ fixups area.PropertyDefaults ∷ fixups area.Objects ∷ fixups area.PropertyTables ∷ fixups area.ClassNumbers
     ∷ fixups area.IndividualTables ∷ fixups area.Globals ∷ fixups area.Arrays ∷ fixups area.Grammar ∷ fixups area.Actions
     ∷ fixups area.ParsingRoutines ∷ fixups area.Code ∷ []
 
--- with those of the areas that are known bytes
+-- all fixups, with those of the areas that are known bytes
 abbrev whole : (AreaName → List Fixup) → List Fixup → List Fixup → List Fixup → List Fixup
 whole fixups low words strings =
     low ++ all (fixups area.Abbreviations ∷ fixups area.PropertyDefaults ∷ fixups area.Objects ∷ fixups area.PropertyTables ∷ fixups

@@ -1,9 +1,9 @@
--- What is linked is the story of the cells.
+-- The linked story is the story of the cells.
 use Rattle.std.specs.Prelude.{IfOk, Result, Ok, Err, MatchResult}
 use Rattle.std.proofs.Common.{◌≡◌, ◌⊎◌, inl, inr, ◌∙◌, ℕ, List, Option, Some, None, ap, sym}
 use Rattle.inf_area.specs.declared.fixups.Fixup.{Fixup}
 use Rattle.inf_area.specs.declared.targets.Value.{Value}
-use Rattle.inf_cells.specs.declared.cells.Cell.{Cell}
+use Rattle.inf_area.specs.declared.cells.Cell.{Cell}
 use Rattle.inf_link.specs.declared.areas.Areas.{Areas}
 use Rattle.inf_link.specs.declared.header.HeaderFields.{HeaderFields}
 use Rattle.inf_link.specs.declared.link.LinkFault.{LinkFault}
@@ -47,7 +47,7 @@ pub is_sized : (fields : HeaderFields) (main : ℕ) (finished : List Cell) (stri
 unfolding story_sizes
 is_sized fields main finished strings tables contents bytes are_contents = ap (λ areas. sizes areas fields bytes) are_contents
 
--- what holds of an answer makes another fact hold of it
+-- Where one fact of an answer entails another, the other holds of it, too.
 pub if_ok_more : {T E : Type 0} (r : Result T E) (P Q : T → Type 0) → ((x : T) → P x → Q x) → IfOk r P → IfOk r Q
 if_ok_more (Ok x) P Q h p = h x p
 if_ok_more (Err fault) P Q h p = tt

@@ -1,4 +1,4 @@
--- What names are, one by one.
+-- The values of names, one by one.
 use Rattle.std.proofs.Common.{◌≡◌, ◌<◌, ◌+◌, ℕ, suc, zero, List, [], ◌∷◌, ◌++◌, Option, Some, None, drop, length, append_assoc, refl, sym}
 use Rattle.std.proofs.Common.{ap, ◌∙◌, arith}
 use Rattle.inf_area.specs.declared.targets.Value.{Value}
@@ -6,7 +6,7 @@ use Rattle.inf_names.specs.Symbols.{Named, meaning_in, standing_at}
 use Rattle.inf_scanner.specs.declared.tokens.Place.{Place}
 use Rattle.inf_story.specs.Names.{value_by, values_of, with_value}
 
--- some behind others
+-- the values of `done` and those behind them, if there are any
 abbrev pub behind : List Value → Option (List Value) → Option (List Value)
 behind done None = None
 behind done (Some values) = Some (done ++ values)

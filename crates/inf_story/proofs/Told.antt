@@ -1,7 +1,7 @@
--- What each story tells of itself, by the sizes of its areas.
+-- Each story states its own length and checksum, by the sizes of its areas.
 use Rattle.std.proofs.Common.{◌≡◌, ℕ, List, length, subst}
 use Rattle.inf_area.specs.declared.targets.Value.{Value}
-use Rattle.inf_cells.specs.declared.cells.Cell.{Cell}
+use Rattle.inf_area.specs.declared.cells.Cell.{Cell}
 use Rattle.inf_link.specs.declared.header.HeaderFields.{HeaderFields}
 use Rattle.inf_link.specs.Areas.{area_of, by_name}
 use Rattle.inf_link.specs.FillingLaws.{cells_sizes, numbered}

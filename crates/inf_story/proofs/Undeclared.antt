@@ -4,7 +4,7 @@ use Rattle.std.proofs.Common.{◌≡◌, ℕ, drop, take, zero, suc, refl, ap, �
 use Rattle.std.proofs.lemmas.List.{length-drop, take_all}
 use Rattle.inf_area.specs.declared.targets.Value.{Value}
 use Rattle.inf_area.specs.declared.targets.Value.TheVariants as value
-use Rattle.inf_cells.specs.Cells.{values_cells}
+use Rattle.inf_area.specs.Cells.{values_cells}
 use Rattle.inf_story.specs.Tables.{undeclared}
 
 drop-replicate : (n count : ℕ) (v : Value) → drop n (replicate count v) ≡ replicate (count - n) v

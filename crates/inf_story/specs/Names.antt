@@ -1,4 +1,4 @@
--- What the names of a source are in its story.
+-- The values of the names of a source in its story.
 use Rattle.std.specs.Prelude.{List, [], ◌∷◌, Option, Some, None}
 use Rattle.inf_area.specs.declared.targets.AreaName.TheVariants as area
 use Rattle.inf_area.specs.declared.targets.Target.TheVariants as target
@@ -9,9 +9,8 @@ use Rattle.inf_names.specs.declared.meanings.Meaning.{Meaning}
 use Rattle.inf_names.specs.declared.meanings.Meaning.TheVariants as meaning
 use Rattle.inf_scanner.specs.declared.tokens.Place.{Place}
 
--- What a name is by what it stands for: a number, a place in an area, or a dictionary word, which is known by its text and not by a place.
--- A function of the
--- language is no number.
+-- The value of a name by its meaning: a number, a place in an area, or a dictionary word, which is known by its text and not by a place. A
+-- function of the language is no number.
 abbrev pub value_of : Meaning → Option Value
 value_of (meaning.Number number) = Some (value.Known number)
 value_of (meaning.Variable number) = Some (value.Known number)
@@ -29,7 +28,7 @@ value_of (meaning.PackedAddress place) = Some (value.Later (target.Place area.Co
 value_of (meaning.Word text) = Some (value.Later (target.Word text))
 value_of (meaning.Function function) = None
 
--- a name that was not declared stands for nothing
+-- the value of a name by its meaning, if it has one: a name that was not declared has none
 abbrev pub value_by : Option Meaning → Option Value
 value_by None = None
 value_by (Some m) = value_of m
@@ -39,7 +38,7 @@ with_value None values = None
 with_value (Some value) None = None
 with_value (Some value) (Some values) = Some (value ∷ values)
 
--- what each name is; nothing where one of them is none
+-- the value of each name; none where one of the names has none
 abbrev pub values_of : List (Named Place) → Option (List Value)
 values_of [] = Some []
 values_of (n ∷ names) = with_value (value_by (meaning_in (Some n.standing))) (values_of names)

@@ -1,12 +1,12 @@
--- The story of a source that told nothing of tables: the first four objects, which stand for the classes that the language has, and an
+-- The story of a source that filled no table: the first four objects, which are the classes that the language has, and an empty
 -- empty dictionary.
 use Rattle.std.specs.Prelude.{◌≡◌, ℕ, ◌+◌, ◌/◌, List, [], ◌∷◌, ◌++◌, length, map, replicate, codes}
 use Rattle.std.specs.List.{flat_map}
 use Rattle.inf_area.specs.declared.targets.AreaName.TheVariants as area
 use Rattle.inf_area.specs.declared.targets.Target.TheVariants as target
 use Rattle.inf_area.specs.declared.targets.Value.{Value}
-use Rattle.inf_cells.specs.declared.cells.Cell.{Cell}
-use Rattle.inf_cells.specs.declared.cells.Cell.TheVariants as cell
+use Rattle.inf_area.specs.declared.cells.Cell.{Cell}
+use Rattle.inf_area.specs.declared.cells.Cell.TheVariants as cell
 use Rattle.inf_characters.specs.declared.texts.TextItem.TheVariants.{Character}
 use Rattle.inf_code.specs.Code.{code_cells, known}
 use Rattle.inf_link.specs.declared.areas.Areas.{Areas}

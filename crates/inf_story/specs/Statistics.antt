@@ -1,13 +1,13 @@
--- What is told of a story where statistics are wanted.
+-- The statistics of a story, for those who want them.
 use Rattle.std.specs.Prelude.{ℕ, length, codes}
 use Rattle.inf_code.specs.Code.{Routines, routine_count}
 use Rattle.inf_tables.specs.Tables.{AllTables}
 use Rattle.inf_unit.specs.Messages.{Reported, with_statistic}
-use Rattle.inf_world.specs.World.{object_count}
+use Rattle.inf_tables.specs.World.{object_count}
 use Rattle.inf_story.specs.declared.statistics.Counts.{Counts}
 use Rattle.inf_story.specs.declared.statistics.Statistics.{Statistics}
 
--- what is counted of a source with so many names: objects with the first four, actions without fake ones, routines with the first one
+-- the counts of a source with `symbols` names: objects with the first four, actions without fake ones, routines with the first one
 abbrev pub counts_of : ℕ → Routines → AllTables → Counts
 counts_of symbols code tables = record {
   symbols = symbols;
@@ -18,7 +18,7 @@ counts_of symbols code tables = record {
   routines = routine_count code;
 }
 
--- a line for each number, in this order
+-- the report with a line for each count, in this order
 abbrev pub with_counts : Counts → Reported → Reported
 with_counts c r =
     with_statistic (codes "routines") c.routines (with_statistic (codes "actions") c.actions

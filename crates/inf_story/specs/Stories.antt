@@ -1,7 +1,7 @@
 -- The story of a source. Z-Machine Standard 1.1, sections 1 and 11.
 use Rattle.std.specs.Prelude.{ℕ, List, Option}
 use Rattle.inf_area.specs.declared.targets.Value.{Value}
-use Rattle.inf_cells.specs.declared.cells.Cell.{Cell}
+use Rattle.inf_area.specs.declared.cells.Cell.{Cell}
 use Rattle.inf_link.specs.declared.header.HeaderFields.{HeaderFields}
 use Rattle.inf_link.specs.declared.link.LinkFault.{LinkFault}
 use Rattle.inf_link.specs.declared.link.Sizes.{Sizes}
@@ -16,10 +16,10 @@ use Rattle.inf_tables.specs.Tables.{AllTables}
 unfoldable pub story : HeaderFields → ℕ → List Value → List Cell → List ℕ → AllTables → List ℕ
 story fields main names finished strings tables = cells_story (areas main finished strings tables) (looked_up names tables) fields
 
--- how many bytes the story, which has these bytes, and its parts have
+-- the numbers of bytes of the story `bytes` and of its parts
 unfoldable pub story_sizes : HeaderFields → ℕ → List Cell → List ℕ → AllTables → List ℕ → Sizes
 story_sizes fields main finished strings tables bytes = sizes (cells_contents (areas main finished strings tables)) fields bytes
 
--- why there is none, if so
+-- the reason why there is no story, if there is none
 unfoldable pub too_long : HeaderFields → ℕ → List Cell → List ℕ → AllTables → Option LinkFault
 too_long fields main finished strings tables = too_long_by (cells_sizes (areas main finished strings tables)) fields.scale

@@ -6,9 +6,9 @@ use Rattle.inf_area.specs.declared.targets.Value.{Value}
 use Rattle.inf_area.specs.declared.targets.Value.TheVariants as value
 use Rattle.inf_arrays.specs.Arrays.{all_of, arrays_cells}
 use Rattle.inf_arrays.specs.Globals.{globals_cells}
-use Rattle.inf_cells.specs.declared.cells.Cell.{Cell}
-use Rattle.inf_cells.specs.declared.cells.Cell.TheVariants as cell
-use Rattle.inf_cells.specs.Cells.{values_cells}
+use Rattle.inf_area.specs.declared.cells.Cell.{Cell}
+use Rattle.inf_area.specs.declared.cells.Cell.TheVariants as cell
+use Rattle.inf_area.specs.Cells.{values_cells}
 use Rattle.inf_characters.specs.declared.texts.TextItem.TheVariants.{Character}
 use Rattle.inf_code.specs.Code.{code_cells, known}
 use Rattle.inf_dictionary.specs.Texts.{texts_of}
@@ -18,9 +18,9 @@ use Rattle.inf_link.specs.Targets.{Lookup}
 use Rattle.inf_text.specs.Packing.{packed}
 use Rattle.inf_verbs.specs.Routines.{routines_cells}
 use Rattle.inf_verbs.specs.Verbs.{grammar_cells, places_of}
-use Rattle.inf_world.specs.Areas.{all_objects, area_cells, individual_places_from, table_places_from}
-use Rattle.inf_world.specs.World.{object_count}
-use Rattle.inf_world.specs.declared.kinds.WorldArea.TheVariants as world_area
+use Rattle.inf_tables.specs.Areas.{all_objects, area_cells, individual_places_from, table_places_from}
+use Rattle.inf_tables.specs.World.{object_count}
+use Rattle.inf_tables.specs.declared.kinds.WorldArea.TheVariants as world_area
 use Rattle.inf_tables.specs.Tables.{AllTables}
 
 -- the first low string, three spaces (section 3.3), and those behind it
@@ -63,7 +63,7 @@ areas main finished strings tables = record {
   strings = known strings;
 }
 
--- what targets are looked up in, with what the names are; the number of the last object is how many there are
+-- the tables in which targets are looked up, with the values of the names; the number of the last object is the count of objects
 abbrev pub looked_up : List Value → AllTables → Lookup
 looked_up names tables = record {
   names = names;

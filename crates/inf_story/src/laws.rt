@@ -1,8 +1,8 @@
 //! Laws that follow from the definitions together.
 ghost use Rattle.inf_story.specs.Plain.{LookupIsPlain, TablesArePlain};
 
-/// A source that told nothing of tables has the first four objects, with their names, and an empty dictionary; all else is zeros or
-/// nothing.
+/// States that a source that filled no table has the first four objects, with their names, and an empty dictionary; all
+/// else is zeros or nothing.
 pub fn tables_are_plain()
     ensures areas { TablesArePlain }
     ensures looked_up { LookupIsPlain }

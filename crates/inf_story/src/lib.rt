@@ -1,5 +1,5 @@
-//! The story of a source without an error: its tables as areas, what stands for its names, its header, and the bytes or why there are none
-//! (Z-Machine Standard 1.1, sections 1 and 11).
+//! The story of a source without an error: its tables as areas, the values of its names, its header, and the bytes or
+//! the reason why there are none (Z-Machine Standard 1.1, sections 1 and 11).
 #![tactic(auto)]
 
 mod laws;

@@ -10,8 +10,8 @@ use inf_scanner::Place;
 use inf_settings::bounds::Bounds;
 use std::alloc::{AllocError, Global};
 
-/// Returns the value in a story of a name that stands for `meaning`: a number, a place in an area, or a word of the dictionary. There is
-/// none for a meaning that is no number by itself.
+/// Returns the value in a story of a name with `meaning`: a number, a place in an area, or a word of the dictionary;
+/// `None` for a meaning that is no number by itself.
 fn value_of(meaning: Meaning) -> Option<Value>
     ensures { result ≡ value_of meaning }
 {
@@ -35,15 +35,15 @@ fn value_of(meaning: Meaning) -> Option<Value>
     }
 }
 
-/// Returns the value in a story of name `number` of `names`.
+/// Returns the value in a story of name `number` of `names`, or `None` where it has none.
 fn value_at<B: Bounds>(names: &Symbols<Place, B>, number: usize) -> Option<Value>
     ensures { result ≡ value_by (meaning_in (standing_at number names.now.names)) }
 {
     value_of(names.meaning_at(number)?)
 }
 
-/// Returns the value of each of `names` in the story, in order. Returns nothing where one of them has no value, as one that was not
-/// declared.
+/// Returns the value of each of `names` in the story, in order; or `None` where one of them has no value, as one that
+/// was not declared.
 pub fn values_of<B: Bounds>(
     alloc: Global,
     names: &Symbols<Place, B>,

@@ -1,4 +1,4 @@
-//! The statistics of a story, which are told where they are wanted.
+//! The statistics of a story, for those who want them.
 ghost use Rattle.std.specs.Prelude.{OnOk, ◌≡◌};
 ghost use Rattle.inf_story.specs.Statistics.{counts_of, with_statistics};
 
@@ -9,8 +9,8 @@ use inf_tables::Tables;
 use inf_unit::messages::Diagnostics;
 use std::alloc::AllocError;
 
-/// Counts of a source: its names; the words of its dictionary; its objects, with the first four; its verbs; its actions, but fake ones; and
-/// its routines, with the first one.
+/// The counts of a source: its names; the words of its dictionary; its objects, with the first four; its verbs; its
+/// actions, but fake ones; and its routines, with the first one.
 #[derive(Clone, Copy, Debug, PartialEq, Eq)]
 pub struct Counts {
     pub symbols: usize,

@@ -33,7 +33,7 @@ pub fn story<B: Bounds>(
     linked(alloc, fields, main, names, code, strings, &tables)
 }
 
-/// Returns the story as `story` does, from `tables` that the caller keeps.
+/// Returns the story as `story` does, from `tables`, which the caller keeps.
 fn linked<B: Bounds>(
     alloc: Global,
     fields: HeaderFields,

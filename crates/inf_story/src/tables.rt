@@ -3,7 +3,7 @@ ghost use Rattle.std.specs.Prelude.{◌≡◌, ℕ, List, ◌-◌, ◌++◌, [],
 ghost use Rattle.inf_area.specs.Fixups.{with_fixups};
 ghost use Rattle.inf_arrays.specs.Arrays.{all_of, arrays_cells};
 ghost use Rattle.inf_arrays.specs.Globals.{globals_cells};
-ghost use Rattle.inf_cells.specs.Cells.{bytes_of, fixups_of, values_cells};
+ghost use Rattle.inf_area.specs.Cells.{bytes_of, fixups_of, values_cells};
 ghost use Rattle.inf_code.specs.Code.{code_cells, known};
 ghost use Rattle.inf_dictionary.specs.Words.{dictionary_bytes};
 ghost use Rattle.inf_link.specs.Areas.{by_name};
@@ -12,10 +12,9 @@ ghost use Rattle.inf_link.specs.Targets.{lookup};
 ghost use Rattle.inf_story.specs.Tables.{abbreviations, areas, looked_up, low_strings, undeclared};
 ghost use Rattle.inf_verbs.specs.Routines.{routines_cells};
 ghost use Rattle.inf_verbs.specs.Verbs.{grammar_cells};
-ghost use Rattle.inf_world.specs.Areas.{area_cells, name_of};
+ghost use Rattle.inf_tables.specs.Areas.{area_cells, name_of};
 
-use inf_area::{Area, AreaName, PagedArea, Refs, Target, Value};
-use inf_cells::{Cells, append_cells};
+use inf_area::{Area, AreaName, Cells, PagedArea, Refs, Target, Value, append_cells};
 use inf_code::code::Code;
 use inf_link::{Areas, Targets};
 use inf_settings::bounds::Bounds;
@@ -31,9 +30,10 @@ const THREE_SPACES: [u8; 2] = [0x80, 0x00];
 /// An abbreviation that is not declared: the address in words of the first low string.
 const NO_ABBREVIATION: Value = Value::Known(32);
 
-// Each area with fixups puts them behind others. Their list has no limit, so a table that is not written is told as want of memory.
+// Each area with fixups puts them behind others. Their list has no limit, so that a table is left unwritten only for
+// want of memory.
 
-/// The low strings: the first one and those behind it.
+/// Returns the area of the low strings: the first one and those behind it.
 #[tactic(auto, using(crate::proofs::Areas::low_are))]
 fn low_strings<B: Bounds>(alloc: Global, behind: &LowStrings<B>) -> Result<PagedArea, AllocError>
     ensures { IfOk result (λ area. area ≡ bytes_of (low_strings behind.now.bytes)) }
@@ -44,7 +44,8 @@ fn low_strings<B: Bounds>(alloc: Global, behind: &LowStrings<B>) -> Result<Paged
     Ok(area)
 }
 
-/// Returns the entries of a table that are not declared, behind `declared` that are. There are 64 of both together.
+/// Returns the entries of the table of abbreviations that are not declared, behind `declared` that are. There are 64 of
+/// both together.
 #[tactic(auto, using(crate::proofs::Undeclared::left_taken, crate::proofs::Undeclared::left_of))]
 fn undeclared(declared: usize) -> &'static [Value]
     ensures { values_cells result.now ≡ undeclared (64 - declared) }
@@ -53,7 +54,7 @@ fn undeclared(declared: usize) -> &'static [Value]
     &ALL[declared.min(64)..]
 }
 
-/// The table of abbreviations, of which those are declared whose low strings begin at these places.
+/// Returns the table of abbreviations, of which those are declared whose low strings begin at `places`.
 #[tactic(auto, unfolding(crate::specs::Tables::abbreviations))]
 fn abbreviation_cells(alloc: Global, places: &[usize]) -> Result<Cells, AllocError>
     ensures { IfOk result (λ cells. cells ≡ abbreviations places.now) }
@@ -67,7 +68,7 @@ fn abbreviation_cells(alloc: Global, places: &[usize]) -> Result<Cells, AllocErr
     Ok(cells)
 }
 
-/// The abbreviations, whose low strings begin at these places.
+/// Returns the area of the abbreviations, whose low strings begin at `places`.
 fn abbreviations(alloc: Global, places: &[usize], refs: &mut Refs) -> Result<PagedArea, AllocError>
     ensures bytes { IfOk result (λ area. area ≡ bytes_of (abbreviations places.now)) }
     ensures fixups { OnOk result (refs.new
@@ -89,7 +90,7 @@ fn abbreviations(alloc: Global, places: &[usize], refs: &mut Refs) -> Result<Pag
     Ok(area)
 }
 
-/// An area of the world.
+/// Returns the area `which` of the world.
 fn world_area<B: Bounds>(
     alloc: Global,
     world: &World<B>,
@@ -107,7 +108,7 @@ fn world_area<B: Bounds>(
     Ok(area)
 }
 
-/// The values of the global variables.
+/// Returns the area of the global variables' values.
 fn globals(alloc: Global, globals: &Globals, refs: &mut Refs) -> Result<PagedArea, AllocError>
     ensures bytes { IfOk result (λ area. area ≡ bytes_of (globals_cells globals.now)) }
     ensures fixups { OnOk result (refs.new
@@ -120,7 +121,7 @@ fn globals(alloc: Global, globals: &Globals, refs: &mut Refs) -> Result<PagedAre
     Ok(area)
 }
 
-/// The arrays.
+/// Returns the area of the arrays.
 fn arrays<B: Bounds>(
     alloc: Global,
     arrays: &Arrays<B>,
@@ -137,7 +138,7 @@ fn arrays<B: Bounds>(
     Ok(area)
 }
 
-/// The lines of the verbs.
+/// Returns the area of the verbs' lines.
 fn grammar<B: Bounds>(
     alloc: Global,
     verbs: &Verbs<B>,
@@ -154,7 +155,7 @@ fn grammar<B: Bounds>(
     Ok(area)
 }
 
-/// The routines of the actions.
+/// Returns the area of the actions' routines.
 fn actions<B: Bounds>(
     alloc: Global,
     actions: &Actions<B>,
@@ -171,7 +172,7 @@ fn actions<B: Bounds>(
     Ok(area)
 }
 
-/// The routines that parse.
+/// Returns the area of the routines that parse.
 fn parsing_routines(
     alloc: Global,
     routines: &ParsingRoutines,
@@ -188,7 +189,7 @@ fn parsing_routines(
     Ok(area)
 }
 
-/// The dictionary.
+/// Returns the area of the dictionary.
 #[tactic(auto, using(crate::proofs::Areas::known_bytes))]
 fn dictionary<B: Bounds>(alloc: Global, words: &Dictionary<B>) -> Result<PagedArea, AllocError>
     ensures { IfOk result (λ area. area ≡ bytes_of (known (dictionary_bytes words.now.list))) }
@@ -198,7 +199,7 @@ fn dictionary<B: Bounds>(alloc: Global, words: &Dictionary<B>) -> Result<PagedAr
     Ok(area)
 }
 
-/// The code, whose first routine calls the one at a place.
+/// Returns the area of the code, whose first routine calls the one at the place `main`.
 fn code<B: Bounds>(code: Code<B>, main: usize, refs: &mut Refs) -> Result<PagedArea, AllocError>
     ensures bytes { IfOk result (λ area. area ≡ bytes_of (code_cells (Target.Place AreaName.Code main) code.finished)) }
     ensures fixups { OnOk result (refs.new
@@ -210,7 +211,7 @@ fn code<B: Bounds>(code: Code<B>, main: usize, refs: &mut Refs) -> Result<PagedA
     }
 }
 
-/// Areas with no bytes.
+/// Returns areas with no bytes.
 fn no_areas(alloc: Global) -> Areas<PagedArea>
     ensures { result ≡ by_name (λ name. []) }
 {
@@ -233,7 +234,7 @@ fn no_areas(alloc: Global) -> Areas<PagedArea>
     }
 }
 
-/// Puts what belongs to the world into its areas.
+/// Puts the tables of the world into their areas.
 fn put_world<B: Bounds>(
     alloc: Global,
     world: &World<B>,
@@ -293,8 +294,8 @@ fn put_lists<B: Bounds>(
     Ok(())
 }
 
-/// Puts the code and what `tables` has into their areas of `written`, all but the strings, and the fixups of all behind those of `refs`, of
-/// which there are none. The first routine of the code calls the one at the place `main`.
+/// Puts the code and the contents of `tables` into their areas of `written`, all but the strings, and the fixups of all
+/// behind those of `refs`, of which there are none. The first routine of the code calls the one at the place `main`.
 #[tactic(auto, using(crate::proofs::Areas::all_fixups, crate::proofs::Areas::known_bytes))]
 fn put_all<B: Bounds>(
     alloc: Global,
@@ -337,7 +338,7 @@ pub(crate) fn areas<B: Bounds>(
     Ok(written)
 }
 
-/// Returns the places of the areas in a story with `tables` and the values `names`, in which targets are looked up.
+/// Returns the places and values by which targets are looked up in a story with `tables` and the values `names`.
 pub(crate) fn targets<B: Bounds>(
     alloc: Global,
     names: Vec<Value>,

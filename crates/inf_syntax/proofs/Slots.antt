@@ -88,7 +88,7 @@ none s (w ∷ ws) o =
     cond-false {A = ℕ} (str_eq_ignore_ascii_case s w) 0 (1 + place_in s ws) (differs s w (other_is (nat_eq (slot w) (slot s)) two.0)) in
     omega (arith, here, none s ws two.1)
 
--- the word with its slot is not it, or there is no such word
+-- A name is no word where the word with its slot is another, or no word has that slot.
 absent : (s : List ℕ) (ws : List (List ℕ)) (d : List ℕ) → are_distinct (map slot ws) ≡ true →
     (str_eq_ignore_ascii_case s (get_or ws (place_of (slot s) (map slot ws)) d) ≡ false) ⊎ (length ws ≤ place_of (slot s) (map slot ws)) →
     place_in s ws ≡ length ws
@@ -140,7 +140,7 @@ word_at f xs place w e l at =
     ∙ ap (λ ws. get_or ws place (f w)) e
     ∙ same_or words place (f w) [] (omega (arith, l, sym (length-map xs f) ∙ ap length e))
 
--- what the word that was looked at says of the place
+-- the place of a name among the words, by a look at the word at `place`
 pub record IsPlace (s : List ℕ) (place : ℕ) : Type 0 where
   pub inside : place < 72 → str_eq_ignore_ascii_case s (get_or words place []) ≡ true → place ≡ place_in s words
   pub outside : str_eq_ignore_ascii_case s (get_or words place []) ≡ false → 72 ≡ place_in s words

@@ -1,4 +1,4 @@
--- What stands in a list at a place.
+-- The entry of a list at a place.
 use Rattle.std.specs.Prelude.{ℕ, List, [], Bool, false, get_or}
 use Rattle.inf_machine.specs.Grammar.{Row}
 use Rattle.inf_syntax.specs.declared.actions.Action.{Action}

@@ -1,5 +1,5 @@
--- Atoms: what the grammar can tell of a token. They are numbered: the marks, the words, another name, each of these names
--- again as that of a class, a number, a character, a word in quotes, a text, a bad token, the end.
+-- Atoms: tokens, as far as the grammar looks at them. They are numbered: the marks, the words, another name, each of
+-- these names again as that of a class, a number, a character, a word in quotes, a text, a bad token, the end.
 use Rattle.std.specs.Prelude.{ℕ, ◌+◌, ◌-◌, ◌*◌, ◌^◌, List, [], ◌∷◌, bit_or, bit_and, nat_lt, slice_get, if◌then◌else◌, Option}
 use Rattle.std.specs.Str.{str_eq_ignore_ascii_case}
 use Rattle.inf_syntax.specs.Words.{words, keywords}
@@ -51,7 +51,7 @@ mark_atom mark.DoubleHash = 37
 mark_atom mark.Question = 38
 mark_atom mark.At = 39
 
--- how many words stand before a name, in any case: all of them, if it is none
+-- the number of words before a name, in any case: all of them, if it is none
 abbrev pub place_in : List ℕ → List (List ℕ) → ℕ
 place_in spelling [] = 0
 place_in spelling (word ∷ rest) = if str_eq_ignore_ascii_case spelling word then 0 else 1 + place_in spelling rest
@@ -59,7 +59,7 @@ place_in spelling (word ∷ rest) = if str_eq_ignore_ascii_case spelling word th
 abbrev pub first_word : ℕ
 first_word = 40
 
--- how many names there are: the words, and another name
+-- the number of names: the words, and another name
 abbrev pub names : ℕ
 names = 73
 

@@ -13,7 +13,7 @@ slot name =
     (letter (get_or name 0 0) + 5 * letter (get_or name 2 0) + 61 * letter (get_or name (length name - 1) 0) + 16 * (length name % 16)) %
     256
 
--- how many numbers stand before the first that is this one
+-- the number of entries before the first that is this number
 abbrev pub place_of : ℕ → List ℕ → ℕ
 place_of n [] = 0
 place_of n (m ∷ rest) = if nat_eq m n then 0 else suc (place_of n rest)

@@ -79,7 +79,7 @@ words =
     ∷ codes "with"
     ∷ []
 
--- as they are told apart
+-- the same words as keywords, in the same order
 unfoldable pub keywords : List Keyword
 keywords =
     keyword.Abbreviate

@@ -1,4 +1,4 @@
-//! What reading does on its way. Made from docs/grammar.txt.
+//! The actions of the grammar. Made from docs/grammar.txt.
 
 /// An action of the grammar. Where it speaks of the last token, that is the one taken last.
 #[derive(Clone, Copy, Debug, PartialEq, Eq)]

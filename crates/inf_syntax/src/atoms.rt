@@ -1,4 +1,4 @@
-//! Atoms: what the grammar can tell of a token.
+//! Atoms: tokens, as far as the grammar looks at them.
 ghost use Rattle.std.specs.Prelude.{◌≡◌, ◌≤◌, ◌<◌, get_or, length, map};
 ghost use Rattle.std.specs.Str.{str_eq_ignore_ascii_case};
 ghost use Rattle.inf_syntax.specs.Atoms.{atom_of, keyword_at, name_at, place_in};
@@ -25,7 +25,7 @@ pub enum Token<'a> {
     End,
 }
 
-/// The number of the first atom of a name; the marks stand before it.
+/// The number of the first atom of a name; the marks come before it.
 const FIRST_NAME: u8 = 40;
 
 /// The number of names that the grammar tells apart, each as that of a class and not.
@@ -62,7 +62,7 @@ pub fn keyword_at(atom: u8) -> Option<Keyword>
     known_keywords().get(name_at(atom) as usize).copied()
 }
 
-/// Which name an atom is, of a class or not: none of these, if it is no name's.
+/// Returns the number of the name that an atom is, of a class or not; 73 or more, if it is no name's.
 fn name_at(atom: u8) -> u8
     ensures { result ≡ name_at atom }
 {
@@ -75,8 +75,8 @@ fn name_at(atom: u8) -> u8
     }
 }
 
-/// How many words of the grammar stand before a name, in any case: all of them, if it is none. Only the word with its slot is
-/// looked at.
+/// Returns the number of words of the grammar before a name, in any case: all of them, if it is none. Only the word
+/// with its slot is looked at.
 fn place(spelling: &[u8]) -> u8
     ensures place { result ≡ place_in spelling.now words }
     ensures within { result ≤ 72 }
@@ -88,15 +88,15 @@ fn place(spelling: &[u8]) -> u8
     }
 }
 
-/// Whether two names are the same in any case. Most that are the same are written in the same case.
+/// Returns whether two names are the same in any case. Most that are the same are written in the same case.
 fn is_same(one: &[u8], other: &[u8]) -> bool
     ensures { result ≡ str_eq_ignore_ascii_case one.now other.now }
 {
     one == other || one.eq_ignore_ascii_case(other)
 }
 
-/// The slot of a name, by its size and its first, third and last letter: the same in any case, and another one for each word of
-/// the grammar.
+/// Returns the slot of a name, by its size and its first, third and last letter: the same in any case, and another one
+/// for each word of the grammar.
 fn slot_of(spelling: &[u8]) -> usize
     ensures { result ≡ slot spelling.now }
 {
@@ -105,7 +105,7 @@ fn slot_of(spelling: &[u8]) -> usize
     (letter_at(spelling, 0) + 5 * letter_at(spelling, 2) + 61 * last + 16 * (size % 16)) % 256
 }
 
-/// A letter of a name as a number that is the same in any case: 0 where it has none.
+/// Returns the letter of a name at `place` as a number that is the same in any case: 0 where it has none.
 fn letter_at(spelling: &[u8], place: usize) -> usize
     ensures letter { result ≡ letter (get_or spelling.now place 0) }
     ensures within { result < 32 }
@@ -116,7 +116,7 @@ fn letter_at(spelling: &[u8], place: usize) -> usize
     }
 }
 
-/// The place of the word with a slot: 72 where there is none.
+/// Returns the place of the word that has `slot`: 72 where there is none.
 fn word_with(slot: usize) -> u8
     ensures { result ≡ get_or all_slots slot 72 }
 {
@@ -126,14 +126,14 @@ fn word_with(slot: usize) -> u8
     }
 }
 
-/// The place of the word with each slot.
+/// Returns the places of the words by their slots.
 fn slots() -> &'static [u8]
     ensures { result.now ≡ all_slots }
 {
     &SLOTS
 }
 
-/// The words of the grammar.
+/// Returns the words of the grammar.
 fn known_words() -> &'static [&'static [u8]]
     ensures words { map (λ word. word.now) result.now ≡ words }
     ensures len { length result.now ≡ 72 }
@@ -141,7 +141,7 @@ fn known_words() -> &'static [&'static [u8]]
     &WORDS
 }
 
-/// The same words as they are told apart.
+/// Returns the same words as keywords, in the same order.
 #[tactic(auto, unfolding(crate::specs::Words::keywords))]
 fn known_keywords() -> &'static [Keyword]
     ensures { result.now ≡ keywords }

@@ -153,7 +153,7 @@ pub(crate) static WORDS: [&[u8]; 72] = [
     b"with",
 ];
 
-/// The same as they are told apart.
+/// The words as keywords, in the same order.
 #[rattlefmt::skip]
 pub(crate) static KEYWORDS: [Keyword; 72] = [
     Keyword::Abbreviate, Keyword::Additive, Keyword::Alias, Keyword::Array, Keyword::Attribute,

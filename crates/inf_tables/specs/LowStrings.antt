@@ -11,18 +11,18 @@ pub record LowArea : Type 0 where
 abbrev pub no_low_strings : LowArea
 no_low_strings = record { bytes = []; abbreviations = [] }
 
--- how many bytes there are with the first one
+-- the number of bytes with the first one
 abbrev pub low_size : LowArea → ℕ
 low_size low = 2 + length low.bytes
 
--- one more: a packed text is of whole words (Z-Machine Standard 1.1, section 3.2)
+-- one low string more: a packed text is of whole words (Z-Machine Standard 1.1, section 3.2)
 abbrev pub with_low : List ℕ → LowArea → LowArea
 with_low text low = record low { bytes = low.bytes ++ text }
 
--- one more, which is an abbreviation (section 3.3)
+-- one low string more, which is an abbreviation (section 3.3)
 abbrev pub with_abbreviation : List ℕ → LowArea → LowArea
 with_abbreviation text low = record (with_low text low) { abbreviations = low.abbreviations ++ low_size low ∷ [] }
 
--- whether there is room for it
+-- whether there is room for one low string more
 abbrev pub low_fits : Limits → List ℕ → LowArea → Bool
 low_fits limits text low = nat_le (low_size low + length text) (limits setting.LowStrings)

@@ -1,4 +1,4 @@
--- The tables of a story, as far as its source told them.
+-- The tables of a story, as far as they are filled.
 use Rattle.std.specs.Prelude.{ℕ, List, ◌+◌, ◌-◌, min, [], length}
 use Rattle.inf_area.specs.declared.targets.Value.{Value}
 use Rattle.inf_arrays.specs.Arrays.{AllArrays, all_of, arrays_laters, no_arrays}
@@ -6,10 +6,10 @@ use Rattle.inf_arrays.specs.Kinds.{laters}
 use Rattle.inf_dictionary.specs.Words.{Words}
 use Rattle.inf_verbs.specs.Routines.{AllActions}
 use Rattle.inf_verbs.specs.Verbs.{AllVerbs, verbs_laters}
-use Rattle.inf_world.specs.World.{WorldOf, fixups_now, no_world}
+use Rattle.inf_tables.specs.World.{WorldOf, fixups_now, no_world}
 use Rattle.inf_tables.specs.LowStrings.{LowArea, no_low_strings}
 
--- one of each table
+-- all tables, one of each kind
 pub record AllTables : Type 0 where
   pub dictionary : Words
   pub arrays : AllArrays
@@ -20,7 +20,7 @@ pub record AllTables : Type 0 where
   pub parsing : List ℕ
   pub low_strings : LowArea
 
--- of a source that told nothing yet
+-- the tables of a source that has filled none yet
 abbrev pub no_tables : AllTables
 no_tables = record {
   dictionary = record { list = [] };
@@ -37,18 +37,16 @@ no_tables = record {
 unfoldable pub more : ℕ → ℕ → ℕ
 more count other = min (count + other) 18446744073709551615
 
--- How many numbers in the tables are known when the story is laid out: in the world as if the open body ended here, first values of
--- variables, entries of
--- arrays, addresses of verbs' lines and of prepositions, and one for each action, each routine that parses and each abbreviation. The
--- addresses of the tables
--- of the first
--- four objects are not counted here: code keeps as many back from its limit.
+-- The number of values in the tables that are known when the story is laid out: in the world as if the open body ended here, first
+-- values of variables, entries of arrays, addresses of verbs' lines and of prepositions, and one for each action, each routine that
+-- parses and each abbreviation. The addresses of the tables of the first four objects are not counted here: code keeps as many back
+-- from its limit.
 abbrev pub references : AllTables → ℕ
 references t =
     more (more (more (fixups_now t.world - 4) (laters t.globals)) (arrays_laters (all_of t.arrays)))
     (more (more (verbs_laters t.verbs.list) (more (length t.actions.routines) (length t.parsing)))
     (length t.low_strings.abbreviations))
 
--- with so many others
+-- those references with `others` more
 abbrev pub references_with : ℕ → AllTables → ℕ
 references_with others t = more others (references t)

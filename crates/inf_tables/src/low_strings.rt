@@ -7,16 +7,16 @@ use inf_settings::bounds::Bounds;
 use std::alloc::{AllocError, Global};
 use std::marker::{Model, PhantomData};
 
-/// The bytes of the first low string, three spaces, which each story has.
+/// The number of bytes of the first low string, three spaces, which each story has.
 const FIRST_BYTES: usize = 2;
 
-/// The packed texts of a story's low strings, one behind the other in the order in which they came, behind the first one, which is not
-/// among them. Each is of
-/// whole words, so it begins at an even address (Z-Machine Standard 1.1, sections 1.2.2 and 3.3).
+/// The packed texts of a story's low strings, one behind the other in the order in which they came, behind the first
+/// one, which is not among them. Each is of whole words, so that it begins at an even address (Z-Machine Standard 1.1,
+/// sections 1.2.2 and 3.3).
 #[derive(Drop)]
 pub struct LowStrings<B: Bounds> {
     bytes: Vec<u8>,
-    // Where those of abbreviations begin, in the order in which these were declared.
+    // The places where the low strings of abbreviations begin, in the order of their declarations.
     abbreviations: Vec<usize>,
     limit: usize,
     of: PhantomData<B>,
@@ -37,7 +37,8 @@ impl<B: Bounds> Model for LowStrings<B> {
 impl<B: Bounds> LowStrings<B> {
     ghost use Rattle.inf_tables.specs.LowStrings.{no_low_strings};
 
-    /// None but the first one, of at most so many bytes with it. They take no memory until the next one comes.
+    /// Makes the low strings of a new story: none but the first one. With it they may have `limit` bytes. They take no
+    /// memory until the next one comes.
     pub fn new(alloc: Global, limit: usize) -> LowStrings<B>
         requires { limit ≡ B.most setting.LowStrings }
         ensures { result ≡ no_low_strings }
@@ -50,7 +51,7 @@ impl<B: Bounds> LowStrings<B> {
         }
     }
 
-    /// How many bytes they have with the first one: the place of the next one.
+    /// Returns the number of bytes of the low strings with the first one: the place of the next one.
     pub fn len(&self) -> usize
         ensures value { result ≡ low_size self.now }
         ensures few { result ≤ max 2 (B.most setting.LowStrings) }
@@ -58,7 +59,7 @@ impl<B: Bounds> LowStrings<B> {
         FIRST_BYTES + self.bytes.len()
     }
 
-    /// Whether there is room for a low string of these bytes.
+    /// Returns whether there is room for a low string of the bytes `text`.
     fn fits(&self, text: &[u8]) -> bool
         ensures { result ≡ low_fits B.most text.now self.now }
     {
@@ -66,8 +67,8 @@ impl<B: Bounds> LowStrings<B> {
         self.limit >= size && self.limit - size >= text.len()
     }
 
-    /// Adds a low string of the bytes `text`, and answers that it was added; or that it would pass the limit. Where memory runs out they
-    /// stay as they were.
+    /// Adds a low string of the bytes `text`, and returns `true`; or returns `false` where it would pass the limit.
+    /// Where memory runs out the low strings stay as they were.
     pub fn add(&mut self, text: &[u8]) -> Result<bool, AllocError>
         ensures value { IfOk result (λ added. (added ≡ low_fits B.most text.now self.old)
             × (self.new ≡ if low_fits B.most text.now self.old then with_low text.now self.old else self.old)) }
@@ -96,14 +97,15 @@ impl<B: Bounds> LowStrings<B> {
         Ok(true)
     }
 
-    /// Where the abbreviations begin, in the order in which they were added, in bytes from the front of the first low string.
+    /// Returns the places where the abbreviations begin, in the order in which they were added, in bytes from the front
+    /// of the first low string.
     pub fn abbreviation_places(&self) -> &[usize]
         ensures { result.now ≡ self.now.abbreviations }
     {
         self.abbreviations.as_slice()
     }
 
-    /// The bytes of those behind the first one.
+    /// Returns the bytes of the low strings behind the first one.
     pub fn as_slice(&self) -> &[u8]
         ensures { result.now ≡ self.now.bytes }
     {

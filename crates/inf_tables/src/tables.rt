@@ -1,21 +1,21 @@
-//! One of each table.
+//! All tables, one of each kind.
 ghost use Rattle.std.specs.Prelude.{◌≡◌};
 ghost use Rattle.inf_settings.specs.declared.setting.Setting.TheVariants as setting;
 ghost use Rattle.inf_settings.specs.Bounds.{AreSet};
 ghost use Rattle.inf_tables.specs.Tables.{more, no_tables, references, references_with};
 
 use crate::low_strings::LowStrings;
+use crate::{Limits, World};
 use inf_arrays::{Arrays, Globals};
 use inf_dictionary::Dictionary;
 use inf_settings::bounds::Bounds;
 use inf_settings::setting::Setting;
 use inf_settings::settings::Settings;
 use inf_verbs::{Actions, ParsingRoutines, Verbs};
-use inf_world::{Limits, World};
 use std::alloc::Global;
 use std::marker::Model;
 
-/// The references of each story: the addresses of the property tables of its first four objects.
+/// The references that each story has: the addresses of the property tables of its first four objects.
 const FIRST_REFERENCES: usize = 4;
 
 /// The tables of a story so far.
@@ -48,7 +48,7 @@ impl<B: Bounds> Model for Tables<B> {
     } };
 }
 
-/// What there may be of the world.
+/// Returns the limits of the world by the settings: of its objects and of the bytes of property tables.
 fn world_limits<B: Bounds>(settings: &Settings) -> Limits
     requires { AreSet B.most settings.now }
     ensures objects { result.objects ≡ B.most setting.Objects }
@@ -60,7 +60,7 @@ fn world_limits<B: Bounds>(settings: &Settings) -> Limits
     }
 }
 
-/// A count and another one; no number of the program is above the greatest.
+/// Returns the sum of `count` and `other`, or the greatest number of the program where that is less.
 #[tactic(auto, unfolding(crate::specs::Tables::more))]
 fn more(count: usize, other: usize) -> usize
     ensures { result ≡ more count other }
@@ -69,9 +69,8 @@ fn more(count: usize, other: usize) -> usize
 }
 
 impl<B: Bounds> Tables<B> {
-    /// Tables of a source that told nothing yet: the world has its first four objects. Of each there may be as much as the settings say.
-    /// They
-    /// take no memory.
+    /// Makes the tables of a source that filled none yet: the world has its first four objects. Each table may grow as
+    /// far as the settings say. They take no memory.
     pub fn new(alloc: Global, settings: &Settings) -> Tables<B>
         requires { AreSet B.most settings.now }
         ensures { result ≡ no_tables }
@@ -95,7 +94,8 @@ impl<B: Bounds> Tables<B> {
         }
     }
 
-    /// How many references the tables have so far, numbers that are known when the story is laid out, beside the four of the first objects.
+    /// Returns the number of references that the tables have so far, values that are known when the story is laid out,
+    /// beside the four of the first objects.
     pub fn references(&self) -> usize
         ensures { result ≡ references self.now }
     {
@@ -112,7 +112,7 @@ impl<B: Bounds> Tables<B> {
         )
     }
 
-    /// These with so many others.
+    /// Returns the number of references with `others` more.
     pub fn references_with(&self, others: usize) -> usize
         ensures { result ≡ references_with others self.now }
     {

@@ -9,7 +9,7 @@ use inf_verbs::{Actions, ParsingRoutines};
 use std::alloc::{AllocError, Global};
 use std::marker::Brand;
 
-/// What comes of a command to actions.
+/// Carries out a command for actions, and returns its answer.
 fn obey<B: Bounds>(
     alloc: Global,
     actions: &mut Actions<B>,
@@ -32,12 +32,12 @@ fn obey<B: Bounds>(
     }
 }
 
-/// What comes of a line.
+/// Returns the answer to a line of actions.
 pub(crate) fn answer(alloc: Global, line: &str) -> Result<String, AllocError> {
     answer_under::<Brand>(alloc, number_at(line, 1), line.as_bytes())
 }
 
-/// What comes of it where there may be so many.
+/// Returns the answer to a line of actions, of which there may be `limit`.
 fn answer_under<B: Bounds>(alloc: Global, limit: usize, line: &[u8]) -> Result<String, AllocError>
     requires { limit ≡ B.most setting.Actions }
 {
@@ -54,7 +54,7 @@ fn answer_under<B: Bounds>(alloc: Global, limit: usize, line: &[u8]) -> Result<S
     Ok(told)
 }
 
-/// What comes of a command to parsing routines.
+/// Carries out a command for parsing routines, and returns its answer.
 fn obey_parsing(
     alloc: Global,
     routines: &mut ParsingRoutines,
@@ -75,7 +75,7 @@ fn obey_parsing(
     }
 }
 
-/// What comes of a line of parsing routines.
+/// Returns the answer to a line of parsing routines.
 pub(crate) fn answer_parsing(alloc: Global, line: &str) -> Result<String, AllocError> {
     let mut routines = ParsingRoutines::new(alloc);
     let mut told = String::from_str(alloc, "parsing")?;

@@ -9,7 +9,7 @@ use inf_settings::bounds::Bounds;
 use std::alloc::{AllocError, Global};
 use std::marker::Brand;
 
-/// A kind by its name.
+/// Returns the kind of an array with this name.
 fn kind_of(name: &str) -> ArrayKind {
     match name {
         "bytes" => ArrayKind::Bytes,
@@ -19,7 +19,7 @@ fn kind_of(name: &str) -> ArrayKind {
     }
 }
 
-/// What comes of some entries.
+/// Returns the answer to a command that adds entries.
 fn told_of(alloc: Global, outcome: Result<(), ArrayFault>) -> Result<String, AllocError> {
     match outcome {
         Ok(()) => String::from_str(alloc, "ok"),
@@ -27,7 +27,7 @@ fn told_of(alloc: Global, outcome: Result<(), ArrayFault>) -> Result<String, All
     }
 }
 
-/// What is written.
+/// Writes the arrays to both areas, and returns the answer.
 fn write<B: Bounds>(
     alloc: Global,
     arrays: &Arrays<B>,
@@ -39,7 +39,7 @@ fn write<B: Bounds>(
     written.told(alloc, flat, paged)
 }
 
-/// What comes of entries of the open array.
+/// Adds entries to the open array, if there is one, and returns the answer.
 fn add<B: Bounds>(
     alloc: Global,
     arrays: &mut Arrays<B>,
@@ -56,7 +56,7 @@ fn add<B: Bounds>(
     told_of(alloc, outcome)
 }
 
-/// What comes of an array that is opened.
+/// Opens an array, and returns its place or the fault.
 fn open<B: Bounds>(
     alloc: Global,
     arrays: &mut Arrays<B>,
@@ -68,7 +68,7 @@ fn open<B: Bounds>(
     }
 }
 
-/// What comes of a command.
+/// Carries out a command for arrays, and returns its answer.
 fn obey<B: Bounds>(
     alloc: Global,
     arrays: &mut Arrays<B>,
@@ -83,12 +83,12 @@ fn obey<B: Bounds>(
     }
 }
 
-/// What comes of a line.
+/// Returns the answer to a line of arrays.
 pub(crate) fn answer(alloc: Global, line: &str) -> Result<String, AllocError> {
     answer_under::<Brand>(alloc, number_at(line, 1), line.as_bytes())
 }
 
-/// What comes of it where there may be so many.
+/// Returns the answer to a line of arrays, which may have `limit` bytes.
 fn answer_under<B: Bounds>(alloc: Global, limit: usize, line: &[u8]) -> Result<String, AllocError>
     requires { limit ≡ B.most setting.Arrays }
 {
@@ -105,7 +105,7 @@ fn answer_under<B: Bounds>(alloc: Global, limit: usize, line: &[u8]) -> Result<S
     Ok(told)
 }
 
-/// What comes of a command to global variables.
+/// Carries out a command for global variables, and returns its answer.
 fn obey_globals(alloc: Global, globals: &mut Globals, command: &str) -> Result<String, AllocError> {
     match word(command, 0) {
         "add" => match globals.add(value_of(word(command, 1))) {
@@ -123,7 +123,7 @@ fn obey_globals(alloc: Global, globals: &mut Globals, command: &str) -> Result<S
     }
 }
 
-/// What comes of a line of global variables.
+/// Returns the answer to a line of global variables.
 pub(crate) fn answer_globals(alloc: Global, line: &str) -> Result<String, AllocError> {
     let mut globals = Globals::new(alloc);
     let mut told = String::from_str(alloc, "globals")?;

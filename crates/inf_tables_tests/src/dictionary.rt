@@ -4,13 +4,13 @@ ghost use Rattle.inf_settings.specs.declared.setting.Setting.TheVariants as sett
 
 use crate::words::{as_text, number, number_at, repeated, text_of, word};
 use crate::writing::Written;
-use inf_cells::WriteFault;
+use inf_area::WriteFault;
 use inf_dictionary::{Dictionary, WordUse};
 use inf_settings::bounds::Bounds;
 use std::alloc::{AllocError, Global};
 use std::marker::Brand;
 
-/// What a word is used as.
+/// Returns the use of a word with this name.
 fn use_of(kind: &str) -> WordUse {
     if let Some(verb) = kind.strip_prefix("verb") {
         return WordUse::Verb((number(verb) % 256) as u8);
@@ -24,7 +24,7 @@ fn use_of(kind: &str) -> WordUse {
     WordUse::Other
 }
 
-/// The texts behind the first word.
+/// Returns the texts that a command names, behind its first word.
 fn texts_of(alloc: Global, command: &str) -> Result<Vec<[u8; 6]>, AllocError> {
     let mut texts = Vec::new(alloc);
     for text in command.split(' ').skip(1) {
@@ -33,7 +33,7 @@ fn texts_of(alloc: Global, command: &str) -> Result<Vec<[u8; 6]>, AllocError> {
     Ok(texts)
 }
 
-/// What comes of a use.
+/// Adds a word with its use to the dictionary, and returns the answer.
 fn add<B: Bounds>(
     alloc: Global,
     words: &mut Dictionary<B>,
@@ -46,7 +46,7 @@ fn add<B: Bounds>(
     }
 }
 
-/// What is written.
+/// Writes the dictionary to both areas, and returns the answer.
 fn write<B: Bounds>(
     alloc: Global,
     words: &Dictionary<B>,
@@ -62,7 +62,7 @@ fn write<B: Bounds>(
     written.told(alloc, flat, paged)
 }
 
-/// How many words stand before each of some texts.
+/// Returns for each text of a command the number of words that come before it.
 fn ranks<B: Bounds>(
     alloc: Global,
     words: &Dictionary<B>,
@@ -77,7 +77,7 @@ fn ranks<B: Bounds>(
     Ok(told)
 }
 
-/// What comes of a command.
+/// Carries out a command for a dictionary, and returns its answer.
 fn obey<B: Bounds>(
     alloc: Global,
     words: &mut Dictionary<B>,
@@ -97,12 +97,12 @@ fn obey<B: Bounds>(
     }
 }
 
-/// What comes of a line.
+/// Returns the answer to a line of a dictionary.
 pub(crate) fn answer(alloc: Global, line: &str) -> Result<String, AllocError> {
     answer_under::<Brand>(alloc, number_at(line, 1), line.as_bytes())
 }
 
-/// What comes of it where there may be so many.
+/// Returns the answer to a line of a dictionary, which may have `limit` words.
 fn answer_under<B: Bounds>(alloc: Global, limit: usize, line: &[u8]) -> Result<String, AllocError>
     requires { limit ≡ B.most setting.DictionaryEntries }
 {

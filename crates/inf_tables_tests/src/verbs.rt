@@ -5,20 +5,20 @@ ghost use Rattle.inf_settings.specs.declared.setting.Setting.TheVariants as sett
 use crate::words::{as_text, number, number_at, repeated, text_of, word};
 use crate::writing::Written;
 use inf_settings::bounds::Bounds;
-use inf_verbs::{LineToken, Noun, Place, Verbs};
+use inf_verbs::{LinePlace, LineToken, Noun, Verbs};
 use std::alloc::{AllocError, Global};
 use std::marker::Brand;
 
-/// A place by its name.
-fn place_of(name: &str) -> Place {
+/// Returns the place of a line with this name.
+fn place_of(name: &str) -> LinePlace {
     match name {
-        "first" => Place::First,
-        "replace" => Place::Replace,
-        _ => Place::Last,
+        "first" => LinePlace::First,
+        "replace" => LinePlace::Replace,
+        _ => LinePlace::Last,
     }
 }
 
-/// A noun by its name.
+/// Returns the noun with this name, if there is one.
 fn noun_of(name: &str) -> Option<Noun> {
     match name {
         "noun" => Some(Noun::Noun),
@@ -35,7 +35,7 @@ fn noun_of(name: &str) -> Option<Noun> {
     }
 }
 
-/// What a letter with a number means.
+/// Returns the token that a letter with a number is, if the letter is one of a token.
 fn numbered(letter: &str, number: usize) -> Option<LineToken> {
     match letter {
         "f" => Some(LineToken::Filter((number % 65536) as u16)),
@@ -46,7 +46,7 @@ fn numbered(letter: &str, number: usize) -> Option<LineToken> {
     }
 }
 
-/// Words with `/` between them.
+/// Appends words that have `/` between them as prepositions.
 fn add_words(tokens: &mut Vec<LineToken>, words: &str) -> Result<(), AllocError> {
     let count = words.split('/').count();
     for (place, text) in words.split('/').enumerate() {
@@ -59,7 +59,7 @@ fn add_words(tokens: &mut Vec<LineToken>, words: &str) -> Result<(), AllocError>
     Ok(())
 }
 
-/// A token.
+/// Appends a token: a noun, a letter with a number, or else words.
 fn add_token(tokens: &mut Vec<LineToken>, told: &str) -> Result<(), AllocError> {
     if let Some(noun) = noun_of(told) {
         tokens.push(LineToken::Noun(noun))?;
@@ -77,7 +77,7 @@ fn add_token(tokens: &mut Vec<LineToken>, told: &str) -> Result<(), AllocError> 
     }
 }
 
-/// The tokens of a line, which stand behind four words.
+/// Returns the tokens of a line, which come behind four words.
 fn tokens_of(alloc: Global, command: &str) -> Result<Vec<LineToken>, AllocError> {
     let mut tokens = Vec::new(alloc);
     for told in command.split(' ').skip(4) {
@@ -88,7 +88,7 @@ fn tokens_of(alloc: Global, command: &str) -> Result<Vec<LineToken>, AllocError>
     Ok(tokens)
 }
 
-/// What comes of a line of a verb.
+/// Adds a line to a verb, and returns the answer.
 fn add_line<B: Bounds>(
     alloc: Global,
     verbs: &mut Verbs<B>,
@@ -113,7 +113,7 @@ fn add_line<B: Bounds>(
     }
 }
 
-/// What comes of a verb that is extended.
+/// Extends a verb, and returns the answer.
 fn extend<B: Bounds>(
     alloc: Global,
     verbs: &mut Verbs<B>,
@@ -127,7 +127,7 @@ fn extend<B: Bounds>(
     String::from_str(alloc, "ok")
 }
 
-/// What is written.
+/// Writes the verbs to both areas, and returns the answer.
 fn write<B: Bounds>(alloc: Global, verbs: &Verbs<B>, command: &str) -> Result<String, AllocError> {
     let mut written = Written::new(alloc, command)?;
     let flat = verbs.write(&mut written.flat.area, &mut written.flat.refs);
@@ -135,7 +135,7 @@ fn write<B: Bounds>(alloc: Global, verbs: &Verbs<B>, command: &str) -> Result<St
     written.told(alloc, flat, paged)
 }
 
-/// What comes of a command.
+/// Carries out a command for verbs, and returns its answer.
 fn obey<B: Bounds>(
     alloc: Global,
     verbs: &mut Verbs<B>,
@@ -156,7 +156,7 @@ fn obey<B: Bounds>(
     }
 }
 
-/// What comes of a line.
+/// Returns the answer to a line of verbs.
 pub(crate) fn answer(alloc: Global, line: &str) -> Result<String, AllocError> {
     answer_under::<Brand>(
         alloc,
@@ -166,7 +166,7 @@ pub(crate) fn answer(alloc: Global, line: &str) -> Result<String, AllocError> {
     )
 }
 
-/// What comes of it where there may be so many verbs, and so many bytes.
+/// Returns the answer to a line of verbs, of which there may be `limit`, with `space` bytes of grammar.
 fn answer_under<B: Bounds>(
     alloc: Global,
     limit: usize,

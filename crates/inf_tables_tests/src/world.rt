@@ -1,4 +1,4 @@
-//! Worlds.
+//! Worlds: attributes, properties, objects and classes.
 ghost use Rattle.std.specs.Prelude.{◌≡◌};
 ghost use Rattle.inf_settings.specs.declared.setting.Setting.TheVariants as setting;
 
@@ -6,16 +6,16 @@ use crate::words::{as_text, bytes_of, number, number_at, repeated, value_of, wor
 use crate::writing::Written;
 use inf_area::Value;
 use inf_settings::bounds::Bounds;
-use inf_world::{AddFault, Limits, Parent, ShortName, World, WorldArea};
+use inf_tables::{Limits, Parent, ShortName, World, WorldArea, WorldFault};
 use std::alloc::{AllocError, Global};
 use std::marker::Brand;
 
-/// A limit.
+/// Returns the limit at a place of a line, or the greatest one where there is none.
 fn limit(text: &str, place: usize) -> u32 {
     u32::try_from(number_at(text, place)).unwrap_or(u32::MAX)
 }
 
-/// An area by its name.
+/// Returns the area with this name.
 fn area_of(name: &str) -> WorldArea {
     match name {
         "defaults" => WorldArea::PropertyDefaults,
@@ -26,7 +26,7 @@ fn area_of(name: &str) -> WorldArea {
     }
 }
 
-/// A parent, by its number behind `p`, or by so many arrows behind `a`.
+/// Returns the parent that a word gives: its number behind `p`, or a number of arrows behind `a`.
 fn parent_of(told: &str) -> Parent {
     if let Some(arrows) = told.strip_prefix("a") {
         return Parent::Arrows(number(arrows));
@@ -37,12 +37,12 @@ fn parent_of(told: &str) -> Parent {
     }
 }
 
-/// A short name.
+/// Returns the short name with these bytes.
 fn name_of(alloc: Global, digits: &str) -> Result<ShortName, AllocError> {
     Ok(ShortName::new(bytes_of(alloc, digits)?))
 }
 
-/// The first value of a property, if it has one.
+/// Returns the first value of a property, if the command gives one.
 fn first_of(command: &str) -> Option<Value> {
     match word(command, 2) {
         "" => None,
@@ -50,7 +50,7 @@ fn first_of(command: &str) -> Option<Value> {
     }
 }
 
-/// What comes of a declaration or a header that has a number.
+/// Carries out a declaration or a header that gets a number, and returns the answer.
 fn declare<B: Bounds>(
     alloc: Global,
     world: &mut World<B>,
@@ -76,8 +76,8 @@ fn declare<B: Bounds>(
     }
 }
 
-/// What comes of an entry of a body, of its end, or of a header in error.
-fn entered<B: Bounds>(world: &mut World<B>, command: &str) -> Result<(), AddFault> {
+/// Carries out an entry of a body, its end, or a header in error.
+fn entered<B: Bounds>(world: &mut World<B>, command: &str) -> Result<(), WorldFault> {
     let number = number_at(command, 1);
     match word(command, 0) {
         "lost" => world.begin_lost(),
@@ -94,7 +94,7 @@ fn entered<B: Bounds>(world: &mut World<B>, command: &str) -> Result<(), AddFaul
     }
 }
 
-/// What comes of it, in words.
+/// Carries out an entry of a body, its end, or a header in error, and returns the answer.
 fn enter<B: Bounds>(
     alloc: Global,
     world: &mut World<B>,
@@ -106,7 +106,7 @@ fn enter<B: Bounds>(
     }
 }
 
-/// What is written.
+/// Writes an area of the world, and returns the answer.
 fn write<B: Bounds>(alloc: Global, world: &World<B>, command: &str) -> Result<String, AllocError> {
     let area = area_of(word(command, 4));
     let mut written = Written::new(alloc, command)?;
@@ -115,7 +115,7 @@ fn write<B: Bounds>(alloc: Global, world: &World<B>, command: &str) -> Result<St
     written.told(alloc, flat, paged)
 }
 
-/// What comes of a command.
+/// Carries out a command for a world, and returns its answer.
 fn obey<B: Bounds>(
     alloc: Global,
     world: &mut World<B>,
@@ -137,7 +137,7 @@ fn obey<B: Bounds>(
     }
 }
 
-/// What comes of a line.
+/// Returns the answer to a line of a world.
 pub(crate) fn answer(alloc: Global, line: &str) -> Result<String, AllocError> {
     let limits = Limits {
         objects: limit(line, 1),
@@ -146,7 +146,7 @@ pub(crate) fn answer(alloc: Global, line: &str) -> Result<String, AllocError> {
     answer_under::<Brand>(alloc, limits, line.as_bytes())
 }
 
-/// What comes of it where there may be so much.
+/// Returns the answer to a line of a world under limits.
 fn answer_under<B: Bounds>(alloc: Global, limits: Limits, line: &[u8]) -> Result<String, AllocError>
     requires objects { limits.objects ≡ B.most setting.Objects }
     requires bytes { limits.property_bytes ≡ B.most setting.PropertyTables }

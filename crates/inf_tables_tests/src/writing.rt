@@ -1,17 +1,16 @@
-//! Areas that tables are written to: one in one piece, and one in pages.
+//! Areas to which tables are written: one in one piece, and one in pages.
 ghost use Rattle.std.specs.Prelude.{◌≡◌, ◌<◌, length};
 
 use crate::words::number_at;
-use inf_area::{Area, FlatArea, PagedArea, Refs};
-use inf_cells::WriteFault;
+use inf_area::{Area, FlatArea, PagedArea, Refs, WriteFault};
 use std::alloc::{AllocError, Global};
 
-/// An area that takes so many bytes, then refuses one, and takes all others.
+/// An area that takes a number of bytes, then refuses one, and takes all others.
 #[derive(Drop)]
 pub(crate) struct Failing<A: Area + Drop> {
-    /// What it has taken.
+    /// The area with the bytes that were taken.
     inner: A,
-    /// How many bytes it takes before it refuses one.
+    /// The number of bytes that are taken before one is refused; `None` once one was.
     room: Option<usize>,
 }
 
@@ -51,7 +50,7 @@ impl<A: Area + Drop> Area for Failing<A> {
     }
 }
 
-/// An area and fixups, as a command asks for.
+/// An area and its fixups, as a command asks for them.
 #[derive(Drop)]
 pub(crate) struct Side<A: Area + Drop> {
     pub(crate) area: Failing<A>,
@@ -59,7 +58,7 @@ pub(crate) struct Side<A: Area + Drop> {
 }
 
 impl<A: Area + Drop> Side<A> {
-    /// Behind some bytes, with room for as many bytes and fixups as `write` is told.
+    /// Returns an area that has the bytes in front already, with room for the bytes and fixups that a command `write` gives.
     fn new(alloc: Global, mut inner: A, command: &str) -> Result<Side<A>, AllocError> {
         for _ in 0..number_at(command, 3) {
             inner.push(255)?;
@@ -71,7 +70,7 @@ impl<A: Area + Drop> Side<A> {
         })
     }
 
-    /// The bytes, in hexadecimal digits.
+    /// Returns the bytes of the area, in hexadecimal digits.
     fn bytes(&self, alloc: Global) -> Result<String, AllocError> {
         let mut told = String::new(alloc);
         for at in 0..self.area.len() {
@@ -81,7 +80,7 @@ impl<A: Area + Drop> Side<A> {
         Ok(told)
     }
 
-    /// What came of a write: whether it was refused, the bytes and the fixups.
+    /// Returns the outcome of a write: whether it was refused, the bytes and the fixups.
     fn told(&self, alloc: Global, outcome: Result<(), WriteFault>) -> Result<String, AllocError> {
         let word = match outcome {
             Ok(()) => "ok",
@@ -98,7 +97,7 @@ impl<A: Area + Drop> Side<A> {
     }
 }
 
-/// Both areas, each with its fixups.
+/// An area of each kind, with its fixups.
 #[derive(Drop)]
 pub(crate) struct Written {
     pub(crate) flat: Side<FlatArea>,
@@ -106,7 +105,7 @@ pub(crate) struct Written {
 }
 
 impl Written {
-    /// What `write` is told.
+    /// Returns the areas for which a command `write` asks.
     pub(crate) fn new(alloc: Global, command: &str) -> Result<Written, AllocError> {
         Ok(Written {
             flat: Side::new(alloc, FlatArea::new(alloc), command)?,
@@ -114,7 +113,7 @@ impl Written {
         })
     }
 
-    /// What came of a write to each; it is told once where it is the same.
+    /// Returns the outcome of a write to each area, or a single one where both are the same.
     pub(crate) fn told(
         &self,
         alloc: Global,

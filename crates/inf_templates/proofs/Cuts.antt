@@ -8,19 +8,19 @@ use Rattle.inf_output.specs.declared.veneer.Veneer.{Veneer}
 use Rattle.inf_output.specs.Output.{Out, instruction, routine, used}
 use Rattle.inf_templates.specs.Parts.{call_opcode, calling, calling_routine}
 
--- what was found so far is the front
+-- the operands that were found are the front of all
 pub front : (n : ℕ) (found rest all : List Simple) → found ++ rest ≡ all → length found ≡ n → found ≡ take n all
 front n found rest all is len =
     sym (take-append_seam found rest) ∙ ap (λ m. take m (found ++ rest)) len ∙ ap (take n) is
 
--- it is all
+-- the operands that were found are all where the last one was added
 pub whole : (n : ℕ) (found new rest all : List Simple) (x : Simple) → found ++ rest ≡ all → rest ≡ x ∷ [] → new ≡ found ++ x ∷ [] →
     length new ≤ n → new ≡ take n all
 whole n found new rest all x is last new_is len =
     let same : new ≡ all = new_is ∙ ap (λ r. found ++ r) (sym last) ∙ is in
     sym (take_all n new len) ∙ ap (take n) same
 
--- the front of a front
+-- the front of a front is that front
 taken_twice : (n : ℕ) (all : List Simple) → take n (take n all) ≡ take n all
 taken_twice zero all = refl
 taken_twice (suc n) [] = refl

@@ -5,16 +5,16 @@ use Rattle.inf_area.specs.declared.targets.Target.TheVariants.{Name}
 use Rattle.inf_area.specs.Words.{word}
 use Rattle.inf_opcode.specs.declared.opcodes.Opcode.TheVariants as opcode
 use Rattle.inf_assembler.specs.declared.routines.RoutineKind.TheVariants.{Plain}
-use Rattle.inf_cells.specs.declared.cells.Cell.{Cell}
-use Rattle.inf_cells.specs.declared.cells.Cell.TheVariants as cell
-use Rattle.inf_cells.specs.declared.scale.Scale.TheVariants.{Four}
+use Rattle.inf_area.specs.declared.cells.Cell.{Cell}
+use Rattle.inf_area.specs.declared.cells.Cell.TheVariants as cell
+use Rattle.inf_area.specs.declared.scale.Scale.TheVariants.{Four}
 use Rattle.inf_code.specs.Code.{no_routines, with_closed, with_opened}
 use Rattle.inf_names.specs.Symbols.{no_names}
 use Rattle.inf_names.specs.SystemNames.{system_names}
 use Rattle.inf_expressions.specs.declared.operators.Operand.TheVariants.{Known, Variable, Later}
 use Rattle.inf_expressions.specs.declared.operators.Operation.TheVariants as operation
 use Rattle.inf_expressions.specs.declared.operators.Test.TheVariants as test
-use Rattle.inf_expressions.specs.declared.operators.Step.TheVariants as step
+use Rattle.inf_expressions.specs.declared.operators.Direction.TheVariants as step
 use Rattle.inf_expressions.specs.declared.operators.Relative.TheVariants as relative
 use Rattle.inf_expressions.specs.declared.operators.PropertyPart.TheVariants as property
 use Rattle.inf_expressions.specs.declared.operators.Unary.TheVariants as unary
@@ -34,7 +34,7 @@ use Rattle.inf_templates.specs.Meaning.{step_value, test_branch, tests, triple_t
 abbrev limits : Limits
 limits = limits_of defaults
 
--- a routine of so many locals is open
+-- the output where a routine with `locals` local variables is open
 abbrev begun : ℕ → Out
 begun locals =
     record {
@@ -51,7 +51,7 @@ begun locals =
           None;
     }
 
--- its bytes, where names stand for these numbers
+-- the bytes of a cell, where `numbers` are those of names
 abbrev cell_bytes : List ℕ → Cell → List ℕ
 cell_bytes numbers (cell.Byte byte) = byte ∷ []
 cell_bytes numbers (cell.Later (Name name)) = word (get_or numbers name 0)
@@ -180,7 +180,8 @@ pub class_test : bytes_with (256 ∷ []) 1 (with_label (λ over. (meaning limits
 unfolding laid instruction marked behind test_branch tests single_tests calling calling_routine routine used system_names
 class_test = refl
 
--- Where code has room for one byte more, and a routine for no label, that of labels is told first, and of the bytes alone theirs.
+-- Where code has room for one byte more, and a routine for no label, the limit of labels is told first; where only the
+-- bytes are too many, theirs.
 abbrev few : Limits
 few setting.Labels = 0
 few setting.Code = 10

@@ -1,4 +1,4 @@
--- What is given as the operands of an instruction.
+-- The arguments of an instruction as operands.
 use Rattle.std.proofs.Common.{◌≡◌, ℕ, zero, suc, ◌≤◌, List, [], ◌∷◌, ◌++◌, length, take, drop, arith, append-nil, refl, ap, sym, ◌∙◌}
 use Rattle.std.proofs.lemmas.List.{map-append, take_all, drop_all}
 use Rattle.inf_settings.specs.Bounds.{Limits}
@@ -9,7 +9,7 @@ use Rattle.inf_templates.specs.declared.tasks.Argument.{Argument}
 use Rattle.inf_templates.specs.Parts.{Part, evaluated, operand_of, operands, worked_out}
 use Rattle.inf_templates.specs.Tasks.{part_of, parts_of}
 
--- the last is worked out first
+-- the last part is worked out first
 last_first : (ps : List Part) (p : Part) (o : Out) → evaluated (ps ++ p ∷ []) o ≡ evaluated ps (worked_out p o)
 last_first [] p o = refl
 last_first (q ∷ ps) p o = ap (worked_out q) (last_first ps p o)
@@ -22,7 +22,7 @@ evaluated_last limits trees all others last o is =
     ∙ ap (λ ps. evaluated ps o) (map-append (part_of limits trees) others (last ∷ []))
     ∙ last_first (parts_of limits trees others) (part_of limits trees last) o
 
--- the operands of the first are the first operands
+-- the operands of the first parts are the first operands
 pub operands_front : (limits : Limits) (trees : List Tree) (n : ℕ) (arguments : List Argument) →
     operands (parts_of limits trees (take n arguments)) ≡ take n (operands (parts_of limits trees arguments))
 operands_front limits trees zero arguments = refl
@@ -30,14 +30,14 @@ operands_front limits trees (suc n) [] = refl
 operands_front limits trees (suc n) (a ∷ arguments) =
     ap (λ os. operand_of (part_of limits trees a) ∷ os) (operands_front limits trees n arguments)
 
--- where nothing is left, all was found
+-- all operands were found where no argument is left
 pub all_found : (limits : Limits) (trees : List Tree) (found : List Simple) (arguments : List Argument) (i : ℕ) →
     found ++ operands (parts_of limits trees (drop i arguments)) ≡ operands (parts_of limits trees arguments) → length arguments ≤ i
     → found ≡ operands (parts_of limits trees arguments)
 all_found limits trees found arguments i is past =
     sym (append-nil found) ∙ ap (λ gs. found ++ operands (parts_of limits trees gs)) (sym (drop_all i arguments past)) ∙ is
 
--- nothing is cut off where the opcode takes as many
+-- no operand is cut off where the opcode takes as many
 pub operands_all : (limits : Limits) (trees : List Tree) (most : ℕ) (arguments : List Argument) (given : List Simple) →
     given ≡ take most (operands (parts_of limits trees arguments)) → length arguments ≤ most
     → given ≡ operands (parts_of limits trees arguments)

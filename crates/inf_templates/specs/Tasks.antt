@@ -1,4 +1,4 @@
--- What is left to be laid.
+-- The tasks that are left to be laid.
 use Rattle.std.specs.Prelude.{◌≡◌, ℕ, true, List, [], ◌∷◌, map, take, Some, None}
 use Rattle.inf_settings.specs.Bounds.{Limits}
 use Rattle.inf_opcode.specs.declared.opcodes.Opcode.TheVariants as opcode
@@ -23,11 +23,11 @@ use Rattle.inf_templates.specs.Meaning.{Meaning, Target, Nowhere, InVariable, In
 use Rattle.inf_templates.specs.Meaning.{operation_opcode, part, parts, related_opcode, single_opcode, single_tests, stepper, stepping}
 use Rattle.inf_templates.specs.Meaning.{stored, triple_tests}
 
--- what the tree at a place means
+-- the meaning of the tree at a place
 abbrev pub at : Limits → List Tree → ℕ → Meaning
 at limits trees place = meaning limits (tree_at trees place)
 
--- what is given as an operand, as a part
+-- an argument of an instruction, as a part
 abbrev pub part_of : Limits → List Tree → Argument → Part
 part_of limits trees (Of place) = part (at limits trees place)
 part_of limits trees (Is operand) = is operand
@@ -85,7 +85,7 @@ task_code limits trees (task.Step s v) = stepping limits s v
 task_code limits trees (task.JumpZero operand sense label) = jump_zero limits operand sense label
 task_code limits trees (task.Instruct w) = worked_code limits trees w
 
--- what a place of the code is where something is assigned
+-- the goal of an assignment, by that of the code
 abbrev pub target_of : Limits → List Tree → Goal → Target
 target_of limits trees goal.Nowhere = Nowhere
 target_of limits trees (goal.Variable v) = InVariable v
@@ -95,14 +95,14 @@ abbrev pub tasks_code : Limits → List Tree → List Task → Code
 tasks_code limits trees [] = nothing
 tasks_code limits trees (t ∷ tasks) = task_code limits trees t ▸ tasks_code limits trees tasks
 
--- what is left now, from what there is now, is some code and then what was left, from what there was
+-- Tells whether the tasks `new`, from the output `now`, lay `code` and then the tasks `old`, from the output `before`.
 abbrev pub Leads : Limits → List Tree → Code → List Task → List Task → Out → Out → Type 0
 Leads limits trees code old new before now = tasks_code limits trees new now ≡ tasks_code limits trees old (code before)
 
--- the same where nothing was laid meanwhile
+-- Tells whether the tasks `new` lay `code` and then the tasks `old`, where nothing was laid meanwhile.
 abbrev pub Puts : Limits → List Tree → Code → List Task → List Task → Type 0
 Puts limits trees code old new = (o : Out) → Leads limits trees code old new o o
 
--- what is given as the operands of an instruction, as parts
+-- the arguments of an instruction, as parts
 abbrev pub parts_of : Limits → List Tree → List Argument → List Part
 parts_of limits trees arguments = map (part_of limits trees) arguments

@@ -1,4 +1,4 @@
--- How much there is to do at most: each task weighs more than what it makes of itself.
+-- A bound of the work that is left: each task weighs more than the tasks that it makes.
 use Rattle.std.specs.Prelude.{ℕ, ◌+◌, ◌<◌, List, [], ◌∷◌}
 use Rattle.inf_expressions.specs.Trees.{Tree, Leaf, One, Two}
 use Rattle.inf_expressions.specs.Nodes.{tree_at}
@@ -9,7 +9,7 @@ use Rattle.inf_templates.specs.declared.tasks.Task.TheVariants as task
 use Rattle.inf_templates.specs.declared.reading.Goal.{Goal}
 use Rattle.inf_templates.specs.declared.reading.Goal.TheVariants as goal
 
--- the operators of a tree
+-- the weight of the operators of a tree
 abbrev pub load : Tree → ℕ
 load (Leaf operand) = 0
 load (One op a) = 16 + load a
@@ -42,11 +42,11 @@ abbrev pub weights : List Tree → List Task → ℕ
 weights trees [] = 0
 weights trees (t ∷ tasks) = weight trees t + weights trees tasks
 
--- what is left now weighs less than this and what was left
+-- Tells whether the tasks `new` weigh less than `most` and the tasks `old`.
 abbrev pub WeighsUnder : List Tree → ℕ → List Task → List Task → Type 0
 WeighsUnder trees most old new = weights trees new < most + weights trees old
 
--- the parts of what is assigned
+-- the weight of the parts of a goal
 abbrev pub goal_load : List Tree → Goal → ℕ
 goal_load trees goal.Nowhere = 0
 goal_load trees (goal.Variable v) = 0

@@ -19,13 +19,13 @@ use crate::rows::{alone, branch, value};
 use crate::tasks::{Argument, Few, Memory, Task, Tasks, Worked};
 use crate::testing::{single_tests, triple_tests};
 use arrayvec::ArrayVec;
-use inf_expressions::{Node, Nodes, Operation, Relative, Single, Step, Test};
+use inf_expressions::{Direction, Node, Nodes, Operation, Relative, Single, Test};
 use inf_opcode::{Label, MOST_OPERANDS, Opcode};
 use inf_output::{Output, Simple, Veneer};
 use inf_settings::bounds::Bounds;
 use std::alloc::AllocError;
 
-/// An operand goes to the stack, unless it is simple.
+/// Lays an operand into the stack, unless it is simple.
 fn evaluate<B: Bounds>(
     nodes: &Nodes,
     argument: Argument,
@@ -45,7 +45,7 @@ fn evaluate<B: Bounds>(
     }
 }
 
-/// The members of a list, from the last to the first.
+/// Puts first the tasks for the members of the list at `place`, which are worked out from the last to the first.
 fn list(nodes: &Nodes, place: usize, tasks: &mut Tasks) -> Result<(), AllocError>
     ensures code { OnOk result ((limits : Limits) → (o : Out) → tasks_code limits nodes.now tasks.new o ≡ tasks_code limits nodes.now
         (task.List place ∷ tasks.old) o) }
@@ -57,7 +57,7 @@ fn list(nodes: &Nodes, place: usize, tasks: &mut Tasks) -> Result<(), AllocError
     }
 }
 
-/// Some operands and the members of a list: of all the first, at most so many.
+/// Appends the operands of the members of `list` to `front`, up to `most` operands in all.
 fn with_list(
     nodes: &Nodes,
     front: ArrayVec<Simple, MOST_OPERANDS>,
@@ -87,7 +87,7 @@ fn with_list(
     operands
 }
 
-/// The operands of a few trees.
+/// Returns the operands of one to three trees.
 fn few_operands(nodes: &Nodes, few: Few) -> ArrayVec<Simple, MOST_OPERANDS>
     ensures { (limits : Limits) → result.items ≡ operands (few_parts limits nodes.now few) }
 {
@@ -107,7 +107,7 @@ fn few_operands(nodes: &Nodes, few: Few) -> ArrayVec<Simple, MOST_OPERANDS>
     operands
 }
 
-/// The instruction of an operation.
+/// Lays the instruction of an operation.
 fn compute<B: Bounds>(
     nodes: &Nodes,
     operation: Operation,
@@ -122,7 +122,7 @@ fn compute<B: Bounds>(
     out.instruct(operation_opcode(operation), &operands, Some(d), None)
 }
 
-/// An object that is found.
+/// Lays the instruction that finds an object, and branches where there is one.
 fn find<B: Bounds>(
     nodes: &Nodes,
     relative: Relative,
@@ -142,7 +142,7 @@ fn find<B: Bounds>(
     )
 }
 
-/// A test for equality with three.
+/// Lays a test for equality with three alternatives.
 fn three<B: Bounds>(
     nodes: &Nodes,
     x: Simple,
@@ -163,7 +163,7 @@ fn three<B: Bounds>(
     compared(Test::Equal, &operands, true, label, out)
 }
 
-/// A place in memory gets a value.
+/// Lays the storing of a value in memory.
 fn store<B: Bounds>(
     nodes: &Nodes,
     memory: Memory,
@@ -182,11 +182,11 @@ fn store<B: Bounds>(
     stored(memory, &operands, out)
 }
 
-/// A step of a place in memory.
+/// Lays a step of a value in memory.
 fn step_in_memory<B: Bounds>(
     nodes: &Nodes,
     before: bool,
-    step: Step,
+    step: Direction,
     memory: Memory,
     a: usize,
     b: usize,
@@ -204,7 +204,7 @@ fn step_in_memory<B: Bounds>(
     calling_routine(stepper(memory), &operands, store, out)
 }
 
-/// A test with any of a list, of whose members one instruction takes the first.
+/// Lays a test with any member of a list, of which the instruction takes the first members.
 fn any<B: Bounds>(
     nodes: &Nodes,
     test: Test,
@@ -222,7 +222,7 @@ fn any<B: Bounds>(
     compared(test, &operands, sense, label, out)
 }
 
-/// A call with a list of arguments.
+/// Lays a call with a list of arguments.
 #[tactic(auto, using(crate::proofs::Cuts::calling_given))]
 fn call<B: Bounds>(
     nodes: &Nodes,
@@ -237,7 +237,7 @@ fn call<B: Bounds>(
     calling(operand_of(nodes, f), &arguments, store, out)
 }
 
-/// A call of a property of an object.
+/// Lays a call of a property of an object.
 #[tactic(auto, using(crate::proofs::Cuts::calling_routine_given))]
 fn message<B: Bounds>(
     nodes: &Nodes,
@@ -256,7 +256,7 @@ fn message<B: Bounds>(
     calling_routine(Veneer::CallProperty, &arguments, store, out)
 }
 
-/// A call of the first of a list.
+/// Lays a call of the first member of a list, with the others as arguments.
 fn indirect<B: Bounds>(
     nodes: &Nodes,
     list: usize,
@@ -271,7 +271,7 @@ fn indirect<B: Bounds>(
     }
 }
 
-/// An instruction whose parts are worked out.
+/// Lays an instruction whose parts are worked out.
 fn work<B: Bounds>(
     nodes: &Nodes,
     instruction: Worked,
@@ -310,7 +310,7 @@ fn work<B: Bounds>(
     }
 }
 
-/// One task, which is done or makes others.
+/// Does one task, or puts others in its place.
 fn step<B: Bounds>(
     nodes: &Nodes,
     task: Task,
@@ -342,7 +342,7 @@ fn step<B: Bounds>(
     }
 }
 
-/// What is left is laid, until nothing is left.
+/// Lays all tasks that are left.
 pub(crate) fn lay_all<B: Bounds>(
     nodes: &Nodes,
     tasks: &mut Tasks,

@@ -1,14 +1,11 @@
 //! The code of expressions.
 //!
-//! An expression is laid with its value in a variable or on the stack, without result, or as a branch. In `specs/`, `Meaning` says row by
-//! row
-//! what each operator is by what its parts are, and `Parts` what the parts of an instruction are: a simple one is an operand itself, the
-//! others
-//! are worked out into the stack from the last to the first.
+//! An expression is laid with its value in a variable or on the stack, without result, or as a branch. In `specs/`,
+//! `Meaning` defines row by row the code of each operator by the meanings of its parts, and `Parts` defines the parts of an
+//! instruction: a simple one is an operand itself, the others are worked out into the stack from the last to the first.
 //!
-//! Trees may be as deep as their text is long, so what is left to be laid is a list of tasks and not a recursion. `Tasks` of `specs/` says
-//! what
-//! each is, and each row of the code puts tasks in front of those that are left.
+//! Trees may be as deep as their text is long. The work left is therefore a list of tasks and not a recursion. `Tasks` of
+//! `specs/` defines each of them, and each row of the code puts tasks in front of those that are left.
 #![tactic(auto)]
 
 mod laying;

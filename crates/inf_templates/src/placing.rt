@@ -8,7 +8,7 @@ ghost use Rattle.inf_templates.specs.Meaning.{setter, single_opcode, stepper, st
 use crate::reading::STACK;
 use crate::tasks::Memory;
 use arrayvec::ArrayVec;
-use inf_expressions::{Operation, Relative, Single, Step, Test};
+use inf_expressions::{Direction, Operation, Relative, Single, Test};
 use inf_opcode::{Branch, Destination, Label, MOST_OPERANDS, Opcode};
 use inf_output::{Output, Simple, Veneer};
 use inf_settings::bounds::Bounds;
@@ -17,7 +17,7 @@ use std::alloc::AllocError;
 /// The most arguments of a call.
 pub(crate) const MOST_ARGUMENTS: usize = 7;
 
-/// A branch that is taken where the truth of a test is this.
+/// Returns a branch to `label` that is taken where the truth of a test is `sense`.
 pub(crate) fn to(sense: bool, label: Label) -> Option<Branch>
     ensures { result ≡ to sense label }
 {
@@ -27,7 +27,7 @@ pub(crate) fn to(sense: bool, label: Label) -> Option<Branch>
     })
 }
 
-/// A simple value goes to a variable or the stack.
+/// Lays the copy of a simple value to variable `d`, or to the stack.
 pub(crate) fn put<B: Bounds>(operand: Simple, d: u8, out: &mut Output<B>) -> Result<(), AllocError>
     ensures { OnOk result (out.new ≡ put B.most operand d out.old) }
 {
@@ -38,14 +38,14 @@ pub(crate) fn put<B: Bounds>(operand: Simple, d: u8, out: &mut Output<B>) -> Res
     }
 }
 
-/// A variable's value goes to another one or the stack.
+/// Lays the copy of a variable's value to variable `d`, or to the stack.
 pub(crate) fn load<B: Bounds>(variable: u8, d: u8, out: &mut Output<B>) -> Result<(), AllocError>
     ensures { OnOk result (out.new ≡ load B.most variable d out.old) }
 {
     out.instruct_naming(Opcode::Load, variable, &[], Some(d), None)
 }
 
-/// A branch where the truth of an operand is this.
+/// Lays a branch to `label` where the truth of `operand` is `sense`.
 pub(crate) fn jump_zero<B: Bounds>(
     operand: Simple,
     sense: bool,
@@ -57,21 +57,22 @@ pub(crate) fn jump_zero<B: Bounds>(
     out.instruct(Opcode::Jz, &[operand], None, to(!sense, label))
 }
 
-/// A step of a variable.
+/// Lays a step of a variable.
 pub(crate) fn stepping<B: Bounds>(
-    step: Step,
+    step: Direction,
     variable: u8,
     out: &mut Output<B>,
 ) -> Result<(), AllocError>
     ensures { OnOk result (out.new ≡ stepping B.most step variable out.old) }
 {
     match step {
-        Step::Up => out.instruct_naming(Opcode::Inc, variable, &[], None, None),
-        Step::Down => out.instruct_naming(Opcode::Dec, variable, &[], None, None),
+        Direction::Up => out.instruct_naming(Opcode::Inc, variable, &[], None, None),
+        Direction::Down => out.instruct_naming(Opcode::Dec, variable, &[], None, None),
     }
 }
 
-/// What calls with so many arguments, at most seven.
+/// Returns the opcode of a call with `arguments` arguments, at most seven, whose result is stored where `store` is a
+/// variable.
 fn call_opcode(store: Option<u8>, arguments: usize) -> Opcode
     requires { arguments ≤ 7 }
     ensures value { result ≡ call_opcode store arguments }
@@ -89,7 +90,7 @@ fn call_opcode(store: Option<u8>, arguments: usize) -> Opcode
     }
 }
 
-/// The first of a list, at most so many.
+/// Returns the first `most` members of `list`, or all where it has fewer.
 pub(crate) fn cut<T>(list: &[T], most: usize) -> &[T]
     ensures value { result.now ≡ take most list.now }
     ensures few { length result.now ≤ most }
@@ -97,7 +98,7 @@ pub(crate) fn cut<T>(list: &[T], most: usize) -> &[T]
     list.get(..most).unwrap_or(list)
 }
 
-/// A call.
+/// Lays a call, of whose arguments the first seven are given.
 #[tactic(auto, unfolding(crate::specs::Parts::calling))]
 pub(crate) fn calling<B: Bounds>(
     routine: Simple,
@@ -116,7 +117,7 @@ pub(crate) fn calling<B: Bounds>(
     out.instruct(call_opcode(store, given.len()), &operands, store, None)
 }
 
-/// A call of a routine of the veneer.
+/// Lays a call of a routine of the veneer.
 #[tactic(auto, unfolding(crate::specs::Parts::calling_routine))]
 pub(crate) fn calling_routine<B: Bounds>(
     veneer: Veneer,
@@ -130,7 +131,7 @@ pub(crate) fn calling_routine<B: Bounds>(
     calling(routine, arguments, store, out)
 }
 
-/// The instruction of an operation.
+/// Returns the opcode of an operation.
 pub(crate) fn operation_opcode(operation: Operation) -> Opcode
     ensures value { result ≡ operation_opcode operation }
     ensures takes { Takes result 2 true false }
@@ -169,7 +170,7 @@ pub(crate) fn related_opcode(relative: Relative) -> Opcode
     }
 }
 
-/// The routine of the veneer that stores and leaves the value.
+/// Returns the routine of the veneer that stores a value in memory and leaves it.
 pub(crate) fn setter(memory: Memory) -> Veneer
     ensures { result ≡ setter memory }
 {
@@ -180,7 +181,7 @@ pub(crate) fn setter(memory: Memory) -> Veneer
     }
 }
 
-/// The routine of the veneer that steps.
+/// Returns the routine of the veneer that steps a value in memory.
 pub(crate) fn stepper(memory: Memory) -> Veneer
     ensures { result ≡ stepper memory }
 {
@@ -191,17 +192,17 @@ pub(crate) fn stepper(memory: Memory) -> Veneer
     }
 }
 
-/// What a step adds, modulo 65536.
-pub(crate) fn by(step: Step) -> Simple
+/// Returns the operand that a step adds, modulo 65536.
+pub(crate) fn by(step: Direction) -> Simple
     ensures { result ≡ by step }
 {
     match step {
-        Step::Up => Simple::Known(1),
-        Step::Down => Simple::Known(65535),
+        Direction::Up => Simple::Known(1),
+        Direction::Down => Simple::Known(65535),
     }
 }
 
-/// Whether a step leaves the new value, as an argument.
+/// Returns the argument that says whether a step leaves the new value: 1 where it comes before the value, otherwise 0.
 pub(crate) fn leaves_new(before: bool) -> Simple
     ensures { result ≡ leaves_new before }
 {
@@ -212,7 +213,7 @@ pub(crate) fn leaves_new(before: bool) -> Simple
     }
 }
 
-/// A place in memory gets a value.
+/// Lays the storing of a value in memory.
 pub(crate) fn stored<B: Bounds>(
     memory: Memory,
     operands: &[Simple; 3],
@@ -227,7 +228,7 @@ pub(crate) fn stored<B: Bounds>(
     }
 }
 
-/// An instruction that branches.
+/// Lays an instruction that branches to `label` where its truth is `sense`.
 fn branching<B: Bounds>(
     opcode: Opcode,
     operands: &[Simple],
@@ -241,7 +242,7 @@ fn branching<B: Bounds>(
     out.instruct(opcode, operands, None, to(sense, label))
 }
 
-/// A test by a routine of the veneer.
+/// Lays a test by a routine of the veneer.
 fn asking<B: Bounds>(
     veneer: Veneer,
     operands: &[Simple],
@@ -255,7 +256,7 @@ fn asking<B: Bounds>(
     jump_zero(Simple::Variable(STACK), sense, label, out)
 }
 
-/// A test of some operands, as a branch where its truth is this.
+/// Lays a test of some operands, as a branch to `label` where its truth is `sense`.
 pub(crate) fn compared<B: Bounds>(
     test: Test,
     operands: &[Simple],

@@ -1,4 +1,4 @@
-//! What trees are that templates go by.
+//! Properties of trees by which templates are chosen.
 ghost use Rattle.inf_settings.specs.Bounds.{Limits};
 ghost use Rattle.std.specs.Prelude.{◌≡◌, ◌≤◌, ◌+◌, [], ◌∷◌, ◌<◌, IfSome, MatchOption, Some, None, nat_lt, length};
 ghost use Rattle.inf_templates.specs.Parts.{operand_of, simple};
@@ -17,7 +17,7 @@ pub(crate) const STACK: u8 = 0;
 /// The variable for values that nobody wants.
 pub(crate) const TEMP: u8 = 255;
 
-/// Where a tree can be assigned.
+/// The goal of an assignment.
 #[derive(Clone, Copy, Debug, PartialEq, Eq)]
 pub(crate) enum Goal {
     Nowhere,
@@ -26,7 +26,7 @@ pub(crate) enum Goal {
     Memory(Memory, usize, usize),
 }
 
-/// What a leaf is as an operand.
+/// Returns a leaf as an operand.
 pub(crate) fn simple(operand: Operand) -> Simple
     ensures { result ≡ simple operand }
 {
@@ -38,7 +38,7 @@ pub(crate) fn simple(operand: Operand) -> Simple
     }
 }
 
-/// The operand that a tree is once it is worked out: its own, where it is simple, and else the stack.
+/// Returns the operand of a tree that is worked out: its own, where it is simple, otherwise the stack.
 pub(crate) fn operand_of(nodes: &Nodes, place: usize) -> Simple
     ensures { (limits : Limits) → result ≡ operand_of (part (at limits nodes.now place)) }
 {
@@ -48,7 +48,7 @@ pub(crate) fn operand_of(nodes: &Nodes, place: usize) -> Simple
     }
 }
 
-/// The operand of what is given as one.
+/// Returns the operand of an argument that is worked out.
 pub(crate) fn argument_of<B: Bounds>(nodes: &Nodes, argument: Argument) -> Simple
     ensures { result ≡ operand_of (part_of B.most nodes.now argument) }
 {
@@ -58,7 +58,7 @@ pub(crate) fn argument_of<B: Bounds>(nodes: &Nodes, argument: Argument) -> Simpl
     }
 }
 
-/// The operand that a tree is itself, where it is simple.
+/// Returns the operand of a simple tree; `None` where it is not simple.
 pub fn simple_of<B: Bounds>(nodes: &Nodes, place: usize) -> Option<Simple>
     ensures { result ≡ (at B.most nodes.now place).operand }
 {
@@ -68,21 +68,21 @@ pub fn simple_of<B: Bounds>(nodes: &Nodes, place: usize) -> Option<Simple>
     }
 }
 
-/// Whether a test takes up to three alternatives at once.
+/// Returns whether a test takes up to three alternatives at once.
 pub(crate) fn takes_three(test: Test) -> bool
     ensures { result ≡ takes_three test }
 {
     matches!(test, Test::Equal)
 }
 
-/// How many alternatives a test takes at once.
+/// Returns the number of alternatives that a test takes at once.
 pub(crate) fn group(test: Test) -> u8
     ensures { result ≡ group test }
 {
     if takes_three(test) { 3 } else { 1 }
 }
 
-/// How many operands a test takes.
+/// Returns the most operands that a test takes: a value and its alternatives.
 pub(crate) fn most_compared(test: Test) -> usize
     ensures value { result ≡ most_compared test }
     ensures enough { 2 ≤ result }
@@ -91,7 +91,7 @@ pub(crate) fn most_compared(test: Test) -> usize
     if takes_three(test) { 4 } else { 2 }
 }
 
-/// Where a tree can be assigned.
+/// Returns the goal of an assignment to the tree at `place`.
 pub(crate) fn target(nodes: &Nodes, place: usize) -> Goal
     ensures code { (limits : Limits) → target_of limits nodes.now result ≡ (at limits nodes.now place).target }
     ensures less { goal_load nodes.now result ≤ load_at nodes.now place }
@@ -110,7 +110,7 @@ pub(crate) fn target(nodes: &Nodes, place: usize) -> Goal
     }
 }
 
-/// The first member of a list and the list of the others, if there are any.
+/// Returns the first member of a list and the list of the others, if there are any.
 pub(crate) fn split(nodes: &Nodes, list: usize) -> Option<(usize, usize)>
     ensures less { IfSome result (λ p. load_at nodes.now list ≡ 16 + load_at nodes.now p.0 + load_at nodes.now p.1) }
     ensures code { MatchOption result ((limits : Limits) → parts (at limits nodes.now list) ≡ part (at limits nodes.now list) ∷ [])
@@ -122,7 +122,7 @@ pub(crate) fn split(nodes: &Nodes, list: usize) -> Option<(usize, usize)>
     }
 }
 
-/// Whether a list has more than so many members.
+/// Returns whether `list` has more than `count` members.
 pub(crate) fn has_more(nodes: &Nodes, list: usize, count: u8) -> bool
     ensures { (limits : Limits) → result ≡ nat_lt count (length (parts (at limits nodes.now list))) }
 {

@@ -1,4 +1,4 @@
-//! What each operator is laid as, by its parts.
+//! The rows of operators: each is laid by tasks for its parts.
 ghost use Rattle.inf_settings.specs.Bounds.{Limits};
 ghost use Rattle.std.specs.Prelude.{◌≡◌, ◌+◌, [], ◌∷◌, List, OnOk, IfOk, Option};
 ghost use Rattle.inf_expressions.specs.Trees.{Tree};
@@ -16,13 +16,13 @@ use crate::placing::setter;
 use crate::reading::{Goal, STACK, TEMP, simple, target};
 use crate::tasks::{Argument, Few, Memory, Task, Tasks, Worked};
 use crate::testing::test_branch;
-use inf_expressions::{Binary, Node, Nodes, PropertyPart, Relative, Step, Unary};
+use inf_expressions::{Binary, Direction, Node, Nodes, PropertyPart, Relative, Unary};
 use inf_opcode::Label;
 use inf_output::{Output, Simple, Veneer};
 use inf_settings::bounds::Bounds;
 use std::alloc::AllocError;
 
-/// A tree with its value in a variable.
+/// Lays a tree with its value in variable `d`, or on the stack.
 pub(crate) fn value<B: Bounds>(
     nodes: &Nodes,
     place: usize,
@@ -41,7 +41,7 @@ pub(crate) fn value<B: Bounds>(
     }
 }
 
-/// An operator of one part, with its value in a variable.
+/// Lays an operator of one part, with its value in a variable.
 fn one_value<B: Bounds>(
     nodes: &Nodes,
     op: Unary,
@@ -76,7 +76,7 @@ fn one_value<B: Bounds>(
     }
 }
 
-/// An operator of two parts, with its value in a variable.
+/// Lays an operator of two parts, with its value in a variable.
 fn two_value<B: Bounds>(
     nodes: &Nodes,
     op: Binary,
@@ -120,7 +120,7 @@ fn two_value<B: Bounds>(
     }
 }
 
-/// A tree without result.
+/// Lays a tree without result.
 pub(crate) fn alone<B: Bounds>(
     nodes: &Nodes,
     place: usize,
@@ -156,7 +156,7 @@ pub(crate) fn alone<B: Bounds>(
     }
 }
 
-/// A tree as a branch to a label where its truth is this.
+/// Lays a tree as a branch to `label` where its truth is `sense`.
 pub(crate) fn branch<B: Bounds>(
     nodes: &Nodes,
     place: usize,
@@ -208,7 +208,8 @@ pub(crate) fn branch<B: Bounds>(
     }
 }
 
-/// What stands behind the branch of a condition whose value is wanted: 1 where it does not go to the label that is answered, and else 0.
+/// Puts first the tasks for the end of a condition whose value is wanted: variable `d` becomes 1 where the branch is not
+/// taken, otherwise 0. Returns the label for that branch.
 fn truth<B: Bounds>(d: u8, tasks: &mut Tasks, out: &mut Output<B>) -> Result<Label, AllocError>
     ensures code { IfOk result (λ fails. (trees : List Tree) →
         Puts B.most trees (truth_behind B.most fails (next_label (record out.old { next = behind out.old.next })) d) tasks.old tasks.new) }
@@ -228,7 +229,7 @@ fn truth<B: Bounds>(d: u8, tasks: &mut Tasks, out: &mut Output<B>) -> Result<Lab
     Ok(fails)
 }
 
-/// A simple tree as a branch.
+/// Lays a simple tree as a branch.
 fn leaf_branch(
     operand: Simple,
     sense: bool,
@@ -253,7 +254,7 @@ fn leaf_branch(
     }
 }
 
-/// `&&` as a branch.
+/// Lays `&&` as a branch.
 #[tactic(auto, unfolding(crate::specs::Meaning::and_branch))]
 fn and_branch<B: Bounds>(
     a: usize,
@@ -274,7 +275,7 @@ fn and_branch<B: Bounds>(
     }
 }
 
-/// `||` as a branch.
+/// Lays `||` as a branch.
 #[tactic(auto, unfolding(crate::specs::Meaning::or_branch))]
 fn or_branch<B: Bounds>(
     a: usize,
@@ -295,7 +296,7 @@ fn or_branch<B: Bounds>(
     }
 }
 
-/// Two trees of which the first decides where its truth is not `sense`.
+/// Lays two trees as a branch, of which the first decides where its truth is not `sense`.
 fn both<B: Bounds>(
     a: usize,
     b: usize,
@@ -316,12 +317,12 @@ fn both<B: Bounds>(
     ])
 }
 
-/// `++` and `--`, with a value: that behind the step or that before it.
+/// Lays `++` or `--` with a value: that behind the step or that before it.
 #[tactic(auto, unfolding(crate::specs::Meaning::step_value))]
 fn step_value(
     nodes: &Nodes,
     before: bool,
-    step: Step,
+    step: Direction,
     a: usize,
     to: u8,
     tasks: &mut Tasks,
@@ -346,12 +347,12 @@ fn step_value(
     }
 }
 
-/// `++` and `--` without result.
+/// Lays `++` or `--` without result.
 #[tactic(auto, unfolding(crate::specs::Meaning::step_alone))]
 fn step_alone(
     nodes: &Nodes,
     before: bool,
-    step: Step,
+    step: Direction,
     a: usize,
     tasks: &mut Tasks,
 ) -> Result<(), AllocError>
@@ -370,7 +371,7 @@ fn step_alone(
     }
 }
 
-/// An assignment, with its value.
+/// Lays an assignment with its value.
 #[tactic(auto, unfolding(crate::specs::Meaning::assign_value))]
 fn assign_value(
     nodes: &Nodes,
@@ -398,7 +399,7 @@ fn assign_value(
     }
 }
 
-/// An assignment without result.
+/// Lays an assignment without result.
 #[tactic(auto, unfolding(crate::specs::Meaning::assign_alone))]
 fn assign_alone(nodes: &Nodes, v: usize, a: usize, tasks: &mut Tasks) -> Result<(), AllocError>
     ensures code { OnOk result ((limits : Limits) → Puts limits nodes.now (assign_alone limits (at limits nodes.now v)
@@ -417,7 +418,7 @@ fn assign_alone(nodes: &Nodes, v: usize, a: usize, tasks: &mut Tasks) -> Result<
     }
 }
 
-/// A call without arguments.
+/// Lays a call without arguments.
 #[tactic(auto, unfolding(crate::specs::Meaning::call_of))]
 fn bare_call(
     nodes: &Nodes,
@@ -444,7 +445,7 @@ fn bare_call(
     }
 }
 
-/// A call with a list of arguments.
+/// Lays a call with a list of arguments.
 #[tactic(auto, unfolding(crate::specs::Meaning::call_of))]
 fn call_of(
     nodes: &Nodes,
@@ -474,7 +475,7 @@ fn call_of(
     }
 }
 
-/// A call of the first of a list, with the others as arguments.
+/// Lays a call of the first member of a list, with the others as arguments.
 fn indirect(list: usize, store: Option<u8>, tasks: &mut Tasks) -> Result<(), AllocError>
     ensures { OnOk result (tasks.new ≡ task.List list ∷ task.Instruct (worked.Indirect list store) ∷ tasks.old) }
 {
@@ -484,7 +485,7 @@ fn indirect(list: usize, store: Option<u8>, tasks: &mut Tasks) -> Result<(), All
     ])
 }
 
-/// The number of an object's children is counted by a routine of the veneer.
+/// Lays the number of an object's children, which a routine of the veneer counts.
 fn children(a: usize, store: Option<u8>, tasks: &mut Tasks) -> Result<(), AllocError>
     ensures code { OnOk result ((limits : Limits) → (trees : List Tree) →
         Puts limits trees (call_routine limits veneer.Children (part (at limits trees a) ∷ []) store) tasks.old tasks.new) }
@@ -496,7 +497,7 @@ fn children(a: usize, store: Option<u8>, tasks: &mut Tasks) -> Result<(), AllocE
     ])
 }
 
-/// What is asked of a property is asked of a routine of the veneer.
+/// Lays a question about a property, which a routine of the veneer answers.
 fn property(
     asked: PropertyPart,
     a: usize,
@@ -521,7 +522,7 @@ fn property(
     ])
 }
 
-/// An object that an instruction finds.
+/// Lays the search for an object by an instruction.
 #[tactic(auto, unfolding(crate::specs::Meaning::related))]
 fn related<B: Bounds>(
     relative: Relative,

@@ -1,7 +1,7 @@
-//! What is left to be laid.
+//! The tasks that are left to be laid.
 ghost use Rattle.std.specs.Prelude.{◌≡◌, [], ◌∷◌, ◌++◌, MatchOption, OnOk};
 
-use inf_expressions::{Operation, Relative, Single, Step, Test};
+use inf_expressions::{Direction, Operation, Relative, Single, Test};
 use inf_opcode::Label;
 use inf_output::{Simple, Veneer};
 use std::alloc::{AllocError, Global};
@@ -12,11 +12,11 @@ use std::marker::Model;
 pub enum Argument {
     /// The tree at a place: where it is not simple it is worked out into the stack before.
     Of(usize),
-    /// It is this.
+    /// A simple operand.
     Is(Simple),
 }
 
-/// The trees of some operands, by their places.
+/// One to three trees as operands, by their places.
 #[derive(Clone, Copy, Debug, PartialEq, Eq)]
 pub enum Few {
     One(usize),
@@ -24,7 +24,7 @@ pub enum Few {
     Three(usize, usize, usize),
 }
 
-/// What is assigned in memory: the byte or word of an array at an index, or a property of an object.
+/// The kind of a goal in memory: the byte or word of an array at an index, or a property of an object.
 #[derive(Clone, Copy, Debug, PartialEq, Eq)]
 pub enum Memory {
     Byte,
@@ -32,31 +32,32 @@ pub enum Memory {
     Property,
 }
 
-/// Something to be laid. Trees are told by their places.
+/// A task: something to be laid. Trees are given by their places.
 #[derive(Clone, Copy, Debug, PartialEq, Eq)]
 pub enum Task {
     /// A tree with its value in a variable, or on the stack.
     Value(usize, u8),
     /// A tree without result.
     Alone(usize),
-    /// A tree as a branch to a label where its truth is this.
+    /// A tree as a branch to a label where its truth is the given one.
     Branch(usize, bool, Label),
-    /// An operand goes to the stack, unless it is simple.
+    /// An operand that goes to the stack, unless it is simple.
     Evaluate(Argument),
-    /// The members of a list, from the last to the first.
+    /// The members of a list, worked out from the last to the first.
     List(usize),
-    /// A test for equality with any of a list, in groups of three: the sense and the label of the last group, and the label of the others.
+    /// A test for equality with any member of a list, in groups of three: the sense and the label of the last group, and
+    /// the label of the others.
     Triples(Simple, usize, bool, Label, Label),
-    /// Another test with any of a list, one by one.
+    /// Another test with any member of a list, one by one.
     Singles(Test, Simple, usize, bool, Label, Label),
-    /// A simple value goes to a variable, or to the stack.
+    /// A simple value that goes to a variable, or to the stack.
     Put(Simple, u8),
     Jump(Label),
     Mark(Label),
-    /// The value of a variable goes to another one, or to the stack.
+    /// The value of a variable that goes to another one, or to the stack.
     Load(u8, u8),
-    Step(Step, u8),
-    /// A branch where the truth of an operand is this.
+    Step(Direction, u8),
+    /// A branch where the truth of an operand is the given one.
     JumpZero(Simple, bool, Label),
     Instruct(Worked),
 }
@@ -67,29 +68,30 @@ pub enum Worked {
     Compute(Operation, usize, usize, u8),
     Negate(usize, u8),
     Single(Single, usize, u8),
-    /// An object that is found, with a branch where there is one.
+    /// A search for an object, with a branch where there is one.
     Find(Relative, usize, u8, Label),
-    /// A test for equality with three, which branches where it holds.
+    /// A test for equality with three alternatives, which branches where it holds.
     Three(Simple, usize, usize, usize, Label),
     Compare(Test, Simple, usize, bool, Label),
-    /// A test with any of a list, which has no more members than one instruction takes.
+    /// A test with any member of a list, which has no more members than one instruction takes.
     Any(Test, Argument, usize, bool, Label),
-    /// A place in memory gets a value.
+    /// The storing of a value in memory.
     Store(Memory, usize, usize, usize),
     /// A call of a routine of the veneer.
     Routine(Veneer, Few, Option<u8>),
-    /// A step of a place in memory, and whether it leaves the value behind it.
-    StepInMemory(bool, Step, Memory, usize, usize, Option<u8>),
-    /// A call without arguments, and with a list of them.
+    /// A step of a value in memory, and whether it comes before the value that it leaves.
+    StepInMemory(bool, Direction, Memory, usize, usize, Option<u8>),
+    /// A call without arguments, and one with a list of them.
     BareCall(usize, Option<u8>),
     Call(usize, usize, Option<u8>),
     /// A call of a property of an object.
     Message(usize, usize, usize, Option<u8>),
-    /// A call of the first of a list.
+    /// A call of the first member of a list.
     Indirect(usize, Option<u8>),
 }
 
-/// Tasks: in contracts their list, the next one first. They are empty between the calls that lay code, which keep their memory.
+/// Tasks: in contracts their list, the next one first. They are empty between the calls that lay code, and keep their
+/// memory.
 #[derive(Drop)]
 pub struct Tasks {
     tasks: Vec<Task>,
@@ -105,7 +107,7 @@ impl Model for Tasks {
 }
 
 impl Tasks {
-    /// No tasks. It takes no memory until the first one comes.
+    /// Creates an empty list of tasks. It takes no memory until the first task comes.
     pub fn new(alloc: Global) -> Tasks
         ensures { result ≡ [] }
     {
@@ -114,21 +116,21 @@ impl Tasks {
         }
     }
 
-    /// None are left.
+    /// Removes all tasks.
     pub(crate) fn clear(&mut self)
         ensures { self.new ≡ [] }
     {
         self.tasks.clear();
     }
 
-    /// The next one is taken.
+    /// Takes the next task; `None` where none is left.
     pub(crate) fn next(&mut self) -> Option<Task>
         ensures { MatchOption result ((self.old ≡ []) × (self.new ≡ [])) (λ t. self.old ≡ t ∷ self.new) }
     {
         self.tasks.pop()
     }
 
-    /// Some tasks come before the others.
+    /// Puts tasks before the others. It fails for want of memory alone.
     pub(crate) fn first(&mut self, tasks: &[Task]) -> Result<(), AllocError>
         ensures { OnOk result (self.new ≡ tasks.now ++ self.old) }
     {

@@ -16,7 +16,7 @@ use inf_output::{Output, Simple, Veneer};
 use inf_settings::bounds::Bounds;
 use std::alloc::AllocError;
 
-/// The tree at a place is laid without result.
+/// Lays the tree at `place` without result.
 ///
 /// It is refused only for want of memory, as the other calls are.
 pub fn lay_alone<B: Bounds>(
@@ -30,7 +30,7 @@ pub fn lay_alone<B: Bounds>(
     lay(tasks, nodes, Task::Alone(place), out)
 }
 
-/// The tree at a place is laid with its value in a variable, of which 0 is the stack.
+/// Lays the tree at `place` with its value in `variable`; 0 is the stack.
 pub fn lay_value<B: Bounds>(
     tasks: &mut Tasks,
     nodes: &Nodes,
@@ -43,7 +43,7 @@ pub fn lay_value<B: Bounds>(
     lay(tasks, nodes, Task::Value(place, variable), out)
 }
 
-/// The tree at a place is laid as a branch to a label where its truth is `sense`.
+/// Lays the tree at `place` as a branch to `label` where its truth is `sense`.
 pub fn lay_branch<B: Bounds>(
     tasks: &mut Tasks,
     nodes: &Nodes,
@@ -57,7 +57,8 @@ pub fn lay_branch<B: Bounds>(
     lay(tasks, nodes, Task::Branch(place, sense, label), out)
 }
 
-/// An instruction of some parts is laid, none of whose operands names a variable; its opcode takes so many, the store and the branch.
+/// Lays an instruction of parts, none of whose operands names a variable. The opcode has to take that number of parts,
+/// `store` and `branch`.
 pub fn lay_instruction<B: Bounds>(
     tasks: &mut Tasks,
     nodes: &Nodes,
@@ -75,7 +76,7 @@ pub fn lay_instruction<B: Bounds>(
     out.instruct(opcode, &operands, store, branch)
 }
 
-/// A call is laid, with its result in a variable if it is wanted. Of the arguments the first seven are given.
+/// Lays a call, with its result in a variable if it is wanted. Of the arguments the first seven are given.
 #[tactic(auto, using(crate::proofs::Cuts::calling_given))]
 pub fn lay_call<B: Bounds>(
     tasks: &mut Tasks,
@@ -94,7 +95,8 @@ pub fn lay_call<B: Bounds>(
     calling(argument_of::<B>(nodes, routine), &operands, store, out)
 }
 
-/// A call of a routine of the veneer is laid, with its result in a variable if it is wanted. Of the arguments the first seven are given.
+/// Lays a call of a routine of the veneer, with its result in a variable if it is wanted. Of the arguments the first seven
+/// are given.
 #[tactic(auto, using(crate::proofs::Cuts::calling_routine_given))]
 pub fn lay_routine_call<B: Bounds>(
     tasks: &mut Tasks,
@@ -111,7 +113,7 @@ pub fn lay_routine_call<B: Bounds>(
     calling_routine(veneer, &operands, store, out)
 }
 
-/// A task is laid with all that it makes.
+/// Lays a task with all tasks that it makes.
 fn lay<B: Bounds>(
     tasks: &mut Tasks,
     nodes: &Nodes,
@@ -125,7 +127,7 @@ fn lay<B: Bounds>(
     lay_all(nodes, tasks, out)
 }
 
-/// Parts that are not simple go to the stack, from the last to the first.
+/// Lays parts that are not simple into the stack, from the last to the first.
 #[tactic(auto, using(crate::proofs::Given::evaluated_last))]
 fn evaluate_all<B: Bounds>(
     tasks: &mut Tasks,
@@ -143,7 +145,7 @@ fn evaluate_all<B: Bounds>(
     Ok(())
 }
 
-/// The operands of parts that are worked out: of the first, at most so many.
+/// Returns the operands of the first `most` parts, once they are worked out, or of all where there are fewer.
 fn operands<B: Bounds>(
     nodes: &Nodes,
     arguments: &[Argument],

@@ -1,4 +1,4 @@
-//! Tests of a value against a list, of which one is to hold.
+//! Tests of a value against a list, where one of its members has to pass.
 ghost use Rattle.inf_settings.specs.Bounds.{Limits};
 ghost use Rattle.std.specs.Prelude.{◌≡◌, ◌≤◌, ◌<◌, ◌+◌, [], ◌∷◌, List, OnOk, if◌then◌else◌};
 ghost use Rattle.inf_expressions.specs.Trees.{Tree};
@@ -16,7 +16,7 @@ use inf_output::{Output, Simple};
 use inf_settings::bounds::Bounds;
 use std::alloc::AllocError;
 
-/// A test of a tree against a list, as a branch to a label where its truth is this.
+/// Lays a test of a tree against a list, as a branch to `label` where its truth is `sense`.
 #[tactic(auto, unfolding(crate::specs::Meaning::test_branch))]
 pub(crate) fn test_branch<B: Bounds>(
     nodes: &Nodes,
@@ -56,14 +56,14 @@ pub(crate) fn test_branch<B: Bounds>(
     }
 }
 
-/// One of two labels.
+/// Returns `label` where `sense` holds, otherwise `over`.
 fn chosen(sense: bool, label: Label, over: Label) -> Label
     ensures { result ≡ (if sense then label else over) }
 {
     if sense { label } else { over }
 }
 
-/// The tests of a list.
+/// Returns the task of the tests of a list.
 #[tactic(auto, unfolding(crate::specs::Meaning::tests))]
 fn tests(test: Test, x: Simple, list: usize, sense: bool, label: Label, there: Label) -> Task
     ensures code { (limits : Limits) → (trees : List Tree) (o : Out) →
@@ -77,7 +77,7 @@ fn tests(test: Test, x: Simple, list: usize, sense: bool, label: Label, there: L
     }
 }
 
-/// A test for equality with any of a list, in groups of three.
+/// Puts first the tasks of a test for equality with any member of a list, in groups of three.
 #[tactic(auto, using(crate::proofs::Groups::triple_rows))]
 pub(crate) fn triple_tests(
     nodes: &Nodes,
@@ -111,7 +111,7 @@ pub(crate) fn triple_tests(
     ])
 }
 
-/// Another test with any of a list, one by one.
+/// Puts first the tasks of another test with any member of a list, one by one.
 #[tactic(auto, using(crate::proofs::Groups::single_rows))]
 pub(crate) fn single_tests(
     nodes: &Nodes,

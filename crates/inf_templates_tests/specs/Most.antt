@@ -1,10 +1,10 @@
--- What there may be of what expressions do not use.
+-- The limits of tables that expressions do not use.
 use Rattle.std.specs.Prelude.{◌≡◌}
 use Rattle.inf_settings.specs.Bounds.{Limits}
 use Rattle.inf_settings.specs.declared.setting.Setting.TheVariants.{Actions, Arrays, DictionaryEntries, GrammarLines, LowStrings, Objects}
 use Rattle.inf_settings.specs.declared.setting.Setting.TheVariants.{PropertyTables, Verbs}
 
--- as much as settings say where no word names another number
+-- the limits by the settings where no word names another number
 pub record AreUsual (limits : Limits) : Type 0 where
   pub words : 2000 ≡ limits DictionaryEntries
   pub arrays : 10000 ≡ limits Arrays

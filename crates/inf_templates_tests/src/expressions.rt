@@ -1,18 +1,18 @@
 //! Expressions as a line spells them.
 use inf_area::Target;
 use inf_expressions::{
-    Binary, Forest, Function, Operand, Operation, PropertyPart, Single, Step, Symbol, Test, Unary,
-    Wanted, build,
+    Binary, Direction, Forest, Function, Operand, Operation, PropertyPart, Single, Symbol, Test,
+    Unary, Wanted, build,
 };
 use inf_names::symbols::Symbols;
 use inf_scanner::Place;
 use inf_settings::bounds::Bounds;
 use std::alloc::{AllocError, Global};
 
-/// Where all tokens stand.
+/// The place of all tokens.
 pub(crate) const HERE: Place = Place { file: 0, line: 1 };
 
-/// A function of the system, which is no value.
+/// Returns the function of the system with this name, which is no value, or `None`.
 fn function(word: &str) -> Option<Function> {
     Some(match word {
         "child" => Function::Child,
@@ -25,21 +25,21 @@ fn function(word: &str) -> Option<Function> {
     })
 }
 
-/// An operator of one part.
+/// Returns the operator of one part with this spelling, or `None`.
 fn unary(word: &str) -> Option<Symbol> {
     Some(match word {
         "neg" => Symbol::Prefix(0, Unary::Negate),
         "~" => Symbol::Prefix(0, Unary::Single(Single::Complement)),
         "~~" => Symbol::Prefix(0, Unary::Not),
-        "++v" => Symbol::Prefix(0, Unary::Before(Step::Up)),
-        "--v" => Symbol::Prefix(0, Unary::Before(Step::Down)),
-        "v++" => Symbol::Suffix(Unary::Behind(Step::Up)),
-        "v--" => Symbol::Suffix(Unary::Behind(Step::Down)),
+        "++v" => Symbol::Prefix(0, Unary::Before(Direction::Up)),
+        "--v" => Symbol::Prefix(0, Unary::Before(Direction::Down)),
+        "v++" => Symbol::Suffix(Unary::Behind(Direction::Up)),
+        "v--" => Symbol::Suffix(Unary::Behind(Direction::Down)),
         _ => return None,
     })
 }
 
-/// An operator of two values.
+/// Returns the operator of two values with this spelling, or `None`.
 fn operation(word: &str) -> Option<Binary> {
     Some(match word {
         "+" => Binary::Operation(Operation::Add),
@@ -62,7 +62,7 @@ fn operation(word: &str) -> Option<Binary> {
     })
 }
 
-/// A test of a value against a list.
+/// Returns the test of a value against a list with this spelling, or `None`.
 fn test(word: &str) -> Option<Binary> {
     Some(match word {
         "==" => Binary::Test(Test::Equal),
@@ -81,7 +81,7 @@ fn test(word: &str) -> Option<Binary> {
     })
 }
 
-/// An operator.
+/// Returns the operator with this spelling, or `None`.
 fn operator(word: &str) -> Option<Symbol> {
     if let Some(given) = word.strip_prefix("call:") {
         return Some(Symbol::Call(given.parse().unwrap_or(0)));
@@ -96,7 +96,7 @@ fn operator(word: &str) -> Option<Symbol> {
     }
 }
 
-/// What a name stands for that is known later.
+/// Uses a name, and returns it as an operand that is known later.
 fn later<B: Bounds>(names: &mut Symbols<Place, B>, name: &str) -> Operand {
     if name.len() > 35 {
         return Operand::Unknown;
@@ -107,7 +107,7 @@ fn later<B: Bounds>(names: &mut Symbols<Place, B>, name: &str) -> Operand {
     }
 }
 
-/// What a leaf stands for.
+/// Returns the operand of a leaf.
 fn operand<B: Bounds>(names: &mut Symbols<Place, B>, word: &str) -> Operand {
     if let Some(function) = function(word) {
         return Operand::Function(function);
@@ -121,7 +121,7 @@ fn operand<B: Bounds>(names: &mut Symbols<Place, B>, word: &str) -> Operand {
     }
 }
 
-/// The trees of some words.
+/// Returns the trees of some words.
 pub(crate) fn trees<B: Bounds>(
     alloc: Global,
     names: &mut Symbols<Place, B>,

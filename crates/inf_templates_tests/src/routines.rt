@@ -6,10 +6,9 @@ ghost use Rattle.inf_templates_tests.specs.Most.{AreUsual};
 
 use crate::expressions::{HERE, trees};
 use crate::words::{add_bytes, number_or, text_of, word};
-use inf_area::{Area, AreaName, PagedArea, Refs, Target};
+use inf_area::{Area, AreaName, PagedArea, Refs, Scale, Target};
 use inf_arrays::{Arrays, Globals};
 use inf_assembler::RoutineKind;
-use inf_cells::Scale;
 use inf_code::code::{Code, CodeLimits};
 use inf_dictionary::Dictionary;
 use inf_expressions::{Forest, Root};
@@ -19,16 +18,15 @@ use inf_opcode::Opcode;
 use inf_output::{Output, Simple, Strings, Texts, Veneer};
 use inf_scanner::Place;
 use inf_settings::bounds::Bounds;
-use inf_tables::{LowStrings, Tables};
+use inf_tables::{Limits, LowStrings, Tables, World};
 use inf_templates::{
     Argument, Tasks, lay_alone, lay_branch, lay_call, lay_instruction, lay_routine_call, lay_value,
 };
 use inf_verbs::{Actions, ParsingRoutines, Verbs};
-use inf_world::{Limits, World};
 use std::alloc::{AllocError, Global};
 use std::marker::Brand;
 
-/// What lays expressions.
+/// A state in which expressions are laid.
 #[derive(Drop)]
 struct Laying<B: Bounds> {
     tasks: Tasks,
@@ -36,7 +34,7 @@ struct Laying<B: Bounds> {
 }
 
 impl<B: Bounds> Laying<B> {
-    /// Each expression is laid without result.
+    /// Lays each expression without result.
     fn alone(&mut self, forest: &Forest) -> Result<(), AllocError> {
         for root in &forest.roots {
             lay_alone(&mut self.tasks, &forest.nodes, root.place, &mut self.out)?;
@@ -44,7 +42,7 @@ impl<B: Bounds> Laying<B> {
         Ok(())
     }
 
-    /// Each with its value in a variable.
+    /// Lays each with its value in a variable.
     fn value(&mut self, forest: &Forest, variable: u8) -> Result<(), AllocError> {
         for root in &forest.roots {
             lay_value(
@@ -58,7 +56,7 @@ impl<B: Bounds> Laying<B> {
         Ok(())
     }
 
-    /// Each as a branch over an instruction.
+    /// Lays each as a branch over an instruction, where its truth is `sense`.
     fn branch(&mut self, forest: &Forest, sense: bool) -> Result<(), AllocError> {
         let over = self.out.label();
         for root in &forest.roots {
@@ -75,7 +73,7 @@ impl<B: Bounds> Laying<B> {
         self.out.mark(over)
     }
 
-    /// An instruction of the first two.
+    /// Lays an instruction of the first two.
     fn insert(&mut self, forest: &Forest) -> Result<(), AllocError> {
         let arguments = [argument(forest, 0), argument(forest, 1)];
         lay_instruction(
@@ -89,7 +87,7 @@ impl<B: Bounds> Laying<B> {
         )
     }
 
-    /// A call of the first with the others, and with a number.
+    /// Lays a call of the first with the others and the number 5.
     fn call(
         &mut self,
         alloc: Global,
@@ -111,7 +109,7 @@ impl<B: Bounds> Laying<B> {
         )
     }
 
-    /// A call of a routine of the veneer with all.
+    /// Lays a call of a routine of the veneer with all.
     fn spaces(&mut self, alloc: Global, forest: &Forest) -> Result<(), AllocError> {
         let mut arguments = Vec::new(alloc);
         for root in &forest.roots {
@@ -127,7 +125,7 @@ impl<B: Bounds> Laying<B> {
         )
     }
 
-    /// The first behind the others.
+    /// Lays the first behind the others.
     fn apart(&mut self, alloc: Global, forest: &Forest) -> Result<(), AllocError> {
         self.out.set_apart(alloc);
         lay_alone(
@@ -149,7 +147,7 @@ impl<B: Bounds> Laying<B> {
         self.lay(alloc, way, forest)
     }
 
-    /// Expressions are laid in a way.
+    /// Lays the expressions in a way.
     fn lay(&mut self, alloc: Global, way: &str, forest: &Forest) -> Result<(), AllocError> {
         let variable = word(way, 1).parse();
         match word(way, 0) {
@@ -165,7 +163,7 @@ impl<B: Bounds> Laying<B> {
     }
 }
 
-/// The place of an expression.
+/// Returns the place of an expression.
 fn place(forest: &Forest, number: usize) -> usize {
     match forest.root(number) {
         Some(Root { place, .. }) => place,
@@ -173,7 +171,7 @@ fn place(forest: &Forest, number: usize) -> usize {
     }
 }
 
-/// An expression as an argument.
+/// Returns an expression as an argument.
 fn argument(forest: &Forest, number: usize) -> Argument {
     Argument::Of(place(forest, number))
 }
@@ -196,7 +194,7 @@ fn add_names<B: Bounds>(
     Ok(())
 }
 
-/// What stands for names: from 1000 on in hexadecimal digits.
+/// Returns the numbers of names: from 1000 on in hexadecimal digits.
 fn numbers<B: Bounds>(alloc: Global, names: &Symbols<Place, B>) -> Result<Vec<u16>, AllocError> {
     let mut numbers = Vec::new(alloc);
     let mut number: u16 = 0x1000;
@@ -207,7 +205,7 @@ fn numbers<B: Bounds>(alloc: Global, names: &Symbols<Place, B>) -> Result<Vec<u1
     Ok(numbers)
 }
 
-/// The area of some code, with the numbers of names in their places.
+/// Returns the area of some code, with the numbers of names in their places.
 fn filled<B: Bounds>(
     alloc: Global,
     code: Code<B>,
@@ -228,7 +226,7 @@ fn filled<B: Bounds>(
     Ok(area)
 }
 
-/// Tells of some bytes and names.
+/// Returns some bytes and names in words.
 fn told_bytes<B: Bounds>(
     alloc: Global,
     names: &Symbols<Place, B>,
@@ -240,7 +238,7 @@ fn told_bytes<B: Bounds>(
     Ok(told)
 }
 
-/// Tells of the bytes of closed routines, and of their names.
+/// Returns the bytes of closed routines, and their names, in words.
 fn told_area<B: Bounds>(
     alloc: Global,
     names: &Symbols<Place, B>,
@@ -251,7 +249,7 @@ fn told_area<B: Bounds>(
     told_bytes(alloc, names, &area)
 }
 
-/// Closes the routine, and tells of its bytes and names.
+/// Closes the routine, and returns its bytes and names in words, or its fault.
 fn told_closed<B: Bounds>(
     alloc: Global,
     names: Symbols<Place, B>,
@@ -263,7 +261,8 @@ fn told_closed<B: Bounds>(
     }
 }
 
-/// The same, unless a limit was passed.
+/// Closes the routine of `out`, and returns its bytes and names in words, or the limit that was
+/// passed.
 fn told_of<B: Bounds>(alloc: Global, out: Output<B>) -> Result<String, AllocError> {
     match out.full() {
         Some(limit) => format!(in alloc; "Full({limit:?})"),
@@ -274,14 +273,14 @@ fn told_of<B: Bounds>(alloc: Global, out: Output<B>) -> Result<String, AllocErro
     }
 }
 
-/// How much there may be of names and of code.
+/// The limits of names and of code.
 #[derive(Clone, Copy)]
 struct Most {
     names: u32,
     code: CodeLimits,
 }
 
-/// As much as a way says.
+/// Returns the limits that a way gives.
 fn most_of(way: &str) -> Most {
     Most {
         names: word(way, 2).parse().unwrap_or(10_000),
@@ -293,7 +292,7 @@ fn most_of(way: &str) -> Most {
     }
 }
 
-/// Tables of which nothing is used.
+/// Returns tables of which nothing is used.
 fn tables<B: Bounds>(alloc: Global) -> Tables<B>
     requires { AreUsual B.most }
 {
@@ -313,7 +312,7 @@ fn tables<B: Bounds>(alloc: Global) -> Tables<B>
     }
 }
 
-/// An output with some names.
+/// Makes an output with some names.
 fn output_for<B: Bounds>(
     alloc: Global,
     limits: CodeLimits,
@@ -330,7 +329,7 @@ fn output_for<B: Bounds>(
     Ok(Output::new(code, strings, tables::<B>(alloc), names, texts, seen, HERE))
 }
 
-/// What comes of some expressions that are laid in a way.
+/// Lays some expressions in a way, and returns the answer to them.
 fn told_by<B: Bounds>(
     alloc: Global,
     way: &str,
@@ -341,12 +340,12 @@ fn told_by<B: Bounds>(
     told_of(alloc, laying.out)
 }
 
-/// The same of some that are spelled.
+/// Returns the answer to expressions that are spelled.
 pub(crate) fn answer(alloc: Global, way: &str, spelled: &str) -> Result<String, AllocError> {
     answer_under::<Brand>(alloc, most_of(way), way.as_bytes(), spelled.as_bytes())
 }
 
-/// The same, where there may be so much.
+/// Returns the answer to expressions that are spelled, with the limits `most`.
 fn answer_under<B: Bounds>(
     alloc: Global,
     most: Most,

@@ -1,18 +1,18 @@
-//! The words of a line, and bytes as they are told.
+//! The words of a line, and bytes in words.
 use inf_area::{Area, PagedArea};
 use std::alloc::{AllocError, Global};
 
-/// The text of some bytes, or an empty one.
+/// Returns the text of some bytes, or an empty one.
 pub(crate) fn text_of(bytes: &[u8]) -> &str {
     str::from_utf8(bytes).unwrap_or("")
 }
 
-/// The word at a place, or an empty one.
+/// Returns the word at a place, or an empty one.
 pub(crate) fn word(text: &str, place: usize) -> &str {
     text.split(' ').nth(place).unwrap_or("")
 }
 
-/// The number at a place, or another one.
+/// Returns the number at a place, or another one.
 pub(crate) fn number_or(text: &str, place: usize, other: usize) -> usize {
     word(text, place).parse().unwrap_or(other)
 }

@@ -107,7 +107,7 @@ best_of-shows texts items best (link ∷ links) zero n d lt is = rw (← is) (λ
 best_of-shows texts items best (link ∷ links) (suc j) n d lt is =
     best_of-shows texts items (tried items best link.number (text_at texts link.number)) links j n d (omega arith) is
 
--- what is found is one of the texts
+-- the text that is found is one of the texts
 pub best_of-among : (texts : List (List TextItem)) (items : List TextItem) (best : Option (ℕ × ℕ)) (links : List Link) →
     ((j : ℕ) (d : Link) → j < length links → (get_or links j d).number < length texts) → AreAmong texts items best →
     AreAmong texts items (best_of texts items best links)

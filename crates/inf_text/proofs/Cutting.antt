@@ -62,7 +62,7 @@ slice_get-kept [] a b n h = cc
 slice_get-kept (s ∷ seen) a b zero h = h
 slice_get-kept (s ∷ seen) a b (suc n) h = slice_get-kept seen a b n h
 
--- what was found among those seen is the longest of them that begins
+-- the text found among those seen is the longest of them that begins the items
 record IsBest (seen : List (List TextItem)) (items : List TextItem) (n len : ℕ) : Type 0 where
   pub text : List TextItem
   pub declared_as : slice_get seen n ≡ Some text
@@ -130,7 +130,7 @@ IsRight-all seen (a ∷ declared) n items best e h =
     (rw (← e) (IsRight-better seen items a best h)) in
     rw append_snoc at next
 
--- what is found is the longest of all declared ones that begins, and nothing only where none begins
+-- the text that is found is the longest declared one that begins the items, and none is found only where none begins them
 IsRight-longest : (declared : List (List TextItem)) (items : List TextItem) → IsRight declared items (longest declared items)
 unfolding IsRight longest
 IsRight-longest declared items = IsRight-all [] declared 0 items None refl tt

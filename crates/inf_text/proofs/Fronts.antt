@@ -32,12 +32,12 @@ filled-more zs i k z len room filled =
     ap (λ (xs : List ℕ). set xs i z) filled ∙ seam in
     rw (take_more_set zs i z lt) (written ∙ sym (append_snoc front z (replicate k 5)))
 
--- what was given, and then what was given behind it
+-- Z-characters given in two steps are those given at once
 pub given-more : (n : ℕ) (old xs s ys t : List ℕ) → s ≡ take n (old ++ xs) → t ≡ take n (s ++ ys) → t ≡ take n (old ++ (xs ++ ys))
 given-more n old xs s ys t first second =
     second ∙ rw first (take-take_append n (old ++ xs) ys ∙ ap (take n) (append_assoc old xs ys))
 
--- what is given, filled to nine
+-- the given Z-characters, filled to nine, are those of the whole front
 pub filled-all : (zs front : List ℕ) (len : ℕ) → length zs ≡ 9 → len ≤ 9 → take len zs ≡ front → zs ≡ take len zs ++ replicate (9 - len) 5 →
     zs ≡ take 9 (front ++ replicate 9 5)
 filled-all zs front len is_nine le is_front filled =
@@ -50,7 +50,7 @@ filled-all zs front len is_nine le is_front filled =
     ∙ ap (λ (r : List ℕ). front ++ r) (take-replicate (9 - len) 9 5 (omega arith)) in
     filled ∙ ap (λ (f : List ℕ). f ++ replicate (9 - len) 5) is_front ∙ sym cut'
 
--- what was taken and what is left give the whole
+-- The Z-characters taken and those of the items left give those of the whole text.
 pub record Gives (front : List ℕ) (items whole : List TextItem) : Type 0 where
   pub value : take 9 (front ++ (flat_map (λ x. item_zs (lowered x)) items ++ replicate 9 5)) ≡ dictionary_zs whole
   pub text : IsText items

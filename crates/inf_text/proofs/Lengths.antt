@@ -1,8 +1,8 @@
--- How many bytes Z-characters give.
+-- The number of bytes that Z-characters give.
 use Rattle.std.proofs.Common.{◌≡◌, ◌<◌, ◌+◌, ◌*◌, ◌/◌, ℕ, List, [], ◌∷◌, length, refl, arith}
 use Rattle.inf_text.specs.Packing.{words}
 
--- two bytes for each three Z-characters, and for those at the end
+-- Z-characters give two bytes for each three of them, and two for those left at the end.
 pub length-words : (zs : List ℕ) → 0 < length zs → (length zs + 2) / 3 * 2 ≡ length (words zs)
 length-words [] h = omega arith
 length-words (a ∷ []) h = refl

@@ -1,4 +1,4 @@
--- What texts have in common, one after the other.
+-- The items that texts have in common, where one follows the other.
 use Rattle.std.proofs.Common.{◌≡◌, ◌≢◌, ◌<◌, ◌≤◌, ◌+◌, ℕ, zero, suc, Bool, true, false, ◌&&◌, ◌||◌, cond, eqb, Option, None, List, [], ◌∷◌}
 use Rattle.std.proofs.Common.{length, take, drop, get_or, min, refl, sym, ap, ◌∙◌, inl, inr, arith}
 use Rattle.std.specs.Prelude.{◌⊎◌}
@@ -62,7 +62,7 @@ common_less (x ∷ items) (y ∷ p) (z ∷ a) lt = go (same_item x y) refl (same
     go true e true f h lt = rw (same-before x y z true e f, h (omega arith)) refl
     go false e true f h lt = rw (same-behind x y z false e f) refl
 
--- those that leave it behind the neighbour leave the neighbour where the text does
+-- items that leave a text behind the place where its neighbour does leave the neighbour where the neighbour leaves the text
 pub common_more : (items p a : List TextItem) → common p a < common items p → common items a ≡ common p a
 common_more items p [] lt = refl
 common_more items [] (z ∷ a) lt = absurd (omega arith)
@@ -75,7 +75,7 @@ common_more (x ∷ items) (y ∷ p) (z ∷ a) lt = go (same_item x y) refl (same
     go true e true f h lt = rw (same-before x y z true e f, h (omega arith)) refl
     go true e false f h lt = rw (same-before x y z false e f) refl
 
--- and those that leave it together with the neighbour may have more in common with the neighbour
+-- items that leave a text where its neighbour does may have more in common with the neighbour
 pub common_same : (items p a : List TextItem) → common p a ≡ common items p → common items p ≤ common items a
 common_same items p [] is = omega arith
 common_same items [] (z ∷ a) is = omega arith
@@ -89,7 +89,7 @@ common_same (x ∷ items) (y ∷ p) (z ∷ a) is = go (same_item x y) refl (same
     go true e true f h is = rw (same-before x y z true e f) (omega (arith, h (omega arith)))
     go true e false f h is = absurd (omega arith)
 
--- what is in common behind a part of it
+-- the items in common behind the first `k`, and those `k`, are all that are in common
 pub common-drop : (k : ℕ) (xs ys : List TextItem) → k ≤ common xs ys → k + common (drop k xs) (drop k ys) ≡ common xs ys
 common-drop zero xs ys le = omega arith
 common-drop (suc k) xs [] le = absurd (omega arith)
@@ -101,7 +101,7 @@ common-drop (suc k) (x ∷ xs) (y ∷ ys) le = go (same_item x y) (common-drop k
     go true h le = omega (arith, h (omega arith))
     go false h le = absurd (omega arith)
 
--- where the search stands: behind a text with which so much is in common
+-- the state of the search: behind the text `before`, which has its first `matched` items in common with the items
 pub record Searches (texts : List (List TextItem)) (items : List TextItem) (matched : ℕ) (best : Option (ℕ × ℕ)) (links : List Link)
     (whole : Option (ℕ × ℕ)) : Type 0 where
   pub before : List TextItem
@@ -109,7 +109,7 @@ pub record Searches (texts : List (List TextItem)) (items : List TextItem) (matc
   pub linked : AreLinked texts before links
   pub value : best_of texts items best links ≡ whole
 
--- the first text was looked at
+-- the search goes on behind the first text that was looked at
 pub Searches-first : (texts : List (List TextItem)) (items : List TextItem) (links rest : List Link) (l : Link) (matched : ℕ)
     (best : Option (ℕ × ℕ)) → links ≡ l ∷ rest → HaveLinks texts links → matched ≡ common items (text_at texts l.number) → best ≡ tried
     items None l.number (text_at texts l.number) → Searches texts items matched best rest (best_of texts items None links)
@@ -122,7 +122,7 @@ Searches-first texts items links rest l matched best split h matched_is best_is 
       value = rw (best_is, split) refl;
     }
 
--- one more text was looked at, or passed over
+-- the search goes on behind one more text, looked at or passed over
 pub Searches-more : (texts : List (List TextItem)) (items : List TextItem) (matched next : ℕ) (best better : Option (ℕ × ℕ))
     (links rest : List Link) (l : Link) (whole : Option (ℕ × ℕ)) → links ≡ l ∷ rest → next ≡ common items (text_at texts l.number) → better
     ≡ tried items best l.number (text_at texts l.number) → Searches texts items matched best links whole → Searches texts items next better
@@ -150,7 +150,7 @@ Searches-next texts items matched best links rest l whole split h =
     let linked : AreLinked texts h.before (l ∷ rest) = rw split at h.linked in
     record { within = linked.0; before = h.before; matched_is = h.matched_is; link = linked.1 }
 
--- what is in common with the next text, where it leaves the one before it where the items do
+-- the items in common with the next text, where that leaves the text before it at the place where the items do
 pub goes_on : (texts : List (List TextItem)) (items : List TextItem) (matched : ℕ) (l : Link) (a : List TextItem) →
     a ≡ text_at texts l.number → l.shared ≡ matched → IsNext texts items matched l →
     matched + common (drop matched items) (drop matched a) ≡ common items a
@@ -159,7 +159,7 @@ goes_on texts items matched l a is same h =
     let within : matched ≤ common items a = rw h.matched_is (common_same items h.before a (sym shared ∙ same ∙ h.matched_is)) in
     common-drop matched items a within
 
--- where it leaves it before
+-- the items in common with the next text, where that leaves the text before it at an earlier place
 pub shorter : (texts : List (List TextItem)) (items : List TextItem) (matched : ℕ) (l : Link) → l.shared < matched →
     IsNext texts items matched l → l.shared ≡ common items (text_at texts l.number)
 shorter texts items matched l less h =
@@ -182,7 +182,7 @@ not_tried items a best n short =
     let not_whole : eqb (common items a) (length a) ≡ false = grind (arith, nat_tests) in
     sym (ap (λ (t : Bool). cond t (pick best n (length a)) best) not_whole)
 
--- where it goes on with another code
+-- the items in common with the next text, where that goes on with another code
 pub stays : (texts : List (List TextItem)) (items : List TextItem) (matched : ℕ) (l : Link) (best : Option (ℕ × ℕ)) → l.shared ≡ matched →
     l.len ≢ matched → l.next ≢ first_code (drop matched items) → IsNext texts items matched l →
     (matched ≡ common items (text_at texts l.number)) × (best ≡ tried items best l.number (text_at texts l.number))
@@ -231,7 +231,7 @@ AreLinked-take texts before zero links h = tt
 AreLinked-take texts before (suc n) [] h = tt
 AreLinked-take texts before (suc n) (l ∷ links) h = (h.0, h.1, AreLinked-take texts (text_at texts l.number) n links h.2)
 
--- and those of a part of it
+-- the links of a part of an order are right
 pub HaveLinks-part : (texts : List (List TextItem)) (order : List ℕ) (start n : ℕ) → AreBelow (length texts) order →
     HaveLinks texts (take n (drop start (linked_from texts [] order)))
 HaveLinks-part texts order start n h =
@@ -256,12 +256,12 @@ pub text_is : (texts : List (List TextItem)) (n k : ℕ) (x a : List TextItem) �
 text_is texts n k x a same at is lt =
     let lt' : k < length texts = omega arith in same ∙ get_or_read texts k x lt' at [] ∙ ap (text_at texts) is
 
--- a text was tried
+-- trying a text by its number and its length is trying the text
 pub taken_is : (items text : List TextItem) (best : Option (ℕ × ℕ)) (k n matched len : ℕ) → matched ≡ common items text → k ≡ n →
     len ≡ length text → cond (eqb matched len) (pick best k len) best ≡ tried items best n text
 taken_is items text best k n matched len is number long = rw (is, number, long) refl
 
--- what is in common with the next text fits it
+-- the items in common with the text before the next one fit the next one
 pub fits_next : (texts : List (List TextItem)) (items : List TextItem) (matched : ℕ) (l : Link) (a : List TextItem) →
     a ≡ text_at texts l.number → l.shared ≡ matched → IsNext texts items matched l → matched ≤ length a
 fits_next texts items matched l a is same h = rw is (omega (arith, h.link.shared, common-fits_right h.before (text_at texts l.number)))
@@ -278,7 +278,7 @@ common-end xs ys k le = go (cases_lt k (length xs))
     go (inl lt) = rw (drop_all k ys (omega arith)) refl
     go (inr ge) = rw (drop_all k xs ge) (common-none (drop k ys))
 
--- the test whether a text may go on
+-- a text may go on only where it leaves the one before it at the place where the items do
 pub going_on : (l : Link) (matched code : ℕ) → (eqb l.shared matched && (eqb l.len matched || eqb l.next code)) ≡ true → l.shared ≡ matched
 going_on l matched code h = let e : eqb l.shared matched ≡ true = left (eqb l.shared matched) _ h in grind (arith, nat_tests)
   where

@@ -13,7 +13,7 @@ use Rattle.inf_characters.specs.declared.texts.TextItem.{TextItem}
 marked : (a b : ℕ) → IsTrue (leb 128 (128 + 4 * a + b / 8))
 marked a b = let high : 128 ≤ 128 + 4 * a + b / 8 = omega arith in grind (arith, nat_tests)
 
--- that of a word before it is not
+-- the high byte of a word before it is not marked
 unmarked : (a b : ℕ) → a < 32 → b < 32 → IsTrue (ltb (0 + 4 * a + b / 8) 128)
 unmarked a b la lb = let low : 0 + 4 * a + b / 8 < 128 = omega arith in grind (arith, nat_tests)
 

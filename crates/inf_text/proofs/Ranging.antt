@@ -43,7 +43,7 @@ zero_at c = go (cases_lt c 256)
     go (inr ge) = let len : length {A = ℕ} (replicate 256 0) ≡ 256 = length-replicate {A = ℕ} 256 0 in get_or_past {X = ℕ} (replicate 256 0)
         c 0 (omega arith)
 
--- those of no texts
+-- the ranges of no texts
 pub AreRangesTo-none : (texts : List (List TextItem)) (order : List ℕ) (ranges : Ranges) →
     ranges ≡ record { starts = replicate 256 0; ends = replicate 256 0 } → AreRangesTo texts order 0 ranges
 AreRangesTo-none texts order ranges is = rw is (record {
@@ -216,7 +216,7 @@ same_code (x ∷ items) (y ∷ a) le h = ap code_of (sym (same_item-true x y (le
     left true t h = refl
     left false t h = cc
 
--- what stands at a place of a part
+-- the link at a place of a part is that at the place behind its start
 part_at : (links : List Link) (start end i : ℕ) (d : Link) → i < end - start →
     get_or (take (end - start) (drop start links)) i d ≡ get_or links (start + i) d
 part_at links start end i d lt = get_or-take (end - start) (drop start links) i d lt ∙ get_or-drop start links i d

@@ -10,7 +10,7 @@ and_right : (a b : Bool) → (a && b) ≡ true → b ≡ true
 and_right true b h = h
 and_right false b h = cc
 
--- what begins some items is no longer than they are
+-- a text that begins some items is no longer than they are
 pub begins_with-fits : (items a : List TextItem) → begins_with items a ≡ true → length a ≤ length items
 begins_with-fits items [] h = omega arith
 begins_with-fits [] (y ∷ ys) h = cc

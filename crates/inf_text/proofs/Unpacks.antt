@@ -66,7 +66,7 @@ printed-fill : (texts : List (List TextItem)) (n alphabet : ℕ) → printed tex
 printed-fill texts zero alphabet = refl
 printed-fill texts (suc n) alphabet = printed-fill texts n 2
 
--- so many numbers, from one on
+-- the `n` numbers from `first` on
 run : ℕ → ℕ → List ℕ
 run first zero = []
 run first (suc n) = first ∷ run (first + 1) n
@@ -139,7 +139,7 @@ and_both : (a b : Bool) → (a && b) ≡ true → (a ≡ true) × (b ≡ true)
 and_both true b h = (refl, h)
 and_both false b h = cc
 
--- what the Z-characters of a code print, where they print it
+-- The Z-characters of a code print it.
 Prints : List (List TextItem) → List ℕ → ℕ → List ℕ → Type 0
 Prints texts zs c more = printed texts (Letter 0) (zs ++ more) ≡ Character c ∷ printed texts (Letter 0) more
 
@@ -280,7 +280,7 @@ IsText-right (x ∷ xs) ys h = IsText-right xs ys h.1
 Agrees : List (List TextItem) → List (List TextItem) → Type 0
 Agrees declared texts = (n : ℕ) (a : List TextItem) → slice_get declared n ≡ Some a → (n < 64) × (get_or texts n [] ≡ a)
 
--- the Z-characters of parts are such, and print the items that the parts cut
+-- the Z-characters of parts have five bits each, and print the items that the parts cut
 AreZs-parts : (declared texts : List (List TextItem)) (parts : List Part) (items : List TextItem) → Agrees declared texts → IsText items →
     Cuts declared parts items → AreZs (flat_map part_zs parts)
 unfolding Agrees
@@ -347,7 +347,7 @@ unfolding unpacked packed
 unpacks declared items h text =
     printed-words declared (map abbreviation_text (strings declared)) items h.texts (table_agrees declared h) text
 
--- the Z-characters of a text are such
+-- the Z-characters of a text have five bits each
 pub AreZs-packed : (declared : List (List TextItem)) (items : List TextItem) → AreAbbreviations declared → IsText items →
     AreZs (zs_from declared 0 items)
 AreZs-packed declared items h text =

@@ -6,11 +6,11 @@ use Rattle.inf_text.specs.declared.abbreviation.AbbrevFault.{AbbrevFault}
 use Rattle.inf_text.specs.declared.abbreviation.AbbrevFault.TheVariants.{Full, Repeated, TooShort, Memory}
 use Rattle.inf_characters.specs.declared.texts.TextItem.{TextItem}
 
--- whether two texts have the same items
+-- Tells whether two texts have the same items.
 abbrev pub same_text : List TextItem → List TextItem → Bool
 same_text xs ys = (length xs == length ys) && begins_with xs ys
 
--- what declaring a text answers: the number of those declared before, or the first refusal
+-- the number that a text is declared as, which counts those declared before, or the first refusal
 abbrev pub declared_number : List (List TextItem) → List TextItem → Result ℕ AbbrevFault
 declared_number declared text =
     if nat_lt 63 (length declared) then Err Full
@@ -18,8 +18,8 @@ declared_number declared text =
     else if nat_lt (length text) 2 then Err TooShort
     else Ok (length declared)
 
--- What a call answers is what declaring answers, and it adds the text then; a refusal changes nothing, and one for want of memory comes
--- only where there is no other.
+-- A call declares a text where that may be, adds it behind the others and gives its number; a refusal changes nothing, and one for want
+-- of memory comes only where there is no other.
 abbrev pub Declares : List (List TextItem) → List TextItem → List (List TextItem) → Result ℕ AbbrevFault → Type 0
 Declares old text new (Ok n) = (declared_number old text ≡ Ok n) × (new ≡ old ++ text ∷ [])
 Declares old text new (Err Full) = (declared_number old text ≡ Err Full) × (new ≡ old)

@@ -35,7 +35,7 @@ item_zs (Variable n) = 1 ∷ n ∷ []
 abbrev pub abbreviation_zs : ℕ → List ℕ
 abbreviation_zs n = ((32 + n) / 32 + 1) ∷ ((32 + n) % 32) ∷ []
 
--- whether items begin with those of an abbreviation
+-- Tells whether items begin with those of an abbreviation.
 abbrev pub begins_with : List TextItem → List TextItem → Bool
 begins_with items [] = true
 begins_with [] (y ∷ ys) = false
@@ -65,7 +65,7 @@ abbrev pub front_zs : Option (ℕ × ℕ) → TextItem → List ℕ
 front_zs None x = item_zs x
 front_zs (Some found) x = abbreviation_zs found.0
 
--- how many items behind the first they stand for
+-- the number of items behind the first that the Z-characters at the front stand for
 abbrev pub front_behind : Option (ℕ × ℕ) → ℕ
 front_behind None = 0
 front_behind (Some found) = found.1 - 1

@@ -20,7 +20,7 @@ abbrev pub NoneBegins : List (List TextItem) → List TextItem → Type 0
 NoneBegins [] items = Unit {0}
 NoneBegins (a ∷ declared) items = (begins_with items a ≡ false) × NoneBegins declared items
 
--- those that stand at the front of some items have no more than so many items
+-- the abbreviations that stand at the front of some items have at most `most` items each
 abbrev pub NoneLonger : List (List TextItem) → List TextItem → ℕ → Type 0
 NoneLonger [] items most = Unit {0}
 NoneLonger (a ∷ declared) items most = (begins_with items a ≡ true → length a ≤ most) × NoneLonger declared items most
@@ -45,7 +45,7 @@ abbrev pub AreLongTexts : List (List TextItem) → Type 0
 AreLongTexts [] = Unit {0}
 AreLongTexts (a ∷ declared) = ((2 ≤ length a) × IsText a) × AreLongTexts declared
 
--- what may be declared: 64 such texts at most
+-- abbreviations that may be declared: at most 64 texts of two items or more
 pub record AreAbbreviations (declared : List (List TextItem)) : Type 0 where
   pub few : length declared ≤ 64
   pub texts : AreLongTexts declared

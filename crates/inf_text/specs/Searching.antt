@@ -14,12 +14,12 @@ abbrev pub code_of : TextItem → ℕ
 code_of (Character c) = c
 code_of (Variable n) = n
 
--- that of the first item
+-- the code of the first item, or 0 where there is none
 abbrev pub first_code : List TextItem → ℕ
 first_code [] = 0
 first_code (x ∷ items) = code_of x
 
--- how many items two texts have in common at their fronts
+-- the number of items that two texts have in common at their fronts
 abbrev pub common : List TextItem → List TextItem → ℕ
 common items [] = 0
 common [] (y ∷ ys) = 0

@@ -1,4 +1,4 @@
--- What an interpreter reads in a packed text (Z-Machine Standard 1.1, section 3). It knows nothing of how texts are packed.
+-- The reading of a packed text by an interpreter (Z-Machine Standard 1.1, section 3), apart from how texts are packed.
 use Rattle.std.specs.Prelude.{◌≡◌, ℕ, ◌+◌, ◌-◌, ◌*◌, ◌/◌, ◌%◌, ◌==◌, ◌&&◌, nat_lt, List, [], ◌∷◌, ◌++◌, map, slice_index, slice_index_or}
 use Rattle.std.specs.Prelude.{codes, if◌then◌else◌}
 use Rattle.inf_text.specs.Packing.{packed}
@@ -20,18 +20,19 @@ letters alphabet =
     else if alphabet == 1 then codes "ABCDEFGHIJKLMNOPQRSTUVWXYZ"
     else codes "  0123456789.,!?_#'\"/\\-:()"
 
--- what the next Z-character is read as
+-- the readings of the next Z-character
 pub data Expects : Type 0 where
   Letter : (alphabet : ℕ) → Expects
   Entry : (bank : ℕ) → Expects
   HighBits : Expects
   LowBits : (high : ℕ) → Expects
 
--- what an entry of the table of abbreviations prints: the first 32 are string variables, then come the declared abbreviations (section 3.3)
+-- the text that an entry of the table of abbreviations prints: the first 32 are string variables, then come the declared abbreviations
+-- (section 3.3)
 abbrev pub entry_text : List (List TextItem) → ℕ → List TextItem
 entry_text texts n = if nat_lt n 32 then Variable n ∷ [] else slice_index_or texts (n - 32) []
 
--- what Z-characters print (sections 3.2.1 to 3.5)
+-- the text that Z-characters print (sections 3.2.1 to 3.5)
 abbrev pub printed : List (List TextItem) → Expects → List ℕ → List TextItem
 printed texts expects [] = []
 printed texts (Letter alphabet) (z ∷ zs) =

@@ -11,10 +11,10 @@ use std::alloc::{AllocError, AllocFailed, Global};
 use std::marker::Model;
 use thiserror::Error;
 
-/// How many items an abbreviation has at least.
+/// The fewest items that an abbreviation may have.
 const SHORTEST: usize = 2;
 
-/// Why a text can't be declared as an abbreviation.
+/// The reason why a text cannot be declared as an abbreviation.
 #[derive(Clone, Copy, Debug, PartialEq, Eq, Drop, Error)]
 pub enum AbbrevFault {
     /// There are 64 abbreviations.
@@ -74,7 +74,7 @@ impl Model for Abbreviations {
 }
 
 impl Abbreviations {
-    /// None declared yet.
+    /// Returns abbreviations of which none is declared yet.
     pub fn new(alloc: Global) -> Abbreviations
         ensures { result ≡ [] }
     {
@@ -84,10 +84,9 @@ impl Abbreviations {
         }
     }
 
-    /// Declares a text as an abbreviation, and answers its number: how many were declared before.
-    /// The refusals, in this order: `Full` where there are 64, `Repeated` where the text is declared,
-    /// `TooShort` where it has fewer than two characters, `Memory` where there is too little memory. A
-    /// refusal changes nothing.
+    /// Declares `text` as an abbreviation and returns its number, which counts those declared before it. Returns an
+    /// error, the first that applies: `Full` where there are 64, `Repeated` where the text is declared, `TooShort`
+    /// where it has fewer than two characters, `Memory` where there is too little memory. An error changes nothing.
     pub fn declare(&mut self, text: &Text) -> Result<u8, AbbrevFault>
         ensures { Declares self.old text.now self.new result }
     {
@@ -107,7 +106,7 @@ impl Abbreviations {
         Ok(number as u8)
     }
 
-    /// Their texts, in the order of their declaration.
+    /// Returns the texts of the abbreviations, in the order of their declaration.
     pub fn as_slice(&self) -> &[Text]
         ensures value { result.now ≡ self.now }
         ensures declared { AreAbbreviations self.now }
@@ -115,21 +114,21 @@ impl Abbreviations {
         self.texts.as_slice()
     }
 
-    /// How many are declared.
+    /// Returns the number of abbreviations that are declared.
     pub fn len(&self) -> usize
         ensures { result ≡ length self.now }
     {
         self.as_slice().len()
     }
 
-    /// Whether none is declared.
+    /// Returns whether no abbreviation is declared.
     pub fn is_empty(&self) -> bool
         ensures { IsTrue result ↔ (self.now ≡ []) }
     {
         self.texts.is_empty()
     }
 
-    /// The number and the length of the longest with which the items begin.
+    /// Returns the number and the length of the longest abbreviation with which `items` begin.
     #[inline]
     pub(crate) fn longest(&self, items: &[TextItem]) -> Option<(usize, usize)>
         ensures declared { AreAbbreviations self.now }
@@ -140,14 +139,14 @@ impl Abbreviations {
     }
 }
 
-/// Whether a text is among others.
+/// Returns whether `text` is among `texts`.
 fn is_among(texts: &[Text], text: &[TextItem]) -> bool
     ensures { result ≡ list_any (λ a. same_text a text.now) texts.now }
 {
     texts.iter().any(|a| same_text(a.as_slice(), text))
 }
 
-/// Whether two texts have the same items.
+/// Returns whether two texts have the same items.
 fn same_text(a: &[TextItem], b: &[TextItem]) -> bool
     ensures { result ≡ same_text a.now b.now }
 {

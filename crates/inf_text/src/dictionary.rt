@@ -6,13 +6,13 @@ use crate::zchars::{ZChars, item_zs, word};
 use inf_characters::Text;
 use std::marker::Model;
 
-/// How many Z-characters a text has in the dictionary.
+/// The number of Z-characters that a text has in the dictionary.
 const LEN: usize = 9;
 
 /// The Z-character that fills a text.
 const FILL: u8 = 5;
 
-/// The six bytes of a text in the dictionary: nine Z-characters, the capital letters made small, cut
+/// Returns the six bytes of a text in the dictionary: nine Z-characters, the capital letters made small, cut
 /// or filled with 5, without abbreviations (Z-Machine Standard 1.1, sections 3.7 and 13.3).
 pub fn dict_word(text: &Text) -> [u8; 6]
     ensures { result ≡ dictionary_bytes text.now }
@@ -24,7 +24,7 @@ pub fn dict_word(text: &Text) -> [u8; 6]
     front.bytes()
 }
 
-/// The first Z-characters of a text, at most nine. Contracts see those that were given.
+/// The first Z-characters of a text, at most nine. Contracts see the Z-characters that were given.
 #[derive(Drop)]
 struct Front {
     zs: [u8; 9],
@@ -43,7 +43,7 @@ impl Model for Front {
 }
 
 impl Front {
-    /// None given yet.
+    /// Returns a front to which no Z-character was given yet.
     fn new() -> Front
         ensures { result ≡ [] }
     {
@@ -84,7 +84,7 @@ impl Front {
         }
     }
 
-    /// The words, filled with 5.
+    /// Returns the words, filled with 5.
     fn bytes(&self) -> [u8; 6]
         ensures { result ≡ words (take 9 (self.now ++ replicate 9 5)) }
     {
@@ -92,7 +92,7 @@ impl Front {
     }
 }
 
-/// Nine Z-characters as words.
+/// Returns nine Z-characters packed as three words.
 fn nine_bytes(zs: &[u8; 9]) -> [u8; 6]
     requires { AreZs zs.now }
     ensures { result ≡ words zs.now }

@@ -14,7 +14,7 @@ ghost use Rattle.inf_text.specs.Searching.{first_code, linked_from, pick};
 use arrayvec::ArrayVec;
 use inf_characters::{Text, TextItem};
 
-/// How many abbreviations there may be.
+/// The most abbreviations that a source may declare.
 pub(crate) const MOST: usize = 64;
 
 /// An abbreviation by its number and its length, how many items it has in common with the one before
@@ -45,7 +45,7 @@ pub(crate) struct Index {
 }
 
 impl Index {
-    /// The index of no texts.
+    /// Returns the index of no texts.
     pub(crate) fn new() -> Index
         ensures { IsIndex [] result }
     {
@@ -73,7 +73,7 @@ impl Index {
         self.ranges = ranges_of(texts, self.order.as_slice());
     }
 
-    /// The number and the length of the longest of the texts with which the items begin.
+    /// Returns the number and the length of the longest of the texts with which the items begin.
     #[inline]
     pub(crate) fn longest(&self, texts: &[Text], items: &[TextItem]) -> Option<(usize, usize)>
         requires { AreIndexed texts.now self.now }
@@ -86,7 +86,7 @@ impl Index {
     }
 }
 
-/// The longest of some texts with which the items begin: its number and its length.
+/// Returns the longest of some texts with which the items begin: its number and its length.
 fn longest_of(links: &[Link], texts: &[Text], items: &[TextItem]) -> Option<(usize, usize)>
     requires { HaveLinks texts.now links.now }
     ensures { result ≡ best_of texts.now items.now None links.now }
@@ -111,7 +111,8 @@ fn longest_of(links: &[Link], texts: &[Text], items: &[TextItem]) -> Option<(usi
     best
 }
 
-/// How many items a text has in common with others, of which it has so many.
+/// Returns the number of items that `items` and `text` have in common at their fronts, where `matched` of them are
+/// known to be.
 #[inline]
 fn common_from(matched: usize, items: &[TextItem], text: &[TextItem]) -> usize
     requires items { matched ≤ length items.now }
@@ -122,7 +123,7 @@ fn common_from(matched: usize, items: &[TextItem], text: &[TextItem]) -> usize
     matched + common_len(&items[matched..], &text[matched..])
 }
 
-/// The code of the item behind so many.
+/// Returns the code of the item that follows the first `passed`, or 0 at the end.
 #[inline]
 fn code_behind(items: &[TextItem], passed: usize) -> u8
     requires { passed ≤ length items.now }
@@ -131,8 +132,8 @@ fn code_behind(items: &[TextItem], passed: usize) -> u8
     first_code(&items[passed..])
 }
 
-/// Whether a text may have more in common with some items than the text before it, which has so many;
-/// code is that of the item behind these.
+/// Returns whether the text of `link` may have more in common with some items than the text before it, which has
+/// `matched` items in common with them; `code` is that of the item behind these.
 #[inline]
 fn may_go_on(link: Link, matched: usize, code: u8) -> bool
     ensures { result ≡ ((link.shared == matched) && ((link.len == matched) || (link.next == code))) }
@@ -140,7 +141,8 @@ fn may_go_on(link: Link, matched: usize, code: u8) -> bool
     link.shared == matched && (link.len == matched || link.next == code)
 }
 
-/// A text in place of the best one so far, if it is whole among the items and longer.
+/// Returns the better of `best` and the text of `number`, which has `len` items: that text where all its items are
+/// matched and it is longer, or as long with a lower number.
 #[inline]
 fn taken(
     best: Option<(usize, usize)>,
@@ -159,7 +161,7 @@ fn taken(
     }
 }
 
-/// How many items two texts have in common at their fronts.
+/// Returns the number of items that two texts have in common at their fronts.
 #[inline]
 fn common_len(items: &[TextItem], text: &[TextItem]) -> usize
     ensures value { result ≡ common items.now text.now }
@@ -175,7 +177,7 @@ fn common_len(items: &[TextItem], text: &[TextItem]) -> usize
     most
 }
 
-/// Whether some items begin with others.
+/// Returns whether some items begin with others.
 #[tactic(auto, using(crate::proofs::Linking::begins_with_common))]
 pub(crate) fn begins_with(items: &[TextItem], front: &[TextItem]) -> bool
     ensures { result ≡ begins_with items.now front.now }
@@ -183,7 +185,7 @@ pub(crate) fn begins_with(items: &[TextItem], front: &[TextItem]) -> bool
     common_len(items, front) == front.len()
 }
 
-/// Whether two items are the same.
+/// Returns whether two items are the same.
 #[inline]
 fn same_item(a: TextItem, b: TextItem) -> bool
     ensures { result ≡ same_item a b }
@@ -191,7 +193,7 @@ fn same_item(a: TextItem, b: TextItem) -> bool
     a == b
 }
 
-/// The code of the first item, or its number.
+/// Returns the code of the first item, or its number.
 #[inline]
 fn first_code(items: &[TextItem]) -> u8
     ensures { result ≡ first_code items.now }
@@ -202,7 +204,7 @@ fn first_code(items: &[TextItem]) -> u8
     }
 }
 
-/// The code of a character, or the number of a string variable.
+/// Returns the code of a character, or the number of a string variable.
 #[inline]
 fn code_of(item: TextItem) -> u8
     ensures { result ≡ code_of item }
@@ -213,7 +215,7 @@ fn code_of(item: TextItem) -> u8
     }
 }
 
-/// Where a text goes among sorted ones: before the first that it precedes.
+/// Returns the place of `text` among sorted ones: before the first that it precedes.
 fn place_of(text: &[TextItem], texts: &[Text], sorted: &[u8]) -> usize
     requires { AreBelow (length texts.now) sorted.now }
     ensures { result ≤ length sorted.now }
@@ -226,7 +228,7 @@ fn place_of(text: &[TextItem], texts: &[Text], sorted: &[u8]) -> usize
     sorted.len()
 }
 
-/// Whether a text comes before another: at the first item that they have not in common it ends or has
+/// Returns whether a text comes before another: at the first item that they have not in common it ends or has
 /// the lower code.
 fn precedes(text: &[TextItem], other: &[TextItem]) -> bool {
     let shared = common_len(text, other);
@@ -237,7 +239,7 @@ fn precedes(text: &[TextItem], other: &[TextItem]) -> bool {
     }
 }
 
-/// The order in which sorted texts are searched.
+/// Returns the order in which sorted texts are searched.
 fn order_of(sorted: &[Link]) -> ArrayVec<u8, MOST>
     requires { length sorted.now ≤ 64 }
     ensures { IsOrder (length sorted.now) result.items }
@@ -250,7 +252,7 @@ fn order_of(sorted: &[Link]) -> ArrayVec<u8, MOST>
     order
 }
 
-/// Where the text of a number goes in the order of the search: before the first that it precedes there.
+/// Returns the turn of the text of `number` in the order of the search: before the first that it precedes there.
 fn turn_of(number: usize, sorted: &[Link], order: &[u8]) -> usize
     ensures { result ≤ length order.now }
 {
@@ -263,7 +265,7 @@ fn turn_of(number: usize, sorted: &[Link], order: &[u8]) -> usize
     order.len()
 }
 
-/// The place of the text of a number.
+/// Returns the place of the text of a number.
 fn place_among(sorted: &[Link], number: usize) -> usize {
     sorted
         .iter()
@@ -271,7 +273,7 @@ fn place_among(sorted: &[Link], number: usize) -> usize {
         .unwrap_or(0)
 }
 
-/// Whether the text at a place is searched before the one at another: it ends where they part, or more
+/// Returns whether the text at a place is searched before the one at another: it ends where they part, or more
 /// texts go on there as it does, or as many and it stands first.
 fn is_first(sorted: &[Link], place: usize, other: usize) -> bool {
     let shared = shared_from(sorted, place.min(other), place.max(other));
@@ -286,7 +288,7 @@ fn is_first(sorted: &[Link], place: usize, other: usize) -> bool {
     len > other_len || (len == other_len && place < other)
 }
 
-/// How many items the text at a place has in common with one behind it.
+/// Returns the number of items that the text at `place` has in common with the one at `behind`, which comes later.
 fn shared_from(sorted: &[Link], place: usize, behind: usize) -> usize {
     let mut least = usize::MAX;
     for (i, link) in sorted.iter().enumerate() {
@@ -297,7 +299,7 @@ fn shared_from(sorted: &[Link], place: usize, behind: usize) -> usize {
     least
 }
 
-/// Whether the text at a place has so many items.
+/// Returns whether the text at `place` has exactly `len` items.
 fn ends_at(sorted: &[Link], place: usize, len: usize) -> bool {
     match sorted.get(place) {
         Some(link) => link.len == len,
@@ -305,7 +307,8 @@ fn ends_at(sorted: &[Link], place: usize, len: usize) -> bool {
     }
 }
 
-/// How many texts, with the one at a place, have more than so many items in common with it.
+/// Returns the size of the group around the text at `place`: the neighbours that have more than `shared` items in
+/// common with it, and that text.
 fn group_len(sorted: &[Link], place: usize, shared: usize) -> usize {
     let mut start = 0;
     for (i, link) in sorted.iter().enumerate() {
@@ -319,7 +322,7 @@ fn group_len(sorted: &[Link], place: usize, shared: usize) -> usize {
     sorted.len().saturating_sub(start)
 }
 
-/// The texts in their order, each with what it has in common with the one before it.
+/// Returns the texts in their order, each with what it has in common with the one before it.
 fn linked(texts: &[Text], order: &[u8]) -> ArrayVec<Link, MOST>
     requires numbers { AreBelow (length texts.now) order.now }
     requires few { length order.now ≤ 64 }
@@ -341,7 +344,7 @@ fn linked(texts: &[Text], order: &[u8]) -> ArrayVec<Link, MOST>
     links
 }
 
-/// The ranges of no texts.
+/// Returns the ranges of no texts.
 fn no_ranges() -> Ranges
     ensures { result ≡ record { starts = replicate 256 0; ends = replicate 256 0 } }
 {
@@ -351,7 +354,7 @@ fn no_ranges() -> Ranges
     }
 }
 
-/// For each code the places of the texts that begin with it.
+/// Returns for each code the places of the texts that begin with it.
 fn ranges_of(texts: &[Text], order: &[u8]) -> Ranges
     requires numbers { AreBelow (length texts.now) order.now }
     requires few { length order.now ≤ 64 }

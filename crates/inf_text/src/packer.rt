@@ -38,12 +38,12 @@ impl Model for Packer {
 }
 
 impl Packer {
-    /// Nothing packed yet, with room for so many bytes where there is memory for them.
+    /// Returns a packer that has taken no Z-character yet, with room for `room` bytes where there is memory for them.
     pub(crate) fn new(alloc: Global, room: usize) -> Packer
         ensures { result ≡ ([], []) }
     {
         let mut bytes = Vec::new(alloc);
-        // Where there is no room for so many, there may be for those that come.
+        // The reservation may fail: there may still be memory for the bytes that come.
         let _ = bytes.reserve(room);
         Packer {
             bytes,
@@ -90,7 +90,7 @@ impl Packer {
         Ok(())
     }
 
-    /// The bytes, the last word filled with 5.
+    /// Returns the packed bytes, the last word filled with 5.
     pub(crate) fn finish(self) -> Result<Vec<u8>, AllocError>
         ensures { IfOk result (λ bytes. bytes.items ≡ completed self []) }
     {

@@ -14,7 +14,7 @@ use crate::zchars::{ZChars, abbreviation_zs, item_zs};
 use inf_characters::{Text, TextItem};
 use std::alloc::{AllocError, Global};
 
-/// The bytes of a text, packed with the abbreviations that are given (Z-Machine Standard 1.1,
+/// Returns the bytes of a text, packed with the abbreviations that are given (Z-Machine Standard 1.1,
 /// section 3). At each place that is reached, the longest abbreviation that stands there is taken.
 /// The only error is that there is too little memory.
 pub fn pack(
@@ -25,7 +25,7 @@ pub fn pack(
     ensures bytes { IfOk result (λ bytes. bytes.items ≡ packed text.now (in_use (option_copied abbreviations.entry))) }
     // An interpreter reads in the bytes the text.
     ensures unpacks { IfOk result (λ bytes. UnpacksTo (in_use (option_copied abbreviations.entry)) bytes.items text.now) }
-    // They are whole words, of which only the last is marked as the end.
+    // The bytes are whole words, of which only the last is marked as the end.
     ensures words { IfOk result (λ bytes. IsTrue (are_words bytes.items)) }
 {
     let mut items = text.as_slice();
@@ -38,7 +38,7 @@ pub fn pack(
     packer.finish()
 }
 
-/// How many bytes `pack` gives. It takes no memory.
+/// Returns the number of bytes that `pack` gives. Takes no memory.
 pub fn packed_len(text: &Text, abbreviations: Option<&Abbreviations>) -> usize
     ensures { result ≡ length (packed text.now (in_use (option_copied abbreviations.entry))) }
 {
@@ -51,7 +51,7 @@ pub fn packed_len(text: &Text, abbreviations: Option<&Abbreviations>) -> usize
     if count == 0 { 2 } else { (count + 2) / 3 * 2 }
 }
 
-/// The number and the length of the longest abbreviation that stands at the front of a text.
+/// Returns the number and the length of the longest abbreviation that stands at the front of a text.
 #[tactic(auto, unfolding(crate::specs::Packing::longest))]
 #[inline]
 fn longest(abbreviations: Option<&Abbreviations>, items: &[TextItem]) -> Option<(usize, usize)>
@@ -65,7 +65,7 @@ fn longest(abbreviations: Option<&Abbreviations>, items: &[TextItem]) -> Option<
     }
 }
 
-/// The Z-characters at the front of a text, and the items behind those that they stand for.
+/// Returns the Z-characters at the front of a text, and the items behind those that they stand for.
 #[inline]
 fn next_zs<'a>(
     abbreviations: Option<&Abbreviations>,

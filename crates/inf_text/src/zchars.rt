@@ -18,7 +18,7 @@ pub(crate) enum ZChars {
 }
 
 impl ZChars {
-    /// How many there are.
+    /// Returns the number of Z-characters.
     pub(crate) fn len(self) -> usize
         ensures value { result ≡ length (zs_list self) }
         ensures few { result ≤ 4 }
@@ -31,7 +31,7 @@ impl ZChars {
     }
 }
 
-/// The Z-characters of an item.
+/// Returns the Z-characters of an item.
 #[inline]
 pub(crate) fn item_zs(item: TextItem) -> ZChars
     requires { IsItem item }
@@ -44,7 +44,7 @@ pub(crate) fn item_zs(item: TextItem) -> ZChars
     }
 }
 
-/// The Z-characters of a code.
+/// Returns the Z-characters of a code.
 #[tactic(auto, unfolding(crate::specs::Packing::character_zs, crate::specs::Packing::punctuation))]
 #[inline]
 fn character_zs(code: Zscii) -> ZChars
@@ -64,7 +64,7 @@ fn character_zs(code: Zscii) -> ZChars
     }
 }
 
-/// The place of a code among others.
+/// Returns the place of a code among others.
 fn punctuation_place(table: &[u8], code: u8) -> Option<usize>
     ensures place { result ≡ position_from (λ x. x == code) 0 table.now }
     ensures within { IfSome result (λ place. place < length table.now) }
@@ -72,7 +72,7 @@ fn punctuation_place(table: &[u8], code: u8) -> Option<usize>
     table.iter().position(|x| *x == code)
 }
 
-/// The Z-characters of the abbreviation that was declared as this number.
+/// Returns the Z-characters of the abbreviation that was declared as this number.
 #[inline]
 pub(crate) fn abbreviation_zs(number: usize) -> ZChars
     requires { number < 64 }
@@ -83,7 +83,7 @@ pub(crate) fn abbreviation_zs(number: usize) -> ZChars
     ZChars::Two(entry / 32 + 1, entry % 32)
 }
 
-/// Three Z-characters as a word, and whether it is the last of its text.
+/// Returns three Z-characters as a word, marked where `is_last` says that it is the last of its text.
 #[inline]
 pub(crate) fn word(is_last: bool, a: u8, b: u8, c: u8) -> [u8; 2]
     requires { AreZs (a ∷ b ∷ c ∷ []) }

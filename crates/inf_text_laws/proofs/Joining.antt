@@ -23,7 +23,7 @@ ends_whole-fits set m after_mark zero bytes behind h = omega arith
 ends_whole-fits set m after_mark (suc passed) [] behind h = absurd (let none : false ≡ true = h in cc)
 ends_whole-fits set m after_mark (suc passed) (b ∷ bytes) behind h = omega (arith, ends_whole-fits set m after_mark passed bytes behind h)
 
--- the mark of a new line changes nothing before what is no white space
+-- The mark of a new line changes nothing before a byte that is no white space.
 piece_at-unmarked : (set : CharSet) (m : Mode) (b : ℕ) (bytes : List ℕ) → is_white set b ≡ false →
     piece_at set m true b bytes ≡ piece_at set m false b bytes
 unfolding piece_at
@@ -46,7 +46,7 @@ unfolding text_of
 at_end set m true behind h = unmarked set m behind (not_white (begins_white set behind) h)
 at_end set m false behind h = refl
 
--- items before what is joined
+-- items before joined texts
 with_front-joined : (items : List TextItem) (r next : Result (List TextItem) TextFault) →
     with_front items (joined r next) ≡ joined (with_front items r) next
 with_front-joined items (Ok more) next = sym (with_front-append items more next)

@@ -110,7 +110,7 @@ code_of_byte set b c black e = go (has_byte set b) (rw black at e)
     go true e = code_is b c e
     go false e = cc
 
--- a character that is no mark stays what it is
+-- A character that is no mark keeps its meaning.
 keeps_meaning : (mode : Mode) (b c : ℕ) → IsPlain b → (c ≡ b) ⊎ (155 ≤ c) → meaning mode c ≡ c
 keeps_meaning mode b c h (inl same) = meaning-plain mode c (rw same h.no_caret) (rw same h.no_tilde)
 keeps_meaning mode b c h (inr le) = meaning-plain mode c (grind (arith, nat_tests)) (grind (arith, nat_tests))

@@ -50,7 +50,7 @@ writes_three n lt =
     ∙ more 2 (10 * (10 * 0 + n / 100) + n / 10 % 10) (n % 10) [] (omega arith)
     ∙ ap (λ (v : ℕ). (3, v)) same
 
--- what @@ and digits are read as
+-- the reading of @@ and digits
 read : (set : CharSet) (m : Mode) (digits : List ℕ) → text_of set m (64 ∷ 64 ∷ digits) ≡ and_then (code_piece (number_from 10 0 0 digits))
     (λ p. text_from set m p.is_mark p.behind (64 ∷ digits))
 unfolding text_of piece_at escape_piece

@@ -1,4 +1,4 @@
--- What the escapes of a text say, told without reading them.
+-- The escapes of a text and their characters, given by a table and not by reading.
 use Rattle.std.specs.Prelude.{◌≡◌, ℕ, ◌+◌, ◌/◌, ◌%◌, nat_lt, IsTrue, Ok, List, [], ◌∷◌, map, codes, if◌then◌else◌}
 use Rattle.inf_characters.specs.Characters.{is_code}
 use Rattle.inf_characters.specs.Reading.{text_of}
@@ -18,7 +18,8 @@ abbrev pub ComesBack : CharSet → Mode → ℕ → Type 0
 ComesBack set mode n =
     IsTrue (is_code n) → text_of set mode (64 ∷ 64 ∷ decimal n) ≡ Ok (Character n ∷ [])
 
--- the accented letters with what stands behind @ for each (Inform Designer's Manual, table 2); a slash may stand for a backslash
+-- the accented letters with their two characters behind @ (Inform Designer's Manual, table 2); a slash may be used for a
+-- backslash
 unfoldable pub accents : List (ℕ × List ℕ)
 accents =
     (155, codes ":a") ∷ (156, codes ":o") ∷ (157, codes ":u") ∷ (158, codes ":A")

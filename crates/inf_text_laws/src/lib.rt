@@ -1,4 +1,4 @@
-//! What the definitions of texts give together. Each function carries a law as its clause, and does
+//! Laws of the definitions of texts together. Each function carries a law as its clause, and does
 //! nothing.
 #![tactic(auto)]
 

@@ -1,4 +1,4 @@
--- What is found of a text is the next token of it.
+-- The ending that is found of a text is that of its next token.
 use Rattle.std.proofs.Common.{◌≡◌, ℕ, List, [], ◌++◌, sym, ap, ◌∙◌, append-nil}
 use Rattle.inf_characters.specs.declared.characters.CharSet.{CharSet}
 use Rattle.inf_scanner.specs.Kinds.{kind_of}
@@ -11,7 +11,7 @@ use Rattle.inf_scanner.specs.declared.scanner.Turn.{Turn}
 use Rattle.inf_scanner.specs.declared.tokens.TokenKind.{TokenKind}
 use Rattle.inf_text_lexer.specs.TextReaders.{read_with}
 
--- what ended so behind a text's bytes is found of the text
+-- An ending behind the bytes of a text is the one found of the text.
 pub found_is : (set : CharSet) (limit : ℕ) (seen : Sight) (text behind : List ℕ) (turn : Turn) (e : Ending) (now after : Sight)
     → ((rest : List ℕ) → found_after set limit turn now (behind ++ rest) ≡ find set limit state.Gap seen (text ++ rest))
     → record { ending = e; seen = after; rest = behind } ≡ found_after set limit turn now behind
@@ -20,7 +20,7 @@ found_is set limit seen text behind turn e now after found ended =
     ended ∙ (ap (λ r. found_after set limit turn now r) (sym (append-nil behind)) ∙ (found []
     ∙ ap (λ r. find set limit state.Gap seen r) (append-nil text)))
 
--- and so is the next token
+-- The token of that ending is the next one of the text.
 pub token_is : (set : CharSet) (limit : ℕ) (lines : Lines) (text behind : List ℕ) (e : Ending) (after : Sight) (k : TokenKind)
     → record { ending = e; seen = after; rest = behind } ≡ find set limit state.Gap (begun lines) text
     → k ≡ kind_of set e after.kept

@@ -1,4 +1,4 @@
--- What a lexer of a text in memory is.
+-- The state of a lexer of a text in memory.
 use Rattle.std.specs.Prelude.{ℕ, List, false}
 use Rattle.inf_characters.specs.declared.characters.CharSet.{CharSet}
 use Rattle.inf_scanner.specs.Kept.{Kept, nothing_kept}
@@ -8,8 +8,8 @@ use Rattle.inf_scanner.specs.declared.lines.Lines.{Lines}
 use Rattle.inf_scanner.specs.declared.tokens.Token.{Token}
 use Rattle.inf_scanner.specs.declared.tokens.TokenKind.{TokenKind}
 
--- The character set, how many bytes a quoted token may have, the number by which places name the text, what is still to come of it, the
--- bytes of the token that was read last, and the line behind it.
+-- The character set, the number of bytes that a quoted token may have, the number by which places name the text, the bytes that are
+-- still to come of it, the bytes of the token that was read last, and the line behind it.
 pub record TextReader : Type 0 where
   pub set : CharSet
   pub limit : ℕ
@@ -18,7 +18,7 @@ pub record TextReader : Type 0 where
   pub kept : Kept
   pub lines : Lines
 
--- at the front of a text that begins on this line
+-- the state at the front of a text that begins on line `line`
 abbrev pub at_line : CharSet → ℕ → ℕ → ℕ → List ℕ → TextReader
 at_line set limit file line text = record {
   set = set;
@@ -29,11 +29,11 @@ at_line set limit file line text = record {
   lines = record { line = line; after_return = false };
 }
 
--- a token of this kind, of which this was seen, before these bytes
+-- a token of kind `kind`, with the sight `seen` of its bytes, before the bytes `rest`
 abbrev pub read_with : TokenKind → Sight → List ℕ → Read
 read_with kind seen rest = record { kind = kind; line = seen.first; kept = seen.kept; lines = seen.lines; rest = rest }
 
--- the next token of what is still to come
+-- the next token of the bytes that are still to come
 abbrev pub next_of : TextReader → Read
 next_of r = next_token r.set r.limit r.lines r.rest
 

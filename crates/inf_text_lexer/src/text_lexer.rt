@@ -1,4 +1,4 @@
-//! The tokens of a text that stands in memory, one after another.
+//! The tokens of a text in memory, one after another.
 ghost use Rattle.std.specs.Prelude.{◌≡◌, ℕ, ◌+◌, ◌<◌, ◌^◌, List, [], ◌≤◌, drop, IfOk, IsErr, OnErr, length, true};
 ghost use Rattle.inf_characters.specs.declared.characters.CharSet.{CharSet as Set};
 ghost use Rattle.inf_scanner.specs.Scanning.{begun, find, found_after, is_on, is_quoted, sight};
@@ -10,7 +10,7 @@ use inf_text::CharSet;
 use std::alloc::{AllocError, Global};
 use std::marker::Model;
 
-/// Reads the tokens of a text that stands in memory. It asks no reader of files for anything.
+/// Reads the tokens of a text in memory. It asks no reader of files for anything.
 #[derive(Drop)]
 pub struct TextLexer<'t> {
     alloc: Global,
@@ -39,7 +39,8 @@ impl<'t> Model for TextLexer<'t> {
     ghost invariant = { λ l. l.seen.lines.line + length l.rest.now < 2 ^ 32 };
 }
 
-/// What the token is that ends so; at the end of the text what stands there.
+/// Returns the ending of the token that `turn` ends; where it ends none, the text has ended, and the ending is that of
+/// its state there.
 fn ending_of(turn: Turn, seen: &mut Seen) -> Ending
     ensures found { (set : Set) (limit : ℕ) (rest : List ℕ) → (is_on turn ≡ true → rest ≡ []) →
         record { ending = result; seen = sight seen.new; rest = rest } ≡ found_after set limit turn (sight seen.old) rest }
@@ -54,7 +55,7 @@ fn ending_of(turn: Turn, seen: &mut Seen) -> Ending
     }
 }
 
-/// The bytes behind so many.
+/// Returns the bytes behind the first `count`.
 fn bytes_behind(bytes: &[u8], count: usize) -> &[u8]
     requires { count ≤ length bytes.now }
     ensures { result.now ≡ drop count bytes.now }
@@ -62,7 +63,7 @@ fn bytes_behind(bytes: &[u8], count: usize) -> &[u8]
     &bytes[count..]
 }
 
-/// What the next token is, and how many of these bytes are up to its end.
+/// Returns the kind of the next token, and the number of the bytes of `rest` up to its end.
 fn read_token(
     alloc: Global,
     set: CharSet,
@@ -84,8 +85,8 @@ fn read_token(
 }
 
 impl<'t> TextLexer<'t> {
-    /// Stands at the front of `text`, which begins on the line `line` of a file that has the number `file` in places. It is read by
-    /// `set`, and a quoted token of it may have `limit` bytes between its quotes.
+    /// Makes a lexer at the front of `text`, which begins on the line `line` of a file that has the number `file` in
+    /// places. It reads by `set`, and a quoted token may have `limit` bytes between its quotes.
     ///
     /// `AllocError` comes where there is no room for the bytes of a name.
     pub fn new(
@@ -113,8 +114,8 @@ impl<'t> TextLexer<'t> {
 
     /// Reads the next token; at the text's end that is the end, again and again.
     ///
-    /// `AllocError` comes where there is no room for a quoted token, and for no other. Then nothing was taken of the text: the next call
-    /// reads the same token.
+    /// `AllocError` comes where there is no room for a quoted token, and for no other. Then nothing was taken of the
+    /// text: the next call reads the same token.
     pub fn next(&mut self) -> Result<Token, AllocError>
         ensures token { IfOk result (λ token. token ≡ token_of self.old.file (next_of self.old)) }
         ensures behind { IfOk result (λ _. self.new ≡ behind (next_of self.old) self.old) }
@@ -141,8 +142,8 @@ impl<'t> TextLexer<'t> {
         }
     }
 
-    /// The bytes of the token that was read last: of a text or quote those between its quotes, and of a token
-    /// that is too long its front. A byte that begins no token, and the end, have none.
+    /// Returns the bytes of the token that was read last: those between its quotes for a text or a quote, and the front
+    /// of a token that is too long. A byte that begins no token, and the end, have none.
     pub fn spelling(&self) -> &[u8]
         ensures { result.now ≡ self.now.kept.bytes }
     {

@@ -6,14 +6,14 @@ use std::alloc::Global;
 use std::process::Abort;
 use std::test::Fail;
 
-/// What is asked of the abbreviations, and what has to come of it.
+/// A question to the abbreviations, and the answer that it has to have.
 #[derive(Clone, Copy)]
 enum Asked<'a> {
     /// To declare a text that is read in this mode.
     Declare(&'a [u8], Mode, Result<u8, AbbrevFault>),
-    /// How many there are.
+    /// The number of abbreviations.
     Count(usize),
-    /// The last of them.
+    /// The last abbreviation.
     Last(&'a [u8]),
     /// To pack a text with them.
     Pack(&'a [u8], &'a [u8]),
@@ -21,7 +21,7 @@ enum Asked<'a> {
 
 use Asked::*;
 
-/// Asks this of the abbreviations.
+/// Asks the abbreviations, and asserts the answer.
 fn ask(
     rt: &impl Abort,
     alloc: Global,
@@ -50,7 +50,7 @@ fn ask(
     }
 }
 
-/// Asks these in turn.
+/// Asks these questions in turn.
 fn ask_all(
     rt: &impl Abort,
     alloc: Global,
@@ -63,13 +63,13 @@ fn ask_all(
     Ok(())
 }
 
-/// Asserts how many there are.
+/// Asserts the number of abbreviations.
 fn assert_count(rt: &impl Abort, abbreviations: &Abbreviations, wanted: usize) {
     expect(rt, &"count", &abbreviations.len(), &wanted);
     expect(rt, &"empty", &abbreviations.is_empty(), &(wanted == 0));
 }
 
-/// Asserts that the last is the text of these bytes.
+/// Asserts that the last abbreviation is the text of these bytes.
 fn assert_last(
     rt: &impl Abort,
     alloc: Global,
@@ -82,7 +82,7 @@ fn assert_last(
     Ok(())
 }
 
-/// Abbreviations "aa", "ab" and so on, row by row of eight letters.
+/// Returns abbreviations "aa", "ab" and so on, row by row of eight letters.
 fn declared(rt: &impl Abort, alloc: Global, count: u8) -> Result<Abbreviations, Fail> {
     let mut abbreviations = Abbreviations::new(alloc);
     for number in 0..count {
@@ -93,7 +93,7 @@ fn declared(rt: &impl Abort, alloc: Global, count: u8) -> Result<Abbreviations, 
     Ok(abbreviations)
 }
 
-/// Where 64 are declared.
+/// The questions where 64 are declared.
 static OF_64: [Asked<'static>; 6] = [
     Count(64),
     Declare(b"zz", Mode::Text, Err(AbbrevFault::Full)),
@@ -110,7 +110,7 @@ fn declares_64_and_no_more(rt: HostRuntime) -> Result<(), Fail> {
     ask_all(&rt, rt.alloc(), &mut abbreviations, &OF_64)
 }
 
-/// Where 50 are declared.
+/// The questions where 50 are declared.
 static OF_50: [Asked<'static>; 5] = [
     Declare(b"the ", Mode::Text, Ok(50)),
     Last(b"the "),
@@ -125,7 +125,7 @@ fn numbers_the_51st(rt: HostRuntime) -> Result<(), Fail> {
     ask_all(&rt, rt.alloc(), &mut abbreviations, &OF_50)
 }
 
-/// Where none is declared.
+/// The questions where none is declared.
 static OF_NONE: [Asked<'static>; 6] = [
     Count(0),
     Declare(b"the ", Mode::Abbreviation, Ok(0)),
@@ -140,7 +140,7 @@ fn takes_the_longest_abbreviation(rt: HostRuntime) -> Result<(), Fail> {
     ask_anew(&rt, rt.alloc(), &OF_NONE)
 }
 
-/// Four abbreviations in some orders, what they are packed as in each, and what "abd" is: bank 2, the
+/// Four abbreviations in some orders, their packed bytes in each, and those of "abd": bank 2, the
 /// number of the abbreviation, and a filler or "d".
 static ORDERS: [[Asked<'static>; 9]; 4] = [
     [

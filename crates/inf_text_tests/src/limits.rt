@@ -10,14 +10,14 @@ use std::test::Fail;
 /// number of a string variable.
 type Only = Result<Option<u16>, TextFault>;
 
-/// Asserts what comes of the bytes of each row.
+/// Asserts the outcome of the bytes of each row.
 fn assert_all(rt: &impl Abort, alloc: Global, set: CharSet, mode: Mode, rows: &[(&[u8], Only)]) {
     for (bytes, wanted) in rows {
         expect(rt, bytes, &only(alloc, bytes, set, mode), wanted);
     }
 }
 
-/// What comes of bytes.
+/// Returns the number of the only item that bytes are read as, if they are one item, or their fault.
 fn only(alloc: Global, bytes: &[u8], set: CharSet, mode: Mode) -> Only {
     let text = read_text(alloc, bytes, set, mode)?;
     match text.as_slice() {
@@ -120,7 +120,7 @@ fn keeps_a_text_of_100_000_items(rt: HostRuntime) -> Result<(), Fail> {
     let source = repeated(alloc, b"e", 100_000)?;
     let text = read_text(alloc, source.as_slice(), CharSet::Ascii, Mode::Text)?;
     expect(&rt, &"items", &text.len(), &100_000);
-    // They are 33,333 words and one Z-character of the last word.
+    // The packed bytes are 33,333 words and one Z-character of the last word.
     let mut bytes = repeated(alloc, &[0x29, 0x4a], 33_333)?;
     bytes.extend_from_slice(&[0xa8, 0xa5])?;
     expect(&rt, &"bytes", &bytes.len(), &66_668);

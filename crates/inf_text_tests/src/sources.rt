@@ -77,7 +77,7 @@ fn packs_printed_texts(rt: HostRuntime) -> Result<(), Fail> {
     assert_all_pack(&rt, rt.alloc(), &PRINTED)
 }
 
-/// So many times some bytes.
+/// Returns `bytes`, `times` times.
 pub(crate) fn repeated(alloc: Global, bytes: &[u8], times: usize) -> Result<Vec<u8>, Fail> {
     let mut all = Vec::new(alloc);
     for _ in 0..times {
@@ -89,7 +89,7 @@ pub(crate) fn repeated(alloc: Global, bytes: &[u8], times: usize) -> Result<Vec<
 /// A sentence of 44 letters and spaces.
 const SENTENCE: &[u8; 44] = b"the quick brown fox jumps over the lazy dog ";
 
-/// The bytes of three times that sentence.
+/// The bytes of that sentence, three times.
 const THRICE: &[u8; 88] =
     b"\x65\xaa\x02\xda\x39\x10\x00\xf7\x53\x93\x01\x74\x74\x0f\x6a\x55\x60\x14\x6d\x57\x03\x2d\x28\x11\x1b\xfe\x01\x34\x30\x19\x35\x40\x5b\
         \x4e\x22\x00\x1e\xf4\x72\x60\x2e\x9d\x01\xfa\x4a\xb8\x02\x9b\x2a\xe0\x65\xaa\x02\x26\x7f\xc0\x26\x8c\x03\x2d\x28\x16\x69\xc8\x40\
@@ -128,7 +128,7 @@ fn spells_dictionary_words(rt: HostRuntime) -> Result<(), Fail> {
     assert_words(&rt, rt.alloc(), &WORDS)
 }
 
-/// The code of a character, or 256 and the number of a string variable.
+/// Returns the code of a character, or 256 and the number of a string variable.
 pub(crate) fn number_of(item: TextItem) -> u16 {
     match item {
         TextItem::Character(character) => u16::from(character.code()),
@@ -136,7 +136,7 @@ pub(crate) fn number_of(item: TextItem) -> u16 {
     }
 }
 
-/// The numbers of the items of a text.
+/// Returns the numbers of the items of a text.
 fn numbers_of(alloc: Global, source: &[u8]) -> Result<Vec<u16>, Fail> {
     let text = read_text(alloc, source, CharSet::Ascii, Mode::Text)?;
     let mut numbers = Vec::new(alloc);

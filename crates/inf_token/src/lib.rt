@@ -1,6 +1,6 @@
 //! Sources and their tokens: readers of files, the lexer, and the files that are open.
 //!
-//! A user of this layer needs no other crate. It shows types and calls of `inf_files`, `inf_scanner` and `inf_lexer`:
+//! A user of this layer needs no other crate. It shows types and calls of `inf_devices`, `inf_scanner` and `inf_lexer`:
 //!
 //! - `Files::{open, read, close}`: a reader of sources, whose contract says what an honest one gives; `MemoryFiles::new` is one over
 //!   memory. `OpenFault` and `ReadFault` say why a reader refused.
@@ -11,7 +11,7 @@
 //! - `Token`, `TokenKind`, `Mark`, `DictionaryWord`, `BadToken`, `Place`: what a token is, and where it begins.
 #![tactic(auto)]
 
-pub use inf_files::files::{Files, OpenFault, ReadFault};
-pub use inf_files::memory_files::MemoryFiles;
+pub use inf_devices::files::{Files, OpenFault, ReadFault};
+pub use inf_devices::memory_files::MemoryFiles;
 pub use inf_lexer::{EnterFault, HeadPlace, LexFault, Lexer, Stack};
 pub use inf_scanner::{BadToken, DictionaryWord, Mark, Place, Token, TokenKind};

@@ -7,7 +7,7 @@ use Rattle.inf_report.specs.Messages.{Undeclared}
 use Rattle.inf_unit.specs.Messages.{FileNames, Reported, location, with_error}
 use Rattle.inf_unit.specs.Names.{with_all_undeclared, with_undeclared}
 
--- what is told of the first use of a name, if it was not declared
+-- Report with the error of the first use of a name, if the name was not declared.
 abbrev pub told_of : FileNames → Option (List ℕ × Place) → Reported → Reported
 told_of files None r = r
 told_of files (Some u) r = with_error (location files u.1) (location files u.1) (Undeclared u.0) r

@@ -1,4 +1,4 @@
--- What the code's unit at hand stands for.
+-- Meaning of the unit at hand of the code.
 use Rattle.inf_names.specs.LocalList.{headed}
 use Rattle.inf_unit.specs.Units.{Unit}
 use Rattle.inf_unit.specs.declared.unit.Unit.{Unit as CodeUnit}

@@ -1,4 +1,4 @@
--- How the grammar sees a token: by its atom, and by the word of the grammar that it may be.
+-- A token for the grammar: its atom, and the word of the grammar that it may be.
 use Rattle.std.specs.Prelude.{ℕ, ◌+◌, List, length, nat_le, Bool, true, if◌then◌else◌, Option, None}
 use Rattle.inf_scanner.specs.declared.tokens.TokenKind.{TokenKind}
 use Rattle.inf_scanner.specs.declared.tokens.TokenKind.TheVariants as kind
@@ -6,7 +6,7 @@ use Rattle.inf_syntax.specs.Atoms.{keyword_of, mark_atom, place_in, first_word, 
 use Rattle.inf_syntax.specs.declared.words.Keyword.{Keyword}
 use Rattle.inf_syntax.specs.Words.{words}
 
--- the atoms of a number, a character, a word in quotes, a text, of what is faulty by itself, and of the end
+-- Atoms of a number, a character, a word in quotes, a text, a token that is faulty by itself, and the end.
 abbrev pub number_atom : ℕ
 number_atom = first_literal
 
@@ -25,11 +25,11 @@ bad_atom = first_literal + 4
 abbrev pub end_atom : ℕ
 end_atom = first_literal + 5
 
--- the atoms of the names of classes are others than those of other names
+-- Atom of a name; those of the names of classes are others than those of other names.
 abbrev pub name_atom : Bool → List ℕ → ℕ
 name_atom is_class bytes = first_word + (if is_class then names else 0) + place_in bytes words
 
--- the atom of a token, which is the name of a class or not: what is faulty by itself is a bad one
+-- Atom of a token, which is the name of a class or not; that of a token that is faulty by itself is the bad one.
 abbrev pub atom_of_kind : Bool → TokenKind → List ℕ → ℕ
 atom_of_kind is_class (kind.Mark m) bytes = mark_atom m
 atom_of_kind is_class kind.Name bytes = name_atom is_class bytes
@@ -40,12 +40,12 @@ atom_of_kind is_class kind.Text bytes = text_atom
 atom_of_kind is_class (kind.Bad b) bytes = bad_atom
 atom_of_kind is_class kind.End bytes = end_atom
 
--- the word of the grammar that a token is
+-- Word of the grammar that a token is.
 abbrev pub keyword_of_kind : TokenKind → List ℕ → Option Keyword
 keyword_of_kind kind.Name bytes = keyword_of bytes
 keyword_of_kind _ bytes = None
 
--- a name has at most 32 bytes
+-- Tells whether a token has at most 32 bytes, where it is a name.
 abbrev pub is_short : TokenKind → List ℕ → Bool
 is_short kind.Name bytes = nat_le (length bytes) 32
 is_short _ bytes = true

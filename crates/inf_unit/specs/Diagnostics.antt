@@ -1,4 +1,4 @@
--- What the code's messages at a place stand for.
+-- Meaning of a message at a place of the code.
 use Rattle.inf_report.specs.Meant.{meant}
 use Rattle.inf_unit.specs.Messages.{Diagnostic}
 use Rattle.inf_unit.specs.declared.messages.Diagnostic.{Diagnostic as CodeDiagnostic}

@@ -1,4 +1,4 @@
--- The directives that are one unit, and what they ask of the reading.
+-- Directives that are one unit, and their requests to the reading.
 use Rattle.std.specs.Prelude.{ℕ, List, [], ◌∷◌, codes, Bool, true, false, if◌then◌else◌, Option, Some, None}
 use Rattle.std.specs.Str.{str_eq_ignore_ascii_case}
 use Rattle.inf_characters.specs.declared.characters.CharSet.{CharSet}
@@ -13,27 +13,27 @@ use Rattle.inf_unit.specs.declared.directives.Directive.TheVariants as directive
 use Rattle.inf_unit.specs.declared.directives.Request.{Request as CodeRequest}
 use Rattle.inf_unit.specs.declared.directives.Request.TheVariants as code
 
--- What a finished directive asks of the reading: that the file of a name is read, for a directive that begins at a place; that
--- reading ends; that the sources are read by a character set.
+-- Request of a finished directive to the reading: to read the file of a name, for a directive that begins at a place; to end; or to
+-- read the sources by a character set.
 pub data Request : Type 0 where
   Nothing : Request
   Include : (text : List ℕ) (unit : Place) → Request
   End : Request
   Characters : (set : CharSet) → Request
 
--- whether something is asked
+-- Tells whether there is a request.
 abbrev pub asks : Request → Bool
 asks Nothing = false
 asks _ = true
 
--- what the code's words stand for
+-- Meaning of a request of the code.
 abbrev pub asked : CodeRequest → Request
 asked code.Nothing = Nothing
 asked (code.Include text unit) = Include text.items unit
 asked code.End = End
 asked (code.Characters set) = Characters set
 
--- what a directive is whose word this is
+-- Directive that begins with a word.
 abbrev pub directive_of : Option Keyword → Directive
 directive_of (Some keyword.Include) = directive.Include
 directive_of (Some keyword.Message) = directive.Message
@@ -52,13 +52,13 @@ directive_of (Some keyword.Release) = directive.Release
 directive_of (Some keyword.Serial) = directive.Serial
 directive_of _ = directive.SystemFile
 
--- the weight of a message, by the word behind `Message`
+-- Weight of a message, by the word behind `Message`.
 abbrev pub weight_of_word : List ℕ → Kind
 weight_of_word word =
     if str_eq_ignore_ascii_case word (codes "error") then weight.Error else
     if str_eq_ignore_ascii_case word (codes "warning") then weight.Warning else weight.Fatal
 
--- without one the message has none
+-- A message without such a word has no weight.
 abbrev pub weight_of : List Name → Option Kind
 weight_of [] = None
 weight_of (n ∷ names) = Some (weight_of_word n.bytes)

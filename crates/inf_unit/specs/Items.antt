@@ -1,11 +1,11 @@
--- What the units of a routine have beside their expressions.
+-- Items that the units of a routine have beside their expressions.
 use Rattle.std.specs.Prelude.{ℕ, List, codes, Bool, true, false, if◌then◌else◌}
 use Rattle.std.specs.Str.{bytes_eq}
 use Rattle.inf_unit.specs.declared.items.PrintRule.{PrintRule}
 use Rattle.inf_unit.specs.declared.items.PrintRule.TheVariants as rule
 
--- The rule of a name: those of the language are told with case, and every other name is a routine. Designer's Manual, fourth edition,
--- section 1.11.
+-- Print rule of a name: those of the language are told with case, and every other name is that of a routine. Designer's Manual,
+-- fourth edition, section 1.11.
 abbrev pub rule_of : List ℕ → PrintRule
 rule_of name =
     if bytes_eq name (codes "char") then rule.Character else
@@ -19,7 +19,7 @@ rule_of name =
     if bytes_eq name (codes "an") then rule.IndefiniteArticle else
     if bytes_eq name (codes "number") then rule.EnglishNumber else rule.Routine
 
--- whether it is one of the language
+-- Tells whether a rule is one of the language.
 abbrev pub is_own : PrintRule → Bool
 is_own rule.Routine = false
 is_own _ = true

@@ -1,6 +1,6 @@
--- What is kept of a line of grammar that has more tokens than the grammar may have bytes. Such a line passes that setting, if nothing is
--- wrong with it. So of a token more it matters only whether something is wrong with it, and whether it passes a setting that is told
--- before that one: there are more names, or more words, than there may be.
+-- A line of grammar that has more tokens than the grammar may have bytes. Such a line passes that setting, if nothing is wrong with
+-- it. For a further token it matters only whether something is wrong with it, and whether it passes a setting that is told before
+-- that one: there are more names, or more words, than there may be.
 use Rattle.std.specs.Prelude.{ℕ, ◌||◌, List, [], length, nat_lt, Bool, true, false, if◌then◌else◌, is_some}
 use Rattle.std.specs.Ordering.{nat_cmp}
 use Rattle.std.specs.Cmp.Lexicographic.{slice_cmp}
@@ -9,8 +9,8 @@ use Rattle.std.specs.BTreeMap.{is_at, insert_entry}
 use Rattle.inf_scanner.specs.declared.tokens.Place.{Place}
 use Rattle.inf_names.specs.Symbols.{Table, no_names, with_used}
 
--- How many tokens of the unit stand before the one at hand, whether something is wrong with one of them, and the names and the words that
--- came since the line was too long, each once.
+-- A long line: the number of tokens of the unit before the one at hand, whether something is wrong with one of them, and the names
+-- and the words that came since the line was too long, each once.
 pub record LongLine : Type 0 where
   pub count : ℕ
   pub is_bad : Bool
@@ -23,7 +23,7 @@ no_tokens count is_bad = record { count = count; is_bad = is_bad; names = no_nam
 abbrev pub nowhere : Place
 nowhere = record { file = 0; line = 0 }
 
--- A name comes, and a word, of which there may be so many; and whether it is new, and not more than one too many came.
+-- A name is added, and a word, of which there may be `most`; and whether it is new, and at most `most` came before.
 abbrev pub name_added : List ℕ → ℕ → LongLine → LongLine × Bool
 name_added name most l =
     if nat_lt most (length l.names.names) then (l, false)

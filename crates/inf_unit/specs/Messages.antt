@@ -1,4 +1,4 @@
--- The messages of a compilation so far, and where they stand.
+-- Messages of a compilation so far, and their places.
 use Rattle.std.specs.Prelude.{ℕ, List, [], ◌++◌, ◌==◌, Bool, true, if◌then◌else◌, Option, Some, None, slice_get, unwrap_or}
 use Rattle.inf_scanner.specs.declared.tokens.Place.{Place}
 use Rattle.inf_assembler.specs.declared.routines.Limit.{Limit as CodeLimit}
@@ -13,15 +13,15 @@ use Rattle.inf_report.specs.Reports.{Counts, no_counts, error_lines, warning_lin
 use Rattle.inf_report.specs.Reports.{closing_lines}
 use Rattle.inf_report.specs.Reports.{with_error as error_counted, with_warning as warning_counted, with_fatal as fatal_counted}
 
--- the names of the files, as they were opened, by their numbers
+-- Names of the files, as they were opened, by their numbers.
 abbrev pub FileNames : Type 0
 FileNames = List (List ℕ)
 
--- the number of the file that the routines of the veneer are
+-- Number of the file that the routines of the veneer are.
 abbrev pub veneer_file : ℕ
 veneer_file = 65535
 
--- the line that a place is, by the name of its file
+-- Line of a place, by the name of its file.
 abbrev pub location : FileNames → Place → Location
 location files p =
     if p.file == veneer_file then veneer_line p.line else record { file = unwrap_or (slice_get files p.file) []; line = p.line }
@@ -31,23 +31,23 @@ pub record Diagnostic : Type 0 where
   pub place : Place
   pub message : Message
 
--- The lines so far, and what was counted of them.
+-- Lines so far, and the counts of the messages in them.
 pub record Reported : Type 0 where
   pub lines : List ℕ
   pub counts : Counts
 
--- before the first message, where warnings are told or not
+-- Report before the first message, where warnings are told or not.
 abbrev pub none_reported : Bool → Reported
 none_reported has_warnings = record { lines = []; counts = no_counts has_warnings }
 
 abbrev pub nothing_reported : Reported
 nothing_reported = none_reported true
 
--- warnings are told from now on, or not
+-- Warnings are told from now on, or not.
 abbrev pub warnings_chosen : Bool → Reported → Reported
 warnings_chosen has_warnings r = record r { counts = record r.counts { has_warnings = has_warnings } }
 
--- an error at a place, of a unit that begins at another or the same
+-- An error at a line, of a unit that begins at another line or the same; a warning; a fatal error.
 abbrev pub with_error : Location → Location → Message → Reported → Reported
 with_error at unit m r = record { lines = r.lines ++ error_lines at unit m r.counts; counts = error_counted r.counts }
 
@@ -57,35 +57,35 @@ with_warning at m r = record { lines = r.lines ++ warning_lines at m r.counts; c
 abbrev pub with_fatal : Location → Message → Reported → Reported
 with_fatal at m r = record { lines = r.lines ++ fatal_lines at m r.counts; counts = fatal_counted r.counts }
 
--- a line of the source's own words alone
+-- A line of the own words of the source alone.
 abbrev pub with_plain : Words → Reported → Reported
 with_plain words r = record r { lines = r.lines ++ plain_lines words r.counts }
 
--- a message in the source's own words, of a weight or none, of a unit that begins at a line
+-- A message in the own words of the source, of a weight or none, of a unit that begins at a line.
 abbrev pub with_words : Location → Option Kind → Words → Reported → Reported
 with_words at None words r = with_plain words r
 with_words at (Some weight.Error) words r = with_error at at (ErrorText words) r
 with_words at (Some weight.Warning) words r = with_warning at (WarningText words) r
 with_words at (Some weight.Fatal) words r = with_fatal at (FatalText words) r
 
--- the lines were written
+-- The lines were written.
 abbrev pub flushed : Reported → Reported
 flushed r = record r { lines = [] }
 
--- a line of the statistics
+-- A line of the statistics.
 abbrev pub with_statistic : List ℕ → ℕ → Reported → Reported
 with_statistic word number r = record r { lines = r.lines ++ statistic_lines word number r.counts }
 
--- the last line
+-- The last line.
 abbrev pub with_closing : Reported → Reported
 with_closing r = record r { lines = r.lines ++ closing_lines r.counts }
 
--- the report after the unit that begins at a place had this error, if any
+-- Report after the unit that begins at a place had this error, if any.
 abbrev pub with_fault : FileNames → Place → Option Diagnostic → Reported → Reported
 with_fault files unit None r = r
 with_fault files unit (Some b) r = with_error (location files b.place) (location files unit) b.message r
 
--- the setting that bounds what code has
+-- Setting of a limit of code.
 abbrev pub setting_of : CodeLimit → Setting
 setting_of code_setting.Labels = setting.Labels
 setting_of code_setting.Code = setting.Code

@@ -1,4 +1,4 @@
--- What the code's name tokens stand for.
+-- Meaning of a name token of the code.
 use Rattle.inf_names.specs.Spellings.{Name}
 use Rattle.inf_unit.specs.declared.unit_tokens.NameToken.{NameToken}
 

@@ -9,11 +9,11 @@ use Rattle.inf_names.specs.declared.symbols.Found.TheVariants as found
 use Rattle.inf_report.specs.Messages.{Undeclared}
 use Rattle.inf_unit.specs.Messages.{FileNames, Reported, location, with_error}
 
--- none
+-- No names.
 abbrev pub no_symbols : Table Place
 no_symbols = no_names false
 
--- the routine with which a story begins
+-- Name of the routine with which a story begins.
 abbrev pub main_name : List ℕ
 main_name = codes "main"
 
@@ -25,7 +25,7 @@ abbrev pub routine_in : Found Place → Option ℕ
 routine_in (found.Declared m place) = routine_of m
 routine_in _ = None
 
--- its place
+-- Place of the routine with which a story begins.
 abbrev pub main_of : Table Place → Option ℕ
 main_of names = routine_in (found_in main_name names)
 

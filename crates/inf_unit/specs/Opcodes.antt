@@ -5,11 +5,11 @@ use Rattle.inf_opcode.specs.Names.{opcode_named}
 use Rattle.inf_opcode.specs.Opcodes.{row_of}
 use Rattle.inf_opcode.specs.declared.opcodes.Opcode.{Opcode}
 
--- The opcode of a name, in any case. Names of a source have no byte over 127, and no opcode has one.
+-- Opcode of a name, in any case. Names of a source have no byte over 127, and no opcode has one.
 unfoldable pub opcode_of : List ℕ → Option Opcode
 opcode_of name = if list_all (λ b. nat_lt b 128) name then opcode_named name else None
 
--- whether it takes a text of its own (Z-Machine Standard 1.1, section 4.8)
+-- Tells whether an opcode takes a text of its own (Z-Machine Standard 1.1, section 4.8).
 abbrev pub takes_text_by : Option Opcode → Bool
 takes_text_by None = false
 takes_text_by (Some opcode) = (row_of opcode).has_text

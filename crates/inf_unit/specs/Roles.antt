@@ -1,4 +1,4 @@
--- What each action of the grammar is there for.
+-- Roles of the actions of the grammar.
 use Rattle.std.specs.Prelude.{Bool, true, false}
 use Rattle.inf_expressions.specs.declared.operators.Unary.{Unary}
 use Rattle.inf_expressions.specs.declared.operators.Unary.TheVariants as unary
@@ -9,7 +9,7 @@ use Rattle.inf_expressions.specs.declared.operators.Operation.TheVariants as ope
 use Rattle.inf_expressions.specs.declared.operators.PropertyPart.{PropertyPart}
 use Rattle.inf_expressions.specs.declared.operators.PropertyPart.TheVariants as part
 use Rattle.inf_expressions.specs.declared.operators.Single.TheVariants as single
-use Rattle.inf_expressions.specs.declared.operators.Step.TheVariants as stepping
+use Rattle.inf_expressions.specs.declared.operators.Direction.TheVariants as stepping
 use Rattle.inf_expressions.specs.declared.operators.Test.{Test}
 use Rattle.inf_expressions.specs.declared.operators.Test.TheVariants as testing
 use Rattle.inf_syntax.specs.declared.actions.Action.{Action}
@@ -20,9 +20,9 @@ use Rattle.inf_unit.specs.declared.roles.Note.TheVariants as note
 use Rattle.inf_unit.specs.declared.roles.Opening.TheVariants as opening
 use Rattle.inf_unit.specs.declared.roles.Role.{Role}
 use Rattle.inf_unit.specs.declared.roles.Role.TheVariants as role
-use Rattle.inf_unit.specs.declared.steps.Step.TheVariants as step
+use Rattle.inf_unit.specs.declared.steps.GatherStep.TheVariants as step
 
--- an operator of one expression, in front of it or behind it, and one of two
+-- An operator of one expression, in front of it or behind it, and one of two.
 abbrev pub prefix : Unary → Role
 prefix op = role.Gather (step.Prefix op)
 
@@ -32,47 +32,47 @@ suffix op = role.Gather (step.Suffix op)
 abbrev pub two : Binary → Role
 two op = role.Gather (step.Two op)
 
--- an operation of two expressions, and what is read of a property
+-- An operation of two expressions, and the reading of a part of a property.
 abbrev pub operation : Operation → Role
 operation o = two (binary.Operation o)
 
 abbrev pub property : PropertyPart → Role
 property p = two (binary.Property p)
 
--- a test that has to hold, and one that has to fail
+-- A test that has to hold, and one that has to fail.
 abbrev pub test : Test → Role
 test t = role.Gather (step.Test (binary.Test t))
 
 abbrev pub failing : Test → Role
 failing t = role.Gather (step.Test (binary.Fails t))
 
--- whether what is noted makes sure that an expression is open, whose tokens then count
+-- Tells whether a note makes sure that an expression is open, whose tokens then count.
 abbrev pub makes_sure : Note → Bool
 makes_sure note.OuterSure = true
 makes_sure note.OuterWord = true
 makes_sure _ = false
 
--- whether a text is printed
+-- Tells whether a note is that of a text that is printed.
 abbrev pub is_text : Note → Bool
 is_text note.PrintText = true
 is_text _ = false
 
--- whether an outermost expression ends
+-- Tells whether a note is that of the end of an outermost expression.
 abbrev pub ends_outer : Note → Bool
 ends_outer note.OuterEnd = true
 ends_outer _ = false
 
--- whether a token of a line of grammar ends
+-- Tells whether a note is that of the end of a token of a line of grammar.
 abbrev pub ends_token : Note → Bool
 ends_token note.LineToken = true
 ends_token _ = false
 
--- whether an arrow stands before the name of an object
+-- Tells whether a note is that of an arrow before the name of an object.
 abbrev pub is_arrow : Note → Bool
 is_arrow note.Arrow = true
 is_arrow _ = false
 
--- what an action is there for
+-- Role of an action.
 abbrev pub role_of : Action → Role
 role_of action.Name = role.Gather step.Leaf
 role_of action.Number = role.Gather step.Leaf

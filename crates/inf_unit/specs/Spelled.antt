@@ -1,4 +1,4 @@
--- What the code's tokens stand for.
+-- Meaning of a token of the code.
 use Rattle.inf_unit.specs.Tokens.{SourceToken}
 use Rattle.inf_unit.specs.declared.tokens.SourceToken as code
 

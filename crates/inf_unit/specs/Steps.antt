@@ -1,15 +1,15 @@
--- What the actions of the grammar gather of expressions.
+-- Steps by which the actions of the grammar gather expressions.
 use Rattle.std.specs.Prelude.{Option, Some, None}
 use Rattle.inf_syntax.specs.declared.actions.Action.{Action}
 use Rattle.inf_unit.specs.declared.roles.Role.{Role}
 use Rattle.inf_unit.specs.declared.roles.Role.TheVariants as role
-use Rattle.inf_unit.specs.declared.steps.Step.{Step}
+use Rattle.inf_unit.specs.declared.steps.GatherStep.{GatherStep}
 use Rattle.inf_unit.specs.Roles.{role_of}
 
--- what an action gathers of an expression; nothing where it has to do with none
-abbrev pub step_in : Role → Option Step
+-- GatherStep of an action, by which an expression is gathered; none where it has to do with no expression.
+abbrev pub step_in : Role → Option GatherStep
 step_in (role.Gather s) = Some s
 step_in _ = None
 
-abbrev pub step_of : Action → Option Step
+abbrev pub step_of : Action → Option GatherStep
 step_of a = step_in (role_of a)

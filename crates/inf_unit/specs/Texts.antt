@@ -9,16 +9,16 @@ use Rattle.inf_scanner.specs.declared.tokens.TokenKind.{TokenKind}
 use Rattle.inf_scanner.specs.declared.tokens.TokenKind.TheVariants as kind
 use Rattle.inf_unit.specs.Tokens.{SourceToken}
 
--- the characters of a text of a source in a character set
+-- Characters of a text of a source in a character set.
 abbrev pub characters : CharSet → List ℕ → Result (List TextItem) TextFault
 characters set bytes = text_of set mode.Text bytes
 
--- the same, where they have no fault
+-- Characters of a text, where they have no fault.
 abbrev pub fit_characters : Result (List TextItem) TextFault → Option (List TextItem)
 fit_characters (Ok items) = Some items
 fit_characters (Err _) = None
 
--- the characters of a token that is a text
+-- Characters of a token that is a text.
 abbrev pub read_of_kind : CharSet → TokenKind → List ℕ → Option (List TextItem)
 read_of_kind set kind.Text bytes = fit_characters (characters set bytes)
 read_of_kind set _ bytes = None

@@ -10,23 +10,23 @@ use Rattle.inf_report.specs.Messages.{Told, Bytes, Quote, Text, End}
 use Rattle.inf_names.specs.Spellings.{Name}
 use Rattle.inf_unit.specs.Atoms.{atom_of_kind, keyword_of_kind}
 
--- A token: what it is, its bytes (of a text or quote those between its quotes), the place of its first byte, and whether it is read as
--- the name of a class, as one may be at the front of a piece.
+-- A token: its kind, its bytes (of a text or quote those between its quotes), the place of its first byte, and whether it is read
+-- as the name of a class, as one may be at the front of a piece.
 pub record SourceToken : Type 0 where
   pub kind : TokenKind
   pub bytes : List ℕ
   pub place : Place
   pub is_class : Bool
 
--- how the grammar sees it
+-- Atom by which the grammar knows a token.
 abbrev pub atom_of : SourceToken → ℕ
 atom_of t = atom_of_kind t.is_class t.kind t.bytes
 
--- the word of the grammar that it is, if it is one
+-- Word of the grammar that a token is, if it is one.
 abbrev pub keyword : SourceToken → Option Keyword
 keyword t = keyword_of_kind t.kind t.bytes
 
--- this mark
+-- Tells whether a token is a mark.
 abbrev pub is_mark : Mark → TokenKind → Bool
 is_mark m (kind.Mark n) = mark_atom n == mark_atom m
 is_mark m _ = false
@@ -35,12 +35,12 @@ abbrev pub is_end : TokenKind → Bool
 is_end kind.End = true
 is_end _ = false
 
--- the number that it is, if it is one
+-- Number that a token is, if it is one.
 abbrev pub number_of : TokenKind → Option ℕ
 number_of (kind.Number number) = Some number
 number_of _ = None
 
--- how messages name a token
+-- Form in which messages name a token.
 abbrev pub told_kind : TokenKind → List ℕ → Told
 told_kind kind.Text bytes = Text
 told_kind (kind.Char c) bytes = Quote bytes
@@ -51,7 +51,7 @@ told_kind _ bytes = Bytes bytes
 abbrev pub told : SourceToken → Told
 told t = told_kind t.kind t.bytes
 
--- the name that a token is, if it is one
+-- Name that a token is, if it is one.
 abbrev pub name_of_kind : TokenKind → List ℕ → Place → Option Name
 name_of_kind kind.Name bytes place = Some (record { bytes = bytes; place = place })
 name_of_kind _ bytes place = None

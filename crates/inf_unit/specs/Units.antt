@@ -1,4 +1,4 @@
--- The unit at hand: its tokens, and what the grammar's actions gather of them.
+-- The unit at hand: its tokens, and the parts that the actions of the grammar gather of them.
 use Rattle.std.specs.Prelude.{ℕ, ◌+◌, ◌-◌, ◌==◌, List, [], ◌∷◌, ◌++◌, length, drop, min, slice_get, take, nat_lt, Bool, true, false, ◌&&◌}
 use Rattle.std.specs.Prelude.{◌||◌, if◌then◌else◌, not, Option, Some, None, option_map, unwrap_or}
 use Rattle.inf_scanner.specs.declared.tokens.Mark.{Mark}
@@ -24,8 +24,8 @@ use Rattle.inf_unit.specs.declared.roles.Note.{Note}
 use Rattle.inf_unit.specs.declared.roles.Note.TheVariants as note
 use Rattle.inf_unit.specs.declared.roles.Role.{Role}
 use Rattle.inf_unit.specs.declared.roles.Role.TheVariants as role
-use Rattle.inf_unit.specs.declared.steps.Step.{Step}
-use Rattle.inf_unit.specs.declared.steps.Step.TheVariants as step
+use Rattle.inf_unit.specs.declared.steps.GatherStep.{GatherStep}
+use Rattle.inf_unit.specs.declared.steps.GatherStep.TheVariants as step
 use Rattle.inf_unit.specs.declared.items.Item.{Item}
 use Rattle.inf_unit.specs.declared.items.Item.TheVariants as item
 use Rattle.inf_unit.specs.LongLines.{LongLine, no_tokens}
@@ -33,14 +33,12 @@ use Rattle.inf_unit.specs.declared.items.PrintRule.{PrintRule}
 use Rattle.inf_unit.specs.Items.{is_own, rule_of}
 use Rattle.inf_unit.specs.Opcodes.{opcode_of, takes_text}
 
--- Its tokens so far, before which the first of those between the unit before and its beginning stands, where there are such; where among
--- them it begins;
--- what is gathered of its expressions; the locals that it names, where it is the header of a routine; what it has beside them, in order;
--- where among its tokens its outermost expression begins, if one is
--- open, and whether that surely is one; whether the unit has ended, but for its last token; how many brackets and braces of its piece are
--- open; and how many
--- tokens it has, where it is whole and waits for what follows it; the least of what was found of operands that are not kept; and its
--- tokens, where it is a line of grammar that has too many.
+-- The unit at hand: its tokens so far, before which the first of those between the unit before and its beginning stands, where
+-- there are such; the place among them where it begins; the expressions gathered so far; the locals that it names, where it is the
+-- header of a routine; its items beside its expressions, in order; the place among its tokens where its outermost expression
+-- begins, if one is open, and whether that surely is one; whether the unit has ended, but for its last token; the number of
+-- brackets and braces of its piece that are open; the number of its tokens, where it is whole and waits for the token that follows
+-- it; the least finding of operands that are not kept; and its tokens, where it is a line of grammar that has too many.
 pub record Unit : Type 0 where
   pub tokens : List SourceToken
   pub begun : ℕ
@@ -55,7 +53,7 @@ pub record Unit : Type 0 where
   pub passed : Option Finding
   pub long : Option LongLine
 
--- at the front of a piece
+-- Unit at the front of a piece.
 abbrev pub no_unit : Unit
 no_unit = record {
   tokens = [];
@@ -77,7 +75,7 @@ no_unit = record {
 abbrev pub begun : Unit → Unit
 begun u = record no_unit { tokens = take 1 u.tokens; begun = length (take 1 u.tokens); depth = u.depth }
 
--- nothing is gathered
+-- All that was gathered is forgotten.
 abbrev pub forgotten : Unit → Unit
 forgotten u = record no_unit { tokens = u.tokens; begun = u.begun; depth = u.depth }
 
@@ -102,20 +100,20 @@ abbrev pub depth_behind : TokenKind → ℕ → ℕ
 depth_behind (kind.Mark m) depth = opened_more m depth
 depth_behind _ depth = depth
 
--- a token is taken
+-- A token is taken.
 abbrev pub taken : SourceToken → Unit → Unit
 taken t u =
     if u.is_over then record u { is_over = false }
     else record u { tokens = u.tokens ++ t ∷ []; depth = depth_behind t.kind u.depth }
 
--- the kind and the place of the token at a place of the unit, where there is one
+-- Kind and place of the token at a place of the unit, where there is one.
 abbrev pub kind_at : List SourceToken → ℕ → Option TokenKind
 kind_at tokens at = option_map (λ (t : SourceToken). t.kind) (slice_get tokens at)
 
 abbrev pub place_at : List SourceToken → ℕ → Option Place
 place_at tokens at = option_map (λ (t : SourceToken). t.place) (slice_get tokens at)
 
--- the name at a place of the unit, if the token there is one
+-- Name at a place of the unit, if the token there is one.
 abbrev pub name_by : Option SourceToken → Option Name
 name_by None = None
 name_by (Some t) = name_of t
@@ -123,7 +121,7 @@ name_by (Some t) = name_of t
 abbrev pub name_at : List SourceToken → ℕ → Option Name
 name_at tokens at = name_by (slice_get tokens at)
 
--- its bytes
+-- Bytes of a name, and of the name at a place of the unit; none where there is no name.
 abbrev pub bytes_of : Option Name → List ℕ
 bytes_of None = []
 bytes_of (Some n) = n.bytes
@@ -131,19 +129,19 @@ bytes_of (Some n) = n.bytes
 abbrev pub bytes_at : List SourceToken → ℕ → List ℕ
 bytes_at tokens at = bytes_of (name_at tokens at)
 
--- the place of the first token; where there is none yet, that of the next
+-- Place of the first token; where there is none yet, that of the next.
 abbrev pub first_place : List SourceToken → Place → Place
 first_place tokens next = unwrap_or (place_at tokens 0) next
 
--- the same of the first token of the unit itself
+-- Place of the first token of the unit itself; where there is none yet, that of the next.
 abbrev pub own_place : Unit → Place → Place
 own_place u next = unwrap_or (place_at u.tokens u.begun) next
 
--- the place of the last token, where there is one
+-- Place of the last token, where there is one, and else another place.
 abbrev pub last_place : List SourceToken → Place → Place
 last_place tokens other = unwrap_or (place_at tokens (length tokens - 1)) other
 
--- the bytes of the first text among them
+-- Bytes of the first text among the tokens.
 abbrev pub quoted_by : TokenKind → List ℕ → List ℕ → List ℕ
 quoted_by kind.Text bytes others = bytes
 quoted_by _ bytes others = others
@@ -152,16 +150,16 @@ abbrev pub quoted_in : List SourceToken → List ℕ
 quoted_in [] = []
 quoted_in (t ∷ tokens) = quoted_by t.kind t.bytes (quoted_in tokens)
 
--- whether a token is a mark, if there is one
+-- Tells whether a token is a mark, if there is one.
 abbrev pub is_some_mark : Mark → Option TokenKind → Bool
 is_some_mark m None = false
 is_some_mark m (Some k) = is_mark m k
 
--- the order of the name that a directive declares: behind its word, before which a `#` may stand
+-- Order of the name that a directive declares: behind its word, before which a `#` may stand.
 abbrev pub name_order : List SourceToken → ℕ
 name_order tokens = if is_some_mark mark.Hash (kind_at tokens 0) then 2 else 1
 
--- the word of the grammar at a place of the unit, if the token there is one
+-- Word of the grammar at a place of the unit, if the token there is one.
 abbrev pub keyword_by : Option SourceToken → Option Keyword
 keyword_by None = None
 keyword_by (Some t) = keyword t
@@ -169,11 +167,11 @@ keyword_by (Some t) = keyword t
 abbrev pub keyword_at : List SourceToken → ℕ → Option Keyword
 keyword_at tokens at = keyword_by (slice_get tokens at)
 
--- that of a directive, before which a `#` may stand
+-- Word of a directive, before which a `#` may stand.
 abbrev pub directive_word : List SourceToken → Option Keyword
 directive_word tokens = keyword_at tokens (name_order tokens - 1)
 
--- the names among the tokens, in order
+-- Names among the tokens, in order.
 abbrev pub with_name : Option Name → List Name → List Name
 with_name None names = names
 with_name (Some n) names = names ++ n ∷ []
@@ -185,7 +183,7 @@ names_from (t ∷ tokens) names = names_from tokens (with_name (name_of t) names
 abbrev pub names_in : List SourceToken → List Name
 names_in tokens = names_from tokens []
 
--- Where the first token stands by which the outermost expression is too long, if it may have so many and surely is one.
+-- Place of the first token by which the outermost expression is too long, if it surely is one and has more than `most` tokens.
 abbrev pub long_from : List SourceToken → ℕ → ℕ → Bool → Option Place
 long_from tokens most outer is_sure = if is_sure && nat_lt most (length tokens - outer) then place_at tokens (outer + most) else None
 
@@ -196,7 +194,7 @@ long_by tokens most is_sure (Some outer) = long_from tokens most outer is_sure
 abbrev pub long_at : ℕ → Unit → Option Place
 long_at most u = long_by u.tokens most u.is_sure u.outer
 
--- How many tokens the outermost expression has so far; none, where it may be none.
+-- Number of tokens that the outermost expression has so far; 0 where it may be no expression.
 abbrev pub outer_count : List SourceToken → Bool → Option ℕ → ℕ
 outer_count tokens is_sure None = 0
 outer_count tokens is_sure (Some outer) = if is_sure then length tokens - outer else 0
@@ -206,19 +204,19 @@ outer_tokens u = outer_count u.tokens u.is_sure u.outer
 
 -- Actions
 
--- the place of the last token among them
+-- Place of the last token among those of the unit.
 abbrev pub last_leaf : Unit → ℕ
 last_leaf u = length u.tokens - 1
 
--- The order of a token at a place of its unit. No unit has so many tokens that two have one order.
+-- Order of the token at a place of its unit. A unit has fewer tokens than there are orders, so no two tokens have one order.
 unfoldable pub order : ℕ → ℕ
 order at = min at 4294967295
 
--- the place behind another one
+-- Place behind another one.
 unfoldable pub next_place : ℕ → ℕ
 next_place at = min (at + 1) 18446744073709551615
 
--- the leaf that a token at a place of its unit is
+-- Leaf that a token at a place of its unit is.
 abbrev pub leaf_of : ℕ → TokenKind → Leaf
 leaf_of at (kind.Number n) = leaf.Number n
 leaf_of at (kind.Char c) = leaf.Char c
@@ -226,12 +224,12 @@ leaf_of at (kind.Word w) = leaf.Word w
 leaf_of at kind.Text = leaf.Text at
 leaf_of at _ = leaf.Name at
 
--- whether the unit is an assembly line
+-- Tells whether the unit is an assembly line.
 abbrev pub is_assembly : Unit → Bool
 is_assembly u = is_some_mark mark.At (kind_at u.tokens u.begun)
 
--- Whether the token at a place is an operand of an assembly line by itself, if it is a name: the operand begins with it, and nothing stands
--- behind a name.
+-- Tells whether the token at a place is an operand of an assembly line by itself, if it is a name: the operand begins with it, and
+-- nothing stands behind a name.
 abbrev pub is_first : ℕ → Option ℕ → Bool
 is_first at None = false
 is_first at (Some outer) = outer == at
@@ -269,8 +267,8 @@ system_gathered u =
     let at = last_leaf u in
     record u { gathering = with_leaf (order (marked_from u.tokens at)) (order at) (leaf.System at) u.gathering }
 
--- what is gathered of an operator behind some tokens
-abbrev pub gathered : Step → List SourceToken → Gathering → Gathering
+-- Gathering of a step that has to do with an operator, a list or a bracket, behind some tokens.
+abbrev pub gathered : GatherStep → List SourceToken → Gathering → Gathering
 gathered step.Leaf tokens g = g
 gathered step.Action tokens g = g
 gathered step.System tokens g = g
@@ -285,17 +283,17 @@ gathered (step.Test op) tokens g = with_test op g
 gathered step.Bracket tokens g = with_bracket (order (length tokens - 1)) g
 gathered step.Bracketed tokens g = with_closed_bracket g
 
-abbrev pub stepped : Step → Unit → Unit
+abbrev pub stepped : GatherStep → Unit → Unit
 stepped step.Leaf u = leaf_gathered u
 stepped step.Action u = action_gathered u
 stepped step.System u = system_gathered u
 stepped s u = record u { gathering = gathered s u.tokens u.gathering }
 
--- one thing more beside its expressions
+-- One item more beside the expressions.
 abbrev pub with_item : Item → Unit → Unit
 with_item i u = record u { items = u.items ++ i ∷ [] }
 
--- one thing more is printed, where an outermost expression has ended
+-- One item more is printed, where an outermost expression has ended.
 abbrev pub printed : Item → Unit → Unit
 printed i u = record u { items = u.items ++ i ∷ []; outer = None }
 
@@ -314,7 +312,7 @@ opcode_text u = if takes_text (bytes_at u.tokens (next_place u.begun)) then with
 abbrev pub text_passed : Unit → Unit
 text_passed u = record u { tokens = take (length u.tokens - 2) u.tokens; outer = None }
 
--- The last token names a local: it is kept among these, and not among the tokens.
+-- The last token names a local: it is kept among the locals, and not among the tokens.
 abbrev pub headed_by : Option Name → Headed → Headed
 headed_by None h = h
 headed_by (Some n) h = with_local n h
@@ -322,7 +320,7 @@ headed_by (Some n) h = with_local n h
 abbrev pub headed_more : Unit → Unit
 headed_more u = record u { headed = headed_by (name_at u.tokens (last_leaf u)) u.headed; tokens = take (last_leaf u) u.tokens }
 
--- the last token is not kept
+-- The last token is not kept.
 abbrev pub last_passed : Unit → Unit
 last_passed u = record u { tokens = take (last_leaf u) u.tokens }
 
@@ -333,8 +331,8 @@ is_again at tokens = is_some_mark mark.Semicolon (kind_at tokens (at - 1)) && na
 abbrev pub semicolon_taken : Unit → Unit
 semicolon_taken u = if is_again (last_leaf u) u.tokens then last_passed u else u
 
--- Whether it is an assembly line with more operands than an instruction has. Whatever they are, it then is wrong, and as many numbers
--- stand for them as are too many; what was found of them is kept.
+-- Tells whether the unit is an assembly line with more operands than an instruction has. Whatever they are, the line then is wrong:
+-- as many numbers stand for them as are too many, and the least finding of them is kept.
 abbrev pub is_full : Unit → Bool
 is_full u = nat_lt 8 (length u.gathering.firsts) && is_assembly u
 
@@ -347,8 +345,8 @@ operands_passed f u =
       passed = least_of_both u.passed f;
     }
 
--- A token ends of a line of grammar that has too many. Those so far are kept, of which one is wrong or none; one more is kept where it is
--- wrong, or new, unless one before it is wrong.
+-- A token of a line of grammar that has too many ends. The tokens so far are kept, of which one is wrong or none; a further one is
+-- kept where it is wrong, or new, unless one before it is wrong.
 abbrev pub sifted_by : Option LongLine → Bool → Bool → Unit → Unit
 sifted_by None is_bad is_new u = record u { long = Some (no_tokens (length u.tokens) is_bad) }
 sifted_by (Some l) is_bad is_new u =
@@ -358,7 +356,7 @@ sifted_by (Some l) is_bad is_new u =
 abbrev pub sifted : Bool → Bool → Unit → Unit
 sifted is_bad is_new u = sifted_by u.long is_bad is_new u
 
--- what an action notes of the unit
+-- Unit after a note.
 abbrev pub noted : Note → Unit → Unit
 noted note.Begin u = begun u
 noted note.Local u = headed_more u
@@ -380,7 +378,8 @@ noted note.Store u = with_item (item.Store (last_leaf u)) u
 noted (note.Branch sense) u = with_item (item.Branch (last_leaf u) sense) u
 noted note.LineToken u = u
 
--- what an action gathers or notes; one that ends a unit, or has to do with the statements around it, does neither
+-- Unit after an action has gathered or noted something; an action that ends a unit, or has to do with the statements around it,
+-- does neither.
 abbrev pub played : Role → Unit → Unit
 played (role.Gather s) u = stepped s u
 played (role.Note n) u = noted n u
@@ -397,7 +396,7 @@ acted a u = played (role_of a) u
 
 -- Whole units
 
--- The place of the name of the label to which an assembly line jumps with this opcode and these operands, which is then no expression.
+-- Place of the name of the label to which an assembly line jumps, by its opcode and its operands; the name is then no expression.
 abbrev pub jump_label : List Leaf → Option ℕ
 jump_label ((leaf.Alone at) ∷ []) = Some at
 jump_label _ = None

@@ -1,4 +1,4 @@
-//! The directives that are one unit, and what they ask of the reading.
+//! Directives that are one unit, and their requests to the reading.
 ghost use Rattle.std.specs.Prelude.{◌≡◌, map};
 ghost use Rattle.inf_names.specs.Spellings.{as_name};
 ghost use Rattle.inf_unit.specs.Directives.{directive_of, weight_of, weight_of_word};
@@ -34,11 +34,11 @@ pub enum Directive {
 #[derive(Debug, Drop)]
 pub enum Request {
     Nothing,
-    /// That a file is read, whose name stands in this text, for the directive that begins at this place.
+    /// To read the file whose name is `text`, for the directive that begins at `unit`.
     Include { text: Vec<u8>, unit: Place },
-    /// That reading ends.
+    /// To end reading.
     End,
-    /// That the sources are read by this character set from the next token on.
+    /// To read the sources by this character set from the next token on.
     Characters(CharSet),
 }
 

@@ -1,4 +1,4 @@
-//! Items: all that the units of a routine have beside their expressions.
+//! Items that the units of a routine have beside their expressions.
 ghost use Rattle.std.specs.Prelude.{◌≡◌};
 ghost use Rattle.std.specs.Str.{bytes_eq};
 ghost use Rattle.inf_unit.specs.Items.{is_own, rule_of};
@@ -15,7 +15,7 @@ pub enum PrintRule {
     CapitalArticle,
     IndefiniteArticle,
     EnglishNumber,
-    /// By a routine, which is the expression before the value.
+    /// The rule of a routine, which is the expression before the value.
     Routine,
 }
 
@@ -78,7 +78,7 @@ pub fn rule_of(name: &[u8]) -> PrintRule
 }
 
 impl PrintRule {
-    /// Tells whether this rule is one of the language.
+    /// Returns whether this rule is one of the language.
     pub fn is_own(self) -> bool
         ensures { result ≡ is_own self }
     {

@@ -17,7 +17,7 @@ pub enum KeptBytes {
 }
 
 impl KeptBytes {
-    /// A copy of these.
+    /// Returns a copy of `bytes`.
     fn new(alloc: Global, bytes: &[u8]) -> Result<KeptBytes, AllocError>
         ensures { IfOk result (λ kept. kept_bytes kept ≡ bytes.now) }
     {
@@ -57,7 +57,7 @@ impl Kept {
     ghost use Rattle.inf_unit.specs.Kept.{as_spelled};
     ghost use Rattle.inf_unit.specs.Spelled.{spelled};
 
-    /// A copy of a token.
+    /// Returns a copy of `token`.
     #[inline(always)]
     pub(crate) fn new(alloc: Global, token: &SourceToken<'_>) -> Result<Kept, AllocError>
         ensures { IfOk result (λ kept. as_spelled kept ≡ spelled token.now) }
@@ -71,7 +71,7 @@ impl Kept {
         })
     }
 
-    /// As units see it.
+    /// Returns the token as units see it.
     pub(crate) fn spelled(&self) -> SourceToken<'_>
         ensures { spelled result ≡ as_spelled self.now }
     {

@@ -1,10 +1,10 @@
-//! Tests of what a token is.
+//! Tests of the kinds of tokens.
 ghost use Rattle.std.specs.Prelude.{◌≡◌};
 ghost use Rattle.inf_unit.specs.Tokens.{is_end, is_mark, number_of};
 
 use inf_scanner::{Mark, TokenKind};
 
-/// Tells whether a token of `kind` is `mark`.
+/// Returns whether a token of `kind` is `mark`.
 pub fn is_mark(kind: TokenKind, mark: Mark) -> bool
     ensures { result ≡ is_mark mark kind }
 {
@@ -14,7 +14,7 @@ pub fn is_mark(kind: TokenKind, mark: Mark) -> bool
     }
 }
 
-/// Tells whether a token of `kind` is the end of the source.
+/// Returns whether a token of `kind` is the end of the source.
 pub fn is_end(kind: TokenKind) -> bool
     ensures { result ≡ is_end kind }
 {

@@ -1,8 +1,8 @@
-//! What is kept of a line of grammar that has more tokens than the grammar may have bytes.
+//! A line of grammar that has more tokens than the grammar may have bytes.
 //!
-//! Such a line passes that setting, if nothing is wrong with it. So of a token more it matters only whether something is wrong with it,
-//! and whether it passes a setting that is told before that one: there are more names, or more words, than there may be.
-ghost use Rattle.std.specs.Prelude.{◌≡◌, ◌≤◌, IfOk, length};
+//! Such a line passes that setting, if nothing is wrong with it. For a further token it matters only whether something is wrong
+//! with it, and whether it passes a setting that is told before that one: there are more names, or more words, than there may be.
+ghost use Rattle.std.specs.Prelude.{◌≡◌, ◌≤◌, IfOk, None, length};
 ghost use Rattle.inf_unit.specs.LongLines.{name_added, no_tokens, word_added};
 
 use inf_names::hashing::NameHashing;
@@ -13,19 +13,19 @@ use std::alloc::{AllocError, Global};
 use std::collections::BTreeMap;
 use std::marker::Model;
 
-/// The place of a name that comes, which does not matter here.
+/// Place of a name that comes, which does not matter here.
 const NOWHERE: Place = Place { file: 0, line: 0 };
 
-/// The tokens of such a line.
+/// The tokens of a line that is too long.
 #[derive(Drop)]
 pub struct LongLine {
     /// The number of the unit's tokens before the one at hand.
     pub count: usize,
-    /// Whether something is wrong with one of them.
+    /// Tells whether something is wrong with one of them.
     pub is_bad: bool,
     /// The names that came since the line was too long, each once.
     names: Symbols<Place, Unbounded>,
-    /// The words.
+    /// The words that came since, each once.
     words: BTreeMap<[u8; 6], ()>,
 }
 
@@ -76,4 +76,23 @@ impl LongLine {
         self.words.insert(text, ())?;
         Ok(true)
     }
+}
+
+/// Forgets `line`, if there is one.
+#[inline(always)]
+pub(crate) fn forget_line(line: &mut Option<LongLine>)
+    ensures { line.new ≡ None }
+{
+    if line.is_some() {
+        drop_line(line);
+    }
+}
+
+/// Forgets `line`. This stands apart, since few units have such a line, and the drop reads all of it.
+#[cold]
+#[inline(never)]
+fn drop_line(line: &mut Option<LongLine>)
+    ensures { line.new ≡ None }
+{
+    *line = None;
 }

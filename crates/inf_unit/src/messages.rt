@@ -1,4 +1,4 @@
-//! The messages of a compilation so far, and where they stand.
+//! Messages of a compilation so far, and their places.
 ghost use Rattle.std.specs.Prelude.{◌≡◌, IsOk, OnErr, OnOk, option_map};
 ghost use Rattle.inf_report.specs.Meant.{located, meant, worded};
 ghost use Rattle.inf_report.specs.Writing.{Writes};
@@ -7,13 +7,13 @@ ghost use Rattle.inf_unit.specs.Messages.{flushed, location, none_reported, sett
 ghost use Rattle.inf_unit.specs.Messages.{warnings_chosen, with_full, with_plain, with_statistic, with_warning, with_words};
 
 use inf_assembler::Limit as CodeLimit;
+use inf_devices::memory_sink::MemorySink;
+use inf_devices::sinks::{Sink, write_whole};
 use inf_lexer::{Place, Stack};
 use inf_report::messages::{Kind, Location, Message};
 use inf_report::own_words::OwnWords;
 use inf_report::report::{Report, ReportFault};
 use inf_settings::setting::Setting;
-use inf_sinks::memory_sink::MemorySink;
-use inf_sinks::sinks::{Sink, write_whole};
 use std::alloc::{AllocError, Global};
 use std::marker::Model;
 
@@ -24,10 +24,10 @@ pub struct Diagnostic<'a> {
     pub message: Message<'a>,
 }
 
-/// The number of the file that the routines of the veneer are: no file of a source has it.
+/// Number of the file that the routines of the veneer are: no file of a source has it.
 pub const VENEER_FILE: u16 = u16::MAX;
 
-/// Gives the line that `place` is, by the name under which its file was opened, or as a line of the veneer.
+/// Returns the line of `place`, by the name under which its file was opened, or as a line of the veneer.
 pub fn location(files: &Stack, place: Place) -> Location<'_>
     ensures { located result ≡ location files.now.names place }
 {
@@ -44,7 +44,7 @@ pub fn location(files: &Stack, place: Place) -> Location<'_>
     }
 }
 
-/// Returns the setting that bounds what `full` says of code.
+/// Returns the setting of the limit `full` of code.
 pub fn setting_of(full: CodeLimit) -> Setting
     ensures { result ≡ setting_of full }
 {
@@ -55,7 +55,7 @@ pub fn setting_of(full: CodeLimit) -> Setting
     }
 }
 
-/// The lines of the messages so far, and what was counted of them.
+/// Lines of the messages so far, and the counts of the messages in them.
 ///
 /// Each call adds its line, or refuses where no memory was left: a part of the line may then stand there.
 #[derive(Drop)]
@@ -97,7 +97,7 @@ impl Diagnostics {
         self.report.errors()
     }
 
-    /// Tells whether a fatal error has ended the compilation.
+    /// Returns whether a fatal error has ended the compilation.
     pub fn is_over(&self) -> bool
         ensures { result ≡ self.now.counts.is_over }
     {
@@ -175,7 +175,7 @@ impl Diagnostics {
         }
     }
 
-    /// Ends the compilation where a unit that begins at a place would pass a setting.
+    /// Ends the compilation by a fatal error at `unit`, where a unit begins that would pass the setting `full`, if there is one.
     pub fn full(
         &mut self,
         files: &Stack,
@@ -228,7 +228,7 @@ impl Diagnostics {
     }
 }
 
-/// Writes all of some lines.
+/// Writes all of `lines` to `to`.
 fn write_lines<M: Sink>(to: &mut M, lines: &[u8]) -> Result<(), ReportFault>
     ensures { Writes (M.taken to.old) (M.taken to.new) (M.failures to.old) (M.failures to.new) lines.now result }
 {
@@ -238,7 +238,7 @@ fn write_lines<M: Sink>(to: &mut M, lines: &[u8]) -> Result<(), ReportFault>
     }
 }
 
-/// A sink in memory fails only where no memory was left.
+/// Returns the outcome of a call that told something in memory: it fails only where no memory was left.
 fn written(told: Result<(), ReportFault>) -> Result<(), AllocError>
     ensures { OnOk result (IsOk told) }
 {

@@ -36,7 +36,7 @@ pub fn main_of<B: Bounds>(names: &Symbols<Place, B>) -> Option<usize>
     }
 }
 
-/// The place of a routine, in bytes from the front of the code.
+/// Returns the place of a routine, in bytes from the front of the code; `None` for any other `meaning`.
 fn routine_of(meaning: Meaning) -> Option<usize>
     ensures { result ≡ routine_of meaning }
 {

@@ -4,7 +4,7 @@ ghost use Rattle.inf_unit.specs.Opcodes.{opcode_of, takes_text};
 
 use inf_opcode::Opcode;
 
-/// Returns the opcode with `name`, in any case. There is none for a name with a byte over 127, which no name of a source has.
+/// Returns the opcode whose name is `name`, in any case. There is none for a name with a byte over 127, which no name of a source has.
 #[tactic(auto, unfolding(crate::specs::Opcodes::opcode_of))]
 pub fn opcode_of(name: &[u8]) -> Option<Opcode>
     ensures { result ≡ opcode_of name.now }
@@ -18,7 +18,7 @@ pub fn opcode_of(name: &[u8]) -> Option<Opcode>
     }
 }
 
-/// Whether the opcode of a name takes a text of its own.
+/// Returns whether the opcode whose name is `name` takes a text of its own.
 pub(crate) fn takes_text(name: &[u8]) -> bool
     ensures { result ≡ takes_text name.now }
 {

@@ -3,8 +3,8 @@ ghost use Rattle.std.specs.Prelude.{◌≡◌};
 ghost use Rattle.inf_unit.specs.Roles.{ends_outer, ends_token, failing, is_arrow, is_text, makes_sure, operation, prefix, property};
 ghost use Rattle.inf_unit.specs.Roles.{role_of, suffix, test, two};
 
-use crate::steps::Step;
-use inf_expressions::{Binary, Operation, PropertyPart, Single, Step as Stepping, Test, Unary};
+use crate::steps::GatherStep;
+use inf_expressions::{Binary, Direction, Operation, PropertyPart, Single, Test, Unary};
 use inf_syntax::Action;
 
 /// A note that an action makes of a unit, beside the steps by which it gathers expressions.
@@ -34,10 +34,10 @@ pub enum Note {
     PrintValue,
     /// The name in the bracket that was closed last is a print rule.
     Rule,
-    /// Attributes that are set, or cleared.
+    /// The next expression is an attribute that is set, or one that is cleared.
     Set,
     Clear,
-    /// A default in place of a case.
+    /// The case is the default.
     Default,
     /// The last token is a text behind an opcode.
     AsmText,
@@ -59,9 +59,9 @@ pub enum Ending {
     Routine,
     /// A directive that is one unit.
     Directive,
-    /// The header of one that is not.
+    /// The header of a directive that is not one unit.
     Header,
-    /// The body of an object or a class; what stands in it.
+    /// The body of an object or a class; its parts.
     Body,
     Class,
     Attribute,
@@ -75,8 +75,8 @@ pub enum Ending {
     Entry,
     Alone,
     Statement,
-    /// The parts of statements that hold others: a condition; the three parts of a `for`; what a loop over objects goes over; what is
-    /// switched on; the values of a case.
+    /// The parts of statements that hold others: a condition; the three parts of a `for`; the objects that a loop goes over; the
+    /// value of a `switch`; the values of a case.
     Condition,
     Start,
     Step,
@@ -99,17 +99,17 @@ pub enum Opening {
 /// The role of an action of the grammar.
 #[derive(Clone, Copy, Debug, PartialEq, Eq)]
 pub enum Role {
-    /// Something of an expression is gathered.
-    Gather(Step),
-    /// Something else of a unit is noted.
+    /// A step of an expression is gathered.
+    Gather(GatherStep),
+    /// A note is made of the unit.
     Note(Note),
     /// A unit ends.
     End(Ending),
     /// A statement begins that holds others.
     Open(Opening),
-    /// The innermost of these goes on with its next part.
+    /// The innermost statement that holds others goes on with its next part.
     Join,
-    /// The innermost of these is over.
+    /// The innermost statement that holds others is over.
     Close,
     /// A statement stands in another one, or may stand in one.
     Deeper,
@@ -118,84 +118,84 @@ pub enum Role {
     Nothing,
 }
 
-/// An operator of one expression, in front of it.
+/// Returns the role of the operator `op` of one expression, in front of it.
 fn prefix(op: Unary) -> Role
     ensures { result ≡ prefix op }
 {
-    Role::Gather(Step::Prefix(op))
+    Role::Gather(GatherStep::Prefix(op))
 }
 
-/// An operator of one expression, behind it.
+/// Returns the role of the operator `op` of one expression, behind it.
 fn suffix(op: Unary) -> Role
     ensures { result ≡ suffix op }
 {
-    Role::Gather(Step::Suffix(op))
+    Role::Gather(GatherStep::Suffix(op))
 }
 
-/// An operator of two expressions.
+/// Returns the role of the operator `op` of two expressions.
 fn two(op: Binary) -> Role
     ensures { result ≡ two op }
 {
-    Role::Gather(Step::Two(op))
+    Role::Gather(GatherStep::Two(op))
 }
 
-/// An operation of two expressions.
+/// Returns the role of the operation `op` of two expressions.
 fn operation(op: Operation) -> Role
     ensures { result ≡ operation op }
 {
     two(Binary::Operation(op))
 }
 
-/// What is read of a property of an object.
+/// Returns the role of a reading of `part` of a property of an object.
 fn property(part: PropertyPart) -> Role
     ensures { result ≡ property part }
 {
     two(Binary::Property(part))
 }
 
-/// A test that has to hold.
+/// Returns the role of the test `by` that has to hold.
 fn test(by: Test) -> Role
     ensures { result ≡ test by }
 {
-    Role::Gather(Step::Test(Binary::Test(by)))
+    Role::Gather(GatherStep::Test(Binary::Test(by)))
 }
 
-/// A test that has to fail.
+/// Returns the role of the test `by` that has to fail.
 fn failing(by: Test) -> Role
     ensures { result ≡ failing by }
 {
-    Role::Gather(Step::Test(Binary::Fails(by)))
+    Role::Gather(GatherStep::Test(Binary::Fails(by)))
 }
 
-/// Tells whether `note` makes sure that an expression is open, whose tokens then count.
+/// Returns whether `note` makes sure that an expression is open, whose tokens then count.
 pub fn makes_sure(note: Note) -> bool
     ensures { result ≡ makes_sure note }
 {
     matches!(note, Note::OuterSure | Note::OuterWord)
 }
 
-/// Tells whether `note` is that of a text that is printed.
+/// Returns whether `note` is that of a text that is printed.
 pub fn is_text(note: Note) -> bool
     ensures { result ≡ is_text note }
 {
     matches!(note, Note::PrintText)
 }
 
-/// Tells whether `note` is that of an arrow before the name of an object.
+/// Returns whether `note` is that of an arrow before the name of an object.
 pub fn is_arrow(note: Note) -> bool
     ensures { result ≡ is_arrow note }
 {
     matches!(note, Note::Arrow)
 }
 
-/// Tells whether `note` is that of the end of an outermost expression.
+/// Returns whether `note` is that of the end of an outermost expression.
 pub fn ends_outer(note: Note) -> bool
     ensures { result ≡ ends_outer note }
 {
     matches!(note, Note::OuterEnd)
 }
 
-/// Tells whether `note` is that of the end of a token of a line of grammar.
+/// Returns whether `note` is that of the end of a token of a line of grammar.
 pub fn ends_token(note: Note) -> bool
     ensures { result ≡ ends_token note }
 {
@@ -210,17 +210,17 @@ pub fn role_of(action: Action) -> Role
     match action {
         // Expressions
         Action::Name | Action::Number | Action::Char | Action::Word | Action::Text => Role::Gather(
-            Step::Leaf,
+            GatherStep::Leaf,
         ),
-        Action::Action => Role::Gather(Step::Action),
-        Action::System => Role::Gather(Step::System),
+        Action::Action => Role::Gather(GatherStep::Action),
+        Action::System => Role::Gather(GatherStep::System),
         Action::Negate => prefix(Unary::Negate),
         Action::BitNot => prefix(Unary::Single(Single::Complement)),
         Action::Not => prefix(Unary::Not),
-        Action::IncrementBefore => prefix(Unary::Before(Stepping::Up)),
-        Action::DecrementBefore => prefix(Unary::Before(Stepping::Down)),
-        Action::IncrementAfter => suffix(Unary::Behind(Stepping::Up)),
-        Action::DecrementAfter => suffix(Unary::Behind(Stepping::Down)),
+        Action::IncrementBefore => prefix(Unary::Before(Direction::Up)),
+        Action::DecrementBefore => prefix(Unary::Before(Direction::Down)),
+        Action::IncrementAfter => suffix(Unary::Behind(Direction::Up)),
+        Action::DecrementAfter => suffix(Unary::Behind(Direction::Down)),
         Action::Plus => operation(Operation::Add),
         Action::Minus => operation(Operation::Subtract),
         Action::Times => operation(Operation::Multiply),
@@ -237,10 +237,10 @@ pub fn role_of(action: Action) -> Role
         Action::Or => two(Binary::Or),
         Action::Assign => two(Binary::Assign),
         Action::To => two(Binary::To),
-        Action::Comma => Role::Gather(Step::Comma),
-        Action::Count => Role::Gather(Step::List),
-        Action::Part => Role::Gather(Step::Part),
-        Action::Call => Role::Gather(Step::Call),
+        Action::Comma => Role::Gather(GatherStep::Comma),
+        Action::Count => Role::Gather(GatherStep::List),
+        Action::Part => Role::Gather(GatherStep::Part),
+        Action::Call => Role::Gather(GatherStep::Call),
         Action::Equal => test(Test::Equal),
         Action::Unequal => failing(Test::Equal),
         Action::Less => test(Test::Less),
@@ -253,8 +253,8 @@ pub fn role_of(action: Action) -> Role
         Action::NotIn => failing(Test::In),
         Action::OfClass => test(Test::OfClass),
         Action::Provides => test(Test::Provides),
-        Action::Bracket => Role::Gather(Step::Bracket),
-        Action::Bracketed => Role::Gather(Step::Bracketed),
+        Action::Bracket => Role::Gather(GatherStep::Bracket),
+        Action::Bracketed => Role::Gather(GatherStep::Bracketed),
         // Units
         Action::Begin => Role::Note(Note::Begin),
         Action::Local => Role::Note(Note::Local),

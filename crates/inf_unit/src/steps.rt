@@ -4,7 +4,7 @@ use inf_expressions::{Binary, Unary};
 
 /// A step by which an expression is gathered.
 #[derive(Clone, Copy, Debug, PartialEq, Eq)]
-pub enum Step {
+pub enum GatherStep {
     /// The last token is a leaf.
     Leaf,
     /// The last token names an action.

@@ -8,7 +8,7 @@ use inf_scanner::TokenKind;
 use inf_text::{CharSet, Mode, Text, TextFault, read_text};
 use std::alloc::{AllocError, Global};
 
-/// Returns the characters of `token`, a token of a source in `set`, where it is a text.
+/// Returns the characters of `token`, of a source in `set`, if it is a text without a fault.
 pub fn text_of(
     alloc: Global,
     set: CharSet,

@@ -6,8 +6,8 @@ use inf_report::messages::Told;
 use inf_scanner::{Place, TokenKind};
 use inf_syntax::{Keyword, Token as Seen, atom_of, keyword_at};
 
-/// A token of a source: what it is, its bytes (of a text or quote those between its quotes), the place of its first byte, and how the
-/// grammar sees it. A name has at most 32 bytes.
+/// A token of a source: its kind, its bytes (of a text or quote those between its quotes), the place of its first byte, and its
+/// atom, by which the grammar knows it. A name has at most 32 bytes.
 #[derive(Clone, Copy)]
 pub struct SourceToken<'a> {
     pub kind: TokenKind,
@@ -19,7 +19,8 @@ pub struct SourceToken<'a> {
     ghost is_short: { is_short kind bytes.now ≡ true },
 }
 
-/// How the grammar sees a token, which is the name of a class or not. What has a fault of its own is a bad one, which fits nowhere.
+/// Returns the atom of a token of `kind` with `bytes`, which is the name of a class if `is_class`. A token that is faulty by itself
+/// is a bad one, which fits nowhere.
 fn atom_at(kind: TokenKind, bytes: &[u8], is_class: bool) -> u8
     ensures { result ≡ atom_of_kind is_class kind bytes.now }
 {

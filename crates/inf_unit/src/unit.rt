@@ -1,4 +1,4 @@
-//! The unit at hand: its tokens, and what the grammar's actions gather of them.
+//! The unit at hand: its tokens, and the parts that the actions of the grammar gather of them.
 ghost use Rattle.std.specs.Prelude.{◌≡◌, ◌≤◌, ◌++◌, ◌∷◌, [], None, OnOk, Some, length};
 ghost use Rattle.inf_unit.specs.AtHand.{unit};
 ghost use Rattle.inf_unit.specs.Spelled.{spelled};
@@ -9,10 +9,10 @@ ghost use Rattle.inf_unit.specs.Units.{prepared, ruled, semicolon_taken, sifted,
 
 use crate::items::{Item, rule_of};
 use crate::kinds::is_mark;
-use crate::long_lines::LongLine;
+use crate::long_lines::{LongLine, forget_line};
 use crate::opcodes::{opcode_of, takes_text};
 use crate::roles::{Note, Role, role_of};
-use crate::steps::Step;
+use crate::steps::GatherStep;
 use crate::tokens::SourceToken;
 use crate::unit_tokens::UnitTokens;
 use inf_expressions::{Finding, least_of_both};
@@ -28,32 +28,32 @@ use std::alloc::{AllocError, Global};
 /// The unit at hand.
 #[derive(Drop)]
 pub struct Unit {
-    /// Its tokens, and before them the first of those between the unit before and its beginning, where there are such.
+    /// The tokens of the unit, and before them the first of those between the unit before and its beginning, where there are such.
     pub tokens: UnitTokens,
     /// The place of the unit's first token among them.
     pub begun: usize,
     pub gathering: Gathering,
-    /// The locals that it names, where it is the header of a routine.
+    /// The locals that the unit names, where it is the header of a routine.
     pub headed: Headed,
-    /// The items that it has beside its expressions, in order.
+    /// The items that the unit has beside its expressions, in order.
     pub items: Vec<Item>,
-    /// The place among its tokens where its outermost expression begins, if one is open.
+    /// The place among the tokens where the outermost expression begins, if one is open.
     pub outer: Option<usize>,
-    /// Whether that surely is an expression.
+    /// Tells whether that surely is an expression.
     pub is_sure: bool,
-    /// Whether it has ended, but for its last token.
+    /// Tells whether the unit has ended, but for its last token.
     pub is_over: bool,
-    /// The number of brackets and braces of its piece that are open.
+    /// The number of brackets and braces of the piece that are open.
     pub depth: u32,
-    /// The number of its tokens, where it is whole and waits for what follows it.
+    /// The number of tokens of the unit, where it is whole and waits for the token that follows it.
     pub held: Option<usize>,
-    /// The least of what was found of operands that are not kept.
+    /// The least finding of operands that are not kept.
     pub passed: Option<Finding>,
-    /// Its tokens, where it is a line of grammar that has too many.
+    /// The tokens of the unit, where it is a line of grammar that has too many.
     pub long: Option<LongLine>,
 }
 
-/// The leaf that a token at a place of its unit is.
+/// Returns the leaf that the token at place `at` of its unit, of `kind`, is.
 fn leaf_of(at: usize, kind: TokenKind) -> Leaf
     ensures { result ≡ leaf_of at kind }
 {
@@ -66,7 +66,7 @@ fn leaf_of(at: usize, kind: TokenKind) -> Leaf
     }
 }
 
-/// A leaf, which is an operand of an assembly line by itself or not.
+/// Returns `leaf`, as an operand of an assembly line by itself if `is_alone` and if it is a name.
 fn told_leaf(is_alone: bool, leaf: Leaf) -> Leaf
     ensures { result ≡ told_leaf is_alone leaf }
 {
@@ -76,7 +76,7 @@ fn told_leaf(is_alone: bool, leaf: Leaf) -> Leaf
     }
 }
 
-/// The place of the name of a label to which an instruction with these operands jumps, if they are one name.
+/// Returns the place of the name of a label to which an instruction with the operands `leaves` jumps, if they are one name.
 fn jump_label(leaves: &[Leaf]) -> Option<usize>
     ensures { result ≡ jump_label leaves.now }
 {
@@ -103,7 +103,7 @@ pub fn next_place(at: usize) -> usize
     at.saturating_add(1)
 }
 
-/// How many brackets and braces are open behind a token.
+/// Returns the number of brackets and braces that are open behind a token of `kind`, where `depth` are open before it.
 fn depth_behind(kind: TokenKind, depth: u32) -> u32
     ensures { result ≡ depth_behind kind depth }
 {
@@ -114,14 +114,15 @@ fn depth_behind(kind: TokenKind, depth: u32) -> u32
     }
 }
 
-/// Whether a token is a sign before what it names, if there is one.
+/// Returns whether a token of `kind` is a sign before the name of an action or a system constant, if there is a token.
 fn is_sign(kind: Option<TokenKind>) -> bool
     ensures { result ≡ is_sign kind }
 {
     matches!(kind, Some(TokenKind::Mark(Mark::DoubleHash | Mark::Hash)))
 }
 
-/// Where what the token at a place names begins: at the sign before it, if one is there.
+/// Returns the place where the name of an action or a system constant begins, which the token at `at` is: at the sign before it, if
+/// one is there.
 fn marked_from(tokens: &UnitTokens, at: usize) -> usize
     ensures { result ≡ marked_from tokens.now at }
 {
@@ -163,7 +164,7 @@ impl Unit {
         self.depth = 0;
     }
 
-    /// The next token is the first of a unit of the same piece. Of the tokens before it the first is kept, where there is one.
+    /// Begins a unit of the same piece, whose first token is the next one. Of the tokens before it the first is kept, where there is one.
     fn begin(&mut self)
         ensures { unit self.new ≡ begun (unit self.old) }
     {
@@ -172,7 +173,7 @@ impl Unit {
         self.forget();
     }
 
-    /// Nothing is gathered.
+    /// Forgets all that was gathered.
     fn forget(&mut self)
         ensures { unit self.new ≡ forgotten (unit self.old) }
     {
@@ -184,7 +185,7 @@ impl Unit {
         self.is_over = false;
         self.held = None;
         self.passed = None;
-        self.long = None;
+        forget_line(&mut self.long);
     }
 
     /// Ends the unit, whose last token is still to come if `has_last`. Where the unit waited, the first of the tokens behind it stays.
@@ -201,7 +202,7 @@ impl Unit {
     }
 
     /// Takes `token`, unless it is the last one of a unit that has ended.
-    // It is inlined, as what else is done for each token: a call costs as much as half of it.
+    // It is inlined, as the other work for each token is: a call costs as much as half of it.
     #[inline(always)]
     pub fn take(&mut self, token: &SourceToken<'_>) -> Result<(), AllocError>
         ensures { OnOk result (unit self.new ≡ taken (spelled token.now) (unit self.old)) }
@@ -214,8 +215,8 @@ impl Unit {
         self.tokens.add(token)
     }
 
-    /// Gathers or notes what `action` does of the unit. An action that ends a unit, or has to do with the statements around it, does
-    /// neither.
+    /// Gathers or notes the part of the unit that `action` stands for. An action that ends a unit, or has to do with the statements
+    /// around it, does neither.
     pub fn act(&mut self, action: Action) -> Result<(), AllocError>
         ensures { OnOk result (unit self.new ≡ acted action (unit self.old)) }
     {
@@ -276,14 +277,15 @@ impl Unit {
         self.tokens.truncate(self.tokens.len().saturating_sub(2));
     }
 
-    /// Tells whether the unit is an assembly line with more operands than an instruction has.
+    /// Returns whether the unit is an assembly line with more operands than an instruction has.
     pub fn is_full(&self) -> bool
         ensures { result ≡ is_full (unit self.now) }
     {
         self.gathering.wholes() > MOST_OPERANDS && self.is_assembly()
     }
 
-    /// Its operands, of which this is the least that was found, are not kept: as many numbers stand for them as are too many.
+    /// Replaces the operands of an assembly line by as many numbers as are too many, and keeps `finding`, the least that was found
+    /// of them, unless one before was less.
     pub fn pass_operands(&mut self, finding: Option<Finding>) -> Result<(), AllocError>
         ensures { OnOk result (unit self.new ≡ operands_passed finding (unit self.old)) }
     {
@@ -294,8 +296,8 @@ impl Unit {
         self.gathering.keep_numbers(9)
     }
 
-    /// Ends a token of a line that has too many. The first time, the tokens so far are kept, one of which is wrong if `is_bad`; later, the
-    /// token is kept if it is wrong by `is_bad` or new by `is_new`, unless one before it is wrong.
+    /// Ends a token of a line that has too many. The first time, the tokens so far are kept, one of which is wrong if `is_bad`;
+    /// later, the token is kept if it is wrong by `is_bad` or new by `is_new`, unless one before it is wrong.
     pub fn sift(&mut self, alloc: Global, hashing: NameHashing, is_bad: bool, is_new: bool)
         ensures { unit self.new ≡ sifted is_bad is_new (unit self.old) }
     {
@@ -310,7 +312,7 @@ impl Unit {
         }
     }
 
-    /// The last token names a local: it is kept among these, and not among the tokens.
+    /// Keeps the last token, which names a local, among the locals, and not among the tokens.
     fn local(&mut self)
         ensures { unit self.new ≡ headed_more (unit self.old) }
     {
@@ -321,7 +323,7 @@ impl Unit {
         self.tokens.truncate(last);
     }
 
-    /// The last token is a semicolon beside the entries of an array. Right behind another one it is not kept.
+    /// Takes the last token, a semicolon beside the entries of an array: it is not kept right behind another one.
     fn semicolon(&mut self)
         ensures { unit self.new ≡ semicolon_taken (unit self.old) }
     {
@@ -330,7 +332,7 @@ impl Unit {
         }
     }
 
-    /// Whether a semicolon stands right before a place of it.
+    /// Returns whether a semicolon stands right before place `at` of the unit.
     fn is_again(&self, at: usize) -> bool
         ensures { result ≡ is_again at (unit self.now).tokens }
     {
@@ -348,7 +350,7 @@ impl Unit {
         self.tokens.truncate(count);
     }
 
-    /// An outermost expression begins with the next token.
+    /// Opens an outermost expression, which begins with the next token, and surely is one if `is_sure`.
     fn open_outer(&mut self, is_sure: bool)
         ensures { let before = unit self.old in unit self.new ≡ record before { outer = Some (length before.tokens); is_sure = is_sure } }
     {
@@ -363,7 +365,7 @@ impl Unit {
         self.tokens.len().saturating_sub(1)
     }
 
-    /// One thing more beside its expressions.
+    /// Adds `item` beside the expressions.
     fn item(&mut self, item: Item) -> Result<(), AllocError>
         ensures { OnOk result (unit self.new ≡ with_item item (unit self.old)) }
     {
@@ -371,7 +373,7 @@ impl Unit {
         Ok(())
     }
 
-    /// One thing more is printed, with which an outermost expression ends.
+    /// Adds `item`, which is printed and with which an outermost expression ends.
     fn print(&mut self, item: Item) -> Result<(), AllocError>
         ensures { let before = unit self.old in
             OnOk result (unit self.new ≡ record before { items = before.items ++ item ∷ []; outer = None }) }
@@ -380,7 +382,7 @@ impl Unit {
         self.item(item)
     }
 
-    /// The name in the bracket that was closed last is a print rule.
+    /// Adds the print rule that the name in the bracket that was closed last is.
     fn rule(&mut self) -> Result<(), AllocError>
         ensures { OnOk result (unit self.new ≡ ruled (unit self.old)) }
     {
@@ -389,7 +391,7 @@ impl Unit {
         self.item(Item::Ruled(rule))
     }
 
-    /// The last token is a text behind an opcode and before the semicolon: an operand, unless the opcode takes a text of its own.
+    /// Adds the last token, a text behind an opcode and before the semicolon: as an operand, unless the opcode takes a text of its own.
     fn opcode_text(&mut self) -> Result<(), AllocError>
         ensures { OnOk result (unit self.new ≡ opcode_text (unit self.old)) }
     {
@@ -401,7 +403,7 @@ impl Unit {
         }
     }
 
-    /// Whether it is an assembly line.
+    /// Returns whether the unit is an assembly line.
     fn is_assembly(&self) -> bool
         ensures { result ≡ is_assembly (unit self.now) }
     {
@@ -411,7 +413,7 @@ impl Unit {
         }
     }
 
-    /// Whether the token at a place is an operand of an assembly line by itself, if it is a name.
+    /// Returns whether the token at place `at` is an operand of an assembly line by itself, if it is a name.
     fn is_alone(&self, at: usize) -> bool
         ensures { result ≡ is_alone at (unit self.now) }
     {
@@ -421,7 +423,7 @@ impl Unit {
         }
     }
 
-    /// The place of the name of the label to which it jumps, where it is the line of a jump with one name.
+    /// Returns the place of the name of the label to which the unit jumps, where it is the assembly line of a jump with one name.
     fn jump_of(&self) -> Option<usize>
         ensures { result ≡ jump_of (unit self.now) }
     {
@@ -449,33 +451,33 @@ impl Unit {
 
     /// Gathers the expression at hand by `step`, whose leaf or operator is the last token.
     #[inline(always)]
-    pub fn step(&mut self, step: Step) -> Result<(), AllocError>
+    pub fn step(&mut self, step: GatherStep) -> Result<(), AllocError>
         ensures { OnOk result (unit self.new ≡ stepped step (unit self.old)) }
     {
         let last = order(self.last());
         match step {
-            Step::Leaf => self.leaf(),
-            Step::Action => self.action(),
-            Step::System => self.system(),
-            Step::Prefix(op) => self.gathering.prefix(op),
-            Step::Suffix(op) => self.gathering.suffix(op),
-            Step::Two(op) => self.gathering.two(op),
-            Step::Comma => self.gathering.comma(),
-            Step::List => self.gathering.open_list(),
-            Step::Part => {
+            GatherStep::Leaf => self.leaf(),
+            GatherStep::Action => self.action(),
+            GatherStep::System => self.system(),
+            GatherStep::Prefix(op) => self.gathering.prefix(op),
+            GatherStep::Suffix(op) => self.gathering.suffix(op),
+            GatherStep::Two(op) => self.gathering.two(op),
+            GatherStep::Comma => self.gathering.comma(),
+            GatherStep::List => self.gathering.open_list(),
+            GatherStep::Part => {
                 self.gathering.part();
                 Ok(())
             }
-            Step::Call => self.gathering.call(),
-            Step::Test(op) => self.gathering.test(op),
-            Step::Bracket => self.gathering.open_bracket(last),
-            Step::Bracketed => self.gathering.close_bracket(),
+            GatherStep::Call => self.gathering.call(),
+            GatherStep::Test(op) => self.gathering.test(op),
+            GatherStep::Bracket => self.gathering.open_bracket(last),
+            GatherStep::Bracketed => self.gathering.close_bracket(),
         }
     }
 
-    /// The last token names an action.
+    /// Gathers the last token, which names an action.
     fn action(&mut self) -> Result<(), AllocError>
-        ensures { OnOk result (unit self.new ≡ stepped Step.Action (unit self.old)) }
+        ensures { OnOk result (unit self.new ≡ stepped GatherStep.Action (unit self.old)) }
     {
         let at = self.last();
         let first = marked_from(&self.tokens, at);
@@ -483,9 +485,9 @@ impl Unit {
             .leaf(order(first), order(at), Leaf::Action(at))
     }
 
-    /// The last token names a system constant.
+    /// Gathers the last token, which names a system constant.
     fn system(&mut self) -> Result<(), AllocError>
-        ensures { OnOk result (unit self.new ≡ stepped Step.System (unit self.old)) }
+        ensures { OnOk result (unit self.new ≡ stepped GatherStep.System (unit self.old)) }
     {
         let at = self.last();
         let first = marked_from(&self.tokens, at);
@@ -493,10 +495,10 @@ impl Unit {
             .leaf(order(first), order(at), Leaf::System(at))
     }
 
-    /// The last token is a leaf.
+    /// Gathers the last token, which is a leaf.
     #[inline(always)]
     fn leaf(&mut self) -> Result<(), AllocError>
-        ensures { OnOk result (unit self.new ≡ stepped Step.Leaf (unit self.old)) }
+        ensures { OnOk result (unit self.new ≡ stepped GatherStep.Leaf (unit self.old)) }
     {
         let at = self.last();
         let is_alone = self.is_alone(at);

@@ -20,7 +20,7 @@ use std::marker::Model;
 /// A name among the tokens of a unit.
 #[derive(Clone, Copy, Debug)]
 pub struct NameToken<'t> {
-    /// At most 32.
+    /// At most 32 bytes.
     pub bytes: &'t [u8],
     pub place: Place,
 }
@@ -42,7 +42,7 @@ impl Model for UnitTokens {
     ghost view = { λ t. map as_spelled t.kept.items };
 }
 
-/// The name that a token is, if it is one. It has at most 32 bytes.
+/// Returns the name that `token` is, if it is one. It has at most 32 bytes.
 fn name_of<'t>(token: &SourceToken<'t>) -> Option<NameToken<'t>>
     ensures value { option_map named result ≡ name_of (spelled token.now) }
     ensures few { IfSome result (λ name. length name.bytes.now ≤ 32) }
@@ -67,21 +67,21 @@ impl UnitTokens {
         }
     }
 
-    /// Forgets all.
+    /// Forgets all tokens.
     pub fn clear(&mut self)
         ensures { self.new ≡ [] }
     {
         self.kept.clear();
     }
 
-    /// Keeps the first alone, where there is one.
+    /// Keeps only the first token, where there is one.
     pub fn keep_first(&mut self)
         ensures { self.new ≡ take 1 self.old }
     {
         self.kept.truncate(1);
     }
 
-    /// Keeps the one at a place alone, where there is one.
+    /// Keeps only token number `at`, counted from 0, where there is one.
     pub fn keep_one(&mut self, at: usize)
         ensures { self.new ≡ take 1 (drop at self.old) }
     {
@@ -183,7 +183,8 @@ impl UnitTokens {
         b""
     }
 
-    /// Returns the order of the name that these tokens, those of a directive, declare: behind its word, before which a `#` may stand.
+    /// Returns the order of the name that these tokens, those of a directive, declare: behind the word of the directive, before
+    /// which a `#` may stand.
     pub fn name_order(&self) -> u32
         ensures { result ≡ name_order self.now }
     {
@@ -220,7 +221,7 @@ impl UnitTokens {
     }
 }
 
-/// One name more, if there is one.
+/// Appends `name` to `names`, if there is one.
 fn add_name(name: Option<NameToken<'_>>, names: &mut Vec<Name>) -> Result<(), AllocError>
     requires { IfSome name (λ n. length n.bytes.now ≤ 32) }
     ensures { OnOk result (map as_name names.new.items ≡ with_name (option_map named name.entry) (map as_name names.old.items)) }

@@ -1,4 +1,4 @@
--- The names that stand in the texts.
+-- The names in the texts.
 use Rattle.std.specs.Prelude.{◌≡◌, ℕ, List, [], ◌∷◌, ◌++◌, drop, length, take, map, Bool, true, false, not, ◌&&◌, ◌||◌, ◌==◌, nat_le}
 use Rattle.std.specs.Prelude.{if◌then◌else◌}
 use Rattle.std.specs.List.{list_all, list_any, prefix_len}
@@ -13,7 +13,7 @@ abbrev pub begins_routine : List ℕ → Bool
 begins_routine [] = false
 begins_routine (b ∷ bs) = b == 91
 
--- the name that stands right behind the first byte
+-- the name right behind the first byte
 abbrev pub header_name : List ℕ → List ℕ
 header_name text = take (prefix_len is_name_byte (drop 1 text)) (drop 1 text)
 
@@ -29,11 +29,11 @@ abbrev pub runs : List ℕ → List ℕ → List (List ℕ)
 runs run [] = run ∷ []
 runs run (b ∷ bs) = if is_name_byte b then runs (run ++ b ∷ []) bs else run ∷ runs [] bs
 
--- whether a name stands in a text; upper and lower case are the same
+-- whether a text has a name; upper and lower case are the same
 abbrev pub has_name : List ℕ → List ℕ → Bool
 has_name name text = list_any (str_eq_ignore_ascii_case name) (runs [] text)
 
--- whether each of the names stands in no text from its own on, but at the front of its own
+-- whether no text from a name's own on has the name, but at the front of its own
 abbrev pub are_behind : List (List ℕ) → List (List ℕ) → Bool
 are_behind (name ∷ names) (text ∷ texts) = not (list_any (has_name name) (behind_name text ∷ texts)) && are_behind names texts
 are_behind [] [] = true

@@ -72,6 +72,6 @@ numbered n all = if n == 0 then None else slice_get all (n - 1)
 abbrev pub text_of : ℕ → Option (List ℕ)
 text_of n = numbered n all_texts
 
--- its name
+-- the name of the routine of a number
 abbrev pub name_of : ℕ → Option (List ℕ)
 name_of n = numbered n all_names

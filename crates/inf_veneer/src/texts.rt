@@ -1,8 +1,8 @@
-//! The texts of these routines, each of which is a line of a file of its own.
+//! The texts of the veneer's routines, each of which is a line of a file of its own.
 ghost use Rattle.std.specs.Prelude.{◌≡◌, map, option_copied};
 ghost use Rattle.inf_veneer.specs.Texts.{all_names, all_texts, name_of, text_of};
 
-/// How many there are.
+/// The number of routines.
 pub const COUNT: usize = 23;
 
 #[rattlefmt::skip]
@@ -65,7 +65,7 @@ const NAMES: [&[u8]; COUNT] = [
     b"AW__Va",
 ];
 
-/// All texts.
+/// Returns all texts.
 #[tactic(auto, unfolding(crate::specs::Texts::all_texts))]
 fn texts() -> &'static [&'static [u8]]
     ensures { map (λ t. t.now) result.now ≡ all_texts }
@@ -73,7 +73,7 @@ fn texts() -> &'static [&'static [u8]]
     &TEXTS
 }
 
-/// All names.
+/// Returns all names.
 #[tactic(auto, unfolding(crate::specs::Texts::all_names))]
 fn names() -> &'static [&'static [u8]]
     ensures { map (λ t. t.now) result.now ≡ all_names }

@@ -1,4 +1,4 @@
--- The directives `Verb`, `Extend` and `Fake_action`, and line by line what stands in the first two. Designer's Manual, fourth edition,
+-- The directives `Verb`, `Extend` and `Fake_action`, and the lines of the first two, one by one. Designer's Manual, fourth edition,
 -- section 30.
 use Rattle.std.specs.Prelude.{ℕ, zero, suc, ◌+◌, ◌-◌, ◌==◌, min, nat_le, nat_lt, List, [], ◌∷◌, ◌++◌, length, codes, Bool, true, false, not}
 use Rattle.std.specs.Prelude.{◌||◌, if◌then◌else◌, Option, Some, None, is_some, option_map}
@@ -45,8 +45,8 @@ use Rattle.inf_verbs.specs.declared.lines.LineToken.TheVariants as line_token_of
 use Rattle.inf_verbs.specs.declared.lines.Noun.{Noun}
 use Rattle.inf_verbs.specs.declared.lines.Noun.TheVariants as noun
 use Rattle.inf_verbs.specs.declared.verbs.LineFault.{LineFault}
-use Rattle.inf_verbs.specs.declared.verbs.Place.{Place as LinePlace}
-use Rattle.inf_verbs.specs.declared.verbs.Place.TheVariants as line_place
+use Rattle.inf_verbs.specs.declared.verbs.LinePlace.{LinePlace}
+use Rattle.inf_verbs.specs.declared.verbs.LinePlace.TheVariants as line_place
 use Rattle.inf_verbs.specs.declared.verbs.VerbFault.{VerbFault}
 use Rattle.inf_verbs.specs.declared.verbs.VerbFault.TheVariants as refused
 use Rattle.inf_compilation.specs.Actions.{Compilation, passed, unit_ended}
@@ -74,18 +74,18 @@ word_in _ = None
 abbrev pub word_at : List SourceToken → ℕ → Option DictionaryWord
 word_at tokens at = word_in (kind_at tokens at)
 
--- what there are too many of is verbs
+-- the findings about a unit of a verb: a limit that it passes is that of verbs
 abbrev pub verb_findings : Option Finding → Findings
 verb_findings found = record (found_alone found) { many = countable.Verbs }
 
 abbrev pub verb_ended : Limits → Context → Place → Option Finding → Compilation → Compilation
 verb_ended limits context first found w = unit_ended limits context first false (verb_findings found) w
 
--- that the word at a place is one of a verb, or is none
+-- the finding that the word at a place should, or should not, be one of a verb
 abbrev pub wrong_verb : ℕ → Finding
 wrong_verb at = record { order = order at; number = 22 }
 
--- The header of `Verb`: behind its word `meta` may stand, then there are words, and at its end `=` and a word may stand, whose verb gets
+-- The header of `Verb`: behind its word `meta` may come, then there are words, and at its end `=` and a word may come, whose verb gets
 -- more words.
 abbrev pub words_from : ℕ → Bool → ℕ
 words_from order is_meta = if is_meta then order + 1 else order
@@ -109,7 +109,8 @@ verb_head tokens =
     head_with (is_name_in (kind_at tokens (name_order tokens))) (is_mark_at tokens (length tokens - 2) mark.Assign) (name_order tokens)
     (length tokens)
 
--- What is wrong with it: the verb behind `=` is none, or there are 255 verbs; or a word is one of a verb's already, or stands there twice.
+-- The findings about the header: the verb behind `=` is none, or there are 255 verbs; or a word is one of a verb's already, or comes
+-- twice.
 abbrev pub verb_by : Option DictionaryWord → Out → Option ℕ
 verb_by None o = None
 verb_by (Some word) o = verb_of word.text o.tables.dictionary.list
@@ -175,7 +176,7 @@ abbrev pub verb_begun : Limits → Option ℕ → List SourceToken → Out → O
 verb_begun limits None tokens o = new_verb limits o
 verb_begun limits (Some at) tokens o = (o, record { words = verb_named tokens at o; lines = None })
 
--- its words are used
+-- the use of a verb's words
 abbrev pub verb_use : ℕ → Bool → WordUse
 verb_use number is_meta = if is_meta then word_use.MetaVerb number else word_use.Verb number
 
@@ -214,7 +215,7 @@ verb_header_with limits context first head w =
 abbrev pub verb_header : Limits → Context → Place → Compilation → Compilation
 verb_header limits context first w = verb_header_with limits context first (verb_head w.unit.tokens) w
 
--- The header of `Extend`: where further lines go is told by the word behind that of the verb.
+-- The header of `Extend`: the word behind that of the verb says where further lines go.
 abbrev pub place_named : List ℕ → LinePlace
 place_named name =
     if str_eq_ignore_ascii_case name (codes "first") then line_place.First else
@@ -238,7 +239,7 @@ extend_header limits context first w =
     let at = name_order w.unit.tokens in
     extend_with limits context first at (verb_named w.unit.tokens at w.output) (place_named (bytes_at w.unit.tokens (at + 1))) w
 
--- What is wrong with a line
+-- Findings about a line
 
 abbrev pub noun_named : List ℕ → Option Noun
 noun_named name =
@@ -253,7 +254,7 @@ noun_named name =
     if str_eq_ignore_ascii_case name (codes "number") then Some noun.Number else
     if str_eq_ignore_ascii_case name (codes "topic") then Some noun.Topic else None
 
--- what looking for a name found that may be a routine, or is an attribute
+-- a meaning that may be a routine's, or is an attribute's
 abbrev pub is_routine : Meaning → Bool
 is_routine (meaning.Routine place) = true
 is_routine _ = false
@@ -306,14 +307,14 @@ named_finding (Some n) tokens at names = wrong_unless (is_right (named_at tokens
 abbrev pub token_finding : List SourceToken → ℕ → Table Place → Option Finding
 token_finding tokens at names = named_finding (name_at tokens at) tokens at names
 
--- the least of what is wrong with those before a place
+-- the least of the findings about the tokens before a place
 abbrev pub tokens_finding : ℕ → List SourceToken → Table Place → Option Finding
 tokens_finding zero tokens names = None
 tokens_finding (suc at) tokens names = least_of_both (tokens_finding at tokens names) (token_finding tokens at names)
 
 -- The tokens of a line
 
--- words, of which a mark tells that they are alternatives
+-- a word, which a mark before or behind it makes one of some alternatives
 abbrev pub preposition : List SourceToken → ℕ → DictionaryWord → LineToken
 preposition tokens at word =
     line_token_of.Preposition word.text (not (is_mark_at tokens (at - 1) mark.Divide)) (not (is_mark_at tokens (next_place at) mark.Divide))
@@ -373,14 +374,14 @@ with_token (Some t) line = line ++ t ∷ []
 abbrev pub with_next : Out × Option LineToken → List LineToken → Out × List LineToken
 with_next t line = (t.0, with_token t.1 line)
 
--- those before a place
+-- the tokens before a place, which are used
 abbrev pub line_tokens : Limits → ℕ → List SourceToken → Out → Out × List LineToken
 line_tokens limits zero tokens o = (o, [])
 line_tokens limits (suc at) tokens o = let line = line_tokens limits at tokens o in with_next (line_token limits tokens at line.0) line.1
 
 -- A line
 
--- the last arrow stands before its action
+-- the last arrow is the one before the action
 abbrev pub arrow_or : List SourceToken → ℕ → ℕ → ℕ
 arrow_or tokens at other = if is_mark_at tokens at mark.Arrow then at else other
 
@@ -395,11 +396,11 @@ abbrev pub action_by : Limits → Option Name → Out → Out × ℕ
 action_by limits None o = (o, 0)
 action_by limits (Some n) o = action_of limits n.bytes n.place o
 
--- behind its action `reverse` may stand
+-- whether `reverse` comes behind the action
 abbrev pub is_reverse : List SourceToken → ℕ → Bool
 is_reverse tokens arrow = nat_lt 2 (length tokens - arrow)
 
--- It is one of the verb whose lines are read. Where there would be too many lines, that limit is passed.
+-- The line is one of the verb whose lines are read. Where there would be too many lines, that limit is passed.
 abbrev pub one_line_by : Limits → Option LineFault → ℕ → LinePlace → LineOf → Code
 one_line_by limits None number place line o = with_verbs (with_line_of number place line o.tables.verbs) o
 one_line_by limits (Some f) number place line o = passed_table limits setting.GrammarLines o
@@ -452,9 +453,9 @@ abbrev pub fake_action : Limits → Context → Place → List Name → Compilat
 fake_action limits context first [] w = passed true w
 fake_action limits context first (name ∷ names) w = fake_with limits context first name (faked limits name.bytes name.place w.output) w
 
--- Lines that have more tokens than the grammar may have bytes. If nothing is wrong with such a one, it passes that setting.
+-- Lines that have more tokens than the grammar may have bytes. If nothing is wrong with a line of this kind, it passes that setting.
 
--- whether a name is a noun of the language where it stands in a line
+-- whether a name is a noun of the language at its place in a line
 abbrev pub is_noun : Named → List ℕ → Bool
 is_noun named.Alone name = is_some (noun_named name)
 is_noun _ name = false
@@ -478,7 +479,8 @@ last_brought_by (Some l) settings u =
 abbrev pub last_brought : Settings → Unit → Unit × Bool
 last_brought settings u = last_brought_by u.long settings u
 
--- what is wrong with the last token, to which the word before a sign belongs; and with all so far, where the line was not too long before
+-- the finding about the last token, with which the word before a sign is looked at again; and that about all tokens so far, where the line
+-- was not too long before
 abbrev pub last_finding : Unit → Table Place → Option Finding
 last_finding u names = least_of_both (token_finding u.tokens (last_leaf u - 2) names) (token_finding u.tokens (last_leaf u) names)
 

@@ -29,10 +29,10 @@ use inf_tables::{LineFault, LineToken, Noun, WordUse};
 use inf_unit::long_lines::LongLine;
 use inf_unit::unit::{Unit, next_place, order};
 use inf_unit::unit_tokens::{NameToken, UnitTokens};
-use inf_verbs::Place as LinePlace;
+use inf_verbs::LinePlace;
 use std::alloc::{AllocError, Global};
 
-/// What a name in a line is.
+/// The part of a name in a line.
 #[derive(Clone, Copy, Debug, PartialEq, Eq)]
 pub enum Named {
     /// The word before the sign of a filter.
@@ -44,7 +44,7 @@ pub enum Named {
     Alone,
 }
 
-/// The noun that a name is in a line.
+/// Returns the noun that a name is in a line, or `None`.
 fn noun_named(name: &[u8]) -> Option<Noun>
     ensures { result ≡ noun_named name.now }
 {
@@ -73,7 +73,7 @@ fn noun_named(name: &[u8]) -> Option<Noun>
     }
 }
 
-/// Returns whether a name can be that of a routine, by what looking for it found.
+/// Returns whether a name may be that of a routine, by the answer of the look-up of it.
 fn can_be_routine(found: Found<Place>) -> bool
     ensures { result ≡ can_be_routine found }
 {
@@ -83,7 +83,7 @@ fn can_be_routine(found: Found<Place>) -> bool
     }
 }
 
-/// The attribute that a name stands for, by what looking for it found.
+/// Returns the attribute of a name, by the answer of the look-up of it, or `None`.
 fn attribute_in(found: Found<Place>) -> Option<u8>
     ensures { result ≡ attribute_in found }
 {
@@ -93,21 +93,21 @@ fn attribute_in(found: Found<Place>) -> Option<u8>
     }
 }
 
-/// Returns whether a word stands before the sign of a filter.
+/// Returns whether a name is a word that comes before the sign of a filter.
 fn is_filter_word(name: &[u8]) -> bool
     ensures { result ≡ is_filter_word name.now }
 {
     name.eq_ignore_ascii_case(b"noun")
 }
 
-/// Returns whether a word can stand before a sign.
+/// Returns whether a name is a word that comes before a sign.
 fn is_sign_word(name: &[u8]) -> bool
     ensures { result ≡ is_sign_word name.now }
 {
     is_filter_word(name) | name.eq_ignore_ascii_case(b"scope")
 }
 
-/// Returns what the name behind a sign is, by the word before that sign.
+/// Returns the part of the name behind a sign, by the word before that sign.
 fn named_behind(word: &[u8]) -> Named
     ensures { result ≡ named_behind word.now }
 {
@@ -118,7 +118,7 @@ fn named_behind(word: &[u8]) -> Named
     }
 }
 
-/// Returns what the name at the place `at` of a line is.
+/// Returns the part of the name at the place `at` of a line.
 pub fn named_at(tokens: &UnitTokens, at: usize) -> Named
     ensures { result ≡ named_at tokens.now at }
 {
@@ -131,14 +131,14 @@ pub fn named_at(tokens: &UnitTokens, at: usize) -> Named
     }
 }
 
-/// Returns whether a name by itself can be a token of a line: a noun, or what looking for it found.
+/// Returns whether a name by itself can be a token of a line: as a noun, or by the answer of the look-up of it.
 fn is_lone_name(noun: Option<Noun>, found: Found<Place>) -> bool
     ensures { result ≡ is_lone_name noun found }
 {
     noun.is_some() | (attribute_in(found).is_some() | can_be_routine(found))
 }
 
-/// Returns whether a name can stand where it does in a line.
+/// Returns whether a name is right in the part that it has in a line.
 fn is_right<B: Bounds>(named: Named, name: &[u8], names: &Symbols<Place, B>) -> bool
     requires { length name.now ≤ 32 }
     ensures { result ≡ is_right named name.now names.now }
@@ -150,7 +150,7 @@ fn is_right<B: Bounds>(named: Named, name: &[u8], names: &Symbols<Place, B>) -> 
     }
 }
 
-/// Returns the finding that the token at a place is of another kind, unless it is right.
+/// Returns the finding that the token at `at` is of another kind than it should be, unless it is right.
 fn wrong_unless(is_right: bool, at: usize) -> Option<Finding>
     ensures { result ≡ wrong_unless is_right at }
 {
@@ -161,7 +161,7 @@ fn wrong_unless(is_right: bool, at: usize) -> Option<Finding>
     }
 }
 
-/// Returns what is wrong with the token at a place of a line.
+/// Returns the finding about the token at a place of a line.
 fn token_finding<B: Bounds>(
     tokens: &UnitTokens,
     at: usize,
@@ -175,7 +175,7 @@ fn token_finding<B: Bounds>(
     }
 }
 
-/// The least of what is wrong with the tokens of a line before a place.
+/// Returns the least of the findings about the tokens of a line before a place.
 fn tokens_finding<B: Bounds>(
     end: usize,
     tokens: &UnitTokens,
@@ -190,7 +190,7 @@ fn tokens_finding<B: Bounds>(
     found
 }
 
-/// The word at a place of a line, which may be one of some alternatives.
+/// Returns the word at a place of a line, as a preposition, which may be one of some alternatives.
 fn preposition(tokens: &UnitTokens, at: usize, word: DictionaryWord) -> LineToken
     ensures { result ≡ preposition tokens.now at word }
 {
@@ -202,7 +202,7 @@ fn preposition(tokens: &UnitTokens, at: usize, word: DictionaryWord) -> LineToke
     }
 }
 
-/// The number of the parsing routine of a name, which is used.
+/// Uses the name of a routine that parses, and returns its number among those routines.
 fn parsing_routine<B: Bounds>(
     name: Option<NameToken<'_>>,
     out: &mut Output<B>,
@@ -219,7 +219,7 @@ fn parsing_routine<B: Bounds>(
     }
 }
 
-/// The token that a name is by itself: a noun, an attribute or a routine, which is used.
+/// Returns the token of a name by itself: a noun, an attribute, or else a routine, which is used.
 fn lone_by<B: Bounds>(
     noun: Option<Noun>,
     attribute: Option<u8>,
@@ -236,7 +236,7 @@ fn lone_by<B: Bounds>(
     }
 }
 
-/// The token that the name at a place of a line is by itself.
+/// Returns the token of the name at a place of a line, where it comes by itself.
 fn lone_token<B: Bounds>(
     tokens: &UnitTokens,
     at: usize,
@@ -249,7 +249,7 @@ fn lone_token<B: Bounds>(
     lone_by(noun_named(name), attribute, tokens.name_at(at), out)
 }
 
-/// The token that the name at a place of a line is; one before a sign is none.
+/// Returns the token of the name at a place of a line, by its part there; a word before a sign has none.
 fn name_token<B: Bounds>(
     named: Named,
     tokens: &UnitTokens,
@@ -272,7 +272,7 @@ fn name_token<B: Bounds>(
     }
 }
 
-/// The token that stands at a place of a line, which is used; signs are none.
+/// Uses the token at a place of a line, and returns it as one of the grammar; signs are none.
 fn line_token<B: Bounds>(
     tokens: &UnitTokens,
     at: usize,
@@ -290,7 +290,7 @@ fn line_token<B: Bounds>(
     }
 }
 
-/// A token more, if there is one.
+/// Appends a token to a line, if there is one.
 fn add_token(token: Option<LineToken>, line: &mut Vec<LineToken>) -> Result<(), AllocError>
     ensures { OnOk result (line.new.items ≡ with_token token line.old.items) }
 {
@@ -300,7 +300,7 @@ fn add_token(token: Option<LineToken>, line: &mut Vec<LineToken>) -> Result<(), 
     Ok(())
 }
 
-/// The token at a place of a line is the next one of it, and is used.
+/// Uses the token at a place of a line, and appends it to `line`.
 fn add_next<B: Bounds>(
     tokens: &UnitTokens,
     at: usize,
@@ -313,7 +313,7 @@ fn add_next<B: Bounds>(
     add_token(token, line)
 }
 
-/// The tokens that stand before a place of a line, which are used.
+/// Uses the tokens of a line before the place `end`, and returns them as tokens of the grammar.
 fn line_tokens<B: Bounds>(
     alloc: Global,
     end: usize,
@@ -329,7 +329,7 @@ fn line_tokens<B: Bounds>(
     Ok(line)
 }
 
-/// A place where an arrow stands, or another one.
+/// Returns `at` where an arrow is there, or `other`.
 fn arrow_or(tokens: &UnitTokens, at: usize, other: usize) -> usize
     ensures { result ≡ arrow_or tokens.now at other }
 {
@@ -340,7 +340,7 @@ fn arrow_or(tokens: &UnitTokens, at: usize, other: usize) -> usize
     }
 }
 
-/// The place of the arrow before the action of a line: the last one.
+/// Returns the place of the arrow before the action of a line: the last one.
 fn arrow_in(tokens: &UnitTokens) -> usize
     ensures { result ≡ arrow_in tokens.now }
 {
@@ -351,7 +351,7 @@ fn arrow_in(tokens: &UnitTokens) -> usize
     arrow
 }
 
-/// The number of the action of a name, which appears there.
+/// Returns the number of the action of a name, which appears there.
 fn action_by<B: Bounds>(name: Option<NameToken<'_>>, out: &mut Output<B>) -> Result<u16, AllocError>
     requires { IfSome name (λ n. length n.bytes.now ≤ 32) }
     ensures { IfOk result (λ number. (out.new, number) ≡ action_by B.most (option_map named_token name.entry) out.old) }
@@ -362,14 +362,14 @@ fn action_by<B: Bounds>(name: Option<NameToken<'_>>, out: &mut Output<B>) -> Res
     }
 }
 
-/// Returns whether more stands behind the action behind an arrow.
+/// Returns whether something follows the action behind an arrow.
 fn is_reverse(tokens: &UnitTokens, arrow: usize) -> bool
     ensures { result ≡ is_reverse tokens.now arrow }
 {
     tokens.len().saturating_sub(arrow) > 2
 }
 
-/// A line of the verb of a number, if there is one.
+/// Adds a line to the verb of a number, if there is one. Where there would be too many lines, that limit is passed.
 fn one_line<B: Bounds>(
     number: u8,
     place: LinePlace,
@@ -398,7 +398,7 @@ fn one_line<B: Bounds>(
     }
 }
 
-/// A line of the verb whose lines are read, if its header had no error.
+/// Adds a line to the verb whose lines are read, if its header had no error.
 fn keep_line<B: Bounds>(
     extending: Extending,
     action: u16,
@@ -415,7 +415,8 @@ fn keep_line<B: Bounds>(
     }
 }
 
-/// Adds what follows the tokens of a line: an arrow and an action, which appears there. The line is one of the verb whose lines are read.
+/// Adds the action behind the arrow, which appears there, to the tokens `line`, and keeps all as a line of the verb
+/// whose lines are read.
 fn add_behind<B: Bounds>(
     extending: Extending,
     tokens: &UnitTokens,
@@ -429,7 +430,8 @@ fn add_behind<B: Bounds>(
     keep_line(extending, action, is_reverse(tokens, arrow), line, out)
 }
 
-/// A line with which nothing is wrong: what it names is used, and where its verb has no error it is one of its lines.
+/// Adds a line with which nothing is wrong: its names are used, and where the header of its verb had no error it is one
+/// of the verb's lines.
 fn add_line<B: Bounds>(
     alloc: Global,
     extending: Extending,
@@ -463,7 +465,7 @@ fn lay_line<B: Bounds>(
     }
 }
 
-/// Ends a line that begins at a place, of which this was found.
+/// Ends a line that begins at `first`, with the finding `found` about it.
 fn end_found<B: Bounds>(
     compilation: &mut Compilation<B>,
     context: &Context<'_>,
@@ -477,14 +479,14 @@ fn end_found<B: Bounds>(
     end_of_verb(compilation, context, first, found)
 }
 
-/// Returns what is wrong with the tokens of a line whose action stands behind an arrow.
+/// Returns the finding about the tokens of a line before the arrow of its action.
 fn line_finding<B: Bounds>(compilation: &Compilation<B>, arrow: usize) -> Option<Finding>
     ensures { let w = work compilation.now in result ≡ tokens_finding arrow w.unit.tokens w.output.names }
 {
     tokens_finding(arrow, &compilation.unit.tokens, &compilation.output.names)
 }
 
-/// A line that begins at a place, and whose action stands behind an arrow.
+/// Judges the line that begins at `first` and whose action comes behind `arrow`, and ends it.
 fn judge_line<B: Bounds>(
     compilation: &mut Compilation<B>,
     context: &Context<'_>,
@@ -497,7 +499,7 @@ fn judge_line<B: Bounds>(
     end_found(compilation, context, first, found, arrow)
 }
 
-/// A line ends, before a token at a place.
+/// Ends a line, before a token at `place`: it is judged, and kept where nothing is wrong with it.
 pub fn end_line<B: Bounds>(
     compilation: &mut Compilation<B>,
     context: &Context<'_>,
@@ -510,7 +512,7 @@ pub fn end_line<B: Bounds>(
     judge_line(compilation, context, first, arrow)
 }
 
-/// Returns whether a name is a noun of the language where it stands in a line. Each other one is a name of the source.
+/// Returns whether a name is a noun of the language at its place in a line. Each other one is a name of the source.
 fn is_noun(named: Named, name: &[u8]) -> bool
     ensures { result ≡ is_noun named name.now }
 {
@@ -520,7 +522,7 @@ fn is_noun(named: Named, name: &[u8]) -> bool
     }
 }
 
-/// The token at a place of a line, which ends a token of the line, comes. Answers whether it is new.
+/// Notes the token at a place of a long line, which ends a token of the grammar, and returns whether it is new.
 fn bring_token(
     line: &mut LongLine,
     settings: &Settings,
@@ -540,7 +542,7 @@ fn bring_token(
     }
 }
 
-/// Brings the last token of `unit`, if this is a line that has too many.
+/// Notes the last token of `unit`, if that is a line that has too many, and returns whether the token is new.
 fn bring_last(unit: &mut Unit, settings: &Settings) -> Result<bool, AllocError>
     ensures { IfOk result (λ is_new. (unit_of unit.new, is_new) ≡ last_brought settings.now (unit_of unit.old)) }
 {
@@ -551,7 +553,7 @@ fn bring_last(unit: &mut Unit, settings: &Settings) -> Result<bool, AllocError>
     }
 }
 
-/// Returns what is wrong with the last token of a line, to which the word before a sign belongs.
+/// Returns the finding about the last token of a line, with which the word before a sign is looked at again.
 fn last_finding<B: Bounds>(unit: &Unit, names: &Symbols<Place, B>) -> Option<Finding>
     ensures { result ≡ last_finding (unit_of unit.now) names.now }
 {
@@ -562,7 +564,7 @@ fn last_finding<B: Bounds>(unit: &Unit, names: &Symbols<Place, B>) -> Option<Fin
     )
 }
 
-/// Returns what is wrong with the last token of a line, and where it was not too long before, with all so far.
+/// Returns the finding about the last token of a line, and where it was not too long before, about all tokens so far.
 fn new_finding<B: Bounds>(unit: &Unit, names: &Symbols<Place, B>) -> Option<Finding>
     ensures { result ≡ new_finding (unit_of unit.now) names.now }
 {
@@ -572,7 +574,7 @@ fn new_finding<B: Bounds>(unit: &Unit, names: &Symbols<Place, B>) -> Option<Find
     }
 }
 
-/// A token ends of a line that has more than the grammar may have bytes. It is kept where it is wrong, or new.
+/// Ends a token of a line that has more tokens than the grammar may have bytes. It is kept where it is wrong, or new.
 pub fn sift_token<B: Bounds>(
     compilation: &mut Compilation<B>,
     context: &Context<'_>,

@@ -30,17 +30,17 @@ use inf_tables::{VerbFault, WordUse};
 use inf_unit::kinds::is_mark;
 use inf_unit::unit::order;
 use inf_unit::unit_tokens::UnitTokens;
-use inf_verbs::Place as LinePlace;
+use inf_verbs::LinePlace;
 use std::alloc::{AllocError, Global};
 
-/// The most verbs (Inform Technical Manual, section 8.5).
+/// The greatest number of verbs (Inform Technical Manual, section 8.5).
 const MOST_VERBS: usize = 255;
 
-/// What stands in the header of `Verb`.
+/// The parts of the header of `Verb`.
 #[derive(Clone, Copy)]
 pub struct VerbHead {
     pub is_meta: bool,
-    /// The place of its first word among the tokens, and the place behind its last one.
+    /// The place of the first word of the verb among the tokens, and the place behind its last one.
     pub first: usize,
     pub end: usize,
     /// The place of the word behind `=`, whose verb gets more words.
@@ -71,7 +71,7 @@ fn is_name_in(kind: Option<TokenKind>) -> bool
     matches!(kind, Some(TokenKind::Name))
 }
 
-/// The word of the dictionary that a token is, if there is one.
+/// Returns the word of the dictionary of a token, if it has one.
 fn word_in(kind: Option<TokenKind>) -> Option<DictionaryWord>
     ensures { result ≡ word_in kind }
 {
@@ -81,14 +81,14 @@ fn word_in(kind: Option<TokenKind>) -> Option<DictionaryWord>
     }
 }
 
-/// The word of the dictionary that the token at a place is.
+/// Returns the word of the dictionary of the token at a place.
 fn word_at(tokens: &UnitTokens, at: usize) -> Option<DictionaryWord>
     ensures { result ≡ word_at tokens.now at }
 {
     word_in(tokens.kind(at))
 }
 
-/// Returns what is wrong with a unit of a verb: what there are too many of is verbs.
+/// Returns the findings about a unit of a verb: a limit that it passes is that of verbs.
 fn verb_findings(found: Option<Finding>) -> Findings
     ensures { found_as result ≡ verb_findings found }
 {
@@ -99,7 +99,7 @@ fn verb_findings(found: Option<Finding>) -> Findings
     }
 }
 
-/// Returns what is wrong with a fake action: its name.
+/// Returns the findings about a fake action: those about its name.
 fn fake_findings(again: Option<Again>) -> Findings
     ensures { found_as result ≡ fake_findings (option_map again_as again) }
 {
@@ -110,7 +110,7 @@ fn fake_findings(again: Option<Again>) -> Findings
     }
 }
 
-/// Returns the finding that the word at a place is, or is not, one of a verb.
+/// Returns the finding that the word at a place should, or should not, be one of a verb.
 fn wrong_verb(at: usize) -> Finding
     ensures { result ≡ wrong_verb at }
 {
@@ -120,7 +120,7 @@ fn wrong_verb(at: usize) -> Finding
     }
 }
 
-/// The place of the first word of a verb, behind `meta` or not.
+/// Returns the place of the first word of a verb, behind `meta` or not.
 fn words_from(order: u32, is_meta: bool) -> usize
     ensures { result ≡ words_from order is_meta }
 {
@@ -131,7 +131,7 @@ fn words_from(order: u32, is_meta: bool) -> usize
     }
 }
 
-/// The place behind the words of a verb, before a sign or not.
+/// Returns the place behind the words of a verb, before a sign or not.
 fn words_end(has_sign: bool, count: usize) -> usize
     ensures { result ≡ words_end has_sign count }
 {
@@ -142,7 +142,7 @@ fn words_end(has_sign: bool, count: usize) -> usize
     }
 }
 
-/// The place of the word behind a sign, if there is one.
+/// Returns the place of the word behind a sign, if there is one.
 fn like_at(has_sign: bool, count: usize) -> Option<usize>
     ensures { result ≡ like_at has_sign count }
 {
@@ -153,7 +153,7 @@ fn like_at(has_sign: bool, count: usize) -> Option<usize>
     }
 }
 
-/// Returns what the header of a unit with these tokens has.
+/// Returns the parts of the header of `Verb` that has these tokens.
 fn verb_head(tokens: &UnitTokens) -> VerbHead
     ensures { result ≡ verb_head tokens.now }
 {
@@ -169,7 +169,7 @@ fn verb_head(tokens: &UnitTokens) -> VerbHead
     }
 }
 
-/// The number of the verb whose word stands at a place.
+/// Returns the number of the verb that has the word at a place, if there is one.
 fn verb_named<B: Bounds>(tokens: &UnitTokens, at: usize, out: &Output<B>) -> Option<u8>
     ensures { result ≡ verb_named tokens.now at out.now }
 {
@@ -179,7 +179,7 @@ fn verb_named<B: Bounds>(tokens: &UnitTokens, at: usize, out: &Output<B>) -> Opt
     }
 }
 
-/// Returns the finding that the word at a place is none of a verb, unless it is one.
+/// Returns the finding that the word at `at` is no verb's, unless it has a verb.
 fn no_verb_finding(at: usize, verb: Option<u8>) -> Option<Finding>
     ensures { result ≡ no_verb_finding at verb }
 {
@@ -204,7 +204,8 @@ pub(crate) fn has_verb<B: Bounds>(number: u8, out: &Output<B>) -> bool
     (number as usize) < out.tables.verbs.len()
 }
 
-/// Returns what is wrong with the verb that gets words: behind a sign none is named, or there are too many for another one.
+/// Returns the finding about the verb that gets words: the word behind a sign is no verb's, or there are too many verbs
+/// for another one.
 fn like_finding<B: Bounds>(
     like: Option<usize>,
     tokens: &UnitTokens,
@@ -218,7 +219,7 @@ fn like_finding<B: Bounds>(
     }
 }
 
-/// The text of a word more, if there is one.
+/// Appends the text of a word to `texts`, if there is a word.
 pub fn add_text(word: Option<DictionaryWord>, texts: &mut Vec<[u8; 6]>) -> Result<(), AllocError>
     ensures { OnOk result (texts.new.items ≡ with_text word texts.old.items) }
 {
@@ -228,7 +229,7 @@ pub fn add_text(word: Option<DictionaryWord>, texts: &mut Vec<[u8; 6]>) -> Resul
     Ok(())
 }
 
-/// The texts of the words before a place.
+/// Returns the texts of the words before the place `end`.
 fn texts_before(alloc: Global, tokens: &UnitTokens, end: usize) -> Result<Vec<[u8; 6]>, AllocError>
     ensures { IfOk result (λ texts. texts.items ≡ texts_before end tokens.now) }
 {
@@ -239,7 +240,7 @@ fn texts_before(alloc: Global, tokens: &UnitTokens, end: usize) -> Result<Vec<[u
     Ok(texts)
 }
 
-/// The place so far behind another one.
+/// Returns the place that is `place` behind `first`, or the greatest number of the program where that is less.
 #[tactic(auto, unfolding(crate::specs::Verbs::place_behind))]
 fn place_behind(first: usize, place: usize) -> usize
     ensures { result ≡ place_behind first place }
@@ -247,7 +248,7 @@ fn place_behind(first: usize, place: usize) -> usize
     first.saturating_add(place)
 }
 
-/// Returns the finding that a word is one of a verb's, by its place among words of which the first has a place.
+/// Returns the finding that a word is one of a verb's, by its `place` among words of which the first is at `first`.
 fn misfit_finding(first: usize, place: Option<usize>) -> Option<Finding>
     ensures { result ≡ misfit_finding first place }
 {
@@ -257,7 +258,7 @@ fn misfit_finding(first: usize, place: Option<usize>) -> Option<Finding>
     }
 }
 
-/// Returns what is wrong with the words of a header.
+/// Returns the finding about the words of a header.
 fn words_finding<B: Bounds>(
     alloc: Global,
     head: VerbHead,
@@ -271,7 +272,7 @@ fn words_finding<B: Bounds>(
     Ok(misfit_finding(head.first, misfit))
 }
 
-/// Returns what is wrong with the header of `Verb`.
+/// Returns the finding about the header of `Verb`.
 fn head_finding<B: Bounds>(
     alloc: Global,
     head: VerbHead,
@@ -284,7 +285,8 @@ fn head_finding<B: Bounds>(
     Ok(least_of_both(like_finding(head.like, tokens, out), of_words))
 }
 
-/// There would be more verbs, or lines, than this limit allows. Nobody asks any more which verb words are of.
+/// Passes `limit`, where there would be more verbs or lines than it allows. Nobody asks any more which verb words are
+/// of.
 fn pass_verb<B: Bounds>(limit: Setting, out: &mut Output<B>) -> Opened
     ensures { (out.new, result) ≡ verb_passed B.most limit out.old }
 {
@@ -295,7 +297,7 @@ fn pass_verb<B: Bounds>(limit: Setting, out: &mut Output<B>) -> Opened
     }
 }
 
-/// A new verb, whose lines follow. Where there would be too many that limit is passed.
+/// Makes a new verb, whose lines follow. Where there would be too many, that limit is passed.
 fn new_verb<B: Bounds>(out: &mut Output<B>) -> Result<Opened, AllocError>
     ensures { IfOk result (λ opened. (out.new, opened) ≡ new_verb B.most out.old) }
 {
@@ -314,7 +316,7 @@ fn new_verb<B: Bounds>(out: &mut Output<B>) -> Result<Opened, AllocError>
     }
 }
 
-/// The verb that gets the words of a header: one that is named behind a sign, or a new one.
+/// Returns the verb that gets the words of a header: one whose word comes behind a sign, or a new one.
 fn begin_verb<B: Bounds>(
     like: Option<usize>,
     tokens: &UnitTokens,
@@ -331,7 +333,7 @@ fn begin_verb<B: Bounds>(
     }
 }
 
-/// The use of a word of a verb.
+/// Returns the use of a word of a verb.
 fn verb_use(number: u8, is_meta: bool) -> WordUse
     ensures { result ≡ verb_use number is_meta }
 {
@@ -342,7 +344,7 @@ fn verb_use(number: u8, is_meta: bool) -> WordUse
     }
 }
 
-/// A word is used, if there is one.
+/// Uses a word as `word_use`, if there is one.
 pub fn use_word<B: Bounds>(
     word: Option<DictionaryWord>,
     word_use: WordUse,
@@ -356,7 +358,7 @@ pub fn use_word<B: Bounds>(
     }
 }
 
-/// The words before a place are used.
+/// Uses the words before the place `end` as `word_use`.
 fn use_words<B: Bounds>(
     end: usize,
     tokens: &UnitTokens,
@@ -371,7 +373,7 @@ fn use_words<B: Bounds>(
     Ok(())
 }
 
-/// The word at a place is used as one of a verb, if there is a place.
+/// Uses the word at a place as one of verb `number`, if there is a place.
 fn use_like<B: Bounds>(
     like: Option<usize>,
     tokens: &UnitTokens,
@@ -386,7 +388,7 @@ fn use_like<B: Bounds>(
     }
 }
 
-/// A verb gets the words of a header, if there is one.
+/// Gives a verb the words of a header, if there is a verb.
 fn give_words<B: Bounds>(
     verb: Option<u8>,
     head: VerbHead,
@@ -402,7 +404,7 @@ fn give_words<B: Bounds>(
     use_like(head.like, tokens, number, out)
 }
 
-/// A verb gets the words of a header with which nothing is wrong. Answers the verb whose lines follow.
+/// Gives a verb the words of a header with which nothing is wrong, and returns the verb whose lines follow.
 fn open_verb<B: Bounds>(
     head: VerbHead,
     tokens: &UnitTokens,
@@ -415,7 +417,7 @@ fn open_verb<B: Bounds>(
     Ok(opened.lines)
 }
 
-/// Where further lines go, by the word behind that of `Extend`.
+/// Returns the place where further lines go, by the word behind that of `Extend`.
 fn place_named(name: &[u8]) -> LinePlace
     ensures { result ≡ place_named name.now }
 {
@@ -428,7 +430,7 @@ fn place_named(name: &[u8]) -> LinePlace
     }
 }
 
-/// Further lines of the verb of a number go to a place, if there is one.
+/// Sends further lines of verb `number` to `place`, if there is that verb.
 fn extend_lines<B: Bounds>(
     number: u8,
     place: LinePlace,
@@ -443,7 +445,7 @@ fn extend_lines<B: Bounds>(
     }
 }
 
-/// Further lines of a verb go to a place, and the word by which it is named is used.
+/// Sends further lines of a verb to `place`, and uses the word by which it is named.
 fn extend_verb<B: Bounds>(
     verb: Option<u8>,
     place: LinePlace,
@@ -459,14 +461,14 @@ fn extend_verb<B: Bounds>(
     extend_lines(number, place, out)
 }
 
-/// A verb whose lines are read.
+/// Returns the state in which the lines of a verb are read, and go to `place`.
 fn lines_of(verb: Option<u8>, place: LinePlace) -> Extending
     ensures { result ≡ lines_of verb place }
 {
     Extending { verb, place }
 }
 
-/// The end of a unit of a verb that begins at a place.
+/// Ends a unit of a verb that begins at `first`, with the finding `found` about it.
 pub(crate) fn end_of_verb<B: Bounds>(
     compilation: &mut Compilation<B>,
     context: &Context<'_>,
@@ -496,7 +498,7 @@ fn open_header<B: Bounds>(
     Ok(())
 }
 
-/// The header of `Verb`, in which this stands.
+/// Ends the header of `Verb`, which has the parts `head`: it is judged, and its verb opens.
 fn verb_header_with<B: Bounds>(
     compilation: &mut Compilation<B>,
     context: &Context<'_>,
@@ -515,7 +517,7 @@ fn verb_header_with<B: Bounds>(
     end_of_verb(compilation, context, first, found)
 }
 
-/// The header of `Verb`.
+/// Ends the header of `Verb`, which begins at `first`: it is judged, and its verb opens.
 pub fn verb_header<B: Bounds>(
     compilation: &mut Compilation<B>,
     context: &Context<'_>,
@@ -527,7 +529,7 @@ pub fn verb_header<B: Bounds>(
     verb_header_with(compilation, context, first, head)
 }
 
-/// The header of `Extend`, which names a verb at a place among its tokens, or none.
+/// Ends the header of `Extend`, which names `verb` by the word at `at`, or names none.
 fn extend_with<B: Bounds>(
     compilation: &mut Compilation<B>,
     context: &Context<'_>,
@@ -544,7 +546,7 @@ fn extend_with<B: Bounds>(
     end_of_verb(compilation, context, first, no_verb_finding(at, verb))
 }
 
-/// The header of `Extend`.
+/// Ends the header of `Extend`, which begins at `first`: the lines that follow are those of the verb that it names.
 pub fn extend_header<B: Bounds>(
     compilation: &mut Compilation<B>,
     context: &Context<'_>,

@@ -1,28 +1,28 @@
--- Bytes of verbs and their lines, and numbers in them that are known later: of joined lists, of one that is changed, and as written.
+-- Bytes of verbs and their lines, and numbers in them that are known later: of joined lists, of a list that is changed, and as written.
 use Rattle.std.proofs.Common.{◌≡◌, ℕ, zero, suc, ◌+◌, ◌*◌, ◌-◌, ◌≤◌, ◌<◌, List, [], ◌∷◌, ◌++◌, length, refl, arith, ap, sym, ◌∙◌, get_or}
 use Rattle.std.proofs.Common.{set, drop, length-append, append_assoc, append-nil, fold, length-set}
 use Rattle.std.proofs.lemmas.List.{get_or-set_same}
 use Rattle.inf_area.specs.declared.targets.AreaName.TheVariants as area_name
 use Rattle.inf_area.specs.declared.targets.Target.TheVariants as target
-use Rattle.inf_cells.specs.Cells.{bytes_of, later_count, value_cells}
-use Rattle.inf_cells.specs.declared.cells.Cell.{Cell}
-use Rattle.inf_cells.specs.declared.cells.Cell.TheVariants as cell
+use Rattle.inf_area.specs.Cells.{bytes_of, later_count, value_cells}
+use Rattle.inf_area.specs.declared.cells.Cell.{Cell}
+use Rattle.inf_area.specs.declared.cells.Cell.TheVariants as cell
 use Rattle.inf_verbs.specs.declared.lines.LineToken.{LineToken}
 use Rattle.inf_verbs.specs.declared.lines.LineToken.TheVariants as token
-use Rattle.inf_verbs.specs.declared.verbs.Place.{Place}
-use Rattle.inf_verbs.specs.declared.verbs.Place.TheVariants as place
+use Rattle.inf_verbs.specs.declared.verbs.LinePlace.{LinePlace}
+use Rattle.inf_verbs.specs.declared.verbs.LinePlace.TheVariants as place
 use Rattle.inf_verbs.specs.Lines.{LineOf, is_preposition, line_cells, line_size, lines_cells, lines_prepositions, lines_size, prepositions}
 use Rattle.inf_verbs.specs.Lines.{token_type, token_value, tokens_cells}
 use Rattle.inf_verbs.specs.Routines.{routines_cells}
 use Rattle.inf_verbs.specs.Verbs.{VerbOf, address_cells, extended, grammar_cells, lines_of, no_lines, part_size, places_from, places_of}
 use Rattle.inf_verbs.specs.Verbs.{parts_cells, verb_cells, verb_laters, verb_size, verbs_laters, verbs_size, with_line}
 
--- places for routines are all known later
+-- the places for the addresses of routines are all known later
 pub later_routines : (rs : List ℕ) → later_count (routines_cells rs) ≡ length rs
 later_routines [] = refl
 later_routines (r ∷ rs) = omega (arith, later_routines rs)
 
--- lines
+-- the bytes of joined lines are those of both lists
 pub lines_size_joined : (xs ys : List LineOf) → lines_size (xs ++ ys) ≡ lines_size xs + lines_size ys
 lines_size_joined [] ys = omega arith
 lines_size_joined (x ∷ xs) ys = omega (arith, lines_size_joined xs ys)
@@ -36,7 +36,7 @@ cells_joined [] ys = refl
 cells_joined (x ∷ xs) ys =
     ap (λ cs. line_cells x ++ cs) (cells_joined xs ys) ∙ sym (append_assoc (line_cells x) (lines_cells xs) (lines_cells ys))
 
--- verbs
+-- the bytes of joined verbs are those of both lists
 pub size_joined : (xs ys : List VerbOf) → verbs_size (xs ++ ys) ≡ verbs_size xs + verbs_size ys
 size_joined [] ys = omega arith
 size_joined (x ∷ xs) ys = omega (arith, size_joined xs ys)
@@ -45,14 +45,14 @@ pub laters_joined : (xs ys : List VerbOf) → verbs_laters (xs ++ ys) ≡ verbs_
 laters_joined [] ys = omega arith
 laters_joined (x ∷ xs) ys = omega (arith, laters_joined xs ys)
 
--- a verb more
+-- a verb more has three bytes
 pub size_verb : (xs : List VerbOf) → verbs_size (xs ++ no_lines ∷ []) ≡ verbs_size xs + 3
 size_verb xs = omega (arith, size_joined xs (no_lines ∷ []))
 
 pub laters_verb : (xs : List VerbOf) → verbs_laters (xs ++ no_lines ∷ []) ≡ verbs_laters xs + 1
 laters_verb xs = omega (arith, laters_joined xs (no_lines ∷ []))
 
--- a verb that is changed
+-- where a verb is changed, its new bytes take the place of its old ones
 pub size_set : (xs : List VerbOf) (n : ℕ) (v d : VerbOf) → n < length xs →
     verbs_size (set xs n v) + verb_size (get_or xs n d) ≡ verbs_size xs + verb_size v
 size_set [] n v d within = absurd (omega (arith, within))
@@ -65,7 +65,7 @@ laters_set [] n v d within = absurd (omega (arith, within))
 laters_set (x ∷ xs) zero v d within = omega arith
 laters_set (x ∷ xs) (suc n) v d within = omega (arith, laters_set xs n v d (omega (arith, within)))
 
--- of each line no more is known later than it has bytes
+-- a line has no more numbers that are known later than it has bytes
 few_prepositions : (ts : List LineToken) → prepositions ts ≤ length ts
 few_prepositions [] = omega arith
 few_prepositions (t ∷ ts) = omega (arith, few_prepositions ts, one t) where
@@ -94,7 +94,7 @@ pub size_parts : (vs : List VerbOf) → verbs_size vs ≡ 2 * length vs + parts_
 size_parts [] = omega arith
 size_parts (v ∷ vs) = omega (arith, size_parts vs)
 
--- cells
+-- the bytes of joined cells are those of both lists
 bytes_joined : (xs ys : List Cell) → bytes_of (xs ++ ys) ≡ bytes_of xs ++ bytes_of ys
 bytes_joined [] ys = refl
 bytes_joined (cell.Byte b ∷ xs) ys = ap (λ bs. b ∷ bs) (bytes_joined xs ys)
@@ -134,12 +134,12 @@ later_parts : (vs : List VerbOf) → length vs + later_count (parts_cells vs) �
 later_parts [] = omega arith
 later_parts (v ∷ vs) = omega (arith, later_joined (verb_cells v) (parts_cells vs), later_lines (lines_of v), later_parts vs)
 
--- as many numbers that are known later are written as are counted
+-- the written numbers that are known later are as many as were counted
 pub laters_written : (vs : List VerbOf) → later_count (grammar_cells vs) ≡ verbs_laters vs
 laters_written vs =
     omega (arith, later_joined (address_cells (length vs)) (parts_cells vs), later_addresses (length vs), later_parts vs)
 
--- bytes
+-- the number of bytes that tokens, lines and verbs are written in
 bytes_token : (t : LineToken) → length (bytes_of (value_cells (token_value t))) ≡ 2
 bytes_token (token.Noun n) = refl
 bytes_token (token.Preposition text is_first is_last) = refl
@@ -183,7 +183,7 @@ dropped [] behind n is = ap (λ i. drop i behind) (sym is)
 dropped (b ∷ front) behind zero is = absurd (omega (arith, is))
 dropped (b ∷ front) behind (suc n) is = dropped front behind n (omega (arith, is))
 
--- behind the place of a verb stand its lines
+-- the lines of a verb are found behind its place
 part_at : (vs : List VerbOf) (n at : ℕ) (front : List ℕ) → length front ≡ at → n < length vs
     → drop (get_or (places_from at vs) n 0) (front ++ bytes_of (parts_cells vs)) ≡ bytes_of (parts_cells (drop n vs))
 part_at [] n at front is within = absurd (omega (arith, within))
@@ -201,7 +201,7 @@ verb_at_place vs n within =
     ap (drop (get_or (places_of vs) n 0)) (bytes_joined (address_cells (length vs)) (parts_cells vs))
     ∙ part_at vs n (2 * length vs) (bytes_of (address_cells (length vs))) (bytes_addresses (length vs)) within
 
--- a line more
+-- a line more among the first has its own bytes more
 pub size_more_first : (first rest : List LineOf) (line : LineOf)
     → lines_size ((first ++ line ∷ []) ++ rest) ≡ lines_size (first ++ rest) + line_size line
 size_more_first first rest line =
@@ -251,7 +251,7 @@ verb_written cells count first front back =
     ∙ ap (λ cs. (cells ++ count) ++ cs) (sym (cells_joined first (front ++ back)))
     ∙ append_assoc cells count (lines_cells (first ++ (front ++ back)))
 
--- one that is changed
+-- the lines of one verb have no more bytes than all verbs
 pub size_within : (xs : List VerbOf) (n : ℕ) (d : VerbOf) → n < length xs → lines_size (lines_of (get_or xs n d)) ≤ verbs_size xs
 size_within [] n d within = absurd (omega (arith, within))
 size_within (x ∷ xs) zero d within = omega arith
@@ -263,17 +263,17 @@ laters_within [] n d within = absurd (omega (arith, within))
 laters_within (x ∷ xs) zero d within = omega arith
 laters_within (x ∷ xs) (suc n) d within = omega (arith, laters_within xs n d (omega (arith, within)))
 
-pub extended_size : (how : Place) (v : VerbOf) → lines_size (lines_of (extended how v)) ≤ lines_size (lines_of v)
+pub extended_size : (how : LinePlace) (v : VerbOf) → lines_size (lines_of (extended how v)) ≤ lines_size (lines_of v)
 extended_size place.First v = omega arith
 extended_size place.Last v = omega arith
 extended_size place.Replace v = omega arith
 
-pub extended_laters : (how : Place) (v : VerbOf) → lines_prepositions (lines_of (extended how v)) ≤ lines_prepositions (lines_of v)
+pub extended_laters : (how : LinePlace) (v : VerbOf) → lines_prepositions (lines_of (extended how v)) ≤ lines_prepositions (lines_of v)
 extended_laters place.First v = omega arith
 extended_laters place.Last v = omega arith
 extended_laters place.Replace v = omega arith
 
--- lines that come one by one
+-- lines that come one by one follow one another
 pub told_first : (first rest more : List LineOf)
     → lines_of (fold (λ v line. with_line place.First line v) (record { first = first; rest = rest }) more) ≡ (first ++ more) ++ rest
 told_first first rest [] = ap (λ ls. ls ++ rest) (sym (append-nil first))
@@ -296,20 +296,20 @@ told_replace first rest (line ∷ more) =
     ∙ ap (λ ls. ls ++ more) (sym (append_assoc first rest (line ∷ [])))
     ∙ append_assoc (first ++ rest) (line ∷ []) more
 
-with_line_size : (how : Place) (line : LineOf) (v : VerbOf) →
+with_line_size : (how : LinePlace) (line : LineOf) (v : VerbOf) →
     lines_size (lines_of (with_line how line v)) ≡ lines_size (lines_of v) + line_size line
 with_line_size place.First line v = size_more_first v.first v.rest line
 with_line_size place.Last line v = size_more_last v.first [] v.rest line
 with_line_size place.Replace line v = size_more_last v.first [] v.rest line
 
-with_line_laters : (how : Place) (line : LineOf) (v : VerbOf)
+with_line_laters : (how : LinePlace) (line : LineOf) (v : VerbOf)
     → lines_prepositions (lines_of (with_line how line v)) ≡ lines_prepositions (lines_of v) + prepositions line.tokens
 with_line_laters place.First line v = prepositions_more_first v.first v.rest line
 with_line_laters place.Last line v = prepositions_more_last v.first [] v.rest line
 with_line_laters place.Replace line v = prepositions_more_last v.first [] v.rest line
 
--- what holds of verbs of which one has another line
-pub line_stands : (xs : List VerbOf) (n : ℕ) (how : Place) (line : LineOf) (old new : VerbOf) (size later limit space s l : ℕ)
+-- verbs of which one gets another line keep their sizes and limits
+pub line_stands : (xs : List VerbOf) (n : ℕ) (how : LinePlace) (line : LineOf) (old new : VerbOf) (size later limit space s l : ℕ)
     → n < length xs → old ≡ get_or xs n old → new ≡ with_line how line old → size ≡ verbs_size xs → later ≡ verbs_laters xs
     → length xs ≤ 255 → length xs ≤ limit → size + s ≤ space → s ≡ line_size line → l ≡ prepositions line.tokens
     → (size + s ≡ verbs_size (set xs n new)) × (later + l ≡ verbs_laters (set xs n new)) × (length (set xs n new) ≤ 255)
@@ -340,7 +340,7 @@ line_stands xs n how line old new size later limit space s l within is_old is_ne
   room,
 )
 
--- a verb that stands at a place has no more bytes than all
+-- the lines of a verb have no more bytes than all verbs
 pub bytes_fit : (xs : List VerbOf) (n : ℕ) (old : VerbOf) → n < length xs → old ≡ get_or xs n old →
     lines_size (lines_of old) ≤ verbs_size xs
 bytes_fit xs n old within is_old = omega (arith, size_within xs n old within, ap (λ v. lines_size (lines_of v)) is_old)
@@ -354,8 +354,8 @@ same_at [] n a b within is_a is_b = absurd (omega (arith, within))
 same_at (x ∷ xs) zero a b within is_a is_b = is_a ∙ sym is_b
 same_at (x ∷ xs) (suc n) a b within is_a is_b = same_at xs n a b (omega (arith, within)) is_a is_b
 
--- what holds of verbs of which one was extended: the one that was there, read twice, and the one that is there then
-pub extended_stands : (xs : List VerbOf) (n : ℕ) (how : Place) (old again changed new : VerbOf) (size later limit space : ℕ)
+-- verbs of which one was extended keep their sizes and limits
+pub extended_stands : (xs : List VerbOf) (n : ℕ) (how : LinePlace) (old again changed new : VerbOf) (size later limit space : ℕ)
     → n < length xs → old ≡ get_or xs n old → again ≡ get_or xs n again → changed ≡ extended how again
     → new ≡ get_or (set xs n changed) n new → size ≡ verbs_size xs → later ≡ verbs_laters xs → length xs ≤ 255 → length xs ≤ limit → size ≤
     space

@@ -3,7 +3,7 @@ use Rattle.std.proofs.Common.{◌≡◌, ◌+◌, List, ◌++◌, length, revers
 use Rattle.std.proofs.lemmas.List.{reverse-append, reverse-reverse, length-reverse}
 
 module _ {A : Type 0} where
-  -- those that are put backwards behind lines that are kept backwards stand in front of them
+  -- lines that are put backwards behind lines that are kept backwards come in front of them
   pub turned_behind : (front first back : List A) → reverse (front ++ reverse first) ++ back ≡ first ++ (reverse front ++ back)
   turned_behind front first back =
       ap (λ xs. xs ++ back) (reverse-append front (reverse first) ∙ ap (λ xs. xs ++ reverse front) (reverse-reverse first))

@@ -3,15 +3,15 @@ use Rattle.std.specs.Prelude.{ℕ, ◌+◌, ◌*◌, ◌%◌, List, [], ◌∷�
 use Rattle.inf_area.specs.declared.targets.Target.TheVariants as target
 use Rattle.inf_area.specs.declared.targets.Value.{Value}
 use Rattle.inf_area.specs.declared.targets.Value.TheVariants as value
-use Rattle.inf_cells.specs.Cells.{value_cells, word_cells}
-use Rattle.inf_cells.specs.declared.cells.Cell.{Cell}
-use Rattle.inf_cells.specs.declared.cells.Cell.TheVariants as cell
+use Rattle.inf_area.specs.Cells.{value_cells, word_cells}
+use Rattle.inf_area.specs.declared.cells.Cell.{Cell}
+use Rattle.inf_area.specs.declared.cells.Cell.TheVariants as cell
 use Rattle.inf_verbs.specs.declared.lines.LineToken.{LineToken}
 use Rattle.inf_verbs.specs.declared.lines.LineToken.TheVariants as token
 use Rattle.inf_verbs.specs.declared.lines.Noun.{Noun}
 use Rattle.inf_verbs.specs.declared.lines.Noun.TheVariants as noun
 
--- the action that a line means, whether its nouns change places, and what it takes
+-- a line: the action that it means, whether its nouns change places, and its tokens
 pub record LineOf : Type 0 where
   pub action : ℕ
   pub is_reverse : Bool
@@ -29,7 +29,7 @@ noun_number noun.Special = 7
 noun_number noun.Number = 8
 noun_number noun.Topic = 9
 
--- what a token is; a preposition has $10 where another one came before in its list, $20 where another follows
+-- the type of a token; a preposition has $10 where another one comes before it in its list, $20 where another follows
 abbrev pub token_type : LineToken → ℕ
 token_type (token.Noun n) = 1
 token_type (token.Preposition text is_first is_last) = 2 + (if is_first then 0 else 16) + (if is_last then 0 else 32)
@@ -54,12 +54,12 @@ is_preposition (token.Attribute n) = 0
 is_preposition (token.Scope n) = 0
 is_preposition (token.Routine n) = 0
 
--- how many are prepositions
+-- the number of tokens that are prepositions
 abbrev pub prepositions : List LineToken → ℕ
 prepositions [] = 0
 prepositions (t ∷ tokens) = is_preposition t + prepositions tokens
 
--- As a line is written: its action, with $400 where its nouns change places, its tokens, 15.
+-- A line as it is written: its action, with $400 where its nouns change places, its tokens, 15.
 abbrev pub action_word : LineOf → ℕ
 action_word line = if line.is_reverse then (line.action + 1024) % 65536 else line.action
 
@@ -74,7 +74,7 @@ abbrev pub lines_cells : List LineOf → List Cell
 lines_cells [] = []
 lines_cells (line ∷ lines) = line_cells line ++ lines_cells lines
 
--- its bytes: the action, three a token, 15
+-- the number of bytes of a line: the action, three for each token, 15
 abbrev pub line_size : LineOf → ℕ
 line_size line = 3 + 3 * length line.tokens
 

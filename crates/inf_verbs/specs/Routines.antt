@@ -1,32 +1,32 @@
--- Routines that a grammar names, in the order in which they first came; each is told by its number among the names of the source.
+-- Routines that a grammar names, in the order in which they first came; each is known by its number among the names of the source.
 use Rattle.std.specs.Prelude.{ℕ, ◌+◌, ◌%◌, List, [], ◌∷◌, Option, Some, None, Bool, not, ◌&&◌, length, nat_eq, nat_le, if◌then◌else◌}
 use Rattle.std.specs.List.{list_any, position_or_len}
 use Rattle.indexmap.specs.IndexSet.{insert_key}
 use Rattle.inf_area.specs.declared.targets.Target.TheVariants as target
-use Rattle.inf_cells.specs.declared.cells.Cell.{Cell}
-use Rattle.inf_cells.specs.declared.cells.Cell.TheVariants as cell
+use Rattle.inf_area.specs.declared.cells.Cell.{Cell}
+use Rattle.inf_area.specs.declared.cells.Cell.TheVariants as cell
 use Rattle.inf_settings.specs.Bounds.{Limits}
 use Rattle.inf_settings.specs.declared.setting.Setting.TheVariants as setting
 use Rattle.inf_verbs.specs.declared.routines.ActionFault.{ActionFault}
 use Rattle.inf_verbs.specs.declared.routines.ActionFault.TheVariants as fault
 
--- whether one is among them
+-- Tells whether `routine` is among `routines`.
 abbrev pub is_among : ℕ → List ℕ → Bool
 is_among routine routines = list_any (nat_eq routine) routines
 
--- one more, behind the others, unless it is there
+-- the routines with `routine` behind the others, unless it is among them
 abbrev pub with_routine : ℕ → List ℕ → List ℕ
 with_routine routine routines = insert_key nat_eq routines routine
 
--- the number that one has then: how many stand before it
+-- the number that `routine` has once it is added: the number of routines before it
 abbrev pub number_of : ℕ → List ℕ → ℕ
 number_of routine routines = position_or_len (nat_eq routine) routines % 65536
 
--- the number of one that is there
+-- the number of `routine`, where it is among `routines`
 abbrev pub number_in : ℕ → List ℕ → Option ℕ
 number_in routine routines = if is_among routine routines then Some (number_of routine routines) else None
 
--- the actions with routines, and how many have none
+-- the actions with routines, and the number of those that have none
 pub record AllActions : Type 0 where
   pub routines : List ℕ
   pub fakes : ℕ
@@ -37,12 +37,12 @@ with_action routine actions = record actions { routines = with_routine routine a
 abbrev pub with_fake : AllActions → AllActions
 with_fake actions = record actions { fakes = (actions.fakes + 1) % 65536 }
 
--- why one cannot be added: it is new, and there are as many as there may be
+-- the reason why an action cannot be added: it is new, and there are as many as there may be
 abbrev pub action_fault : Limits → ℕ → AllActions → Option ActionFault
 action_fault limits routine actions =
     if not (is_among routine actions.routines) && nat_le (limits setting.Actions) (length actions.routines) then Some fault.Full else None
 
--- As they are written: a place for each one's address.
+-- Routines as they are written: a place for the address of each.
 abbrev pub routines_cells : List ℕ → List Cell
 routines_cells [] = []
 routines_cells (routine ∷ routines) = cell.Later (target.Name routine) ∷ routines_cells routines

@@ -3,13 +3,13 @@ use Rattle.std.specs.Prelude.{ℕ, zero, suc, ◌+◌, ◌*◌, ◌%◌, List, [
 use Rattle.std.specs.Prelude.{slice_set, if◌then◌else◌}
 use Rattle.inf_area.specs.declared.targets.AreaName.TheVariants as area_name
 use Rattle.inf_area.specs.declared.targets.Target.TheVariants as target
-use Rattle.inf_cells.specs.declared.cells.Cell.{Cell}
-use Rattle.inf_cells.specs.declared.cells.Cell.TheVariants as cell
+use Rattle.inf_area.specs.declared.cells.Cell.{Cell}
+use Rattle.inf_area.specs.declared.cells.Cell.TheVariants as cell
 use Rattle.inf_settings.specs.Bounds.{Limits}
 use Rattle.inf_settings.specs.declared.setting.Setting.TheVariants as setting
 use Rattle.inf_verbs.specs.Lines.{LineOf, lines_cells, lines_prepositions, lines_size}
-use Rattle.inf_verbs.specs.declared.verbs.Place.{Place}
-use Rattle.inf_verbs.specs.declared.verbs.Place.TheVariants as place
+use Rattle.inf_verbs.specs.declared.verbs.LinePlace.{LinePlace}
+use Rattle.inf_verbs.specs.declared.verbs.LinePlace.TheVariants as place
 use Rattle.inf_verbs.specs.declared.verbs.LineFault.{LineFault}
 use Rattle.inf_verbs.specs.declared.verbs.LineFault.TheVariants as line_fault
 use Rattle.inf_verbs.specs.declared.verbs.VerbFault.{VerbFault}
@@ -20,14 +20,14 @@ pub record VerbOf : Type 0 where
   pub first : List LineOf
   pub rest : List LineOf
 
--- all its lines, in order
+-- all lines of a verb, in order
 abbrev pub lines_of : VerbOf → List LineOf
 lines_of verb = verb.first ++ verb.rest
 
 abbrev pub no_lines : VerbOf
 no_lines = record { first = []; rest = [] }
 
--- further lines go in front of all
+-- a verb of which further lines go in front of all
 abbrev pub begun_first : VerbOf → VerbOf
 begun_first verb = record { first = []; rest = lines_of verb }
 
@@ -37,14 +37,14 @@ with_first line verb = record { first = verb.first ++ line ∷ []; rest = verb.r
 abbrev pub with_last : LineOf → VerbOf → VerbOf
 with_last line verb = record { first = verb.first; rest = verb.rest ++ line ∷ [] }
 
--- what `Extend` does before its lines come
-abbrev pub extended : Place → VerbOf → VerbOf
+-- a verb as `Extend` makes it before its lines come
+abbrev pub extended : LinePlace → VerbOf → VerbOf
 extended place.First verb = begun_first verb
 extended place.Last verb = verb
 extended place.Replace verb = no_lines
 
--- what a line of it does
-abbrev pub with_line : Place → LineOf → VerbOf → VerbOf
+-- a verb with a further line of its `Extend`
+abbrev pub with_line : LinePlace → LineOf → VerbOf → VerbOf
 with_line place.First line verb = with_first line verb
 with_line place.Last line verb = with_last line verb
 with_line place.Replace line verb = with_last line verb
@@ -59,13 +59,13 @@ verb_at number verbs = slice_index_or verbs.list number no_lines
 abbrev pub with_verb : AllVerbs → AllVerbs
 with_verb verbs = record verbs { list = verbs.list ++ no_lines ∷ [] }
 
-abbrev pub with_extended : ℕ → Place → AllVerbs → AllVerbs
+abbrev pub with_extended : ℕ → LinePlace → AllVerbs → AllVerbs
 with_extended number how verbs = record verbs { list = slice_set verbs.list number (extended how (verb_at number verbs)) }
 
-abbrev pub with_line_of : ℕ → Place → LineOf → AllVerbs → AllVerbs
+abbrev pub with_line_of : ℕ → LinePlace → LineOf → AllVerbs → AllVerbs
 with_line_of number how line verbs = record verbs { list = slice_set verbs.list number (with_line how line (verb_at number verbs)) }
 
--- bytes: of a verb's lines with their count, of a verb with the address of its lines, and of all
+-- the number of bytes: of a verb's lines with their count, of a verb with the address of its lines, and of all verbs
 abbrev pub part_size : VerbOf → ℕ
 part_size verb = 1 + lines_size (lines_of verb)
 
@@ -76,7 +76,7 @@ abbrev pub verbs_size : List VerbOf → ℕ
 verbs_size [] = 0
 verbs_size (verb ∷ verbs) = verb_size verb + verbs_size verbs
 
--- how many numbers are known later: the addresses of lines, and those of prepositions
+-- the number of values that are known later: the addresses of lines, and those of prepositions
 abbrev pub verb_laters : VerbOf → ℕ
 verb_laters verb = 1 + lines_prepositions (lines_of verb)
 
@@ -84,7 +84,8 @@ abbrev pub verbs_laters : List VerbOf → ℕ
 verbs_laters [] = 0
 verbs_laters (verb ∷ verbs) = verb_laters verb + verbs_laters verbs
 
--- why another verb cannot be added: there are 255, or as many as there may be, or there would be more bytes than there may be
+-- the reason why another verb cannot be added: there are 255, or as many as there may be, or the grammar would have more bytes than it
+-- may
 abbrev pub add_fault : Limits → AllVerbs → Option VerbFault
 add_fault limits verbs =
     if nat_le 255 (length verbs.list) then Some verb_fault.TooMany
@@ -92,12 +93,12 @@ add_fault limits verbs =
     else if nat_lt (limits setting.GrammarLines) (verbs_size verbs.list + 3) then Some verb_fault.NoSpace
     else None
 
--- why another line of so many tokens cannot be
+-- the reason why another line of `count` tokens cannot be added
 abbrev pub line_fault_of : Limits → ℕ → AllVerbs → Option LineFault
 line_fault_of limits count verbs =
     if nat_lt (limits setting.GrammarLines) (verbs_size verbs.list + (3 + 3 * count)) then Some line_fault.NoSpace else None
 
--- As they are written: the address of each one's lines, then for each how many there are and its lines.
+-- Verbs as they are written: the address of each verb's lines, then for each verb the number of its lines, and these.
 abbrev pub verb_cells : VerbOf → List Cell
 verb_cells verb = (cell.Byte (length (lines_of verb) % 256) ∷ []) ++ lines_cells (lines_of verb)
 
@@ -105,7 +106,7 @@ abbrev pub parts_cells : List VerbOf → List Cell
 parts_cells [] = []
 parts_cells (verb ∷ verbs) = verb_cells verb ++ parts_cells verbs
 
--- places for the addresses of the first so many
+-- places for the addresses of the lines of the verbs before `number`
 abbrev pub address_cells : ℕ → List Cell
 address_cells zero = []
 address_cells (suc number) = address_cells number ++ cell.Later (target.Part area_name.Grammar number) ∷ []
@@ -113,7 +114,7 @@ address_cells (suc number) = address_cells number ++ cell.Later (target.Part are
 abbrev pub grammar_cells : List VerbOf → List Cell
 grammar_cells verbs = address_cells (length verbs) ++ parts_cells verbs
 
--- where the lines of each begin, where those of the first do at a place
+-- the places where the lines of each verb begin, where those of the first begin at `at`
 abbrev pub places_from : ℕ → List VerbOf → List ℕ
 places_from at [] = []
 places_from at (verb ∷ verbs) = at ∷ places_from (at + part_size verb) verbs

@@ -2,12 +2,11 @@
 ghost use Rattle.std.specs.Prelude.{◌≡◌, ◌≤◌, ◌++◌, IfOk, OnOk, OnErr, length};
 ghost use Rattle.inf_verbs.specs.Lines.{action_word, line_cells, noun_number, prepositions, token_type, token_value, tokens_cells};
 
-use inf_area::{Target, Value};
-use inf_cells::Cells;
+use inf_area::{Cells, Target, Value};
 use std::alloc::{AllocError, Global};
 use std::marker::Model;
 
-/// What a token takes as a noun.
+/// The noun that a token takes.
 #[derive(Clone, Copy, Debug, PartialEq, Eq)]
 pub enum Noun {
     Noun,
@@ -58,7 +57,7 @@ impl Model for Line {
     ghost view = { λ l. record { action = l.action; is_reverse = l.is_reverse; tokens = l.tokens.items } };
 }
 
-/// The number of a kind of noun.
+/// Returns the number of a kind of noun.
 fn noun_number(noun: Noun) -> u16
     ensures { result ≡ noun_number noun }
 {
@@ -77,7 +76,8 @@ fn noun_number(noun: Noun) -> u16
 }
 
 impl LineToken {
-    /// The byte that tells what the token is: the low bits its kind, the others whether alternatives stand before and behind it.
+    /// Returns the byte that tells the type of the token: the low bits its kind, the others whether alternatives come
+    /// before and behind it.
     fn type_byte(self) -> u8
         ensures { result ≡ token_type self }
     {
@@ -99,7 +99,7 @@ impl LineToken {
         }
     }
 
-    /// The value behind that byte.
+    /// Returns the value behind the byte of the type.
     fn value(self) -> Value
         ensures { result ≡ token_value self }
     {
@@ -114,7 +114,7 @@ impl LineToken {
     }
 }
 
-/// How many of some tokens are prepositions.
+/// Returns the number of `tokens` that are prepositions.
 pub(crate) fn prepositions(tokens: &[LineToken]) -> usize
     ensures value { result ≡ prepositions tokens.now }
     ensures few { result ≤ length tokens.now }
@@ -129,7 +129,7 @@ pub(crate) fn prepositions(tokens: &[LineToken]) -> usize
 }
 
 impl Line {
-    /// A line of these tokens.
+    /// Returns a line of these tokens.
     pub(crate) fn new(
         alloc: Global,
         action: u16,
@@ -145,7 +145,7 @@ impl Line {
         })
     }
 
-    /// Its cells, behind others: its action, with the bit $400 where its nouns change places, its tokens, and 15.
+    /// Appends the cells of the line: its action, with the bit $400 where its nouns change places, its tokens, and 15.
     pub(crate) fn add_to(&self, cells: &mut Cells) -> Result<(), AllocError>
         ensures { OnOk result (cells.new ≡ cells.old ++ line_cells self.now) }
     {
@@ -154,7 +154,7 @@ impl Line {
         cells.byte(15)
     }
 
-    // The word that tells its action.
+    // Returns the word that holds the action of the line.
     fn action_word(&self) -> u16
         ensures { result ≡ action_word self.now }
     {
@@ -166,7 +166,7 @@ impl Line {
     }
 }
 
-/// The cells of tokens, behind others.
+/// Appends the cells of `tokens`.
 fn add_tokens(cells: &mut Cells, tokens: &[LineToken]) -> Result<(), AllocError>
     ensures { OnOk result (cells.new ≡ cells.old ++ tokens_cells tokens.now) }
 {

@@ -2,15 +2,14 @@
 ghost use Rattle.std.specs.Prelude.{◌≡◌, ◌<◌, ◌≤◌, ◌+◌, ◌++◌, ◌%◌, [], None, OnOk, OnErr, IfOk, IfErr, MatchResult, length, unwrap_or};
 ghost use Rattle.inf_area.specs.Fixups.{with_fixups};
 ghost use Rattle.inf_area.specs.declared.targets.AreaName.TheVariants as area_name;
-ghost use Rattle.inf_cells.specs.Cells.{bytes_of, fixups_of};
-ghost use Rattle.inf_cells.specs.declared.cells.WriteFault.TheVariants as write_fault;
+ghost use Rattle.inf_area.specs.Cells.{bytes_of, fixups_of};
+ghost use Rattle.inf_area.specs.declared.cells.WriteFault.TheVariants as write_fault;
 ghost use Rattle.inf_verbs.specs.Routines.{action_fault, number_in, number_of, routines_cells, with_action, with_fake, with_routine};
 ghost use Rattle.inf_verbs.specs.declared.routines.ActionFault.TheVariants.{Memory};
 ghost use Rattle.inf_settings.specs.declared.setting.Setting.TheVariants as setting;
 
 use indexmap::IndexSet;
-use inf_area::{Area, AreaName, Refs, Target};
-use inf_cells::{Cells, WriteFault, append_cells};
+use inf_area::{Area, AreaName, Cells, Refs, Target, WriteFault, append_cells};
 use inf_settings::bounds::Bounds;
 use std::alloc::{AllocError, AllocFailed, Global};
 use std::marker::{Model, PhantomData};
@@ -18,7 +17,7 @@ use std::marker::{Model, PhantomData};
 // The number of the first action that has no routine.
 const FIRST_FAKE: u16 = 4096;
 
-/// Why an action was not added.
+/// The reason why an action was not added.
 #[derive(Clone, Copy, Debug, PartialEq, Eq)]
 pub enum ActionFault {
     /// There are as many actions as there may be.
@@ -37,7 +36,7 @@ impl<T: Drop> From<AllocFailed<T>> for ActionFault {
 
 /// The actions of a story, in the order in which they first came.
 ///
-/// An action is told by the number that its routine has among the names of the source. A fake action has no routine.
+/// An action is known by the number that its routine has among the names of the source. A fake action has no routine.
 #[derive(Drop)]
 pub struct Actions<B: Bounds> {
     alloc: Global,
@@ -60,7 +59,8 @@ impl<B: Bounds> Model for Actions<B> {
 }
 
 impl<B: Bounds> Actions<B> {
-    /// No actions, of which there may be so many beside fake ones. It takes no memory until the first one comes.
+    /// Returns a set without actions, which takes `limit` actions at most, beside fake ones. It takes no memory until
+    /// the first one comes.
     pub fn new(alloc: Global, limit: usize) -> Actions<B>
         requires { limit ≡ B.most setting.Actions }
         ensures { result ≡ record { routines = []; fakes = 0 } }
@@ -74,7 +74,8 @@ impl<B: Bounds> Actions<B> {
         }
     }
 
-    /// How many actions there are beside fake ones, which are never more than there may be; and so how many fixups are written.
+    /// Returns the number of actions, without fake ones, which is never more than there may be; as many fixups are
+    /// written.
     pub fn len(&self) -> usize
         ensures value { result ≡ length self.now.routines }
         ensures limited { result ≤ B.most setting.Actions }
@@ -82,7 +83,7 @@ impl<B: Bounds> Actions<B> {
         self.routines.len()
     }
 
-    /// The number of the action with this routine, modulo 65536, if there is such an action.
+    /// Returns the number of the action with this routine, modulo 65536, if there is such an action.
     pub fn number_of(&self, routine: usize) -> Option<u16>
         ensures { result ≡ number_in routine self.now.routines }
     {
@@ -90,9 +91,11 @@ impl<B: Bounds> Actions<B> {
         Some((place % 65536) as u16)
     }
 
-    /// The number of the action with this routine, modulo 65536: how many came before it. It is added where it is new.
+    /// Adds the action with this routine where it is new, and returns its number, modulo 65536, which counts the
+    /// actions before it.
     ///
-    /// Refuses a new one first where there are as many as there may be, then where no memory is left. All then stay as they were.
+    /// Returns an error where the action is new: `Full` where there are as many as there may be, else `Memory` where no
+    /// memory is left. All actions then stay as they were.
     pub fn add(&mut self, routine: usize) -> Result<u16, ActionFault>
         ensures ok { OnOk result (self.new ≡ with_action routine self.old) }
         ensures number { IfOk result (λ number. number ≡ number_of routine self.old.routines) }
@@ -107,7 +110,7 @@ impl<B: Bounds> Actions<B> {
         Ok((place % 65536) as u16)
     }
 
-    /// The number of a new fake action, modulo 65536: they count from 4096.
+    /// Adds a fake action and returns its number, modulo 65536: they count from 4096.
     pub fn add_fake(&mut self) -> u16
         ensures number { result ≡ (4096 + self.old.fakes) % 65536 }
         ensures one { self.new ≡ with_fake self.old }
@@ -117,10 +120,11 @@ impl<B: Bounds> Actions<B> {
         number
     }
 
-    /// Puts a place for the packed address of each action's routine behind the area of actions, and their fixups behind others.
+    /// Appends a place for the packed address of each action's routine to the area of actions, and their fixups to
+    /// `refs`.
     ///
-    /// It is refused first where there would be more fixups than there may be, then where no memory is left; area and fixups then
-    /// stay as they were.
+    /// Returns an error, the first that applies: `Full` where there would be more fixups than there may be, `Memory`
+    /// where no memory is left. Area and fixups then stay as they were.
     pub fn write<A: Area>(&self, area: &mut A, refs: &mut Refs) -> Result<(), WriteFault>
         ensures bytes { OnOk result (A.bytes area.new ≡ A.bytes area.old ++ bytes_of (routines_cells self.now.routines)) }
         ensures fixups { OnOk result (refs.new ≡ with_fixups
@@ -139,7 +143,7 @@ impl<B: Bounds> Actions<B> {
 
 /// The routines that the lines of a grammar name, in the order in which they were first named.
 ///
-/// A routine is told by the number that it has among the names of the source.
+/// A routine is known by the number that it has among the names of the source.
 #[derive(Drop)]
 pub struct ParsingRoutines {
     alloc: Global,
@@ -155,7 +159,7 @@ impl Model for ParsingRoutines {
 }
 
 impl ParsingRoutines {
-    /// No routines. It takes no memory until the first one comes.
+    /// Returns a set without routines. It takes no memory until the first one comes.
     pub fn new(alloc: Global) -> ParsingRoutines
         ensures { result ≡ [] }
     {
@@ -165,15 +169,15 @@ impl ParsingRoutines {
         }
     }
 
-    /// How many routines there are, and so how many fixups are written.
+    /// Returns the number of routines; as many fixups are written.
     pub fn len(&self) -> usize
         ensures { result ≡ length self.now }
     {
         self.routines.len()
     }
 
-    /// The number of a routine, modulo 65536: how many were named before it. It is added where it is new. Where no memory is left
-    /// all stay as they were.
+    /// Adds a routine where it is new, and returns its number, modulo 65536, which counts the routines named before it.
+    /// Where no memory is left, returns an error, and all routines stay as they were.
     pub fn add(&mut self, routine: usize) -> Result<u16, AllocError>
         ensures ok { OnOk result (self.new ≡ with_routine routine self.old) }
         ensures number { IfOk result (λ number. number ≡ number_of routine self.old) }
@@ -183,10 +187,11 @@ impl ParsingRoutines {
         Ok((place % 65536) as u16)
     }
 
-    /// Puts a place for the packed address of each routine behind the area of parsing routines, and their fixups behind others.
+    /// Appends a place for the packed address of each routine to the area of parsing routines, and their fixups to
+    /// `refs`.
     ///
-    /// It is refused first where there would be more fixups than there may be, then where no memory is left; area and fixups then
-    /// stay as they were.
+    /// Returns an error, the first that applies: `Full` where there would be more fixups than there may be, `Memory`
+    /// where no memory is left. Area and fixups then stay as they were.
     pub fn write<A: Area>(&self, area: &mut A, refs: &mut Refs) -> Result<(), WriteFault>
         ensures bytes { OnOk result (A.bytes area.new ≡ A.bytes area.old ++ bytes_of (routines_cells self.now)) }
         ensures fixups { OnOk result (refs.new ≡ with_fixups
@@ -207,7 +212,7 @@ impl ParsingRoutines {
     }
 }
 
-/// Puts a place for the address of each of some routines behind an area with this name, as `Actions::write` says.
+/// Appends a place for the address of each of `routines` to an area of this name, as `Actions::write` says.
 #[tactic(auto, using(crate::proofs::Sizes::later_routines))]
 fn write_routines<A: Area>(
     alloc: Global,
@@ -234,7 +239,7 @@ fn write_routines<A: Area>(
     append_cells(alloc, name, area, refs, cells.as_slice())
 }
 
-/// The cells of some routines' addresses.
+/// Returns the cells for the addresses of some routines.
 fn cells_of(alloc: Global, routines: &IndexSet<usize>) -> Result<Cells, AllocError>
     ensures { IfOk result (λ cells. cells ≡ routines_cells routines.now.keys) }
 {

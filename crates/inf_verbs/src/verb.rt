@@ -4,8 +4,8 @@ ghost use Rattle.inf_verbs.specs.Lines.{line_size, lines_cells, lines_prepositio
 ghost use Rattle.inf_verbs.specs.Verbs.{begun_first, extended, lines_of, no_lines, verb_cells, with_first, with_last, with_line};
 
 use crate::lines::Line;
-use crate::verbs::Place;
-use inf_cells::Cells;
+use crate::verbs::LinePlace;
+use inf_area::Cells;
 use std::alloc::{AllocError, Global};
 use std::marker::Model;
 
@@ -18,7 +18,7 @@ pub(crate) struct Verb {
     first: Vec<Line>,
     front: Vec<Line>,
     back: Vec<Line>,
-    // The bytes of all lines, and how many of their tokens are prepositions.
+    // The number of bytes of all lines, and of their tokens that are prepositions.
     size: usize,
     later: usize,
 }
@@ -37,7 +37,7 @@ impl Model for Verb {
 }
 
 impl Verb {
-    /// A verb without lines.
+    /// Returns a verb without lines.
     pub(crate) fn new(alloc: Global) -> Verb
         ensures { result ≡ no_lines }
     {
@@ -50,39 +50,39 @@ impl Verb {
         }
     }
 
-    /// The bytes of its lines.
+    /// Returns the number of bytes of the lines.
     pub(crate) fn size(&self) -> usize
         ensures { result ≡ lines_size (lines_of self.now) }
     {
         self.size
     }
 
-    /// How many tokens of its lines are prepositions.
+    /// Returns the number of prepositions among the tokens of the lines.
     pub(crate) fn later_count(&self) -> usize
         ensures { result ≡ lines_prepositions (lines_of self.now) }
     {
         self.later
     }
 
-    /// What is done before further lines come at a place.
-    pub(crate) fn extend(&mut self, place: Place) -> Result<(), AllocError>
+    /// Prepares the verb for further lines at `place`: takes all lines away where these are replaced.
+    pub(crate) fn extend(&mut self, place: LinePlace) -> Result<(), AllocError>
         ensures ok { OnOk result (self.new ≡ extended place self.old) }
         ensures err { OnErr result (self.new ≡ self.old) }
     {
         match place {
-            Place::First => self.begin_first(),
-            Place::Last => Ok(()),
-            Place::Replace => {
+            LinePlace::First => self.begin_first(),
+            LinePlace::Last => Ok(()),
+            LinePlace::Replace => {
                 self.clear();
                 Ok(())
             }
         }
     }
 
-    /// A line at a place, with its bytes and prepositions.
+    /// Adds a line at `place`; `size` is the number of its bytes, `later` that of its prepositions.
     pub(crate) fn add(
         &mut self,
-        place: Place,
+        place: LinePlace,
         line: Line,
         size: usize,
         later: usize,
@@ -95,12 +95,12 @@ impl Verb {
         ensures err { OnErr result (self.new ≡ self.old) }
     {
         match place {
-            Place::First => self.add_first(line, size, later),
-            Place::Last | Place::Replace => self.add_last(line, size, later),
+            LinePlace::First => self.add_first(line, size, later),
+            LinePlace::Last | LinePlace::Replace => self.add_last(line, size, later),
         }
     }
 
-    // Further lines go in front of all that there are.
+    // Lets further lines go in front of all that there are.
     #[tactic(auto, using(crate::proofs::Turned::turned_behind, crate::proofs::Turned::turned_twice))]
     fn begin_first(&mut self) -> Result<(), AllocError>
         ensures ok { OnOk result (self.new ≡ begun_first self.old) }
@@ -114,7 +114,7 @@ impl Verb {
         Ok(())
     }
 
-    // All lines are taken away.
+    // Takes all lines away.
     fn clear(&mut self)
         ensures { self.new ≡ no_lines }
     {
@@ -125,7 +125,7 @@ impl Verb {
         self.later = 0;
     }
 
-    // A line behind those that the last `Extend first` put in front.
+    // Adds a line behind those that the last `Extend first` put in front.
     #[tactic(auto, using(crate::proofs::Sizes::size_more_first, crate::proofs::Sizes::prepositions_more_first))]
     fn add_first(&mut self, line: Line, size: usize, later: usize) -> Result<(), AllocError>
         requires size { size ≡ line_size line }
@@ -141,7 +141,7 @@ impl Verb {
         Ok(())
     }
 
-    // A line behind all.
+    // Adds a line behind all others.
     #[tactic(auto, using(crate::proofs::Sizes::size_more_last, crate::proofs::Sizes::prepositions_more_last, crate::proofs::Sizes::lines_more_last))]
     fn add_last(&mut self, line: Line, size: usize, later: usize) -> Result<(), AllocError>
         requires size { size ≡ line_size line }
@@ -157,7 +157,7 @@ impl Verb {
         Ok(())
     }
 
-    // How many lines it has, modulo 256.
+    // Returns the number of lines, modulo 256.
     #[tactic(auto, using(crate::proofs::Turned::turned_length_grouped))]
     fn count_byte(&self) -> u8
         ensures { result ≡ length (lines_of self.now) % 256 }
@@ -166,7 +166,7 @@ impl Verb {
         ((front + self.back.len() % 256) % 256) as u8
     }
 
-    /// The cells of its lines, behind others: how many, and each.
+    /// Appends the cells of the verb: the number of its lines, and each line.
     #[tactic(auto, using(crate::proofs::Sizes::verb_written))]
     pub(crate) fn add_to(&self, cells: &mut Cells) -> Result<(), AllocError>
         ensures { OnOk result (cells.new ≡ cells.old ++ verb_cells self.now) }
@@ -178,7 +178,7 @@ impl Verb {
     }
 }
 
-/// The cells of lines, behind others.
+/// Appends the cells of `lines`.
 fn add_lines(cells: &mut Cells, lines: &[Line]) -> Result<(), AllocError>
     ensures { OnOk result (cells.new ≡ cells.old ++ lines_cells lines.now) }
 {
@@ -188,7 +188,7 @@ fn add_lines(cells: &mut Cells, lines: &[Line]) -> Result<(), AllocError>
     Ok(())
 }
 
-/// The cells of lines, the last one first, behind others.
+/// Appends the cells of `lines`, the last line first.
 fn add_backwards(cells: &mut Cells, lines: &[Line]) -> Result<(), AllocError>
     ensures { OnOk result (cells.new ≡ cells.old ++ lines_cells (reverse lines.now)) }
 {

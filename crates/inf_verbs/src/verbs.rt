@@ -3,8 +3,8 @@ ghost use Rattle.std.specs.Prelude.{◌≡◌, ◌<◌, ◌≤◌, ◌+◌, ◌*
 ghost use Rattle.std.specs.Prelude.{unwrap_or};
 ghost use Rattle.inf_area.specs.Fixups.{with_fixups};
 ghost use Rattle.inf_area.specs.declared.targets.AreaName.TheVariants as area_name;
-ghost use Rattle.inf_cells.specs.Cells.{bytes_of, fixups_of};
-ghost use Rattle.inf_cells.specs.declared.cells.WriteFault.TheVariants as write_fault;
+ghost use Rattle.inf_area.specs.Cells.{bytes_of, fixups_of};
+ghost use Rattle.inf_area.specs.declared.cells.WriteFault.TheVariants as write_fault;
 ghost use Rattle.inf_verbs.specs.Verbs.{add_fault, address_cells, grammar_cells, line_fault_of, parts_cells, places_of, verb_at};
 ghost use Rattle.inf_verbs.specs.Verbs.{verbs_laters, verbs_size, with_extended, with_line_of, with_verb};
 ghost use Rattle.inf_verbs.specs.declared.verbs.LineFault.TheVariants as line_fault;
@@ -13,32 +13,31 @@ ghost use Rattle.inf_settings.specs.declared.setting.Setting.TheVariants as sett
 
 use crate::lines::{Line, LineToken, prepositions};
 use crate::verb::Verb;
-use inf_area::{Area, AreaName, Refs, Target};
-use inf_cells::{Cells, WriteFault, append_cells};
+use inf_area::{Area, AreaName, Cells, Refs, Target, WriteFault, append_cells};
 use inf_settings::bounds::Bounds;
 use std::alloc::{AllocError, AllocFailed, Global};
 use std::marker::{Model, PhantomData};
 
-// The most verbs that a word can tell.
+// The most verbs that a word can name.
 const MOST: usize = 255;
 
 /// Where further lines of a verb go.
 #[derive(Clone, Copy, Debug, PartialEq, Eq)]
-pub enum Place {
-    /// In front of those that there are, in their own order.
+pub enum LinePlace {
+    /// In front of the lines that there are, in their own order.
     First,
-    /// Behind those that there are.
+    /// Behind the lines that there are.
     Last,
-    /// In the place of those that there are.
+    /// In place of the lines that there are.
     Replace,
 }
 
-/// Why a verb was not added.
+/// The reason why a verb was not added.
 #[derive(Clone, Copy, Debug, PartialEq, Eq)]
 pub enum VerbFault {
-    /// There are 255.
+    /// There are 255 verbs.
     TooMany,
-    /// There are as many as there may be.
+    /// There are as many verbs as there may be.
     Full,
     /// The grammar would have more bytes than it may have.
     NoSpace,
@@ -54,7 +53,7 @@ impl<T: Drop> From<AllocFailed<T>> for VerbFault {
     }
 }
 
-/// Why a line was not added.
+/// The reason why a line was not added.
 #[derive(Clone, Copy, Debug, PartialEq, Eq)]
 pub enum LineFault {
     /// The grammar would have more bytes than it may have.
@@ -71,7 +70,7 @@ impl From<AllocError> for LineFault {
     }
 }
 
-/// The verbs of a story so far with their lines, how many there may be, and how many bytes they may have.
+/// The verbs of a story so far with their lines, and the most verbs and bytes that there may be.
 #[derive(Drop)]
 pub struct Verbs<B: Bounds> {
     alloc: Global,
@@ -99,7 +98,8 @@ impl<B: Bounds> Model for Verbs<B> {
 }
 
 impl<B: Bounds> Verbs<B> {
-    /// No verbs, of which there may be so many, with so many bytes of grammar. It takes no memory until the first one comes.
+    /// Returns a grammar without verbs, which takes at most `limit` verbs and `space` bytes. It takes no memory until
+    /// the first verb comes.
     pub fn new(alloc: Global, limit: usize, space: usize) -> Verbs<B>
         requires verbs { limit ≡ B.most setting.Verbs }
         requires bytes { space ≡ B.most setting.GrammarLines }
@@ -116,7 +116,7 @@ impl<B: Bounds> Verbs<B> {
         }
     }
 
-    /// How many verbs there are, which are at most 255, and never more than there may be.
+    /// Returns the number of verbs, which is at most 255, and never more than there may be.
     pub fn len(&self) -> usize
         ensures value { result ≡ length self.now.list }
         ensures limited { result ≤ B.most setting.Verbs }
@@ -125,7 +125,7 @@ impl<B: Bounds> Verbs<B> {
         self.verbs.len()
     }
 
-    /// The bytes of the grammar, which are never more than there may be.
+    /// Returns the number of bytes of the grammar, which is never more than there may be.
     pub fn size(&self) -> usize
         ensures value { result ≡ verbs_size self.now.list }
         ensures limited { result ≤ B.most setting.GrammarLines }
@@ -133,17 +133,18 @@ impl<B: Bounds> Verbs<B> {
         self.size
     }
 
-    /// How many numbers in it are known later, and so how many fixups are written.
+    /// Returns the number of values in the grammar that are known later; as many fixups are written.
     pub fn later_count(&self) -> usize
         ensures { result ≡ verbs_laters self.now.list }
     {
         self.later
     }
 
-    /// A new verb without lines. Answers its number: how many came before it.
+    /// Adds a verb without lines and returns its number, which counts the verbs before it.
     ///
-    /// Refuses first where there are 255, then where there are as many as there may be, then where the grammar would have more bytes
-    /// than it may have, then where no memory is left. All then stay as they were.
+    /// Returns an error, the first that applies: `TooMany` where there are 255 verbs, `Full` where there are as many as
+    /// there may be, `NoSpace` where the grammar would have more bytes than it may have, `Memory` where no memory is
+    /// left. All verbs then stay as they were.
     #[tactic(auto, using(crate::proofs::Sizes::size_verb, crate::proofs::Sizes::laters_verb, crate::proofs::Sizes::few_laters))]
     pub fn add(&mut self) -> Result<u8, VerbFault>
         ensures ok { OnOk result (self.new ≡ with_verb self.old) }
@@ -162,7 +163,7 @@ impl<B: Bounds> Verbs<B> {
         Ok(number as u8)
     }
 
-    // Why another verb cannot be added, whatever memory there is.
+    // Returns the reason why another verb cannot be added, whatever memory there is.
     fn add_fault(&self) -> Option<VerbFault>
         ensures value { result ≡ add_fault B.most self.now }
         ensures few { IfNone result (length self.now.list < 255) }
@@ -181,9 +182,9 @@ impl<B: Bounds> Verbs<B> {
         None
     }
 
-    /// The verb with this number is to have further lines at a place. To replace those that there are takes them away. Where no memory
-    /// is left all stay as they were.
-    pub fn extend(&mut self, number: u8, place: Place) -> Result<(), AllocError>
+    /// Prepares the verb with this number for further lines at `place`. To replace the lines takes those away that
+    /// there are. Where no memory is left, returns an error, and all verbs stay as they were.
+    pub fn extend(&mut self, number: u8, place: LinePlace) -> Result<(), AllocError>
         requires { number < length self.old.list }
         ensures ok { OnOk result (self.new ≡ with_extended number place self.old) }
         ensures err { OnErr result (self.new ≡ self.old) }
@@ -198,15 +199,15 @@ impl<B: Bounds> Verbs<B> {
         Ok(())
     }
 
-    /// A line of the verb with this number, at the place that `extend` was told for it: it means an action, and its nouns may change
-    /// places. The lines of a new verb go behind one another.
+    /// Adds a line to the verb with this number, at the place that `extend` was given for it: the line means `action`,
+    /// and its nouns may change places. The lines of a new verb go behind one another.
     ///
-    /// Refuses first where the grammar would have more bytes than it may have, then where no memory is left. All then stay as they
-    /// were.
+    /// Returns an error, the first that applies: `NoSpace` where the grammar would have more bytes than it may have,
+    /// `Memory` where no memory is left. All verbs then stay as they were.
     pub fn add_line(
         &mut self,
         number: u8,
-        place: Place,
+        place: LinePlace,
         action: u16,
         is_reverse: bool,
         tokens: &[LineToken],
@@ -230,11 +231,11 @@ impl<B: Bounds> Verbs<B> {
         Ok(())
     }
 
-    /// Puts the grammar behind its area: a place for the address of each verb's lines, then for each verb how many lines it has,
-    /// modulo 256, and these; and the fixups of addresses and prepositions behind others.
+    /// Appends the grammar to its area: a place for the address of each verb's lines, then for each verb the number of
+    /// its lines, modulo 256, and these; and the fixups of addresses and prepositions to `refs`.
     ///
-    /// It is refused first where there would be more fixups than there may be, then where no memory is left; area and fixups then
-    /// stay as they were.
+    /// Returns an error, the first that applies: `Full` where there would be more fixups than there may be, `Memory`
+    /// where no memory is left. Area and fixups then stay as they were.
     #[tactic(auto, using(crate::proofs::Sizes::laters_written))]
     pub fn write<A: Area>(&self, area: &mut A, refs: &mut Refs) -> Result<(), WriteFault>
         ensures bytes { OnOk result (A.bytes area.new ≡ A.bytes area.old ++ bytes_of (grammar_cells self.now.list)) }
@@ -257,7 +258,7 @@ impl<B: Bounds> Verbs<B> {
         append_cells(self.alloc, AreaName::Grammar, area, refs, cells.as_slice())
     }
 
-    // The cells of the grammar.
+    // Returns the cells of the grammar.
     fn cells(&self) -> Result<Cells, AllocError>
         ensures { IfOk result (λ cells. cells ≡ grammar_cells self.now.list) }
     {
@@ -266,7 +267,7 @@ impl<B: Bounds> Verbs<B> {
         Ok(cells)
     }
 
-    /// Where the lines of each verb begin in what is written, in bytes from its front.
+    /// Returns the places where the lines of each verb begin in the written grammar, in bytes from its front.
     pub fn places(&self) -> Result<Vec<usize>, AllocError>
         ensures { IfOk result (λ places. places.items ≡ places_of self.now.list) }
     {
@@ -274,7 +275,7 @@ impl<B: Bounds> Verbs<B> {
     }
 }
 
-/// Where the lines of some verbs begin that have so many bytes.
+/// Returns the places where the lines of `verbs` begin, which have `size` bytes.
 #[tactic(auto, using(crate::proofs::Sizes::size_parts))]
 fn places_of(alloc: Global, verbs: &[Verb], size: usize) -> Result<Vec<usize>, AllocError>
     requires few { length verbs.now ≤ 255 }
@@ -290,7 +291,7 @@ fn places_of(alloc: Global, verbs: &[Verb], size: usize) -> Result<Vec<usize>, A
     Ok(places)
 }
 
-/// Places for the addresses of some verbs' lines.
+/// Returns places for the addresses of the lines of `verbs`.
 fn addresses(alloc: Global, verbs: &[Verb]) -> Result<Cells, AllocError>
     ensures { IfOk result (λ cells. cells ≡ address_cells (length verbs.now)) }
 {
@@ -301,7 +302,7 @@ fn addresses(alloc: Global, verbs: &[Verb]) -> Result<Cells, AllocError>
     Ok(cells)
 }
 
-/// The lines of some verbs, behind other cells.
+/// Appends the lines of `verbs`.
 fn add_parts(cells: &mut Cells, verbs: &[Verb]) -> Result<(), AllocError>
     ensures { OnOk result (cells.new ≡ cells.old ++ parts_cells verbs.now) }
 {

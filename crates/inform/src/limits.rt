@@ -1,8 +1,8 @@
-//! What the system leaves a run: how far its stack may grow, and how long its files may become.
+//! The limits that the system sets a run: on its stack, and on the size of its files.
 use crate::Failure;
 use inf_compile::NameHashing;
-use inf_files::failures::Failures;
-use inf_sinks::sinks::{Sink, SinkFault};
+use inf_devices::failures::Failures;
+use inf_devices::sinks::{Sink, SinkFault};
 use std::fs;
 use std::random::RandomSource;
 use std::rt::Files;
@@ -12,29 +12,30 @@ pub const OUTPUT: &str = "/dev/stdout";
 
 pub const REASONS: &str = "/dev/stderr";
 
-/// The file in which the system tells what it allows this run, line by line.
+/// The file in which the system lists the limits of this run, line by line.
 const TOLD: &str = "/proc/self/limits";
 
-/// How many bytes of stack a run takes at most.
+/// The greatest number of bytes of stack that a run takes.
 const STACK_OF_A_RUN: usize = 212_992;
 
-/// The least limit on the stack. The words of the command and the environment stand there, too, which have at most 131,072 bytes where
-/// the limit is as low.
+/// The least limit on the stack. The words of the command and the environment are in there, too, which have at most
+/// 131,072 bytes where the limit is as low.
 pub const LEAST_STACK: u64 = 393_216;
 
-/// How many bytes that nobody knows choose how names are hashed.
+/// The number of the bytes that nobody knows and that choose how names are hashed.
 const SECRET: usize = 16;
 
-/// What the system allows a run, in bytes. What has no limit has the greatest number.
+/// The system's limits of a run, in bytes. The greatest number is no limit.
 #[derive(Clone, Copy)]
 pub struct Limits {
-    /// How far the stack may grow.
+    /// The greatest size of the stack.
     stack: u64,
-    /// How long a file may become.
+    /// The greatest size of a file.
     file_size: u64,
 }
 
-/// Returns the limit that holds for this run by the lines of `told`, in the one that begins with `name`.
+/// Returns the limit of this run by the lines of `told`, in the one that begins with `name`; the greatest number where
+/// there is none.
 fn limit_in(told: &str, name: &str) -> u64 {
     for line in told.lines() {
         if let Some(numbers) = line.strip_prefix(name) {
@@ -46,7 +47,7 @@ fn limit_in(told: &str, name: &str) -> u64 {
 }
 
 impl Limits {
-    /// Returns the limits that the system tells of this run. Where it tells nothing there are none.
+    /// Returns the limits that the system lists for this run. Where it lists nothing there are none.
     pub fn of_run<R: Files + AllocGlobal>(rt: &R) -> Limits {
         let told = fs::read_to_string(rt, TOLD);
         let told = match &told {
@@ -59,7 +60,8 @@ impl Limits {
         }
     }
 
-    /// Returns how many bytes more the file of this name may get. No limit holds for what is no regular file.
+    /// Returns the number of bytes by which the file of this name may grow. No limit holds for one that is no regular
+    /// file.
     pub fn room_behind<R: Files>(self, rt: &R, name: &str) -> u64 {
         match fs::metadata(rt, name) {
             Ok(metadata) if metadata.is_file() => self.file_size.saturating_sub(metadata.len()),
@@ -67,7 +69,7 @@ impl Limits {
         }
     }
 
-    /// Returns how many bytes a story of this name may have, whose file is made anew.
+    /// Returns the number of bytes that a story of this name may have, whose file is made anew.
     pub fn room_of_story<R: Files>(self, rt: &R, name: &str) -> u64 {
         match fs::metadata(rt, name) {
             Ok(metadata) if !metadata.is_file() => u64::MAX,
@@ -76,10 +78,11 @@ impl Limits {
     }
 }
 
-/// Lets the stack grow as far as a run needs, before other memory is asked for: where none is left later, the system ends a program
-/// whose stack has to grow. Refused where the limit on the stack, or the memory that is left, does not suffice for it.
+/// Lets the stack grow as far as a run needs, before other memory is asked for: where none is left later, the system
+/// ends a program whose stack has to grow. Refused where the limit on the stack, or the memory that is left, does not
+/// suffice for it.
 ///
-/// Says how names are hashed: by bytes that no source can know, where the system gives some.
+/// Returns how names are hashed: by bytes that no source can know, where the system gives some.
 pub fn grow_stack<R: RandomSource + AllocGlobal>(
     rt: &R,
     limits: Limits,
@@ -116,7 +119,7 @@ pub struct Limited<S: Sink> {
 }
 
 impl<S: Sink> Limited<S> {
-    /// The device that is `sink`, whose file may get `room` bytes more.
+    /// Makes a device of `sink`, whose file may get `room` bytes more.
     pub fn new(sink: S, room: u64) -> Limited<S> {
         Limited {
             sink,

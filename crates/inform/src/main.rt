@@ -3,10 +3,10 @@
 mod limits;
 mod reason;
 
+use inf_command::command_line::{self, CommandLine, Options, WordFault};
+use inf_command::dates;
 use inf_compile::{Fault, NameHashing, Status, compile};
 use inf_disk::disk::{DiskFiles, OutputSink, StoryPlace, StorySink};
-use inf_words::command_line::{self, CommandLine, Options, WordFault};
-use inf_words::dates;
 use jiff::Timestamp;
 use jiff::tz::Offset;
 use limits::{Limited, Limits};
@@ -31,12 +31,12 @@ pub(crate) enum Failure {
     Output(Reason),
     /// The clock gave no date.
     Clock,
-    /// A compilation was given up, which is told already.
+    /// A compilation was given up, and the reason was shown already.
     Told,
 }
 
 impl Failure {
-    /// Says on standard error what failed, and why.
+    /// Shows on standard error the failure and its reason.
     fn tell<R: Files + Eprint>(self, rt: &R, limits: Limits) {
         if !may_tell(rt, limits, "") {
             return;
@@ -67,8 +67,8 @@ impl From<jiff::Error> for Failure {
     }
 }
 
-/// Compiles what the words of the command line name. The status is 0 where there is no error,
-/// 1 where there are errors, 2 where a word is refused, and 3 where a device or the memory failed.
+/// Compiles the source that the words of the command line name. The status is 0 where there is no error, 1 where there
+/// are errors, 2 where a word is refused, and 3 where a device or the memory failed.
 fn main(rt: HostRuntime) -> ExitCode {
     let limits = Limits::of_run(&rt);
     match run(&rt, limits) {
@@ -91,7 +91,7 @@ fn has_room<R: Files>(rt: &R, limits: Limits, line: &str) -> bool {
     (line.len() as u64) < limits.room_behind(rt, limits::OUTPUT)
 }
 
-/// How many bytes a reason has at most, without the name that it begins with.
+/// The greatest number of bytes of a reason, without the name that it begins with.
 const LONGEST_REASON: u64 = 256;
 
 /// Returns whether the limit on the size of files leaves room on standard error for a reason behind `name`.
@@ -117,7 +117,7 @@ fn run<R: Env + Clock + Files + RandomSource + Print + Eprint + AllocGlobal>(
     let words: Vec<&str> = words.iter().map(|word| word.as_str()).collect(rt.alloc())?;
     match CommandLine::read(&words) {
         Ok(options) => compile_files(rt, limits, &options, hashing),
-        Err(WordFault::NoSource) => refused(rt, limits, "no source", ""),
+        Err(WordFault::NoSource) => without_source(rt, limits),
         Err(WordFault::Unknown(place) | WordFault::BadSetting(place) | WordFault::TooMany(place)) =>
             {
                 let word = words.get(place).copied().unwrap_or("?");
@@ -183,10 +183,10 @@ fn compile_files<R: Clock + Files + Print + Eprint + AllocGlobal>(
     }
 }
 
-/// The most bytes of a source.
+/// The greatest number of bytes of a source.
 const MOST_BYTES: u64 = 16_777_216;
 
-/// The most names that the files of a run may have.
+/// The greatest number of names that the files of a run may have.
 const MOST_NAMES: u64 = 65_535;
 
 /// Returns whether the system knows no file of this name that is too long.
@@ -214,7 +214,7 @@ fn tell_source<R: Files + Eprint>(rt: &R, limits: Limits, name: &str, files: &Di
     };
 }
 
-/// Says on standard error why a story was not written whole, and how many of its bytes were.
+/// Shows on standard error why a story was not written whole, and the number of its bytes that were.
 fn tell_story<R: Files + Eprint>(
     rt: &R,
     limits: Limits,
@@ -231,6 +231,27 @@ fn tell_story<R: Files + Eprint>(
     } else {
         rt.eprintln(format_args!("{name}: {reason}; {count} bytes were written"))
     };
+}
+
+/// How the command is called.
+const USAGE: &str = "\
+usage: inform [WORD ..] SOURCE [STORY]
+
+Compiles SOURCE (with .inf behind a name that has no dot) into STORY, or else into a file
+beside it whose name ends in .z5 or .z8. Words, which may also stand in the source's first
+lines behind !%:
+  -LETTERS     w no warnings, e abbreviations, s statistics, i ignore Switches, D debugging,
+               v5 v8 version, C0 C1 characters; ~ before a letter turns it off
+  $NAME=n      a setting, such as $MAX_CODE=262144
+  +DIR,DIR     where included files are looked for";
+
+/// Prints that the words name no source, and says on standard error how the command is called.
+fn without_source<R: Files + Print + Eprint>(rt: &R, limits: Limits) -> Result<ExitCode, Failure> {
+    let code = refused(rt, limits, "no source", "")?;
+    if may_tell(rt, limits, USAGE) {
+        let _ = rt.eprintln(USAGE);
+    }
+    Ok(code)
 }
 
 /// Prints why the words were refused: a text, and the word behind it.

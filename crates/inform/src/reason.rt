@@ -11,7 +11,7 @@ pub struct Reason {
 }
 
 impl Reason {
-    /// The reason of an error.
+    /// Returns the reason of an error.
     pub fn of(error: &io::Error) -> Reason {
         Reason {
             kind: error.kind(),
@@ -19,12 +19,13 @@ impl Reason {
         }
     }
 
-    /// A reason of this kind, without a number.
+    /// Returns a reason of this kind, without a number.
     pub fn of_kind(kind: ErrorKind) -> Reason {
         Reason { kind, number: None }
     }
 
-    /// Why a device failed last: for the limit on the size of its file where it `is_full`, or else as its `trouble` says.
+    /// Returns the reason of a device's last failure: the limit on the size of its file where it `is_full`, or else
+    /// that of its `trouble`.
     pub fn of_trouble(is_full: bool, trouble: &Trouble) -> Reason {
         if is_full {
             return Reason::of_kind(ErrorKind::FileTooLarge);

@@ -1,20 +1,20 @@
-//! How many bytes of each source were given behind each step of a session.
+//! The number of bytes of each source that were given behind each step of a session.
 ghost use Rattle.inf_settings.specs.Bounds.{AreSet};
 ghost use Rattle.std.specs.Prelude.{◌≡◌, ◌<◌, IfOk, None, OnOk, [], false, length, min};
 ghost use Rattle.inf_session.specs.Standing.{IsSet};
-ghost use Rattle.inf_files.specs.Files.{last_count};
+ghost use Rattle.inf_devices.specs.Files.{last_count};
 
 use inf_compile::NameHashing;
-use inf_files::failures::Failures;
-use inf_files::files::{Files, OpenFault, ReadFault};
-use inf_files::memory_files::MemoryFiles;
+use inf_devices::failures::Failures;
+use inf_devices::files::{Files, OpenFault, ReadFault};
+use inf_devices::memory_files::MemoryFiles;
+use inf_devices::memory_sink::MemorySink;
 use inf_letters::Letters;
 use inf_session::session::Session;
 use inf_session::setup::Setup;
 use inf_settings::bounds::Bounds;
 use inf_settings::setting::Setting;
 use inf_settings::settings::Settings;
-use inf_sinks::memory_sink::MemorySink;
 use inf_sources::open_files::OpenFiles;
 use inf_text::CharSet;
 use inform_trials::devices::folder_of;
@@ -23,7 +23,7 @@ use std::marker::Brand;
 use std::process::Abort;
 use std::test::Fail;
 
-/// The files of a folder, with how many bytes were given of the first source and of those that it includes.
+/// The files of a folder, with the number of bytes that were given of the first source, and of those that it includes.
 #[derive(Drop)]
 struct Counted {
     files: MemoryFiles,
@@ -34,7 +34,7 @@ struct Counted {
 }
 
 impl Counted {
-    /// These files, of which nothing was given.
+    /// Makes a reader of these files, of which nothing was given.
     fn new(files: MemoryFiles) -> Counted
         ensures { result.files ≡ files }
     {
@@ -97,7 +97,7 @@ struct Run<'a, B: Bounds> {
     messages: MemorySink,
 }
 
-/// Where the pieces end that were read: in the first source, and in the one that it includes.
+/// The ends of the pieces that were read: in the first source, and in the one that it includes.
 type Ends = (usize, usize);
 
 /// Asserts that the piece was given, and at most a window behind it.
@@ -106,7 +106,7 @@ fn assert_near(rt: &impl Abort, given: usize, end: usize) {
     assert!(rt; given <= end.saturating_add(4096), "{given}");
 }
 
-/// A session at the front of `t.inf`.
+/// Makes a session at the front of `t.inf`.
 fn begin<'a, B: Bounds>(
     alloc: Global,
     settings: &'a Settings,
@@ -132,7 +132,7 @@ fn begin<'a, B: Bounds>(
 }
 
 impl<'a, B: Bounds> Run<'a, B> {
-    /// Makes a step, and asserts what was given.
+    /// Makes a step, and asserts the numbers of bytes that were given.
     fn step(&mut self, rt: &impl Abort, first: usize, included: usize) -> Result<(), Fail>
         requires is_open { length self.old.session.open_files.outer < length self.old.files.files.openings.open_places }
         requires goes { self.old.session.open_files.lexer.has_failed ≡ false }
@@ -185,7 +185,7 @@ fn step_through(
     step_under::<Brand>(rt, alloc, &settings, files, ends)
 }
 
-/// The same with these settings.
+/// Makes a step for each of `ends` with these settings, from the front of some files, and ends the session.
 fn step_under<B: Bounds>(
     rt: &impl Abort,
     alloc: Global,
@@ -207,7 +207,7 @@ fn step_under<B: Bounds>(
     made
 }
 
-/// Three directives, of which the second is an inclusion, with 5,000 spaces between them.
+/// Returns three directives, of which the second is an inclusion, with 5,000 spaces between them.
 fn outer_source(alloc: Global) -> Result<Vec<u8>, Fail> {
     let spaces = b" ".as_slice().repeat(alloc, 5000)?;
     let mut source = b"Message \"a\";".as_slice().repeat(alloc, 1)?;
@@ -218,7 +218,7 @@ fn outer_source(alloc: Global) -> Result<Vec<u8>, Fail> {
     Ok(source)
 }
 
-/// Two directives, with 5,000 spaces between them.
+/// Returns two directives, with 5,000 spaces between them.
 fn inner_source(alloc: Global) -> Result<Vec<u8>, Fail> {
     let mut source = b"Message \"c\";".as_slice().repeat(alloc, 1)?;
     source.extend_from_slice(b" ".as_slice().repeat(alloc, 5000)?.as_slice())?;
@@ -226,7 +226,8 @@ fn inner_source(alloc: Global) -> Result<Vec<u8>, Fail> {
     Ok(source)
 }
 
-/// Where the pieces end behind each step. The fifth reads the end of the included file, and the last but one that of the first.
+/// The ends of the pieces behind each step. The fifth reads the end of the included file, and the last but one that of
+/// the first.
 static ENDS: [Ends; 8] = [
     (12, 0),
     (5026, 0),

@@ -1,4 +1,5 @@
-//! Tests of the steps of a session: what was told and read behind each, and how much there is then of what the settings bound.
+//! Tests of the steps of a session: the messages and the bytes read behind each, and the numbers then of all that the
+//! settings bound.
 #![tactic(auto)]
 
 #[cfg(test)]

@@ -1,10 +1,11 @@
-//! The steps of a session, what was told behind each, and how much there is then of what the settings bound.
+//! The steps of a session, the messages behind each, and the numbers then of all that the settings bound.
 ghost use Rattle.inf_settings.specs.Bounds.{AreSet};
 ghost use Rattle.std.specs.Prelude.{◌≡◌, ◌<◌, IfOk, OnOk, length, false};
 ghost use Rattle.inf_session.specs.Standing.{IsSet};
 
 use inf_compile::{Fault, NameHashing, Status};
-use inf_files::memory_files::MemoryFiles;
+use inf_devices::memory_files::MemoryFiles;
+use inf_devices::memory_sink::MemorySink;
 use inf_letters::Letters;
 use inf_session::compiled::Compiled;
 use inf_session::session::{Session, Step};
@@ -12,7 +13,6 @@ use inf_session::setup::Setup;
 use inf_settings::bounds::Bounds;
 use inf_settings::setting::Setting;
 use inf_settings::settings::Settings;
-use inf_sinks::memory_sink::MemorySink;
 use inf_sources::open_files::OpenFiles;
 use inf_text::CharSet;
 use inform_trials::devices::folder;
@@ -29,14 +29,13 @@ const SOURCE: &[u8] =
 const SIDES: &[u8] = b"Constant K;\nIfdef L; Constant A; #Endif; Ifndef K;\nMessage \"x\";\n\
         #Ifnot; Message \"y\"; Endif; [ Main; #Ifdef L; print \"a\"; #Ifnot; print \"b\"; #Endif; ];\n";
 
-/// Expressions of some tokens, in conditions between directives and inside a routine, too; labels of two routines, one of which a bad token
-/// ends: what
-/// stands behind its last whole statement does not count.
+/// Expressions of some tokens, in conditions between directives and inside a routine, too; labels of two routines, one
+/// of which a bad token ends: nothing behind its last whole statement counts.
 const EXPRESSIONS: &[u8] =
     b"Iftrue 1 + 2 * 3 == 7;\nEndif;\n[ Main i; while (i < 9) if (i == 4) i++; #Iftrue (2 + 3 + 4 + 5 + 6) > 1; i = 1; #Endif; ];\n\
         [ R x; if (x) if (x > 1) if (x > 2) { x = 1; 5 } ];\nConstant C = 1 + 2;\n[ S; do { } until (1); ];\n";
 
-/// Directives of each kind that tables are made of, a routine with labels and a string, and one with a low string.
+/// Directives of each kind that fills tables, a routine with labels and a string, and one with a low string.
 const TABLES: &[u8] =
     b"Constant text = \"abcd\";\nClass Room with size 1 2, name 'hall';\nRoom hall \"Hall\" with size 3 \"ab\", run [ x; return x; ];\n\
         Array list --> 'hall' 'door' ##Go list;\nVerb 'take' 'get' * noun 'off'/'door' -> Take * -> Look;\n\
@@ -47,7 +46,7 @@ const TABLES: &[u8] =
 const SUPPLIED: &[u8] =
     b"Iftrue 1 + 2 * 3 * 4 + 5 + 6 * 7 * 8 * 9 > 10;\n[ Main; print (the) 5; ];\nEnd;\n";
 
-/// The line behind the bad token of these.
+/// The line behind the bad token in those expressions.
 const CUT: &str = "t.inf(4): Error: Syntax error at \"}\"\n";
 
 /// The lines behind the bad token.
@@ -65,7 +64,7 @@ struct Run<'a, B: Bounds> {
 }
 
 impl<'a, B: Bounds> Run<'a, B> {
-    /// Makes a step, and answers what it comes to.
+    /// Makes a step, and returns its outcome.
     fn go_on(&mut self) -> Result<Step, Fail>
         requires is_open { length self.old.session.open_files.outer < length self.old.files.openings.open_places }
         requires goes { self.old.session.open_files.lexer.has_failed ≡ false }
@@ -78,7 +77,7 @@ impl<'a, B: Bounds> Run<'a, B> {
         Ok(came)
     }
 
-    /// Makes two steps, and answers how much there is behind them of what the settings bound.
+    /// Makes two steps, and returns the numbers behind them of all that the settings bound.
     fn two_parts(&mut self) -> Result<[usize; 15], Fail>
         requires is_open { length self.old.session.open_files.outer < length self.old.files.openings.open_places }
         requires goes { self.old.session.open_files.lexer.has_failed ≡ false }
@@ -90,7 +89,7 @@ impl<'a, B: Bounds> Run<'a, B> {
         Ok(self.session.held())
     }
 
-    /// Makes a step, and asserts what has to stand behind it.
+    /// Makes a step, and asserts its outcome, and the messages and numbers behind it.
     fn step(
         &mut self,
         rt: &impl Abort,
@@ -113,7 +112,7 @@ impl<'a, B: Bounds> Run<'a, B> {
         Ok(())
     }
 
-    /// Ends the session and closes its files. Answers what it came to, and all messages.
+    /// Ends the session and closes its files. Returns its outcome and all messages.
     fn close(self) -> (Result<Compiled, Fault>, MemorySink)
         requires is_open { length self.session.open_files.outer < length self.files.openings.open_places }
     {
@@ -157,13 +156,13 @@ impl<'a, B: Bounds> Run<'a, B> {
     }
 }
 
-/// Asserts that there are errors, and so no story.
+/// Asserts that there are errors, and no story.
 fn assert_refused(rt: &impl Abort, compiled: Compiled) {
     assert!(rt; compiled.status == Status::Errors);
     assert!(rt; compiled.story.is_none());
 }
 
-/// A session at the front of `t.inf`.
+/// Makes a session at the front of `t.inf`.
 fn begin<'a, B: Bounds>(
     alloc: Global,
     settings: &'a Settings,
@@ -189,7 +188,7 @@ fn begin<'a, B: Bounds>(
 }
 
 impl<'a, B: Bounds> Run<'a, B> {
-    /// A session at the front of a source.
+    /// Makes a session at the front of a source.
     fn begin(alloc: Global, settings: &'a Settings, source: &[u8]) -> Result<Run<'a, B>, Fail>
         requires { AreSet B.most settings.now }
         ensures is_open { IfOk result (λ run. length run.session.open_files.outer < length run.files.openings.open_places) }
@@ -206,13 +205,13 @@ impl<'a, B: Bounds> Run<'a, B> {
     }
 }
 
-/// What a step comes to, the messages behind it, and the longest quoted token, the tokens of the longest expression, the names, the most
-/// labels of a routine, the bytes of code, and the references then; the words, objects, verbs and actions, and the bytes of grammar, of
-/// properties, of arrays, of low strings and of strings.
+/// The outcome of a step, the messages behind it, and the longest quoted token, the tokens of the longest expression,
+/// the names, the most labels of a routine, the bytes of code, and the references then; the words, objects, verbs and
+/// actions, and the bytes of grammar, of properties, of arrays, of low strings and of strings.
 type Wanted = (Step, &'static str, [usize; 6], [usize; 9]);
 
-/// What there is of the last nine without a directive or a statement for them: four objects, whose property tables have 30 bytes, and a low
-/// string of two bytes.
+/// The last nine numbers without a directive or a statement for them: four objects, whose property tables have 30
+/// bytes, and a low string of two bytes.
 const BARE: [usize; 9] = [0, 4, 0, 0, 0, 30, 0, 2, 0];
 
 /// Asserts that these and no more messages were written.
@@ -220,7 +219,7 @@ fn assert_told(rt: &impl Abort, messages: &[u8], lines: &[u8]) {
     assert_eq!(rt; messages, lines);
 }
 
-/// Asserts how much there is of all that the settings bound.
+/// Asserts the numbers of all that the settings bound.
 fn assert_held(rt: &impl Abort, held: [usize; 15], counts: [usize; 6], tables: [usize; 9]) {
     let [quoted, tokens, names, labels, code, references] = counts;
     let [
@@ -302,7 +301,7 @@ static FILLED: [Wanted; 11] = [
         [4, 1, 1, 0, 8, 5],
         [0, 4, 0, 0, 0, 30, 0, 2, 4],
     ),
-    // eight bytes of a class's own table, and six of what it holds for others
+    // eight bytes of a class's own table, and six of the table that it holds for others
     (
         Step::More,
         "",
@@ -400,7 +399,7 @@ fn make_steps<B: Bounds>(
     Ok(())
 }
 
-/// The settings that a source has where no word names another number. Nothing is known here of their numbers.
+/// Returns the settings of a source where no word names another number. Nothing is known here of their numbers.
 fn usual() -> Settings {
     Settings::new()
 }
@@ -428,7 +427,8 @@ fn play(
     play_under::<Brand>(rt, alloc, &settings, source, course)
 }
 
-/// The same with these settings.
+/// Reads a source with these settings in the steps of `course`, and ends the session behind them with its messages,
+/// where they are given.
 fn play_under<B: Bounds>(
     rt: &impl Abort,
     alloc: Global,
@@ -486,7 +486,7 @@ fn code_begins_with_the_header_of_an_array(rt: HostRuntime) -> Result<(), Fail> 
     count_under::<Brand>(&rt, rt.alloc(), &usual(), b";Array a --> 1 2;", held)
 }
 
-/// Reads two parts of a source with these settings, behind which there is so much.
+/// Reads two parts of a source with these settings, and asserts the numbers behind them.
 fn count_under<B: Bounds>(
     rt: &impl Abort,
     alloc: Global,
@@ -530,7 +530,8 @@ fn refuse(
     refuse_under::<Brand>(rt, alloc, settings, source, lines.as_bytes())
 }
 
-/// The same, where there may be as much as these settings say.
+/// Reads a source by these settings, which are too small for it. Asserts that its first step is a fatal error, and all
+/// messages.
 fn refuse_under<B: Bounds>(
     rt: &impl Abort,
     alloc: Global,

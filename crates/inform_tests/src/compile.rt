@@ -1,9 +1,9 @@
-//! What a compilation writes, and how it ends where a device fails.
+//! The story that a compilation writes, and the end of one where a device fails.
 use crate::running::{Ended, assert_written, read, read_folder};
 use inf_compile::{Fault, Status};
-use inf_files::files::Files;
-use inf_sinks::memory_sink::MemorySink;
-use inf_sinks::sinks::Sink;
+use inf_devices::files::Files;
+use inf_devices::memory_sink::MemorySink;
+use inf_devices::sinks::Sink;
 use inform_trials::devices::{Narrow, folder};
 use inform_trials::running::run;
 use std::alloc::Global;
@@ -44,7 +44,7 @@ static PIECES: [(&[u8], usize); 20] = [
     ),
 ];
 
-/// A story of these pieces.
+/// Returns the story that is made of `pieces`.
 fn joined(alloc: Global, pieces: &[(&[u8], usize)]) -> Result<Vec<u8>, Fail> {
     let mut story = Vec::new(alloc);
     for (bytes, count) in pieces {
@@ -53,7 +53,7 @@ fn joined(alloc: Global, pieces: &[(&[u8], usize)]) -> Result<Vec<u8>, Fail> {
     Ok(story)
 }
 
-/// Asserts that this is the first of the greeting's story, of at most so many bytes.
+/// Asserts that `story` is the first `most` bytes of the greeting's story, or all of it.
 pub fn assert_greeting(
     rt: &impl Abort,
     alloc: Global,
@@ -67,20 +67,20 @@ pub fn assert_greeting(
     Ok(())
 }
 
-/// Compiles the greeting that is read from these files, and asserts its messages and its story.
+/// Compiles the greeting that is read from `files`, and asserts its messages and its story.
 pub fn greet<F: Files>(rt: &impl Abort, alloc: Global, files: &mut F) -> Result<(), Fail> {
     let ended = Ended::of(alloc, files)?;
     ended.assert_read(rt, NO_ERRORS);
     assert_greeting(rt, alloc, ended.story.bytes(), 976)
 }
 
-/// Compiles a source, and asserts its messages.
+/// Compiles `source`, and asserts that its messages are `lines`.
 pub fn read_source(rt: &impl Abort, alloc: Global, source: &[u8], lines: &str) -> Result<(), Fail> {
     let mut files = folder(alloc, source)?;
     read(rt, alloc, &mut files, lines)
 }
 
-/// Compiles a source by these devices.
+/// Compiles a source, with the given devices for messages and story.
 fn write_to<M: Sink, S: Sink>(
     alloc: Global,
     source: &[u8],
@@ -112,7 +112,7 @@ fn a_story_is_whole_where_its_sink_takes_one_byte_a_write(rt: HostRuntime) -> Re
     assert_greeting(&rt, rt.alloc(), story.whole.bytes(), 976)
 }
 
-/// Compiles a source by these devices, and asserts that its messages cannot be written.
+/// Compiles a source with the given devices, and asserts that its messages cannot be written.
 fn fail_to_tell(
     rt: &impl Abort,
     alloc: Global,
@@ -135,7 +135,7 @@ fn a_failed_write_of_a_message_ends_a_compilation(rt: HostRuntime) -> Result<(),
     Ok(())
 }
 
-/// Compiles the greeting by these devices, and asserts that only a hundred bytes of its story can be written.
+/// Compiles the greeting with the given devices, and asserts that only a hundred bytes of its story can be written.
 fn fail_to_deliver(
     rt: &impl Abort,
     alloc: Global,
@@ -156,7 +156,7 @@ fn a_failed_write_of_the_story_is_told(rt: HostRuntime) -> Result<(), Fail> {
     assert_greeting(&rt, rt.alloc(), story.whole.bytes(), 100)
 }
 
-/// Sources in which words of statements stand as names.
+/// Sources in which words of statements are names.
 static WORDS: [(&[u8], &str); 3] = [
     (
         b"[ while; ];\n[ Main;\nprint \"a\";\nwhile(); ];\n",
@@ -169,8 +169,8 @@ static WORDS: [(&[u8], &str); 3] = [
     (b"[ default; ];\n[ Main;\ndefault(); ];\n", NO_ERRORS),
 ];
 
-/// The words of all statements are keywords where a statement begins, and names elsewhere. `default` would be one only before a
-/// colon.
+/// Checks that the words of all statements are keywords where a statement begins, and names elsewhere. `default` would be a
+/// keyword only before a colon.
 #[test]
 fn words_of_statements_begin_no_calls(rt: HostRuntime) -> Result<(), Fail> {
     for (source, lines) in &WORDS {

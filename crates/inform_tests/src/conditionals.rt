@@ -1,4 +1,4 @@
-//! Conditionals: which tokens of a source are read, and what is told of one without its other end.
+//! Conditionals: the tokens of a source that are read, and the message about a conditional without its other end.
 use crate::running::read_folders;
 use std::test::Fail;
 
@@ -16,7 +16,7 @@ static FOLDERS: [(&[(&str, &[u8])], &str); 27] = [
         ],
         "yes\nt.inf(5): Error: Conditional without its other end\nErrors: 1, warnings: 0 (no output)\n",
     ),
-    // A directive that has nothing to end or to turn is told at its own semicolon.
+    // A directive that has nothing to end or to turn has its message at its own semicolon.
     (
         &[(
             "t.inf",
@@ -25,7 +25,7 @@ static FOLDERS: [(&[(&str, &[u8])], &str); 27] = [
         "t.inf(1): Error: Conditional without its other end\nt.inf(2): Error: Conditional without its other end\n\
             t.inf(4): Error: Conditional without its other end\nb\nErrors: 3, warnings: 0 (no output)\n",
     ),
-    // A second `Ifnot` is told in a side that is kept, and not in one that is left out.
+    // A second `Ifnot` has a message in a side that is kept, and none in one that is left out.
     (
         &[(
             "t.inf",
@@ -49,7 +49,7 @@ static FOLDERS: [(&[(&str, &[u8])], &str); 27] = [
         )],
         "c\nErrors: 0, warnings: 0\n",
     ),
-    // What does not fit a conditional is the bad token of the directive around it.
+    // A token that does not fit a conditional is the bad token of the directive around it.
     (
         &[(
             "t.inf",
@@ -58,7 +58,7 @@ static FOLDERS: [(&[(&str, &[u8])], &str); 27] = [
         "t.inf(2): Error: Syntax error at \"5\"\nt.inf(3): Error: \"Main\" was declared at t.inf(1)\n\
             t.inf(4): Error: Syntax error at \";\"\nb\nErrors: 3, warnings: 0 (no output)\n",
     ),
-    // A conditional inside a directive ends in it: it is told behind all messages of the directive.
+    // A conditional inside a directive ends in it: its message comes behind all messages of the directive.
     (
         &[(
             "t.inf",
@@ -67,7 +67,7 @@ static FOLDERS: [(&[(&str, &[u8])], &str); 27] = [
         "t.inf(5): Warning: Local \"x\" is unused\nt.inf(3): Error: Conditional without its other end\nb\n\
             Errors: 1, warnings: 1 (no output)\n",
     ),
-    // Two are told in the order in which they were opened.
+    // Messages about two conditionals come in the order in which they were opened.
     (
         &[(
             "t.inf",
@@ -99,7 +99,7 @@ static FOLDERS: [(&[(&str, &[u8])], &str); 27] = [
         &[("t.inf", b"Ifdef K; Include \"c\"; Endif; [ Main; ];")],
         "Errors: 0, warnings: 0\n",
     ),
-    // `End` ends all, and nothing is told of what is open.
+    // `End` ends all reading, and there is no message about open conditionals.
     (
         &[("t.inf", b"Ifndef K; [ Main; ]; End; )")],
         "Errors: 0, warnings: 0\n",
@@ -110,7 +110,7 @@ static FOLDERS: [(&[(&str, &[u8])], &str); 27] = [
         "t.inf(3): Error: Syntax error at end of file\nt.inf(2): Error: Conditional without its other end\n\
             Errors: 2, warnings: 0 (no output)\n",
     ),
-    // Among tokens that are passed over conditionals choose which these are, and are not told.
+    // Among tokens that are passed over conditionals choose which these are, and there is no message about them.
     (
         &[(
             "t.inf",
@@ -118,7 +118,7 @@ static FOLDERS: [(&[(&str, &[u8])], &str); 27] = [
         )],
         "t.inf(2): Error: Syntax error at \")\"\na\nt.inf(4): Error: Syntax error at \")\"\nb\nErrors: 2, warnings: 0 (no output)\n",
     ),
-    // One that is left open there is told.
+    // A conditional that is left open among such tokens has its message.
     (
         &[("t.inf", b")\n#Ifndef K; 5;\nMessage \"a\"; [ Main; ];")],
         "t.inf(1): Error: Syntax error at \")\"\nt.inf(2): Error: Conditional without its other end\na\n\
@@ -132,7 +132,7 @@ static FOLDERS: [(&[(&str, &[u8])], &str); 27] = [
         )],
         "b\nt.inf(2): Error: Conditional without its other end\nErrors: 1, warnings: 0 (no output)\n",
     ),
-    // Between a `#` and the word of its directive a conditional stands inside the directive.
+    // Between a `#` and the word of its directive a conditional is inside the directive.
     (
         &[(
             "t.inf",
@@ -159,7 +159,7 @@ static FOLDERS: [(&[(&str, &[u8])], &str); 27] = [
         )],
         "a\nb\nc\nt.inf(5): Error: Syntax error at \"=\"\nd\nErrors: 1, warnings: 0 (no output)\n",
     ),
-    // With an error it is false.
+    // A condition with an error is false.
     (
         &[(
             "t.inf",
@@ -171,7 +171,7 @@ static FOLDERS: [(&[(&str, &[u8])], &str); 27] = [
             c\nt.inf(5): Error: Not a constant known here\nt.inf(6): Error: Not a constant known here\n\
             t.inf(9): Error: Not a constant known here\nt.inf(10): Error: Not a constant known here\nErrors: 7, warnings: 0 (no output)\n",
     ),
-    // It sees the names of the directives before, and no locals.
+    // A condition sees the names of the directives before, and no locals.
     (
         &[(
             "t.inf",
@@ -192,7 +192,7 @@ static FOLDERS: [(&[(&str, &[u8])], &str); 27] = [
         "a\nb\nt.inf(3): Error: Conditional without its other end\nc\nt.inf(5): Error: Conditional without its other end\n\
             Errors: 2, warnings: 0 (no output)\n",
     ),
-    // What does not fit a condition is the bad token of the directive around it.
+    // A token that does not fit a condition is the bad token of the directive around it.
     (
         &[(
             "t.inf",
@@ -206,7 +206,7 @@ static FOLDERS: [(&[(&str, &[u8])], &str); 27] = [
             t.inf(9): Error: \"Main\" was declared at t.inf(5)\nt.inf(10): Error: Syntax error at \"=\"\nf\n\
             Errors: 9, warnings: 0 (no output)\n",
     ),
-    // Among tokens that are passed over nothing is told of a condition.
+    // Among tokens that are passed over there is no message about a condition.
     (
         &[(
             "t.inf",

@@ -1,21 +1,22 @@
-//! Sources of each kind, for calls that fail: what is told where each of their reads does.
+//! Sources of each kind, for calls that fail: the messages where each of their reads fails.
 
-/// From which call on a failure is told of the file of this name, behind these messages.
+/// The number of calls behind which a failed call gives this result: the name of the file that it names, and the messages
+/// before it.
 pub type Told = (usize, &'static str, &'static str);
 
 /// A source, `t.inf`, with the files that it includes.
 pub struct Row {
     pub files: &'static [(&'static str, &'static [u8])],
-    /// What is told where a call fails, in the order of the calls. Files are given one byte a read.
+    /// The failures of calls, in the order of the calls. Files are given one byte a read.
     pub told: &'static [Told],
-    /// How many calls open and read all.
+    /// Number of calls that open and read all.
     pub calls: usize,
     /// All messages, where nothing fails.
     pub lines: &'static str,
 }
 
-/// The calls are counted by hand: a file is opened, each of its bytes is read, and its end is. A message stands behind the call that reads
-/// the semicolon of its directive.
+/// The rows of sources. Their calls are counted by hand: a file is opened, each of its bytes is read, and its end is read.
+/// A message comes behind the call that reads the semicolon of its directive.
 pub static ROWS: [Row; 6] = [
     // One routine.
     Row {
@@ -55,7 +56,7 @@ pub static ROWS: [Row; 6] = [
         calls: 141,
         lines: "yes\nt.inf(5): Error: Conditional without its other end\nErrors: 1, warnings: 0 (no output)\n",
     },
-    // A file that includes itself: each of the 16 openings stands before 29 reads, of which the twelfth ends the message.
+    // A file that includes itself: each of the 16 openings precedes 29 reads, of which the twelfth ends the message.
     Row {
         files: &[("t.inf", b"Message \"x\";\nInclude \"t.inf\";\n")],
         told: &[

@@ -2,14 +2,14 @@
 use crate::fault_rows::{ROWS, Row};
 use crate::running::{assert_holds, assert_written, fail_to_read, read};
 use inf_compile::{Fault, Status};
-use inf_sinks::memory_sink::MemorySink;
+use inf_devices::memory_sink::MemorySink;
 use inform_trials::devices::{Fused, Narrow, folder_of};
 use inform_trials::running::run;
 use std::alloc::Global;
 use std::process::Abort;
 use std::test::Fail;
 
-/// The file that is named where the call behind `calls` others fails, and the messages that stand before it.
+/// Returns the name of the file that a failure of the call behind `calls` others names, and the messages before it.
 fn told_at(row: &Row, calls: usize) -> (&'static str, &'static str) {
     let mut told = ("t.inf", "");
     for (first, name, lines) in row.told {
@@ -20,14 +20,14 @@ fn told_at(row: &Row, calls: usize) -> (&'static str, &'static str) {
     told
 }
 
-/// Asserts what is told where the call behind `calls` others fails.
+/// Asserts the messages and the failure where the call behind `calls` others fails.
 fn fail_behind(rt: &impl Abort, alloc: Global, row: &Row, calls: usize) -> Result<(), Fail> {
     let mut files = Fused::new(folder_of(alloc, row.files)?, calls);
     let (name, lines) = told_at(row, calls);
     fail_to_read(rt, alloc, &mut files, name, lines)
 }
 
-/// Asserts that nothing fails where as many calls are allowed as there are.
+/// Asserts that nothing fails where all calls of `row` are allowed.
 fn succeed(rt: &impl Abort, alloc: Global, row: &Row) -> Result<(), Fail> {
     let mut files = Fused::new(folder_of(alloc, row.files)?, row.calls);
     read(rt, alloc, &mut files, row.lines)
@@ -44,7 +44,7 @@ fn each_open_and_each_read_fails_in_turn(rt: HostRuntime) -> Result<(), Fail> {
     Ok(())
 }
 
-/// A source whose head has two words, each behind more spaces than a window has bytes.
+/// Returns a source whose head has two words, each behind more spaces than a window has bytes.
 fn with_a_long_head(alloc: Global) -> Result<Vec<u8>, Fail> {
     let spaces = b" ".as_slice().repeat(alloc, 5000)?;
     let mut source = Vec::from_slice(alloc, b"!% -D")?;
@@ -55,7 +55,8 @@ fn with_a_long_head(alloc: Global) -> Result<Vec<u8>, Fail> {
     Ok(source)
 }
 
-/// Asserts what is told of that source, given 1,000 bytes a read, where the call behind `calls` others fails, and where none does.
+/// Asserts the messages about the source with a long head, given 1,000 bytes a read, where the call behind `calls` others
+/// fails, and where none does.
 fn read_a_long_head(rt: &impl Abort, alloc: Global, calls: usize) -> Result<(), Fail> {
     let source = with_a_long_head(alloc)?;
     let folder = folder_of(alloc, &[("t.inf", source.as_slice())])?;
@@ -72,7 +73,8 @@ fn read_a_long_head(rt: &impl Abort, alloc: Global, calls: usize) -> Result<(), 
     }
 }
 
-/// The calls of that source: it is opened, its 10,071 bytes come in eleven reads, and its end is read.
+/// Number of calls for the source with a long head: it is opened, its 10,071 bytes come in eleven reads, and its end is
+/// read.
 const CALLS_OF_A_LONG_HEAD: usize = 1 + 11 + 1;
 
 #[test]
@@ -83,14 +85,16 @@ fn each_read_of_a_long_head_fails_in_turn(rt: HostRuntime) -> Result<(), Fail> {
     Ok(())
 }
 
-/// Asserts that of the messages the first `room` bytes were written, or all where they are fewer, and no story before the last of them.
+/// Asserts that the first `room` bytes of the messages were written, or all where there are fewer, and no story before the
+/// last of them.
 fn assert_cut(rt: &impl Abort, row: &Row, messages: &[u8], story: &[u8], room: usize) {
     let count = room.min(row.lines.len());
     assert_written(rt, messages, &row.lines.as_bytes()[..count]);
     assert_holds(rt, &room, count == row.lines.len() || story.is_empty());
 }
 
-/// Asserts what is told where `room` bytes of messages are taken, one a write: all, or else that they failed.
+/// Asserts the outcome where `room` bytes of messages are taken, one a write: all are written, or the writing of messages
+/// fails.
 fn tell_in_part(rt: &impl Abort, alloc: Global, row: &Row, room: usize) -> Result<(), Fail> {
     let mut files = folder_of(alloc, row.files)?;
     let mut messages = Narrow::new(alloc, 1, room);
@@ -116,7 +120,7 @@ fn each_write_of_messages_fails_in_turn(rt: HostRuntime) -> Result<(), Fail> {
     Ok(())
 }
 
-/// The story of a source: no bytes where it has errors.
+/// Returns the story of a source: no bytes where it has errors.
 fn story_of(alloc: Global, row: &Row) -> Result<MemorySink, Fail> {
     let mut files = folder_of(alloc, row.files)?;
     let mut messages = MemorySink::new(alloc);
@@ -125,7 +129,8 @@ fn story_of(alloc: Global, row: &Row) -> Result<MemorySink, Fail> {
     Ok(story)
 }
 
-/// Asserts that of a story the first `room` bytes were written, that the fault says how many they are, and that all messages were told.
+/// Asserts that the first `room` bytes of a story were written, that the fault says their number, and that all messages
+/// were written.
 fn write_in_part(
     rt: &impl Abort,
     alloc: Global,
@@ -149,12 +154,14 @@ fn write_in_part(
     Ok(())
 }
 
-/// Whether a sink is tried that takes `room` of `length` bytes: it fails at the front of a write, which has 100 bytes, or at the last one.
+/// Returns whether a sink that takes `room` of `length` bytes is tried: it fails at the front of a write, which has 100
+/// bytes, or at its last byte.
 fn is_tried(room: usize, length: usize) -> bool {
     length > 0 && (room % 100 == 0 || room % 100 == 99 || room == length)
 }
 
-/// Asserts what is written of the story of a source where each of the writes fails in turn, before its first byte and before its last.
+/// Asserts the bytes that are written of the story of a source where each of the writes fails in turn, before its first
+/// byte and before its last.
 fn write_each_part(rt: &impl Abort, alloc: Global, row: &Row) -> Result<(), Fail> {
     let whole = story_of(alloc, row)?;
     for room in 0..=whole.bytes().len() {

@@ -12,7 +12,7 @@ static FOLDERS: [(&[(&str, &[u8])], &str); 6] = [
         ],
         "Errors: 0, warnings: 0\n",
     ),
-    // Behind an inclusion the outer file goes on where it stood.
+    // Behind an inclusion the outer file goes on from there.
     (
         &[
             (
@@ -68,7 +68,7 @@ fn sixteen_files_may_be_open(rt: HostRuntime) -> Result<(), Fail> {
     read_folders(&rt, rt.alloc(), &[(&ITSELF, lines)])
 }
 
-/// Messages stand where a read failed behind them.
+/// Checks that messages are written where a read behind them fails.
 #[test]
 fn messages_are_written_as_they_are_found(rt: HostRuntime) -> Result<(), Fail> {
     let source = b"Message \"a\"; Message \"b\"; Mess".as_slice();

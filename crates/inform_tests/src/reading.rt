@@ -1,4 +1,4 @@
-//! How a source is read: through a window, to its end or to a fatal error, whatever a read gives.
+//! The reading of a source: through a window, to its end or to a fatal error, whatever number of bytes a read gives.
 use crate::compile::{GREETING, NO_ERRORS, greet, read_source};
 use crate::running::{assert_holds, fail_to_read, read, read_by_words};
 use inform_trials::devices::Slow;
@@ -6,7 +6,7 @@ use std::alloc::Global;
 use std::process::Abort;
 use std::test::Fail;
 
-/// Compiles what a reader gives, and asserts all messages.
+/// Compiles the source that a reader gives, and asserts all messages.
 fn read_from(
     rt: &impl Abort,
     alloc: Global,
@@ -25,17 +25,17 @@ fn greet_from(rt: &impl Abort, alloc: Global, files: &mut Slow<'_>) -> Result<()
     Ok(())
 }
 
-/// How many bytes a read gives at most, in turn.
+/// Numbers of bytes that a read gives at most, in turn.
 static READS: [usize; 6] = [1, 2, 3, 7, 4096, usize::MAX];
 
 /// A source with two bad pieces, whose lines end in three ways.
 const BAD: &[u8] = b"[ Main;\r\nprint ;\r\n];\n\r7000;";
 
-/// Its messages.
+/// The messages of the source with two bad pieces.
 const BAD_LINES: &str =
     "t.inf(2): Error: Syntax error at \";\"\nt.inf(5): Error: Syntax error at \"7000\"\nErrors: 2, warnings: 0 (no output)\n";
 
-/// Compiles the greeting where a read gives at most so many bytes, and asserts that all its bytes are read.
+/// Compiles the greeting where a read gives at most `most` bytes, and asserts that all its bytes are read.
 fn greet_in_parts(rt: &impl Abort, alloc: Global, most: usize) -> Result<(), Fail> {
     let mut files = Slow::new(GREETING, most);
     greet_from(rt, alloc, &mut files)?;
@@ -52,14 +52,14 @@ fn what_is_read_does_not_depend_on_the_bytes_of_a_read(rt: HostRuntime) -> Resul
     Ok(())
 }
 
-/// A hundred lines with an error each, before many spaces.
+/// Returns a hundred lines with an error each, before many spaces.
 fn hundred_errors(alloc: Global) -> Result<Vec<u8>, Fail> {
     let mut source = b"5;\n".as_slice().repeat(alloc, 100)?;
     source.extend_from_slice(b" ".as_slice().repeat(alloc, 1_000_000)?.as_slice())?;
     Ok(source)
 }
 
-/// The messages about them.
+/// Returns the messages about the hundred errors.
 fn hundred_messages(alloc: Global) -> Result<String, Fail> {
     let mut lines = String::new(alloc);
     for line in 1..=100u32 {
@@ -70,7 +70,7 @@ fn hundred_messages(alloc: Global) -> Result<String, Fail> {
     Ok(lines)
 }
 
-/// Compiles the hundred lines where a read gives at most so many bytes, and asserts that the spaces are not read.
+/// Compiles the hundred lines where a read gives at most `most` bytes, and asserts that the spaces are not read.
 fn read_little(
     rt: &impl Abort,
     alloc: Global,
@@ -80,7 +80,7 @@ fn read_little(
 ) -> Result<(), Fail> {
     let mut files = Slow::new(source, most);
     read_from(rt, alloc, &mut files, lines)?;
-    // The last number ends behind 298 bytes, and the byte behind it shows that.
+    // The last number ends behind 298 bytes, as the byte behind it shows.
     let is_little = files.count > 298 && files.count <= 298 + most.min(4096);
     assert_holds(rt, &most, is_little);
     Ok(())
@@ -96,7 +96,7 @@ fn little_is_read_behind_a_fatal_error(rt: HostRuntime) -> Result<(), Fail> {
     Ok(())
 }
 
-/// A routine of a hundred thousand statements.
+/// Returns a routine of a hundred thousand statements.
 fn long_routine(alloc: Global) -> Result<Vec<u8>, Fail> {
     let mut source = b"[ Main;".as_slice().repeat(alloc, 1)?;
     source.extend_from_slice(b"new_line;".as_slice().repeat(alloc, 100_000)?.as_slice())?;
@@ -104,7 +104,8 @@ fn long_routine(alloc: Global) -> Result<Vec<u8>, Fail> {
     Ok(source)
 }
 
-/// What a statement adds is counted when it ends, so no more than the window is read behind the one that passes the limit.
+/// Checks that no more than the window is read behind the statement that passes the limit, since the code of a statement is
+/// counted when it ends.
 #[test]
 fn little_is_read_behind_the_limit_of_code(rt: HostRuntime) -> Result<(), Fail> {
     let source = long_routine(rt.alloc())?;
@@ -127,19 +128,19 @@ fn nothing_is_read_behind_the_end(rt: HostRuntime) -> Result<(), Fail> {
     greet_from(&rt, rt.alloc(), &mut files)
 }
 
-/// Asserts that a source is told as not read, that nothing was written and that it was closed.
+/// Asserts that a source is reported as not read, that nothing was written and that the source was closed.
 fn assert_unread(rt: &impl Abort, alloc: Global, files: &mut Slow<'_>) -> Result<(), Fail> {
     fail_to_read(rt, alloc, files, "t.inf", "")?;
     assert_holds(rt, &"t.inf", !files.is_open);
     Ok(())
 }
 
-/// Asserts that the greeting is told as not read where the read behind so many fails.
+/// Asserts that the greeting is reported as not read where the read behind `reads` others fails.
 fn fail_behind(rt: &impl Abort, alloc: Global, reads: usize) -> Result<(), Fail> {
     assert_unread(rt, alloc, &mut Slow::failing(GREETING, reads))
 }
 
-/// Asserts that the greeting is told as not read whichever of its reads fails.
+/// Asserts that the greeting is reported as not read whichever of its reads fails.
 fn fail_at_each(rt: &impl Abort, alloc: Global) -> Result<(), Fail> {
     for reads in 0..=GREETING.len() {
         fail_behind(rt, alloc, reads)?;
@@ -147,7 +148,7 @@ fn fail_at_each(rt: &impl Abort, alloc: Global) -> Result<(), Fail> {
     Ok(())
 }
 
-/// Each byte has a read of its own, and the end one more.
+/// Checks each read of a source: each byte has a read of its own, and the end one more.
 #[test]
 fn a_failed_read_is_not_the_end_of_a_source(rt: HostRuntime) -> Result<(), Fail> {
     assert_unread(&rt, rt.alloc(), &mut Slow::shut())?;
@@ -166,7 +167,7 @@ fn a_line_end_over_the_edge_of_the_window_is_one(rt: HostRuntime) -> Result<(), 
     read_source(&rt, rt.alloc(), source.as_slice(), lines)
 }
 
-/// A routine that prints a text of so many bytes at its second line.
+/// Returns a routine that prints a text of `count` bytes at its second line.
 fn printing(alloc: Global, count: usize) -> Result<Vec<u8>, Fail> {
     let mut source = Vec::from_slice(alloc, b"[ Main;\nprint \"")?;
     source.extend_from_slice(b"a".as_slice().repeat(alloc, count)?.as_slice())?;
@@ -174,7 +175,7 @@ fn printing(alloc: Global, count: usize) -> Result<Vec<u8>, Fail> {
     Ok(source)
 }
 
-/// Compiles a routine that prints a text of so many bytes, and asserts its messages.
+/// Compiles a routine that prints a text of `count` bytes, and asserts its messages.
 fn read_printing(rt: &impl Abort, alloc: Global, count: usize, lines: &str) -> Result<(), Fail> {
     let source = printing(alloc, count)?;
     read_source(rt, alloc, source.as_slice(), lines)
@@ -194,7 +195,7 @@ fn a_source_that_is_cut_in_a_text(rt: HostRuntime) -> Result<(), Fail> {
     read_source(&rt, rt.alloc(), b"[ Main; print \"hel", lines)
 }
 
-/// Sources whose first token is a bad one, with what is told of it.
+/// Sources whose first token is a bad one, with the message about it.
 static TOLD: [(&[u8], &str); 14] = [
     (b"5;", "Syntax error at \"5\""),
     (b"$fF;", "Syntax error at \"$fF\""),
@@ -212,7 +213,7 @@ static TOLD: [(&[u8], &str); 14] = [
     (b"\"@{x\";", "Unknown escape"),
 ];
 
-/// Compiles a source whose first token is a bad one, and asserts what is told of it.
+/// Compiles a source whose first token is a bad one, and asserts the message about it.
 fn tell(rt: &impl Abort, alloc: Global, source: &[u8], told: &str) -> Result<(), Fail> {
     let lines = format!(in alloc;
         "t.inf(1): Error: {told}\nt.inf(1): Error: No routine \"Main\"\nErrors: 2, warnings: 0 (no output)\n"

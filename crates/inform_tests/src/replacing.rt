@@ -1,4 +1,4 @@
-//! Routines that are replaced, and warnings that are not told.
+//! Routines that are replaced, and warnings that are left out.
 use crate::running::{read_by_words, read_folders};
 use inform_trials::devices::folder_of;
 use std::alloc::Global;
@@ -21,7 +21,7 @@ static FOLDERS: [(&[(&str, &[u8])], &str); 9] = [
         ],
         "Errors: 0, warnings: 0\n",
     ),
-    // Its tokens have to fit.
+    // The tokens of a replaced routine have to fit.
     (
         &[
             ("t.inf", b"Replace R; Include \"l\"; [ R; ]; [ Main; ];"),
@@ -29,7 +29,7 @@ static FOLDERS: [(&[(&str, &[u8])], &str); 9] = [
         ],
         "l.h(2): Error: Syntax error at \")\"\nErrors: 1, warnings: 0 (no output)\n",
     ),
-    // Without the mark it is as any other, and so is one before the directive.
+    // A routine is as any other where its file has no mark, or where it comes before the directive.
     (
         &[
             ("t.inf", b"Replace R; Include \"l\";\n[ R; ]; [ Main; ];"),
@@ -44,7 +44,7 @@ static FOLDERS: [(&[(&str, &[u8])], &str); 9] = [
         ],
         "t.inf(2): Error: \"R\" was declared at l.h(1)\nErrors: 1, warnings: 0 (no output)\n",
     ),
-    // The mark holds of its own file from there on: not of one that it includes, and again behind that one.
+    // The mark of a file holds from there on: not in a file that it includes, and again behind that one.
     (
         &[
             ("t.inf", b"Replace R; Replace S; Include \"l\"; [ Main; ];"),
@@ -53,7 +53,7 @@ static FOLDERS: [(&[(&str, &[u8])], &str); 9] = [
         ],
         "Errors: 0, warnings: 0\n",
     ),
-    // `Replace` is a use of its name, told where it is the first.
+    // `Replace` is a use of its name, in a message where it is the first.
     (
         &[(
             "t.inf",
@@ -94,7 +94,7 @@ static WARNED: [(&str, &[u8]); 1] = [(
     b"[ Main x; ]; Message warning \"a\"; Message \"b\";",
 )];
 
-/// The words before its name, and its messages then.
+/// The words before the name of the source with two warnings, and its messages then.
 static WORDS: [(&str, &str); 2] = [
     ("-w", "b\nErrors: 0, warnings: 0\n"),
     (
@@ -103,7 +103,7 @@ static WORDS: [(&str, &str); 2] = [
     ),
 ];
 
-/// Compiles the source with this word before its name, and asserts its messages.
+/// Compiles the source with `word` before its name, and asserts its messages.
 fn read_warned(rt: &impl Abort, alloc: Global, word: &str, lines: &str) -> Result<(), Fail> {
     let mut files = folder_of(alloc, &WARNED)?;
     read_by_words(rt, alloc, &[word, "t.inf"], &mut files, lines)

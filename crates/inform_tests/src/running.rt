@@ -1,7 +1,7 @@
-//! A compilation, and what it has to come to.
+//! A compilation, and the outcome that is expected of it.
 use inf_compile::{Fault, Status};
-use inf_files::files::Files;
-use inf_sinks::memory_sink::MemorySink;
+use inf_devices::files::Files;
+use inf_devices::memory_sink::MemorySink;
 use inform_trials::devices::folder_of;
 use inform_trials::running::run_words;
 use std::alloc::Global;
@@ -9,10 +9,10 @@ use std::fmt::Debug;
 use std::process::Abort;
 use std::test::Fail;
 
-/// How the last message about a source begins that has no error.
+/// The beginning of the last message about a source without an error.
 const NO_ERROR: &str = "Errors: 0, ";
 
-/// What a compilation came to, and all that it wrote.
+/// The result of a compilation, and all that it wrote.
 #[derive(Drop)]
 pub struct Ended {
     pub result: Result<Status, Fault>,
@@ -21,7 +21,7 @@ pub struct Ended {
 }
 
 impl Ended {
-    /// Compiles what these words name.
+    /// Compiles the source that `words` name.
     pub fn by_words<F: Files>(alloc: Global, words: &[&str], files: &mut F) -> Result<Ended, Fail> {
         let mut messages = MemorySink::new(alloc);
         let mut story = MemorySink::new(alloc);
@@ -38,8 +38,8 @@ impl Ended {
         Ended::by_words(alloc, &["t.inf"], files)
     }
 
-    /// Asserts that these are all messages, and that the status is that of their last line. There is a story only where they tell no
-    /// error.
+    /// Asserts that `lines` are all messages, and that the status is that of the last line. There is a story only where
+    /// they report no error.
     pub fn assert_read(&self, rt: &impl Abort, lines: &str) {
         assert_written(rt, self.messages.bytes(), lines.as_bytes());
         let is_clean = lines.contains(NO_ERROR);
@@ -53,7 +53,7 @@ impl Ended {
         assert_holds(rt, &lines, self.story.bytes().is_empty() != is_clean);
     }
 
-    /// Asserts that this file could not be opened or read behind these messages, and that no story was written.
+    /// Asserts that the file `name` could not be opened or read behind the messages `lines`, and that no story was written.
     pub fn assert_unread(&self, rt: &impl Abort, name: &str, lines: &str) {
         assert_written(rt, self.messages.bytes(), lines.as_bytes());
         let is_told = matches!(&self.result, Err(Fault::Read(told)) if told.as_str() == name);
@@ -62,17 +62,17 @@ impl Ended {
     }
 }
 
-/// Asserts that this and no more was written.
+/// Asserts that `wanted` and no more was written.
 pub fn assert_written(rt: &impl Abort, written: &[u8], wanted: &[u8]) {
     assert_eq!(rt; written, wanted);
 }
 
-/// Asserts what has to hold of a row of a table.
+/// Asserts that `holds`, a statement about a row of a table, is true.
 pub fn assert_holds(rt: &impl Abort, row: &impl Debug, holds: bool) {
     assert!(rt; holds, "{row:?}");
 }
 
-/// Compiles what these words name, and asserts its messages.
+/// Compiles the source that `words` name, and asserts its messages.
 pub fn read_by_words<F: Files>(
     rt: &impl Abort,
     alloc: Global,
@@ -94,7 +94,7 @@ pub fn read<F: Files>(
     read_by_words(rt, alloc, &["t.inf"], files, lines)
 }
 
-/// Compiles `t.inf`, and asserts that the file of this name could not be opened or read behind these messages.
+/// Compiles `t.inf`, and asserts that the file `name` could not be opened or read behind the messages `lines`.
 pub fn fail_to_read<F: Files>(
     rt: &impl Abort,
     alloc: Global,

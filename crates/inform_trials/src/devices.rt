@@ -1,18 +1,18 @@
 //! Devices for tests: a sink that takes little, and a reader that gives little.
 ghost use Rattle.std.specs.Prelude.{None, [], false, length, min, if◌then◌else◌};
-ghost use Rattle.inf_files.specs.Files.{last_count};
+ghost use Rattle.inf_devices.specs.Files.{last_count};
 
-use inf_files::failures::Failures;
-use inf_files::files::{Files, OpenFault, ReadFault};
-use inf_files::given_bytes::GivenBytes;
-use inf_files::memory_files::MemoryFiles;
-use inf_sinks::memory_sink::MemorySink;
-use inf_sinks::sinks::{Sink, SinkFault};
+use inf_devices::failures::Failures;
+use inf_devices::files::{Files, OpenFault, ReadFault};
+use inf_devices::given_bytes::GivenBytes;
+use inf_devices::memory_files::MemoryFiles;
+use inf_devices::memory_sink::MemorySink;
+use inf_devices::sinks::{Sink, SinkFault};
 use std::alloc::Global;
 use std::collections::BTreeMap;
 use std::test::Fail;
 
-/// Takes at most so many bytes a write, and fails once it took so many in all.
+/// A sink that takes at most `most` bytes a write, and fails once it took `room` bytes in all.
 #[derive(Drop)]
 pub struct Narrow {
     pub whole: MemorySink,
@@ -22,7 +22,7 @@ pub struct Narrow {
 }
 
 impl Narrow {
-    /// Nothing was taken yet.
+    /// Makes a sink that took nothing yet.
     pub fn new(alloc: Global, most: usize, room: usize) -> Narrow {
         Narrow {
             whole: MemorySink::new(alloc),
@@ -49,8 +49,9 @@ impl Sink for Narrow {
     }
 }
 
-/// Gives these bytes of whatever is opened, at most so many a read, then the end, and behind the end the bytes behind it. It fails
-/// in place of the first read past so many, and opens nothing where it is told so.
+/// A reader that gives the bytes `rest` of any source that is opened, at most `most` a read, then the end, and behind
+/// the end the bytes `behind`. It fails in place of the first read past `reads` of them, and opens nothing unless it
+/// `opens`.
 #[derive(Drop)]
 pub struct Slow<'a> {
     rest: &'a [u8],
@@ -66,7 +67,7 @@ pub struct Slow<'a> {
 }
 
 impl<'a> Slow<'a> {
-    /// A reader that never fails.
+    /// Makes a reader that never fails.
     pub fn new(rest: &'a [u8], most: usize) -> Slow<'a> {
         Slow {
             rest,
@@ -82,7 +83,7 @@ impl<'a> Slow<'a> {
         }
     }
 
-    /// A reader that has more bytes behind the end.
+    /// Makes a reader that has more bytes behind the end.
     pub fn resumed(rest: &'a [u8], behind: &'a [u8]) -> Slow<'a> {
         Slow {
             behind,
@@ -90,7 +91,7 @@ impl<'a> Slow<'a> {
         }
     }
 
-    /// A reader of one byte a read, which fails behind so many reads.
+    /// Makes a reader of one byte a read, which fails behind `reads` reads.
     pub fn failing(rest: &'a [u8], reads: usize) -> Slow<'a> {
         Slow {
             reads,
@@ -98,7 +99,7 @@ impl<'a> Slow<'a> {
         }
     }
 
-    /// A reader that opens nothing.
+    /// Makes a reader that opens nothing.
     pub fn shut() -> Slow<'a> {
         Slow {
             opens: false,
@@ -165,7 +166,7 @@ pub struct Locked<'a> {
 }
 
 impl<'a> Locked<'a> {
-    /// These files, of which the one of this name cannot be opened.
+    /// Makes a reader of these files, of which the one with the name `locked` cannot be opened.
     pub fn new(files: MemoryFiles, locked: &'a str) -> Locked<'a> {
         Locked {
             files,
@@ -211,20 +212,21 @@ impl Files for Locked<'_> {
 #[derive(Drop)]
 pub struct Fused {
     files: MemoryFiles,
-    /// How many bytes a read gives at most.
+    /// The greatest number of bytes that a read gives.
     most: usize,
-    /// How many calls are still to come before the one that fails.
+    /// The number of calls that are still to come before the one that fails.
     calls: usize,
     failures: Failures,
 }
 
 impl Fused {
-    /// These files, given one byte a read, of which the call behind `calls` others fails.
+    /// Makes a reader of these files that gives one byte a read, and of which the call behind `calls` others fails.
     pub fn new(files: MemoryFiles, calls: usize) -> Fused {
         Fused::in_parts(files, calls, 1)
     }
 
-    /// These files, given at most `most` bytes a read, of which the call behind `calls` others fails.
+    /// Makes a reader of these files that gives at most `most` bytes a read, and of which the call behind `calls`
+    /// others fails.
     pub fn in_parts(files: MemoryFiles, calls: usize, most: usize) -> Fused {
         Fused {
             files,
@@ -274,7 +276,7 @@ impl Files for Fused {
     }
 }
 
-/// A folder with these files.
+/// Makes a folder with these files.
 pub fn folder_of(alloc: Global, files: &[(&str, &[u8])]) -> Result<MemoryFiles, Fail> {
     let mut sources = BTreeMap::new(alloc);
     for (name, source) in files {
@@ -286,7 +288,7 @@ pub fn folder_of(alloc: Global, files: &[(&str, &[u8])]) -> Result<MemoryFiles, 
     Ok(MemoryFiles::new(alloc, sources))
 }
 
-/// A folder with the source `t.inf`.
+/// Makes a folder with the source `t.inf`.
 pub fn folder(alloc: Global, source: &[u8]) -> Result<MemoryFiles, Fail> {
     folder_of(alloc, &[("t.inf", source)])
 }

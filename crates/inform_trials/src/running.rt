@@ -1,16 +1,16 @@
-//! A compilation that tests look at.
+//! A compilation in a test.
+use inf_command::command_line::CommandLine;
 use inf_compile::compile::compile;
 use inf_compile::{Fault, NameHashing, Status};
-use inf_files::files::Files;
-use inf_sinks::sinks::Sink;
-use inf_words::command_line::CommandLine;
+use inf_devices::files::Files;
+use inf_devices::sinks::Sink;
 use std::alloc::Global;
 use std::test::Fail;
 
 /// The date of the stories.
 const DATE: [u8; 6] = *b"260307";
 
-/// Compiles what these words name.
+/// Compiles the source that these words name.
 pub fn run_words<F: Files, M: Sink, S: Sink>(
     alloc: Global,
     words: &[&str],

@@ -1,4 +1,4 @@
--- A mark is seen from there on.
+-- A mark is seen in all entries behind it.
 use Rattle.std.proofs.Common.{◌≡◌, ℕ, ◌+◌, ◌-◌, ◌∙◌, Option, ap, Some, None, cond, is_some, get_or, take, sym, arith}
 use Rattle.std.proofs.lemmas.List.{take_more}
 use Rattle.inf_opcode.specs.declared.cells.Kept.{Kept}

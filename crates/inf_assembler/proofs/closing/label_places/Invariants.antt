@@ -3,7 +3,7 @@ use Rattle.inf_assembler.specs.Places.{first_of}
 use Rattle.inf_assembler.specs.Closing.{found, kept_place}
 use Rattle.inf_assembler.proofs.closing.label_places.Given as goal
 
--- what is found, or else in what is left, is found in all
+-- a label is found in all entries where it is found so far, or in those that are left
 abbrev pub invariant-loop-entry : goal.invariant-loop-entry
 invariant-loop-entry l =
     record {

@@ -3,7 +3,7 @@ use Rattle.inf_area.specs.declared.fixups.Fixup.{Fixup}
 use Rattle.inf_assembler.specs.Closing.{found, kept_fixups}
 use Rattle.inf_assembler.proofs.closing.list_fixups.Given as goal
 
--- what is listed and what is left are all
+-- the fixups that are listed, with those of the entries that are left, are all
 abbrev pub invariant-loop-entry : goal.invariant-loop-entry
 invariant-loop-entry l =
     record {

@@ -1,4 +1,4 @@
--- One more byte is written behind what was moved.
+-- One more byte is written behind those that were moved.
 use Rattle.std.proofs.Common.{◌≡◌, ◌+◌, ◌-◌, ◌∙◌, ◌++◌, refl, ap, get_or, set, take, drop, length, arith}
 use Rattle.std.proofs.lemmas.List.{take_all}
 use Rattle.inf_area.specs.Moves.{moved}

@@ -1,4 +1,4 @@
--- What is kept stands in order, and none of it is longer than while the routine was open.
+-- The kept entries are in order, and none of them is longer than while the routine was open.
 use Rattle.std.proofs.Common.{◌≤◌, ◌+◌, ◌-◌, ◌∙◌, ap, get_or, take, drop, length, arith, sym}
 use Rattle.inf_opcode.specs.declared.cells.Kept.{Kept}
 use Rattle.inf_opcode.specs.declared.cells.Special.TheVariants.{Marks}

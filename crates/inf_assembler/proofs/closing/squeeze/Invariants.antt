@@ -2,7 +2,7 @@ use Rattle.std.proofs.Common.{◌≡◌, ◌≤◌, take, drop, length}
 use Rattle.inf_assembler.specs.Closing.{found, squeezed, AreInOrder}
 use Rattle.inf_assembler.proofs.closing.squeeze.Given as goal
 
--- what is left to do leads to where all leads
+-- the entries that are left lead from the bytes so far to those of all
 abbrev pub invariant-loop-entry : goal.invariant-loop-entry
 invariant-loop-entry g l =
     let old = g.A.Area.bytes l.fn.area in

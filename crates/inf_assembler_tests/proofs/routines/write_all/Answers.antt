@@ -1,4 +1,4 @@
--- One more item stands behind those before.
+-- One more item is behind those before.
 use Rattle.inf_assembler_tests.proofs.Behind.{were_same, were_then}
 use Rattle.inf_assembler_tests.proofs.routines.write_all.Goals as goal
 

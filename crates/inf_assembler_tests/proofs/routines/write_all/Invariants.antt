@@ -1,4 +1,4 @@
--- The items so far stand behind what stood before.
+-- The items so far are behind all that was there before.
 use Rattle.inf_assembler.specs.Routines.{IsOpen, Were, contents_of, moment_of}
 use Rattle.inf_assembler_tests.proofs.routines.write_all.Given as goal
 

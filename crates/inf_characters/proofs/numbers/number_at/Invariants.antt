@@ -2,7 +2,7 @@ use Rattle.std.proofs.Common.{◌≡◌, ℕ, List, drop, min}
 use Rattle.inf_characters.specs.Reading.{number_from}
 use Rattle.inf_characters.proofs.numbers.number_at.Given as goal
 
--- what was read is a number of which value is what the limit leaves
+-- the first bytes are a number, and its value up to the limit was read
 pub record Reads (base i value : ℕ) (bytes : List ℕ) : Type 0 where
   pub high : ℕ
   pub value_is : value ≡ min high 65536

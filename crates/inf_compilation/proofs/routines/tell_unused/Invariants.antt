@@ -4,7 +4,7 @@ use Rattle.inf_compilation.specs.Context.{handed}
 use Rattle.inf_compilation.specs.Actions.{with_all_unused}
 use Rattle.inf_compilation.proofs.routines.tell_unused.Given as goal
 
--- what is told, and then of the locals that are left, is what is told of all
+-- The warnings told so far, and then those of the locals that are left, are the warnings of all.
 abbrev pub invariant-loop-local : goal.invariant-loop-local
 invariant-loop-local l =
     with_all_unused (handed l.context) l.place (map local (drop l.local-index l.local-items)) l.report

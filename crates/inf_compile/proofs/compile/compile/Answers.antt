@@ -2,10 +2,10 @@ use Rattle.std.specs.Prelude.{IfOk, IfErr, OnOk, OnErr}
 use Rattle.std.proofs.Common.{◌≡◌, ◌==◌, inl, ℕ, List, codes, length, true, false, refl, sym, ◌∙◌}
 use Rattle.std.proofs.lemmas.Result.{IfErr-weaker, IfOk-weaker, on_err_weaker}
 use Rattle.inf_opcode.proofs.Growing.{on_err}
-use Rattle.inf_files.specs.Files.{Rose, Sources}
-use Rattle.inf_sinks.specs.Sinks.{Takes}
-use Rattle.inf_words.specs.FileNames.{source_name}
-use Rattle.inf_outcome.specs.Comes.{Begins, Heard, OpenedBy, OpenedPart}
+use Rattle.inf_devices.specs.Files.{Rose, Sources}
+use Rattle.inf_devices.specs.Sinks.{Takes}
+use Rattle.inf_command.specs.FileNames.{source_name}
+use Rattle.inf_compile.specs.Comes.{Begins, Heard, OpenedBy, OpenedPart}
 use Rattle.inf_session.specs.Ending.{missing}
 use Rattle.inf_session.specs.Faults.{IfRead, IfStory}
 use Rattle.inf_session.specs.declared.compiled.Status.TheVariants as status

@@ -1,6 +1,6 @@
 use Rattle.std.proofs.Common.{ℕ, List, ap, ◌∙◌}
 use Rattle.inf_opcode.proofs.Growing.{on_err}
-use Rattle.inf_outcome.specs.Chosen.{chosen_for}
+use Rattle.inf_compile.specs.Chosen.{chosen_for}
 use Rattle.inf_compile.specs.Compiling.{chosen_by}
 use Rattle.inf_compile.proofs.Delivering.{begins_whole, clean_where_delivered, opened_whole}
 use Rattle.inf_compile.proofs.compile.compile_named.Goals as goal

@@ -3,7 +3,7 @@ use Rattle.inf_constructs.specs.Cases.{grouped}
 use Rattle.inf_constructs.specs.Roots.{trees_from}
 use Rattle.inf_constructs.proofs.cases.lay_values.Given as goal
 
--- what is left leads from here to where all leads
+-- the values that are left lead from the output so far to the output of all
 abbrev pub invariant-loop-root : goal.invariant-loop-root
 invariant-loop-root g l =
     grouped g.B.Bounds.most l.group.items (trees_from l.nodes l.left) l.here l.next l.out ≡ grouped g.B.Bounds.most []

@@ -2,7 +2,7 @@ use Rattle.std.proofs.Common.{◌≡◌, ◌++◌, drop, length}
 use Rattle.inf_names.specs.Symbols.{folded}
 use Rattle.inf_constructs.proofs.labels.folded.Given as goal
 
--- what is without case so far, and the bytes that are left, are the name without case
+-- the bytes without case so far, and those that are left without case, are the name without case
 abbrev pub invariant-loop-byte : goal.invariant-loop-byte
 invariant-loop-byte l =
     record {

@@ -1,4 +1,4 @@
--- What was counted, with those at the top of the rest, are all.
+-- The ends that were counted, with those at the top of the rest, are all.
 use Rattle.std.proofs.Common.{◌≡◌, ◌+◌, length, reverse}
 use Rattle.inf_grammar.specs.Routines.{closings}
 use Rattle.inf_grammar.proofs.machine.closings.Given as goal

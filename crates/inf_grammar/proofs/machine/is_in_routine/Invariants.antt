@@ -1,4 +1,4 @@
--- What the whole stack answers is what its rest answers.
+-- The whole stack is in a routine where its rest is.
 use Rattle.std.proofs.Common.{◌≡◌, reverse}
 use Rattle.inf_grammar.specs.Routines.{is_in_routine}
 use Rattle.inf_grammar.proofs.machine.is_in_routine.Given as goal

@@ -1,4 +1,4 @@
--- There may be as much as the case says.
+-- The limits are those of the case.
 use Rattle.std.specs.Prelude.{nat_eq, if◌then◌else◌}
 use Rattle.inf_settings.specs.Settings.{place_of}
 use Rattle.inf_layers_tests.proofs.code.each_limit_is_reached_and_not_passed.Given as goal

@@ -2,7 +2,7 @@ use Rattle.std.proofs.Common.{◌≡◌, ℕ, ◌+◌, ◌-◌, ◌≤◌, List,
 use Rattle.inf_lexer.specs.Heads.{head_found, is_behind}
 use Rattle.inf_lexer.proofs.head.take_head.Given as goal
 
--- what is found from here in the bytes that are left is what was found in all of them
+-- the finding from here in the bytes that are left is the finding in all of them
 abbrev pub invariant-loop-byte : goal.invariant-loop-byte
 invariant-loop-byte l =
     record {

@@ -8,7 +8,7 @@ use Rattle.inf_scanner.specs.declared.scanner.State.TheVariants as state
 use Rattle.inf_scanner.specs.declared.scanner.Turn.{Turn}
 use Rattle.inf_lexer.proofs.lexer.scan.Goals as goal
 
--- what was heard up to a full window
+-- the bytes that were heard up to a full window
 pub windows-preserved : goal.windows-preserved
 windows-preserved g c =
     let files = g.F.Files in

@@ -1,11 +1,11 @@
 use Rattle.std.proofs.Common.{◌≡◌, ◌+◌, ◌-◌, ◌≤◌, true, length, min, IsTrue}
-use Rattle.inf_files.specs.Files.{last_count}
+use Rattle.inf_devices.specs.Files.{last_count}
 use Rattle.inf_lexer.specs.Unread.{Ends, Heard, StillGives}
 use Rattle.inf_scanner.specs.Scanning.{Found, begun, find, goes_on, sight}
 use Rattle.inf_scanner.specs.declared.scanner.State.TheVariants as state
 use Rattle.inf_lexer.proofs.lexer.scan.Given as goal
 
--- what is read from here is the token from the start, and what was given since is in view or was taken
+-- the token that is read from here is the token from the start, and the bytes that were given since are in view or were taken
 abbrev pub invariant-windows : goal.invariant-windows
 invariant-windows g l =
     let files = g.F.Files in

@@ -6,7 +6,7 @@ use Rattle.inf_lexer.proofs.Hearing.{ends_on, ends_taken, heard_on, heard_taken,
 use Rattle.inf_lexer.proofs.Scanned.{none_left, some_left}
 use Rattle.inf_lexer.proofs.lexer.scan_head.Goals as goal
 
--- what was heard up to a full window
+-- the bytes that were heard up to a full window
 pub windows-preserved : goal.windows-preserved
 windows-preserved g c =
     let files = g.F.Files in
@@ -117,7 +117,13 @@ returns-in-Stopped-clause-heard g c =
     heard_taken HeadFound (files.is_honest c.args.files.now) (files.sources c.args.files.now) (files.openings c.args.files.now)
     (files.openings c.refill.new.files) c.args.window.now c.refill.new.self c.pass.new.self
     (head_found c.windows.place c.windows.word.items c.windows.lines)
-    (λ rest. record { place = c.in-Stopped.last; word = c.take_head-taken.new.word.items; lines = c.take_head-taken.new.lines; rest = rest })
+    (λ rest. record {
+      place = c.in-Stopped.last;
+      word = c.take_head-taken.new.word.items;
+      lines = c.take_head-taken.new.lines;
+      rest =
+          rest;
+    })
     (head_found c.args.from c.args.word.now.items c.args.lines.now)
     (heard_on HeadFound (files.is_honest c.args.files.now) (files.is_honest c.windows.files) (files.sources c.args.files.now)
     (files.sources c.windows.files) (files.openings c.args.files.now) (files.openings c.windows.files)

@@ -1,10 +1,10 @@
 use Rattle.std.proofs.Common.{◌≡◌, ◌+◌, ◌-◌, ◌≤◌, false, length, min, IsTrue}
-use Rattle.inf_files.specs.Files.{last_count}
+use Rattle.inf_devices.specs.Files.{last_count}
 use Rattle.inf_lexer.specs.Heads.{HeadFound, head_found, is_behind}
 use Rattle.inf_lexer.specs.Unread.{Ends, Heard, StillGives}
 use Rattle.inf_lexer.proofs.lexer.scan_head.Given as goal
 
--- what is read from here is the head from the start, and what was given since is in view or was taken
+-- the head that is read from here is the head from the start, and the bytes that were given since are in view or were taken
 abbrev pub invariant-windows : goal.invariant-windows
 invariant-windows g l =
     let files = g.F.Files in

@@ -1,4 +1,4 @@
--- The point that parts the words below a text from the others.
+-- The point that separates the words below a text from the others.
 use Rattle.std.proofs.Common.{rules, of_calls}
 use Rattle.std.proofs.lemmas.Fn.{always_returns_same}
 use Rattle.inf_link.specs.Targets.{is_below}

@@ -1,4 +1,4 @@
--- What was done, with the actions of the rest, is what is to be done.
+-- The actions so far, with those of the rest of the row, are those of the whole row.
 use Rattle.std.proofs.Common.{◌≡◌, ◌++◌, reverse, take, length}
 use Rattle.inf_machine.specs.Machine.{acts_of}
 use Rattle.inf_machine.proofs.machine.act.Given as goal

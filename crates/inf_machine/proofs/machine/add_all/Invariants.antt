@@ -1,4 +1,4 @@
--- What was put there stands behind what was there before.
+-- The actions so far come behind those that were there before.
 use Rattle.std.proofs.Common.{◌≡◌, ◌++◌, take}
 use Rattle.inf_machine.proofs.machine.add_all.Given as goal
 

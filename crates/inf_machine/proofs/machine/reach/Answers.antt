@@ -1,4 +1,4 @@
--- Past a rule that can be empty, and to one that the token begins.
+-- The walk passes a rule that can be empty, and ends at one that the token begins.
 use Rattle.std.proofs.Common.{◌≡◌, ℕ, ◌-◌, ◌<◌, ◌≤◌, List, ◌∷◌, ◌++◌, ◌∙◌, ap, sym, subst, arith, true, length, reverse, take, get_or}
 use Rattle.std.proofs.lemmas.List.{reverse-append}
 use Rattle.inf_machine.specs.declared.symbols.Symbol.{Symbol}
@@ -9,7 +9,7 @@ use Rattle.inf_machine.specs.Machine.{Known, acts_of, opened}
 use Rattle.inf_machine.proofs.Reaching.{IsOn, Ends, on_passed, at_rule, top_is, take_on}
 use Rattle.inf_machine.proofs.machine.reach.Goals as goal
 
--- a rule at hand
+-- a rule at hand, with the symbols behind it
 rule_is : {A : Type 0} (all now : List (Symbol A)) (below rule : ℕ) (x : Symbol A) → 0 < below → below ≤ length now → now ≡ all →
     x ≡ get_or now (below - 1) x → x ≡ Rule rule → reverse (take below all) ≡ Rule rule ∷ reverse (take (below - 1) all)
 rule_is all now below rule x p l same at is =
@@ -37,7 +37,7 @@ loop-below-preserved g c =
           c.loop-below.actions.items (acts_of (reverse c.passed.result.now)) c.loop-below.invariant.before;
     }
 
--- where the rule's opening leads is where the token does
+-- the opening of the rule leads where the token does
 ends : {A : Type 0} (g : Grammar A) (k : Known) → IsDecided g k →
     (atom rule below : ℕ) (all now : List (Symbol A)) (x : Symbol A) (first acts : List A) (o : ℕ × ℕ) → 0 < below → below ≤ length now →
     now ≡ all → x ≡ get_or now (below - 1) x → x ≡ Rule rule → has (k.begins rule) atom ≡ true → o ≡ (rule, atom) →

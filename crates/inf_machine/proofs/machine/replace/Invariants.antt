@@ -1,4 +1,4 @@
--- What was put there stands behind what stays, and there is room for the rest.
+-- The symbols put so far come behind those that stay, and there is room for the rest.
 use Rattle.std.proofs.Common.{◌≡◌, ◌≤◌, ◌+◌, ◌++◌, length, take}
 use Rattle.std.specs.Vec.{vec_capacity}
 use Rattle.inf_machine.proofs.machine.replace.Given as goal

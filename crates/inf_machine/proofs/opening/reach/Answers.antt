@@ -1,4 +1,4 @@
--- A rule is replaced by what stands for it.
+-- A rule is replaced by the symbols that take its place.
 use Rattle.std.proofs.Common.{◌≡◌, ◌∷◌, ◌++◌, ◌∙◌, ap, sym, arith, true}
 use Rattle.inf_machine.specs.declared.symbols.Symbol.TheVariants.{Rule}
 use Rattle.inf_machine.specs.Machine.{fits, taken, work, way}

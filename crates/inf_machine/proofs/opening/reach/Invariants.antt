@@ -1,4 +1,4 @@
--- What is taken from here, behind what was done, is what is taken from the start.
+-- The token taken from here on, behind the actions so far, gives the result of taking it from the start.
 use Rattle.std.proofs.Common.{◌≡◌, ◌++◌, true}
 use Rattle.inf_machine.specs.Machine.{fits, taken, work}
 use Rattle.inf_machine.proofs.opening.reach.Given as goal

@@ -1,4 +1,4 @@
--- What the whole stack answers is what its rest answers.
+-- The whole stack can be empty exactly where its rest can.
 use Rattle.std.proofs.Common.{◌≡◌, reverse, length}
 use Rattle.inf_machine.specs.Machine.{can_end}
 use Rattle.inf_machine.proofs.reading.can_end.Given as goal

@@ -1,4 +1,4 @@
--- What the whole stack answers is what its rest answers.
+-- An atom fits the whole stack exactly where it fits its rest.
 use Rattle.std.proofs.Common.{◌≡◌, reverse, length}
 use Rattle.inf_machine.specs.Machine.{fits}
 use Rattle.inf_machine.proofs.reading.fits.Given as goal

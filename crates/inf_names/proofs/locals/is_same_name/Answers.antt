@@ -1,4 +1,4 @@
--- Where the lengths or the last letters differ, so do the names.
+-- Names differ where their lengths or their last letters differ.
 use Rattle.std.proofs.Common.{nat_eq, sym, ◌∙◌, arith}
 use Rattle.std.specs.Str.{str_eq_ignore_ascii_case}
 use Rattle.std.proofs.lemmas.Bool.{eqb-true, false_from_ne_true}

@@ -1,5 +1,5 @@
 use Rattle.std.proofs.Common.{◌≡◌, length, sym, subst}
-use Rattle.inf_cells.specs.Cells.{bytes_of, later_count}
+use Rattle.inf_area.specs.Cells.{bytes_of, later_count}
 use Rattle.inf_objects.specs.Measures.{CountedBy}
 use Rattle.inf_objects.specs.Tables.{individual_table_cells, table_cells}
 use Rattle.inf_objects.specs.declared.sizes.Measure.{Measure}

@@ -1,6 +1,6 @@
 use Rattle.std.proofs.Common.{◌≡◌, ◌<◌, ◌++◌, OnOk, length, append_assoc, sym, subst, ◌∙◌, arith}
 use Rattle.std.proofs.lemmas.Bool.{eqb-false}
-use Rattle.inf_cells.specs.Cells.{values_cells}
+use Rattle.inf_area.specs.Cells.{values_cells}
 use Rattle.inf_objects.specs.Tables.{class_values, size_cells}
 use Rattle.inf_objects.proofs.Rows.{class_rows_cells}
 use Rattle.inf_objects.proofs.tables.add_classes.Goals as goal

@@ -1,5 +1,5 @@
 use Rattle.std.proofs.Common.{◌≡◌, ◌++◌, drop}
-use Rattle.inf_cells.specs.Cells.{values_cells}
+use Rattle.inf_area.specs.Cells.{values_cells}
 use Rattle.inf_objects.specs.Tables.{class_values}
 use Rattle.inf_objects.proofs.tables.add_numbers.Given as goal
 

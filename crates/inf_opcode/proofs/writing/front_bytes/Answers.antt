@@ -1,4 +1,4 @@
--- One more operand behind the heading.
+-- One more operand is written behind the heading.
 use Rattle.std.proofs.Common.{◌++◌, ◌∙◌, ap, arith, get_or}
 use Rattle.inf_opcode.specs.declared.instructions.Operand.TheVariants.{Large}
 use Rattle.inf_opcode.specs.Cells.{long_bytes}

@@ -1,4 +1,4 @@
--- The bytes stand behind the others, and then what is kept of them.
+-- The bytes are written behind those before, and then the special parts are kept.
 use Rattle.std.proofs.Common.{◌+◌, [], ◌++◌, length, sym, ◌∙◌, ap, append-nil, length-append}
 use Rattle.inf_opcode.specs.Cells.{long_bytes, kept_from}
 use Rattle.inf_opcode.specs.Grown.{Grew}

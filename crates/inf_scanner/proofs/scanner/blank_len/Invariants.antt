@@ -3,7 +3,7 @@ use Rattle.std.specs.List.{prefix_len}
 use Rattle.inf_scanner.specs.Runs.{is_blank}
 use Rattle.inf_scanner.proofs.scanner.blank_len.Given as goal
 
--- the bytes so far pass, and those that are left go on
+-- the bytes so far pass, and the count goes on with those that are left
 abbrev pub invariant-loop-byte : goal.invariant-loop-byte
 invariant-loop-byte l = record {
   len : l.len ≡ l.byte-index;

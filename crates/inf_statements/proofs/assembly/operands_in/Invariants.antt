@@ -3,7 +3,7 @@ use Rattle.inf_statements.specs.Assembly.{operands_in}
 use Rattle.inf_constructs.specs.Roots.{trees_from}
 use Rattle.inf_statements.proofs.assembly.operands_in.Given as goal
 
--- what is there, with what is left, is all
+-- the operands so far, with those of the roots that are left, are all
 abbrev pub invariant-loop-root : goal.invariant-loop-root
 invariant-loop-root g l =
     (l.operands.items ++ operands_in g.B.Bounds.most (trees_from l.nodes (drop l.root-index l.roots)) ≡ operands_in g.B.Bounds.most

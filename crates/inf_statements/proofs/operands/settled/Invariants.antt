@@ -3,7 +3,7 @@ use Rattle.inf_names.specs.LocalList.{listed}
 use Rattle.inf_statements.specs.Operands.{Settled, settled}
 use Rattle.inf_statements.proofs.operands.settled.Given as goal
 
--- what was settled so far leads, with the leaves that are left, to what all lead to
+-- the leaves that are left lead from the operands settled so far to those of all leaves
 abbrev pub invariant-loop-leaf : goal.invariant-loop-leaf
 invariant-loop-leaf g l =
     let now : Settled = record { out = l.out; operands = l.operands.items } in

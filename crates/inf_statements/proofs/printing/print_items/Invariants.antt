@@ -4,7 +4,7 @@ use Rattle.inf_statements.specs.Printing.{items_printed}
 use Rattle.inf_constructs.specs.Roots.{tree_in, trees_from}
 use Rattle.inf_statements.proofs.printing.print_items.Given as goal
 
--- what is left leads from here to where all leads
+-- the items that are left lead from the code so far to that of all items
 abbrev pub invariant-loop-item : goal.invariant-loop-item
 invariant-loop-item g l =
     items_printed g.B.Bounds.most l.printing.set l.printing.tokens.now l.printing.returns l.ends l.left (trees_from l.nodes l.roots) l.out

@@ -4,7 +4,7 @@ use Rattle.inf_constructs.specs.Roots.{trees_from}
 use Rattle.inf_statements.specs.Statements.{attributes_given}
 use Rattle.inf_statements.proofs.statements.lay_attributes.Given as goal
 
--- what is left leads from here to where all leads
+-- the items that are left lead from the code so far to that of all items
 abbrev pub invariant-loop-item : goal.invariant-loop-item
 invariant-loop-item g l =
     attributes_given g.B.Bounds.most (part_of g.B.Bounds.most l.nodes l.object) l.left (trees_from l.nodes l.attributes) l.out

@@ -1,4 +1,4 @@
--- One value more, or none.
+-- One more name has a value, or has none.
 use Rattle.std.proofs.Common.{◌≡◌, ◌<◌, ◌+◌, List, Some, None, drop, sym, ap, ◌∙◌, length, arith}
 use Rattle.inf_area.specs.declared.targets.Value.{Value}
 use Rattle.inf_names.specs.Symbols.{meaning_in, standing_at}

@@ -1,4 +1,4 @@
--- There may be as much as the row says.
+-- The limits are those of the line.
 use Rattle.inf_tables_tests.proofs.arrays.answer.Given as goal
 
 abbrev pub ghosts-answer_under : goal.ghosts-answer_under

@@ -1,4 +1,4 @@
--- There may be as much as the row says.
+-- The limits are those of the line.
 use Rattle.std.specs.Prelude.{nat_eq, if◌then◌else◌}
 use Rattle.inf_settings.specs.Settings.{place_of}
 use Rattle.inf_tables_tests.proofs.world.answer.Given as goal

@@ -3,7 +3,7 @@ use Rattle.inf_templates.specs.Tasks.{tasks_code}
 use Rattle.inf_templates.specs.Weights.{weights}
 use Rattle.inf_templates.proofs.laying.lay_all.Given as goal
 
--- what is left leads from here to where all leads
+-- the tasks that are left lead from the output so far to the output of all
 abbrev pub invariant-loop-task : goal.invariant-loop-task
 invariant-loop-task g l =
     tasks_code g.B.Bounds.most l.nodes l.tasks l.out ≡ tasks_code g.B.Bounds.most l.nodes l.initial.tasks l.initial.out

@@ -1,4 +1,4 @@
--- What was found is the front of all.
+-- The operands that were found are the front of all.
 use Rattle.std.proofs.Common.{ap, arith}
 use Rattle.inf_templates.specs.Parts.{operands}
 use Rattle.inf_templates.proofs.Cuts.{front, whole}

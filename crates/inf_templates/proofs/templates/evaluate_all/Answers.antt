@@ -1,4 +1,4 @@
--- The last is worked out first.
+-- The last part is worked out first.
 use Rattle.std.proofs.Common.{◌∙◌, ap, sym}
 use Rattle.inf_templates.specs.Parts.{evaluated}
 use Rattle.inf_templates.specs.Tasks.{parts_of}

@@ -1,4 +1,4 @@
--- The operands are as many as the opcode takes.
+-- There are as many operands as the opcode takes.
 use Rattle.std.specs.Prelude.{is_some, OnOk}
 use Rattle.std.proofs.Common.{◌≡◌, ◌∙◌, ◌≤◌, List, ap, sym, subst, length, arith}
 use Rattle.inf_opcode.specs.declared.opcodes.OpcodeRow.{OpcodeRow}

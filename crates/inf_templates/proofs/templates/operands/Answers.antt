@@ -1,4 +1,4 @@
--- The operands of the first are the first operands.
+-- The operands of the first parts are the first operands.
 use Rattle.std.proofs.Common.{◌∙◌, ap, arith}
 use Rattle.inf_templates.specs.Parts.{operands}
 use Rattle.inf_templates.specs.Tasks.{parts_of}

@@ -3,7 +3,7 @@ use Rattle.inf_templates.specs.Parts.{operands}
 use Rattle.inf_templates.specs.Tasks.{parts_of}
 use Rattle.inf_templates.proofs.templates.operands.Given as goal
 
--- what is there, with what is left, is all
+-- the operands so far, with those of the arguments that are left, are those of all arguments
 abbrev pub invariant-loop-argument : goal.invariant-loop-argument
 invariant-loop-argument g l =
     (l.operands.items ++ operands (parts_of g.B.Bounds.most l.nodes (drop l.argument-index l.argument-items)) ≡ operands

@@ -1,4 +1,4 @@
--- There may be as much as the way says.
+-- The limits are those that the way gives.
 use Rattle.std.specs.Prelude.{nat_eq, if◌then◌else◌}
 use Rattle.inf_settings.specs.Settings.{defaults, number_of, place_of}
 use Rattle.inf_templates_tests.proofs.routines.answer.Given as goal

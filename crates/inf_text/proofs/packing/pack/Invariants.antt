@@ -6,7 +6,7 @@ use Rattle.std.specs.Option.{option_copied}
 use Rattle.inf_text.specs.Packing.{in_use, words, zs_from}
 use Rattle.inf_text.proofs.packing.pack.Given as goal
 
--- what is written and what is left give the whole text
+-- The words written and the items left give the whole text.
 pub record Packs (packer : List ℕ × List ℕ) (texts : List (List TextItem)) (items whole : List TextItem) : Type 0 where
   pub value : completed packer (zs_from texts 0 items) ≡ words (zs_from texts 0 whole)
   pub text : IsText items

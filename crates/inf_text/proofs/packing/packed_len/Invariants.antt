@@ -5,7 +5,7 @@ use Rattle.inf_text.specs.Packing.{in_use, zs_from}
 use Rattle.inf_characters.specs.declared.texts.TextItem.{TextItem}
 use Rattle.inf_text.proofs.packing.packed_len.Given as goal
 
--- what is counted and what is left are the whole text, in four Z-characters an item at most
+-- The Z-characters counted and those of the items left are those of the whole text, at most four for each item.
 pub record Counts (count : ℕ) (texts : List (List TextItem)) (items whole : List TextItem) : Type 0 where
   pub value : count + length (zs_from texts 0 items) ≡ length (zs_from texts 0 whole)
   pub text : IsText items

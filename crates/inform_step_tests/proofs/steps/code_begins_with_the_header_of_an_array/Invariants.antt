@@ -1,4 +1,4 @@
--- There may be as much as the settings say.
+-- The limits are those of the settings.
 use Rattle.inf_settings.specs.Bounds.{limits_of}
 use Rattle.inform_step_tests.proofs.steps.code_begins_with_the_header_of_an_array.Given as goal
 

@@ -1,4 +1,4 @@
--- What is behind the cut is moved to the front, and the end is given up.
+-- The bytes behind the cut move to the front, and the end is given up.
 use Rattle.std.proofs.Common.{◌≡◌, ℕ, List, ◌≤◌, ◌+◌, ◌-◌, ◌∙◌, ap, length, take, sym, arith, length-take}
 use Rattle.std.proofs.lemmas.List.{take-take}
 use Rattle.inf_area.specs.Moves.{moved}

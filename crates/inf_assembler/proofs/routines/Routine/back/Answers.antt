@@ -1,4 +1,4 @@
--- The items of the moment are the first.
+-- The items of the moment are the first ones.
 use Rattle.std.proofs.Common.{◌≡◌, ◌+◌, ◌∙◌, take, ap, refl, arith}
 use Rattle.inf_assembler.specs.Routines.{State, Moment, contents_of}
 use Rattle.inf_assembler.proofs.Opened.{back_within, back_stands, holds}

@@ -1,4 +1,4 @@
--- What is counted is what is written.
+-- The counts are those of the bytes that are written.
 use Rattle.std.proofs.Common.{◌+◌, ◌∙◌, length, take, ap, sym, subst, refl, arith}
 use Rattle.std.proofs.lemmas.Result.{err_from_is_err_and}
 use Rattle.inf_opcode.specs.declared.opcodes.OpcodeRow.{OpcodeRow}

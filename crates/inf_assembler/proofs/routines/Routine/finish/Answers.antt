@@ -1,4 +1,4 @@
--- What is computed from what is kept is what the routine's cells say.
+-- The results computed from the kept entries are those of the routine's cells.
 use Rattle.std.proofs.Common.{◌≡◌, ◌+◌, [], ◌∷◌, ◌++◌, length, take, Option, Some, None, ◌⊎◌, inr, subst, MatchResult, sym, ◌∙◌, ap, arith}
 use Rattle.std.proofs.Common.{append_assoc, length-append}
 use Rattle.std.proofs.lemmas.List.{take-append-le, take-take}

@@ -1,4 +1,4 @@
--- What is counted are the cells.
+-- The counts are those of the cells.
 use Rattle.std.proofs.Common.{◌≡◌, ℕ, ◌+◌, ◌-◌, ◌∙◌, ◌∷◌, Bool, length, take, ap, arith, length-append}
 use Rattle.inf_opcode.specs.Cells.{long_bytes}
 use Rattle.inf_assembler.specs.Routines.{State, Moment, contents_of, moment_of}

@@ -1,4 +1,4 @@
--- What stands is told.
+-- The fresh routine has the state that is defined.
 use Rattle.std.proofs.Common.{false, sym, subst, refl, List, ℕ}
 use Rattle.inf_assembler.specs.Routines.{State, Contents, Stands, fresh, contents_of}
 use Rattle.inf_assembler.proofs.Opened.{told, told_front}

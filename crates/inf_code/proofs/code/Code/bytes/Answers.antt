@@ -1,4 +1,4 @@
--- An open routine stands behind the finished ones, up to the end of the area.
+-- An open routine follows the finished ones, up to the end of the area.
 use Rattle.std.specs.Prelude.{Bool}
 use Rattle.std.proofs.Common.{◌≡◌, Option, Some, false, sym, ◌∙◌, ap, subst}
 use Rattle.inf_assembler.specs.Routines.{State}

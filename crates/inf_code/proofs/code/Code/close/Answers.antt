@@ -1,12 +1,13 @@
--- What stands behind the finished routines is the closed one and its padding; a lost one gives nothing.
+-- The closed routine and its padding follow the finished routines; a lost routine adds nothing.
 use Rattle.std.specs.Prelude.{nat_lt, MatchResult, Bool}
 use Rattle.std.proofs.Common.{◌≡◌, ◌≤◌, ◌+◌, ◌⊎◌, false, true, refl, arith, List, ◌++◌, length, Option, Some, None, sym, ◌∙◌, ap, subst}
 use Rattle.inf_assembler.specs.declared.routines.CloseFault.{CloseFault}
 use Rattle.inf_assembler.specs.declared.routines.CloseFault.TheVariants as close_fault
 use Rattle.inf_assembler.specs.Routines.{State, contents_of}
-use Rattle.inf_cells.specs.declared.cells.Cell.{Cell as CodeCell}
+use Rattle.inf_area.specs.declared.cells.Cell.{Cell as CodeCell}
 use Rattle.inf_code.specs.declared.code.CodeLimits.{CodeLimits}
-use Rattle.inf_code.specs.Code.{Routines, IsCode, open_in, closed_cells, closed_count, place_behind, source_cells, with_closed, fault_closed}
+use Rattle.inf_code.specs.Code.{Routines, IsCode, open_in, closed_cells, closed_count, place_behind, source_cells, with_closed}
+use Rattle.inf_code.specs.Code.{fault_closed}
 use Rattle.inf_code.specs.Code.{fault_behind, fault_end}
 use Rattle.inf_code.proofs.CodeSteps.{closed_size, code_after, counted_closed, finished_closed, size_finished}
 use Rattle.inf_code.proofs.Ends.{is_first, told_first, told_lost, zeros_none, zeros_told}

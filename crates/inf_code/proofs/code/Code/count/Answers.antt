@@ -1,6 +1,6 @@
--- What has begun has room for its beginning.
+-- Code that has begun has room for its beginning.
 use Rattle.std.proofs.Common.{◌+◌, ◌∙◌, cond, ap, sym, arith}
-use Rattle.inf_cells.specs.Cells.{size_of}
+use Rattle.inf_area.specs.Cells.{size_of}
 use Rattle.inf_code.specs.Code.{code_count, source_cells}
 use Rattle.inf_code.proofs.CodeSteps.{size_finished}
 use Rattle.inf_code.proofs.code.Code.count.Goals as goal

@@ -1,4 +1,4 @@
--- The open routine stands behind the finished ones.
+-- The open routine follows the finished ones.
 use Rattle.std.specs.Prelude.{MatchResult}
 use Rattle.std.proofs.Common.{◌≡◌, Option, Some, None, sym, ◌∙◌, ap, subst}
 use Rattle.inf_opcode.specs.Instructions.{instruction_cells}

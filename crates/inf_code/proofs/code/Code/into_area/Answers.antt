@@ -1,7 +1,7 @@
--- There is room for the fixups where they and the one of the first routine are no more than are left.
+-- There is room for the fixups where they and that of the first routine are no more than the room left.
 use Rattle.std.proofs.Common.{◌≡◌, ◌+◌, false, true, length, nat_lt, sym, ◌∙◌, ap, arith}
 use Rattle.std.proofs.lemmas.Result.{err_from_is_err_and}
-use Rattle.inf_cells.specs.Cells.{later_count}
+use Rattle.inf_area.specs.Cells.{later_count}
 use Rattle.inf_code.specs.Code.{Routines, are_too_many, code_cells, source_bytes, source_cells, unlisted}
 use Rattle.inf_code.proofs.Full.{later_stands_for, not_too_many, too_many}
 use Rattle.inf_code.proofs.code.Code.into_area.Goals as goal
@@ -18,7 +18,8 @@ returns-then-limit-len-clause-fault g c =
     let all = later_count (code_cells c.args.called c.args.self.finished) in
     let full : are_too_many c.args.called c.args.self.finished refs ≡ true =
     ap (λ l. nat_lt l (length refs.list + all)) (sym c.limit.ensures) ∙ ap (λ n. nat_lt c.limit.result (n + all)) (sym c.len.ensures.value)
-    ∙ too_many c.limit.result c.len.result c.len-2.result all (omega (arith, c.len.ensures.limited, c.limit.ensures)) c.if-limit-len.true count in
+    ∙ too_many c.limit.result c.len.result c.len-2.result all (omega (arith, c.len.ensures.limited, c.limit.ensures))
+    c.if-limit-len.true count in
     sym (ap unlisted full)
 
 pub returns-in_err-list_all-clause-fault : goal.returns-in_err-list_all-clause-fault

@@ -1,4 +1,4 @@
--- The first routine and the cells are as many bytes as those that are finished.
+-- The first routine and the cells have as many bytes as the finished routines.
 use Rattle.std.proofs.Common.{◌∙◌, ap, sym}
 use Rattle.inf_code.specs.Code.{Routines, place_behind}
 use Rattle.inf_code.proofs.CodeSteps.{size_finished}

@@ -1,6 +1,6 @@
 -- Each fixup is a reference that is known later.
 use Rattle.std.proofs.Common.{◌+◌, ◌∙◌, cond, ap, sym, arith}
-use Rattle.inf_cells.specs.Cells.{later_count}
+use Rattle.inf_area.specs.Cells.{later_count}
 use Rattle.inf_code.specs.Code.{reference_count, source_bytes, source_cells}
 use Rattle.inf_code.proofs.Full.{later_stands_for}
 use Rattle.inf_code.proofs.code.Code.references.Goals as goal

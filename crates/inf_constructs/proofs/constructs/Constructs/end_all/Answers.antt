@@ -1,4 +1,4 @@
--- One that ends is the next of those that are left.
+-- Each statement that ends is the next of those that are left.
 use Rattle.std.proofs.Common.{◌-◌, ap, sym, ◌∙◌, arith}
 use Rattle.inf_constructs.specs.Constructs.{all_ended}
 use Rattle.inf_constructs.proofs.Stacks.{next_ended}

@@ -1,4 +1,4 @@
--- Those that are left to end, behind those that have ended, are all.
+-- The statements that are left to end, behind those that have ended, are all.
 use Rattle.std.proofs.Common.{◌≡◌}
 use Rattle.inf_constructs.specs.Constructs.{all_ended}
 use Rattle.inf_constructs.proofs.constructs.Constructs.end_all.Given as goal

@@ -3,7 +3,7 @@ use Rattle.std.specs.Prelude.{reverse}
 use Rattle.inf_constructs.specs.Constructs.{left_to}
 use Rattle.inf_constructs.proofs.constructs.Constructs.left_to.Given as goal
 
--- what is found of those that are left is what is found of all
+-- the label of the statements that are left is that of all
 abbrev pub invariant-loop-last : goal.invariant-loop-last
 invariant-loop-last l = left_to l.on (reverse l.left) ≡ left_to l.on l.self
 

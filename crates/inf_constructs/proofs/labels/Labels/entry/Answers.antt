@@ -1,4 +1,4 @@
--- The code finds what the definition finds.
+-- The code finds the label that the definition finds.
 use Rattle.std.proofs.Common.{List, sym, ◌∙◌, ap}
 use Rattle.std.specs.Prelude.{option_map}
 use Rattle.inf_constructs.specs.Entries.{known}

@@ -1,7 +1,7 @@
 use Rattle.std.proofs.Common.{IsTrue, false, refl}
 use Rattle.inf_disk.proofs.disk.DiskFilesFiles.TheImpl.Goals as goal
 
--- files of the system are not honest, so what an honest reader gives is not claimed of them
+-- Files of the system are not honest, and statements about an honest reader are not made of them.
 not_honest : {A : Type 0} → IsTrue false → A
 not_honest honest = cc
 

@@ -1,5 +1,5 @@
 use Rattle.std.proofs.Common.{◌≡◌, ◌⊎◌, List, ℕ, map, IfOk, sym, subst, ◌∙◌}
-use Rattle.inf_files.specs.Files.{Rose}
+use Rattle.inf_devices.specs.Files.{Rose}
 use Rattle.inf_lexer.specs.Entering.{Enters, Leaves, WasTooMany}
 use Rattle.inf_lexer.specs.Names.{candidates, innermost_name, name_in}
 use Rattle.inf_lexer.specs.Readers.{Reader}

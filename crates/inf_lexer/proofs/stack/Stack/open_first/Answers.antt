@@ -1,6 +1,6 @@
 use Rattle.std.proofs.Common.{◌⊎◌, inl, inr, List, ℕ, [], ◌∷◌, Bool, Bor, Some, IsTrue, arith, map, sym, ap, subst, ◌∙◌}
 use Rattle.std.specs.String.{string_bytes}
-use Rattle.inf_files.specs.Files.{Sources, Rose}
+use Rattle.inf_devices.specs.Files.{Sources, Rose}
 use Rattle.inf_lexer.specs.Entering.{ClosedAgain, Enters, WasTooMany, has_one_too_many}
 use Rattle.inf_lexer.specs.Names.{Nest, name_in}
 use Rattle.inf_lexer.specs.Readers.{Reader}

@@ -1,5 +1,5 @@
 use Rattle.std.proofs.Common.{◌≡◌, ◌≤◌, map, min, drop, IsTrue}
-use Rattle.inf_files.specs.Files.{last_count}
+use Rattle.inf_devices.specs.Files.{last_count}
 use Rattle.inf_lexer.specs.Entering.{first_there}
 use Rattle.inf_lexer.specs.Names.{name_in}
 use Rattle.inf_lexer.proofs.stack.Stack.open_first.Given as goal

@@ -4,7 +4,7 @@ use Rattle.inf_link.specs.Targets.{lookup, number_of}
 use Rattle.inf_link.specs.Filling.{filled}
 use Rattle.inf_link.proofs.areas.Areas.fill_all.Given as goal
 
--- what is filled, with the fixups that are left, is all
+-- the areas that are filled so far lead, with the fixups that are left, to those where all are filled
 abbrev pub invariant-loop-fixup : goal.invariant-loop-fixup
 invariant-loop-fixup g l =
     let number = number_of (lookup l.targets) l.scale l.bases in

@@ -1,4 +1,4 @@
--- The story of its parts, and how many bytes they have.
+-- The story of its parts, and their numbers of bytes.
 use Rattle.std.proofs.Common.{◌∙◌, ◌++◌, ap}
 use Rattle.inf_link.specs.Areas.{contents}
 use Rattle.inf_link.specs.Header.{header}

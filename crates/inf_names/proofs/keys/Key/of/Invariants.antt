@@ -1,4 +1,4 @@
--- What is without case so far, and the bytes that are left, are the bytes without case.
+-- The bytes made small so far, and the bytes that are left made small, are all bytes made small.
 use Rattle.std.proofs.Common.{◌≡◌, ◌++◌, drop, map, take}
 use Rattle.std.specs.Char.{to_ascii_lowercase}
 use Rattle.inf_names.proofs.keys.Key.of.Given as goal

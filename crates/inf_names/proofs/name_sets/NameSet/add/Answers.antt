@@ -1,4 +1,4 @@
--- The key of a name stands behind the others, unless it is one of them.
+-- The key of a name comes behind the others, unless it is one of them.
 use Rattle.std.proofs.Common.{ℕ, List, [], ◌∷◌, ◌++◌, cond, ◌∙◌, ap}
 use Rattle.std.specs.List.{list_any}
 use Rattle.std.specs.Str.{bytes_eq}

@@ -1,4 +1,4 @@
--- A name is declared in its place or behind the others, and one more is.
+-- A name is declared in its place or behind the others, and one more name is declared then.
 use Rattle.std.proofs.Common.{◌≡◌, ◌+◌, cond, List, sym, ◌∙◌, ap, arith, false, length, map, None}
 use Rattle.std.proofs.lemmas.List.{length-map}
 use Rattle.std.specs.Prelude.{is_some, nat_le}

@@ -1,4 +1,4 @@
--- The same bytes without case are what the test finds.
+-- The test of the library finds bytes that are equal in any case.
 use Rattle.std.proofs.Common.{◌∙◌, ap, map}
 use Rattle.std.specs.Char.{to_ascii_lowercase}
 use Rattle.std.specs.Str.{bytes_eq, str_eq_ignore_ascii_case}

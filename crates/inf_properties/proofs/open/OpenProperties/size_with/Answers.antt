@@ -18,7 +18,7 @@ value_sizes-requires c =
     let short = short_last c.in-Some.field-0-1.now above p (ap (λ ps. are_short (inherited ps above)) (sym own) ∙ c.self.invariant.short) in
     omega (arith, own_length p.is_additive p.values (values_of p.number above), short)
 
--- how many values the last property would have
+-- the number of values that the last property would have
 abbrev count_after : Property → Value → List Value → ℕ
 count_after p v above = length (joined_values p.is_additive (p.values ++ v ∷ []) above)
 

@@ -7,7 +7,7 @@ use Rattle.inf_scanner.proofs.Runs.{found_kept, found_skipped}
 use Rattle.inf_scanner.proofs.scanner.Seen.pass_run.Goals as goal
 use Rattle.inf_scanner.proofs.scanner.Seen.pass_run.Goals.{then-not-is_gap+in_ok-extend, else-not-is_gap}
 
--- what was seen, at bytes that end no line
+-- the part of a token that was seen, behind bytes that end no line
 abbrev calmed : Seen → Kept → Sight
 calmed seen kept = record { first = seen.first; kept = kept; lines = record { line = seen.lines.line; after_return = false } }
 

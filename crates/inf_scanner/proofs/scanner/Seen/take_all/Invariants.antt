@@ -2,7 +2,7 @@ use Rattle.std.proofs.Common.{◌≡◌, ℕ, ◌+◌, ◌-◌, ◌≤◌, List,
 use Rattle.inf_scanner.specs.Scanning.{find, goes_on, sight}
 use Rattle.inf_scanner.proofs.scanner.Seen.take_all.Given as goal
 
--- what is found from here in the bytes that are left is what was found in all of them
+-- the token found from here on in the bytes that are left is the token found in all of them
 abbrev pub invariant-loop-len : goal.invariant-loop-len
 invariant-loop-len l =
     record {

@@ -1,7 +1,7 @@
 use Rattle.std.proofs.Common.{◌≡◌, inr, List, ℕ, ap, false, subst, sym, ◌∙◌}
 use Rattle.std.proofs.lemmas.Result.{on_err_weaker, on_ok_weaker}
 use Rattle.inf_reader.specs.Reading.{is_mode_ended}
-use Rattle.inf_files.specs.Files.{Rose}
+use Rattle.inf_devices.specs.Files.{Rose}
 use Rattle.inf_sources.specs.Inclusions.{Nesting}
 use Rattle.inf_sources.specs.Open.{Open, nesting, opened_since}
 use Rattle.inf_sources.proofs.Calls.{fit_none}

@@ -3,7 +3,7 @@ use Rattle.inf_sources.specs.Inclusions.{OpenedInVain, OpensTooMany, inclusion}
 use Rattle.inf_sources.specs.Open.{nesting, opened_since}
 use Rattle.inf_session.specs.Choices.{chosen}
 use Rattle.inf_session.proofs.Opening.{in_vain}
-use Rattle.inf_files.specs.Files.{Rose}
+use Rattle.inf_devices.specs.Files.{Rose}
 use Rattle.inf_sources.specs.Calls.{IsUnreadable}
 use Rattle.inf_session.specs.Leading.{NotTried}
 use Rattle.inf_session.proofs.Standings.{caused_more, read_caused}

@@ -1,6 +1,6 @@
 use Rattle.std.proofs.Common.{List, ap, drop, length, map, ◌∙◌}
 use Rattle.inf_conditionals.specs.Ends.{file_told}
-use Rattle.inf_files.specs.Files.{Opening}
+use Rattle.inf_devices.specs.Files.{Opening}
 use Rattle.inf_sources.specs.Open.{nesting, waits}
 use Rattle.inf_session.specs.Standing.{state}
 use Rattle.inf_session.proofs.Standings.{left_is, none_waits, one_waits, stays}

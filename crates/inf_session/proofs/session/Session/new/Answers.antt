@@ -1,4 +1,4 @@
--- What there is before the first token is bounded by the settings.
+-- The state before the first token is bounded by the settings.
 use Rattle.inf_session.proofs.Bounds.{bounded_first}
 use Rattle.inf_session.proofs.session.Session.new.Goals as goal
 

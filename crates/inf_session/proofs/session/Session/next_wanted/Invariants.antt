@@ -2,7 +2,7 @@ use Rattle.std.proofs.Common.{◌≡◌, ◌-◌, ◌≤◌}
 use Rattle.inf_session.specs.Veneer.{first_wanted, most_texts}
 use Rattle.inf_session.proofs.session.Session.next_wanted.Given as goal
 
--- what is still to be looked at has the first that is wanted
+-- the first routine that is wanted is among those that are still to be looked at
 abbrev pub invariant-loop-number : goal.invariant-loop-number
 invariant-loop-number g l =
     let names = l.self.progress.work.output.names in

@@ -1,6 +1,6 @@
 use Rattle.std.proofs.Common.{rules, ℕ, List, ◌+◌, IfErr, IsTrue, ap, refl, sym, subst, ◌∙◌}
 use Rattle.inf_opcode.proofs.Growing.{on_err}
-use Rattle.inf_files.specs.Files.{Rose, Sources}
+use Rattle.inf_devices.specs.Files.{Rose, Sources}
 use Rattle.inf_lexer.proofs.Candidates.{rose_earlier}
 use Rattle.inf_sources.specs.Open.{opened_since}
 use Rattle.inf_sources.specs.Calls.{IsUnreadable}
@@ -52,7 +52,8 @@ loop-self-preserved g c =
           let then_at = files.openings c.read_part.new.files in
           let ran = took.part still start (inv.went.nested honest start nested) in
           let more = ran.0 in
-          let turned : Writes (run g.B.Bounds.most s o more) (state s start here c.loop-self.self) (state s start then_at c.read_part.new.self)
+          let turned : Writes (run g.B.Bounds.most s o more) (state s start here c.loop-self.self) (state s start then_at
+          c.read_part.new.self)
           (g.M.Sink.taken c.loop-self.messages) (g.M.Sink.taken c.read_part.new.messages) =
           subst (λ (x : Choices). Writes (run g.B.Bounds.most s x more) (state s start here c.loop-self.self)
           (state s start then_at c.read_part.new.self)
@@ -137,7 +138,8 @@ returns-in_err-read_part-clause-unread g c = λ honest start nested.
     if_read_more c.from_residual.result Last (λ name. GivenUp g.B.Bounds.most failed s o was old new start now after name)
     (λ name w. given_up_on g.B.Bounds.most later failed s o so_far.0 was (state s start here c.loop-self.self) old between new start now
     after name
-    (λ rose. rose_earlier (files.faults c.args.files.now) (files.faults c.loop-self.files) (files.faults c.read_part.new.files) inv.went.faults
+    (λ rose. rose_earlier (files.faults c.args.files.now) (files.faults c.loop-self.files) (files.faults c.read_part.new.files)
+    inv.went.faults
     rose) so_far.1
     (subst (λ (x : Choices). GivenUp g.B.Bounds.most later s x (state s start here c.loop-self.self) between new start now after name)
     (ap chosen inv.setup)
@@ -190,4 +192,5 @@ returns-in_err-read_part-clause-opened g c = λ honest start nested.
 
 pub returns-in_err-read_part-clause-wrote : goal.returns-in_err-read_part-clause-wrote
 returns-in_err-read_part-clause-wrote g c =
-    appends_then g.M.Sink c.args.messages.now c.loop-self.messages c.read_part.new.messages c.loop-self.invariant.wrote c.read_part.ensures.wrote
+    appends_then g.M.Sink c.args.messages.now c.loop-self.messages c.read_part.new.messages c.loop-self.invariant.wrote
+    c.read_part.ensures.wrote

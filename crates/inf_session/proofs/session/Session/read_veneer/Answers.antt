@@ -10,7 +10,8 @@ pub returns-in_ok-read_text-in-Some-clause-supplied : goal.returns-in_ok-read_te
 returns-in_ok-read_text-in-Some-clause-supplied g c = λ sources start now.
     let o = chosen c.args.self.now.setup in
     let was = state sources start now c.args.self.now in
-    writes_as (text_read g.B.Bounds.most o c.in-Some.number) (next_supplied g.B.Bounds.most o) was (state sources start now c.read_text.new.self)
+    writes_as (text_read g.B.Bounds.most o c.in-Some.number) (next_supplied g.B.Bounds.most o) was (state sources start now
+    c.read_text.new.self)
     (g.M.Sink.taken c.args.messages.now) (g.M.Sink.taken c.read_text.new.messages)
     (λ told. ap (λ next. supplied_at g.B.Bounds.most o next (was told)) c.in-Some.ensures.next)
     (c.in_ok-read_text-in-Some.ensures.read sources start now)

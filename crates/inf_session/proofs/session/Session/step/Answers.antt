@@ -1,7 +1,7 @@
 use Rattle.std.proofs.Common.{◌≡◌, ◌⊎◌, ◌<◌, ◌≤◌, true, false, IfOk, refl, sym, ap, subst, ◌∙◌}
 use Rattle.std.specs.Prelude.{◌||◌, ◌&&◌, is_none}
 use Rattle.std.proofs.lemmas.Result.{on_ok_weaker}
-use Rattle.inf_files.specs.Files.{Rose}
+use Rattle.inf_devices.specs.Files.{Rose}
 use Rattle.inf_sources.specs.Calls.{IsUnreadable}
 use Rattle.inf_sources.proofs.Calls.{fit_none, went_as, went_none}
 use Rattle.inf_conditionals.specs.Judging.{may_part}

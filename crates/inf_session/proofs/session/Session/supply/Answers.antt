@@ -1,7 +1,7 @@
 use Rattle.std.proofs.Common.{◌≡◌, true, false, IfErr, rules, refl, sym, ap, subst, ◌∙◌}
 use Rattle.std.specs.Prelude.{is_some}
 use Rattle.inf_opcode.proofs.Growing.{on_err}
-use Rattle.inf_files.specs.Files.{Rose}
+use Rattle.inf_devices.specs.Files.{Rose}
 use Rattle.inf_lexer.proofs.Candidates.{rose_earlier}
 use Rattle.inf_session.specs.Choices.{Choices, chosen}
 use Rattle.inf_session.specs.Faults.{Caused}

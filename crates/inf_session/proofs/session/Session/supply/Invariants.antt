@@ -1,6 +1,6 @@
 use Rattle.std.proofs.Common.{◌≡◌, ◌-◌, suc, false, cond}
 use Rattle.std.specs.Prelude.{is_some}
-use Rattle.inf_files.specs.Files.{Openings, Sources}
+use Rattle.inf_devices.specs.Files.{Openings, Sources}
 use Rattle.inf_session.specs.Choices.{chosen}
 use Rattle.inf_session.specs.Delivered.{Appends}
 use Rattle.inf_session.specs.Standing.{next_of, state}
@@ -8,7 +8,7 @@ use Rattle.inf_session.specs.Veneer.{most_texts, supplied}
 use Rattle.inf_session.proofs.Supplying.{LeadsOn}
 use Rattle.inf_session.proofs.session.Session.supply.Given as goal
 
--- what is left leads from here to where all leads from the start; where none was read none is left
+-- the rest leads from here to the state to which all leads from the start; where no routine was read none is left
 abbrev pub invariant-loop-was_read : goal.invariant-loop-was_read
 invariant-loop-was_read g l = record {
   led : (sources : Sources) (start now : Openings) → LeadsOn (supplied g.B.Bounds.most (chosen l.fn.self.setup))

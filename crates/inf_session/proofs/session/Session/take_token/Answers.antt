@@ -1,6 +1,6 @@
 use Rattle.std.proofs.Common.{◌≡◌, true, Err, ℕ, List, [], ◌∷◌, ◌≤◌, reverse, unwrap_or, inl, inr, refl, ap, length, subst, sym, ◌∙◌}
 use Rattle.std.specs.Prelude.{slice_get}
-use Rattle.inf_files.specs.Files.{Rose}
+use Rattle.inf_devices.specs.Files.{Rose}
 use Rattle.inf_characters.specs.declared.characters.CharSet.{CharSet}
 use Rattle.inf_sources.specs.Inclusions.{Nesting}
 use Rattle.inf_sources.specs.Open.{files_of, lexers_of, nesting}
@@ -102,7 +102,8 @@ returns-clause-stepped g c = λ honest start nested told.
     let x : Taken = taken_as c.take.new.conditionals (standing c.take.new.progress) c.in_ok-self.field-0 in
     let t = token_at (is_between before.reading) token.kind bytes token.place before.work in
     step_is g.B.Bounds.most o before now x context t reads.goes_on same
-    (token_is before (is_between before.reading) token.kind bytes token.place refl reads.kind reads.place (c.spelling.ensures ∙ reads.bytes))
+    (token_is before (is_between before.reading) token.kind bytes token.place refl reads.kind reads.place (c.spelling.ensures ∙
+    reads.bytes))
     c.in_ok-self.ensures
 
 pub returns-clause-fits : goal.returns-clause-fits

@@ -1,9 +1,9 @@
 use Rattle.std.proofs.Common.{◌≡◌, ◌+◌, ◌<◌, ◌≤◌, length, min, IsTrue}
-use Rattle.inf_files.specs.Files.{Openings, last_count}
+use Rattle.inf_devices.specs.Files.{Openings, last_count}
 use Rattle.inf_sources.specs.Open.{IsNested}
 use Rattle.inf_sources.proofs.open_files.OpenFiles.close.Given as goal
 
--- fewer and fewer files are open, in the same way
+-- fewer and fewer files are open, nested as before
 abbrev pub invariant-loop : goal.invariant-loop
 invariant-loop g l =
     let files = g.F.Files in

@@ -1,7 +1,7 @@
 use Rattle.std.proofs.Common.{◌≡◌, ◌≤◌, ◌⊎◌, IsTrue, inl, inr, List, false, length, ◌++◌, [], ◌∷◌, Err, Some, None, map, refl, reverse, sym}
 use Rattle.std.proofs.Common.{ap, subst, ◌∙◌}
 use Rattle.inf_characters.specs.declared.characters.CharSet.{CharSet}
-use Rattle.inf_files.specs.Files.{Openings, Rose}
+use Rattle.inf_devices.specs.Files.{Openings, Rose}
 use Rattle.inf_lexer.specs.Entering.{Leaves}
 use Rattle.inf_lexer.specs.Names.{Nest, can_name, candidates, innermost_name}
 use Rattle.inf_lexer.specs.Readers.{Reader}

@@ -1,5 +1,5 @@
 use Rattle.std.proofs.Common.{◌≡◌, List, length, refl, arith, ap, subst, sym, ◌∙◌}
-use Rattle.inf_files.specs.Files.{Opening}
+use Rattle.inf_devices.specs.Files.{Opening}
 use Rattle.inf_sources.specs.Inclusions.{closed}
 use Rattle.inf_lexer.specs.Names.{Nest}
 use Rattle.inf_sources.specs.Calls.{Went}

@@ -28,7 +28,7 @@ invariant_of-self c =
       (refl, (inv.1.1.0, all_wait_with inside.names.set set inside.names.limit inside.outer.items inv.1.1.1)),
     )))
 
--- what is open then
+-- the open files after the call
 abbrev after : goal.After-self-1 → Open
 after c = record {
   nest = c.set_characters.new.self;

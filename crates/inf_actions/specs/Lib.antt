@@ -1,3 +1,0 @@
-pub mod Headers
-pub mod Directives
-pub mod Acting

@@ -1,0 +1,141 @@
+use Rattle.std.proofs.Common.{◌-◌, true, false, IsTrue, refl, sym, ap, subst, ◌∙◌, arith, length}
+use Rattle.inf_lexer.specs.Heads.{goes_on_at, is_behind, is_word}
+use Rattle.inf_lexer.specs.Unread.{unread}
+use Rattle.inf_lexer.specs.declared.head.HeadPlace.TheVariants.{Line}
+use Rattle.inf_opcode.proofs.Growing.{on_err}
+use Rattle.inf_sources.specs.Heading.{ReadsHead, UnfinishedHead}
+use Rattle.inf_sources.specs.Open.{nesting}
+use Rattle.inf_sources.proofs.Calls.{fit_none, fit_then, went_none, went_then}
+use Rattle.inf_command.specs.Heads.{HeadWords, take_head_word}
+use Rattle.inf_compile.proofs.Heading.{Leads, behind_call, leads_first, leads_on, leads_out, stops_behind}
+use Rattle.inf_compile.proofs.heads.read_head.Goals as goal
+
+pub loop-head-init : goal.loop-head-init
+loop-head-init g c =
+    let files = g.F.Files in
+    let a = c.args.files.now in
+    let x = c.args.open_files.now in
+    record {
+      led = λ honest start nested.
+          let first = nesting (files.sources a) start (files.openings a) x in
+          subst (λ (h : HeadWords). Leads first first Line h) (sym c.none-head.ensures) (leads_first first);
+      opened = λ honest start nested. refl;
+      went = went_none files a x;
+      fits = fit_none files a x;
+      is_open = c.requires.is_open;
+      goes = c.requires.goes;
+      same = (refl, (refl, refl));
+      window = λ few. few;
+      before = refl;
+      none = refl;
+    }
+
+pub loop-head-preserved : goal.loop-head-preserved
+loop-head-preserved g c =
+    let files = g.F.Files in
+    let a = c.args.files.now in
+    let b = c.loop-head.files in
+    let d = c.next_head_word.new.files in
+    let x = c.args.open_files.now in
+    let y = c.loop-head.open_files in
+    let z = c.next_head_word.new.self in
+    let from = c.loop-head.place in
+    let at = c.next_head_word.new.place in
+    let word = c.next_head_word.new.word.items in
+    let inv = c.loop-head.invariant in
+    let call = c.next_head_word.ensures in
+    let took = c.in_ok-next_head_word.ensures in
+    let goes_to = took.goes_to ∙ ap goes_on_at c.if-branch.true in
+    record {
+      led = λ honest start nested.
+          let first = nesting (files.sources a) start (files.openings a) x in
+          let was = nesting (files.sources a) start (files.openings b) y in
+          let now = nesting (files.sources a) start (files.openings d) z in
+          let reads : ReadsHead true at word from was now =
+          behind_call files a b x y (λ s start. ReadsHead true at word from (nesting s start (files.openings b) y)
+          (nesting s start (files.openings d) z)) inv.went
+          (λ still start here. subst (λ is. ReadsHead is at word from (nesting (files.sources b) start (files.openings b) y)
+          (nesting (files.sources b) start (files.openings d) z)) c.if-branch.true (took.word still start here)) honest start nested in
+          subst (λ (h : HeadWords). Leads first now at h)
+          (sym (c.take.ensures ∙ ap (λ w. take_head_word c.loop-head.head w) c.as_slice.ensures.value))
+          (leads_on first was now from at c.loop-head.head word (inv.led honest start nested) inv.none reads);
+      opened = λ honest start nested.
+          call.opened (subst (λ t. IsTrue t) (sym inv.went.honesty) honest) start (inv.went.nested honest start nested)
+          ∙ inv.opened honest start nested;
+      went = went_then files a b d x y z inv.went call.went;
+      fits = fit_then files a b d x y inv.went inv.fits took.fits;
+      is_open = omega (arith, inv.is_open, call.went.depth, ap (λ fs. length fs) call.same.1.0);
+      goes = took.failed;
+      same = (call.same.0 ∙ inv.same.0, (call.same.1.0 ∙ inv.same.1.0, call.same.1.1 ∙ inv.same.1.1));
+      window = λ few. call.window;
+      before = ap is_behind goes_to;
+      none = ap is_word goes_to;
+    }
+
+pub returns-clause-head : goal.returns-clause-head
+returns-clause-head g c = λ honest start nested.
+    let files = g.F.Files in
+    let a = c.args.files.now in
+    let b = c.loop-head.files in
+    let d = c.next_head_word.new.files in
+    let x = c.args.open_files.now in
+    let y = c.loop-head.open_files in
+    let z = c.next_head_word.new.self in
+    let from = c.loop-head.place in
+    let at = c.next_head_word.new.place in
+    let word = c.next_head_word.new.word.items in
+    let inv = c.loop-head.invariant in
+    let took = c.in_ok-next_head_word.ensures in
+    let first = nesting (files.sources a) start (files.openings a) x in
+    let was = nesting (files.sources a) start (files.openings b) y in
+    let now = nesting (files.sources a) start (files.openings d) z in
+    let reads : ReadsHead false at word from was now =
+    behind_call files a b x y (λ s start. ReadsHead false at word from (nesting s start (files.openings b) y)
+    (nesting s start (files.openings d) z)) inv.went
+    (λ still start here. subst (λ is. ReadsHead is at word from (nesting (files.sources b) start (files.openings b) y)
+    (nesting (files.sources b) start (files.openings d) z)) c.if-branch.false (took.word still start here)) honest start nested in
+    (leads_out first was now from at c.loop-head.head word (inv.led honest start nested) reads).says
+
+pub returns-clause-nesting : goal.returns-clause-nesting
+returns-clause-nesting g c = λ honest start nested.
+    let files = g.F.Files in
+    let a = c.args.files.now in
+    let b = c.loop-head.files in
+    let d = c.next_head_word.new.files in
+    let x = c.args.open_files.now in
+    let y = c.loop-head.open_files in
+    let z = c.next_head_word.new.self in
+    let from = c.loop-head.place in
+    let at = c.next_head_word.new.place in
+    let word = c.next_head_word.new.word.items in
+    let inv = c.loop-head.invariant in
+    let took = c.in_ok-next_head_word.ensures in
+    let first = nesting (files.sources a) start (files.openings a) x in
+    let was = nesting (files.sources a) start (files.openings b) y in
+    let now = nesting (files.sources a) start (files.openings d) z in
+    let reads : ReadsHead false at word from was now =
+    behind_call files a b x y (λ s start. ReadsHead false at word from (nesting s start (files.openings b) y)
+    (nesting s start (files.openings d) z)) inv.went
+    (λ still start here. subst (λ is. ReadsHead is at word from (nesting (files.sources b) start (files.openings b) y)
+    (nesting (files.sources b) start (files.openings d) z)) c.if-branch.false (took.word still start here)) honest start nested in
+    (leads_out first was now from at c.loop-head.head word (inv.led honest start nested) reads).nest
+
+pub returns-in_err-next_head_word-clause-unfinished : goal.returns-in_err-next_head_word-clause-unfinished
+returns-in_err-next_head_word-clause-unfinished g c = λ honest start nested.
+    let files = g.F.Files in
+    let a = c.args.files.now in
+    let b = c.loop-head.files in
+    let d = c.next_head_word.new.files in
+    let x = c.args.open_files.now in
+    let y = c.loop-head.open_files in
+    let past = c.next_head_word.new.self.lexer.window.given - 16777216 in
+    let from = c.loop-head.place in
+    let inv = c.loop-head.invariant in
+    let stops = c.in_err-next_head_word.ensures in
+    let not_ended : UnfinishedHead from (nesting (files.sources a) start (files.openings b) y).cursor past
+    (unread (files.sources a) (files.openings d)) =
+    behind_call files a b x y (λ s start. UnfinishedHead from (nesting s start (files.openings b) y).cursor past
+    (unread s (files.openings d))) inv.went (λ still start here. stops.unfinished still start inv.before refl) honest start nested in
+    on_err c.from_residual.result (stops_behind (nesting (files.sources a) start (files.openings a) x)
+    (nesting (files.sources a) start (files.openings b) y) from c.loop-head.head past (unread (files.sources a) (files.openings d))
+    (inv.led honest start nested) not_ended)

@@ -1,0 +1,106 @@
+use Rattle.std.proofs.Common.{◌≡◌, [], IfOk, OnErr, refl, ap, subst, sym}
+use Rattle.inf_opcode.proofs.Growing.{on_err}
+use Rattle.inf_sources.specs.Open.{Open, opened_since}
+use Rattle.inf_sources.proofs.Calls.{went_as}
+use Rattle.inf_session.specs.Choices.{Choices, chosen}
+use Rattle.inf_session.specs.Delivered.{EndsClean}
+use Rattle.inf_session.specs.declared.compiled.Status.TheVariants as status
+use Rattle.inf_compile.specs.Comes.{BreaksOff, Concludes, Ends, Stops}
+use Rattle.inf_session.specs.Standing.{state}
+use Rattle.inf_compile.proofs.Concluding.{breaks_off_at, concludes, ends_at, if_ok_always, if_read_none, on_err_leads, stops_ending}
+use Rattle.inf_compile.proofs.Concluding.{stops_reading}
+use Rattle.inf_session.proofs.Delivering.{ends_behind, if_ok_more}
+use Rattle.inf_session.proofs.Leadings.{opened_behind}
+use Rattle.inf_compile.proofs.translation.read_out.Goals as goal
+
+pub returns-in-Ok-clause-concludes : goal.returns-in-Ok-clause-concludes
+returns-in-Ok-clause-concludes g c = λ honest start nested.
+    let files = g.F.Files in
+    let s = files.sources c.args.files.now in
+    let o = chosen c.args.session.setup in
+    let first = files.openings c.args.files.now in
+    let here = files.openings c.read.new.files in
+    let old = g.M.Sink.taken c.args.messages.now in
+    let mid = g.M.Sink.taken c.read.new.messages in
+    let new = g.M.Sink.taken c.supply_out.new.messages in
+    let read = c.in-Ok.ensures.read honest start nested in
+    let now = state s start here c.read.new.self in
+    subst (λ (f : Open). IfOk c.supply_out.result.1 (λ x. Concludes g.B.Bounds.most s o c.args.serial.now
+    (state s start first c.args.session []) start here f
+    old new x)) (sym c.supply_out.ensures.files)
+    (if_ok_more c.supply_out.result.1
+    (λ x. Ends g.B.Bounds.most o c.args.serial.now now x mid new)
+    (λ x. Concludes g.B.Bounds.most s o c.args.serial.now (state s start first c.args.session []) start here c.read.new.self.open_files old
+    new x)
+    (λ x d. concludes g.B.Bounds.most s o c.args.serial.now (state s start first c.args.session) now start here
+    c.read.new.self.open_files old mid new read.0 x read.1
+    (λ told. c.in-Ok.ensures.ended) (c.in-Ok.ensures.went.nested honest start nested) (λ told. refl) d)
+    (subst (λ (p : Choices). IfOk c.supply_out.result.1 (λ x. Ends g.B.Bounds.most p c.args.serial.now now x mid new))
+    (ap chosen c.in-Ok.ensures.setup) (ends_at c.supply_out.result.1 g.B.Bounds.most (chosen c.read.new.self.setup) c.args.serial.now
+    c.read.new.self mid new s start here c.supply_out.ensures.ok)))
+
+pub returns-in-Ok-clause-stops : goal.returns-in-Ok-clause-stops
+returns-in-Ok-clause-stops g c = λ honest start nested.
+    let files = g.F.Files in
+    let s = files.sources c.args.files.now in
+    let o = chosen c.args.session.setup in
+    let first = files.openings c.args.files.now in
+    let here = files.openings c.read.new.files in
+    let old = g.M.Sink.taken c.args.messages.now in
+    let mid = g.M.Sink.taken c.read.new.messages in
+    let new = g.M.Sink.taken c.supply_out.new.messages in
+    let read = c.in-Ok.ensures.read honest start nested in
+    let now = state s start here c.read.new.self in
+    on_err_leads c.supply_out.result.1 (BreaksOff g.B.Bounds.most o c.args.serial.now now mid new)
+    (Stops g.B.Bounds.most s o c.args.serial.now (state s start first c.args.session []) old new)
+    (λ t. stops_ending g.B.Bounds.most s o c.args.serial.now (state s start first c.args.session) now old mid new read.0
+    read.1 (λ told. c.in-Ok.ensures.ended) t)
+    (subst (λ (p : Choices). OnErr c.supply_out.result.1 (BreaksOff g.B.Bounds.most p c.args.serial.now now mid new))
+    (ap chosen c.in-Ok.ensures.setup) (breaks_off_at c.supply_out.result.1 g.B.Bounds.most (chosen c.read.new.self.setup) c.args.serial.now
+    c.read.new.self mid new s start here c.supply_out.ensures.err))
+
+pub returns-in-Ok-clause-heard : goal.returns-in-Ok-clause-heard
+returns-in-Ok-clause-heard g c = λ honest start nested. if_read_none c.supply_out.result.1 _ _ c.supply_out.ensures.fault
+
+pub returns-in-Err-clause-stops : goal.returns-in-Err-clause-stops
+returns-in-Err-clause-stops g c = λ honest start nested.
+    let files = g.F.Files in
+    let s = files.sources c.args.files.now in
+    let cut = c.in-Err.ensures.cut honest start nested in
+    stops_reading g.B.Bounds.most s (chosen c.args.session.setup) c.args.serial.now
+    (state s start (files.openings c.args.files.now) c.args.session)
+    (g.M.Sink.taken c.args.messages.now) (g.M.Sink.taken c.read.new.messages) cut.0 cut.1
+
+pub returns-in-Err-clause-heard : goal.returns-in-Err-clause-heard
+returns-in-Err-clause-heard g c = λ honest start nested. c.in-Err.ensures.unread honest start nested
+
+pub returns-in-Ok-clause-opened : goal.returns-in-Ok-clause-opened
+returns-in-Ok-clause-opened g c = λ honest start nested.
+    let files = g.F.Files in
+    let s = files.sources c.args.files.now in
+    let here = files.openings c.read.new.files in
+    let read = c.in-Ok.ensures.read honest start nested in
+    on_err c.supply_out.result.1 (
+      read.0,
+      opened_behind g.B.Bounds.most s (chosen c.args.session.setup) read.0 (state s start (files.openings c.args.files.now) c.args.session)
+          (state s start here c.read.new.self)
+          (g.M.Sink.taken c.args.messages.now) (g.M.Sink.taken c.read.new.messages) (opened_since start here) read.1 (λ told. refl),
+    )
+
+pub returns-in-Ok-clause-went : goal.returns-in-Ok-clause-went
+returns-in-Ok-clause-went g c =
+    went_as g.F.Files c.args.files.now c.read.new.files c.args.session.open_files c.read.new.self.open_files c.supply_out.result.0
+    c.supply_out.ensures.files c.read.ensures.went
+
+pub returns-in-Ok-clause-fits : goal.returns-in-Ok-clause-fits
+returns-in-Ok-clause-fits g c = if_ok_always c.supply_out.result.1 _ c.in-Ok.ensures.fits
+
+pub returns-in-Ok-clause-clean : goal.returns-in-Ok-clause-clean
+returns-in-Ok-clause-clean g c =
+    let m = g.M.Sink in
+    let old = c.args.messages.now in
+    let mid = c.read.new.messages in
+    let new = c.supply_out.new.messages in
+    if_ok_more c.supply_out.result.1 (λ x. x.status ≡ status.Success → EndsClean (m.taken mid) (m.taken new))
+    (λ x. x.status ≡ status.Success → EndsClean (m.taken old) (m.taken new))
+    (λ x p is. ends_behind m old mid new c.read.ensures.wrote (p is)) c.supply_out.ensures.clean

@@ -1,0 +1,49 @@
+use Rattle.std.proofs.Common.{◌≡◌}
+use Rattle.inf_compilation.specs.Works.{work as work_of}
+use Rattle.inf_session.specs.Choices.{chosen}
+use Rattle.inf_session.specs.Delivered.{Delivers, EndsClean, TakesFront}
+use Rattle.inf_session.specs.Ending.{finished}
+use Rattle.inf_session.specs.declared.compiled.Status.TheVariants as status
+use Rattle.inf_session.proofs.Delivering.{ends_behind, if_ok_more}
+use Rattle.inf_compile.specs.Comes.{BreaksOffAll, EndsAll}
+use Rattle.inf_compile.proofs.Concluding.{breaks_off_all, breaks_off_part, ends_all, on_err_leads}
+use Rattle.inf_compile.proofs.translation.supply_out.Goals as goal
+
+pub returns-in-Ok-clause-ok : goal.returns-in-Ok-clause-ok
+returns-in-Ok-clause-ok g c =
+    let o = chosen c.args.session.setup in
+    let now = c.supply_all.new.session in
+    let old = g.M.Sink.taken c.args.messages.now in
+    let mid = g.M.Sink.taken c.supply_all.new.messages in
+    let new = g.M.Sink.taken c.finish.new.messages in
+    if_ok_more c.finish.result.1
+    (λ x. Delivers (finished g.B.Bounds.most c.args.serial.now now.open_files.nest.names (work_of now.progress.work)) x mid new)
+    (λ x. EndsAll g.B.Bounds.most o c.args.serial.now c.args.session x old new)
+    (λ x d. ends_all g.B.Bounds.most o c.args.serial.now c.args.session now old mid new x c.in-Ok.ensures.supplied d) c.finish.ensures.ok
+
+pub returns-in-Ok-clause-err : goal.returns-in-Ok-clause-err
+returns-in-Ok-clause-err g c =
+    let o = chosen c.args.session.setup in
+    let now = c.supply_all.new.session in
+    let old = g.M.Sink.taken c.args.messages.now in
+    let mid = g.M.Sink.taken c.supply_all.new.messages in
+    let new = g.M.Sink.taken c.finish.new.messages in
+    on_err_leads c.finish.result.1
+    (TakesFront (finished g.B.Bounds.most c.args.serial.now now.open_files.nest.names (work_of now.progress.work)).messages mid new)
+    (BreaksOffAll g.B.Bounds.most o c.args.serial.now c.args.session old new)
+    (λ t. breaks_off_all g.B.Bounds.most o c.args.serial.now c.args.session now old mid new c.in-Ok.ensures.supplied t) c.finish.ensures.err
+
+pub returns-in-Err-clause-err : goal.returns-in-Err-clause-err
+returns-in-Err-clause-err g c =
+    breaks_off_part g.B.Bounds.most (chosen c.args.session.setup) c.args.serial.now c.args.session (g.M.Sink.taken c.args.messages.now)
+    (g.M.Sink.taken c.supply_all.new.messages) c.in-Err.ensures.cut
+
+pub returns-in-Ok-clause-clean : goal.returns-in-Ok-clause-clean
+returns-in-Ok-clause-clean g c =
+    let m = g.M.Sink in
+    let old = c.args.messages.now in
+    let mid = c.supply_all.new.messages in
+    let new = c.finish.new.messages in
+    if_ok_more c.finish.result.1 (λ x. x.status ≡ status.Success → EndsClean (m.taken mid) (m.taken new))
+    (λ x. x.status ≡ status.Success → EndsClean (m.taken old) (m.taken new))
+    (λ x p is. ends_behind m old mid new c.supply_all.ensures.wrote (p is)) c.finish.ensures.clean

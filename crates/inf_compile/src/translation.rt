@@ -1,0 +1,274 @@
+//! The compilation of a main source with the files that it includes.
+ghost use Rattle.std.specs.Prelude.{◌≡◌, ℕ, ◌<◌, List, [], None, false, IsTrue, IfOk, IfErr, OnErr, OnOk, length};
+ghost use Rattle.inf_devices.specs.Files.{Rose};
+ghost use Rattle.inf_sources.specs.Calls.{Honestly, IsUnreadable, Kept, StaysFit, Went};
+ghost use Rattle.inf_sources.specs.Open.{nesting, opened_since};
+ghost use Rattle.inf_session.specs.Choices.{chosen, most_quoted};
+ghost use Rattle.inf_session.specs.Delivered.{Appends, EndsClean};
+ghost use Rattle.inf_session.specs.Standing.{IsSet, state};
+ghost use Rattle.inf_session.specs.Leading.{GivenUp, OpensAll};
+ghost use Rattle.inf_session.specs.Session.{first_state, run};
+ghost use Rattle.inf_session.specs.Faults.{Caused, IfRead};
+ghost use Rattle.inf_settings.specs.Bounds.{limits_of};
+ghost use Rattle.inf_compile.specs.Chosen.{begun_at, chosen_at, chosen_for};
+ghost use Rattle.inf_compile.specs.Comes.{Begins, BreaksOffAll, Comes, Concludes, EndsAll, GivenUpFrom, Heard, IsUnread, OpenedPart, Stops};
+ghost use Rattle.inf_compile.specs.Comes.{SuppliesAll, SuppliesPart};
+
+use crate::heads::read_head;
+use inf_command::command_line::Options;
+use inf_devices::files::Files;
+use inf_devices::sinks::Sink;
+use inf_lexer::EnterFault;
+use inf_names::hashing::NameHashing;
+use inf_session::compiled::{Compiled, Status, written};
+use inf_session::ending::no_file;
+use inf_session::faults::{Fault, unread};
+use inf_session::session::Session;
+use inf_session::setup::Setup;
+use inf_settings::bounds::Bounds;
+use inf_settings::setting::Setting;
+use inf_sources::open_files::OpenFiles;
+use std::alloc::Global;
+use std::marker::Brand;
+
+/// Compiles the main source of this name with the files that it includes, and writes all messages, each as soon as it
+/// is found. The words of `options` choose, and where they say nothing, the head of the main source does. The serial
+/// number has six digits.
+///
+/// Returns an error: `Memory` where a growth was refused; `Read` where a file could not be opened or read, has more
+/// than 16,777,216 bytes, or is one of more than 65,535 names; `Messages` where a write failed or took nothing.
+pub fn translate<F: Files, M: Sink>(
+    alloc: Global,
+    options: &Options<'_>,
+    hashing: NameHashing,
+    files: &mut F,
+    name: &str,
+    serial: &[u8; 6],
+    messages: &mut M,
+) -> Result<Compiled, Fault>
+    requires { 0 < length name.now }
+
+    // With an honest reader the result is the outcome of its sources, and all messages were written.
+    ensures comes { IsTrue (F.is_honest files.old) →
+        IfOk result (λ compiled. Comes (F.sources files.old) (chosen_for (F.sources files.old) name.now options.now) serial.now name.now
+        (F.openings files.old) (F.openings files.new) (M.taken messages.old) (M.taken messages.new) compiled) }
+    ensures begins { IsTrue (F.is_honest files.old) → OnErr result (Begins (F.sources files.old)
+        (chosen_for (F.sources files.old) name.now options.now) serial.now name.now (M.taken messages.old) (M.taken messages.new)) }
+    // At any fault the openings are those of a part of the reading.
+    ensures opened { IsTrue (F.is_honest files.old) → OnErr result (OpenedPart (F.sources files.old)
+        (chosen_for (F.sources files.old) name.now options.now) name.now (F.openings files.old) (F.openings files.new)) }
+    // After a fault of reading all messages were written that come with the tokens read so far, and the fault has its
+    // cause. In the head of the main source there are none.
+    ensures heard { IsTrue (F.is_honest files.old) →
+        IfErr result (λ fault. IfRead fault (λ told. Heard (Rose (F.faults files.old) (F.faults files.new))
+        (F.sources files.old) (chosen_for (F.sources files.old) name.now options.now) name.now (F.openings files.old) (F.openings files.new)
+        (M.taken messages.old) (M.taken messages.new) told)) }
+
+    // With any reader nothing is left open, no story comes with an error, and a fault has its cause.
+    ensures kept { Kept F.Files files.old files.new }
+    ensures depth { F.depth files.new ≡ F.depth files.old }
+    ensures errors { IfOk result (λ compiled. compiled.status ≡ Status.Errors → compiled.story ≡ None) }
+    ensures clean { IfOk result (λ compiled. compiled.status ≡ Status.Success → EndsClean (M.taken messages.old) (M.taken messages.new)) }
+    ensures fault { IfErr result (λ fault. Caused fault (λ name. IsUnread F.Files files.old files.new)
+        (Rose (M.failures messages.old) (M.failures messages.new))) }
+{
+    let limit = options.settings().of(Setting::QuotedText);
+    let open_files = match OpenFiles::enter_main(alloc, options.set(), limit, files, name) {
+        Ok(open_files) => open_files,
+        Err(EnterFault::Absent) => return written(no_file(alloc, name.as_bytes())?, messages),
+        Err(EnterFault::Memory) => return Err(Fault::Memory),
+        Err(EnterFault::BadName | EnterFault::TooDeep | EnterFault::Device) => {
+            return Err(unread(alloc, name));
+        }
+    };
+    let (open_files, compiled) = translate_opened(
+        alloc, options, hashing, open_files, files, serial, messages,
+    );
+    open_files.close(files);
+    compiled
+}
+
+/// Translates the main source of `open_files`, which is open alone, and of which nothing was read yet, as `translate`
+/// does: its head, and the rest behind it. Returns the files that are still open then, with the result.
+fn translate_opened<F: Files, M: Sink>(
+    alloc: Global,
+    options: &Options<'_>,
+    hashing: NameHashing,
+    mut open_files: OpenFiles,
+    files: &mut F,
+    serial: &[u8; 6],
+    messages: &mut M,
+) -> (OpenFiles, Result<Compiled, Fault>)
+    requires is_open { length open_files.outer < F.depth files.old }
+    requires alone { open_files.outer ≡ [] }
+    requires goes { open_files.lexer.has_failed ≡ false }
+    ensures concludes { Honestly F.Files files.old open_files (λ start. IfOk result.1 (λ compiled.
+        let was = nesting (F.sources files.old) start (F.openings files.old) open_files in
+        Concludes (limits_of (chosen_at was options.now).settings) (F.sources files.old) (chosen_at was options.now) serial.now
+        (begun_at was options.now []) start (F.openings files.new) result.0 (M.taken messages.old) (M.taken messages.new) compiled)) }
+    ensures stops { Honestly F.Files files.old open_files (λ start. OnErr result.1 (
+        let was = nesting (F.sources files.old) start (F.openings files.old) open_files in
+        Stops (limits_of (chosen_at was options.now).settings) (F.sources files.old) (chosen_at was options.now) serial.now
+        (begun_at was options.now []) (M.taken messages.old) (M.taken messages.new))) }
+    ensures heard { Honestly F.Files files.old open_files (λ start. IfErr result.1 (λ fault. IfRead fault (λ name.
+        let was = nesting (F.sources files.old) start (F.openings files.old) open_files in
+        GivenUpFrom (limits_of (chosen_at was options.now).settings) (Rose (F.faults files.old) (F.faults files.new)) (F.sources files.old)
+        (chosen_at was options.now) was (begun_at was options.now) (M.taken messages.old) (M.taken messages.new)
+        start (F.openings files.new) result.0 name))) }
+    ensures opened { Honestly F.Files files.old open_files (λ start. OnErr result.1 (
+        let was = nesting (F.sources files.old) start (F.openings files.old) open_files in
+        (turns : ℕ) × OpensAll
+        (run (limits_of (chosen_at was options.now).settings) (F.sources files.old) (chosen_at was options.now) turns)
+        (begun_at was options.now) (opened_since start (F.openings files.new)))) }
+    ensures fits { IfOk result.1 (λ compiled. StaysFit F.Files files.old files.new open_files) }
+    ensures went { Went F.Files files.old files.new open_files result.0 }
+    ensures errors { IfOk result.1 (λ compiled. compiled.status ≡ Status.Errors → compiled.story ≡ None) }
+    ensures clean { IfOk result.1 (λ compiled. compiled.status ≡ Status.Success → EndsClean (M.taken messages.old) (M.taken messages.new)) }
+    ensures fault { IfErr result.1 (λ fault. Caused fault (λ name. IsUnreadable F.Files files.old files.new open_files result.0)
+        (Rose (M.failures messages.old) (M.failures messages.new))) }
+    ensures is_open { length result.0.outer < F.depth files.new }
+{
+    let head = match read_head(&mut open_files, files) {
+        Ok(head) => head,
+        Err(_) => {
+            let fault = unread(alloc, open_files.innermost());
+            return (open_files, Err(fault));
+        }
+    };
+    let options = options.with_head(&head);
+    let settings = options.settings();
+    open_files.choose(options.set(), settings.of(Setting::QuotedText));
+    let Ok(directories) = options.directories(alloc) else {
+        return (open_files, Err(Fault::Memory));
+    };
+    let setup = Setup {
+        letters: options.letters(),
+        settings: &settings,
+        directories: directories.as_slice(),
+        hashing,
+    };
+    translate_under::<F, M, Brand>(alloc, setup, open_files, files, serial, messages)
+}
+
+/// Translates the rest of the main source of `open_files`, under the limits that are the settings of `setup`. Returns
+/// the files that are still open then, with the result.
+fn translate_under<F: Files, M: Sink, B: Bounds>(
+    alloc: Global,
+    setup: Setup<'_>,
+    open_files: OpenFiles,
+    files: &mut F,
+    serial: &[u8; 6],
+    messages: &mut M,
+) -> (OpenFiles, Result<Compiled, Fault>)
+    requires limits { B.most ≡ limits_of setup.settings.now }
+    requires is_open { length open_files.outer < F.depth files.old }
+    requires goes { open_files.lexer.has_failed ≡ false }
+    requires set { open_files.nest.limit ≡ most_quoted (chosen setup) }
+    ensures concludes { Honestly F.Files files.old open_files (λ start. IfOk result.1 (λ compiled.
+        Concludes (limits_of setup.entry.settings.now) (F.sources files.old) (chosen setup.entry) serial.now
+        (first_state (chosen setup.entry) (nesting (F.sources files.old) start (F.openings files.old) open_files) [])
+        start (F.openings files.new) result.0 (M.taken messages.old) (M.taken messages.new) compiled)) }
+    ensures stops { Honestly F.Files files.old open_files (λ start.
+        OnErr result.1 (Stops (limits_of setup.entry.settings.now) (F.sources files.old) (chosen setup.entry) serial.now
+        (first_state (chosen setup.entry) (nesting (F.sources files.old) start (F.openings files.old) open_files) [])
+        (M.taken messages.old) (M.taken messages.new))) }
+    ensures heard { Honestly F.Files files.old open_files (λ start.
+        IfErr result.1 (λ fault. IfRead fault (λ name. GivenUp (limits_of setup.entry.settings.now)
+        (Rose (F.faults files.old) (F.faults files.new)) (F.sources files.old) (chosen setup.entry)
+        (first_state (chosen setup.entry) (nesting (F.sources files.old) start (F.openings files.old) open_files))
+        (M.taken messages.old) (M.taken messages.new) start (F.openings files.new) result.0 name))) }
+    ensures opened { Honestly F.Files files.old open_files (λ start. OnErr result.1 ((turns : ℕ) ×
+        OpensAll (run (limits_of setup.entry.settings.now) (F.sources files.old) (chosen setup.entry) turns)
+        (first_state (chosen setup.entry) (nesting (F.sources files.old) start (F.openings files.old) open_files))
+        (opened_since start (F.openings files.new)))) }
+    ensures fits { IfOk result.1 (λ compiled. StaysFit F.Files files.old files.new open_files) }
+    ensures went { Went F.Files files.old files.new open_files result.0 }
+    ensures errors { IfOk result.1 (λ compiled. compiled.status ≡ Status.Errors → compiled.story ≡ None) }
+    ensures clean { IfOk result.1 (λ compiled. compiled.status ≡ Status.Success → EndsClean (M.taken messages.old) (M.taken messages.new)) }
+    ensures fault { IfErr result.1 (λ fault. Caused fault (λ name. IsUnreadable F.Files files.old files.new open_files result.0)
+        (Rose (M.failures messages.old) (M.failures messages.new))) }
+    ensures is_open { length result.0.outer < F.depth files.new }
+{
+    match Session::<B>::new(alloc, setup, open_files) {
+        Ok(session) => read_out(session, files, serial, messages),
+        Err(open_files) => (open_files, Err(Fault::Memory)),
+    }
+}
+
+/// Reads all that is still to be read, and ends the compilation. Returns the files that are still open then, with the
+/// result.
+fn read_out<F: Files, M: Sink, B: Bounds>(
+    mut session: Session<'_, B>,
+    files: &mut F,
+    serial: &[u8; 6],
+    messages: &mut M,
+) -> (OpenFiles, Result<Compiled, Fault>)
+    requires is_open { length session.open_files.outer < F.depth files.old }
+    requires goes { session.open_files.lexer.has_failed ≡ false }
+    requires set { IsSet session }
+    ensures concludes { Honestly F.Files files.old session.entry.open_files (λ start. IfOk result.1 (λ compiled.
+        Concludes B.most (F.sources files.old) (chosen session.entry.setup) serial.now
+        (state (F.sources files.old) start (F.openings files.old) session.entry [])
+        start (F.openings files.new) result.0 (M.taken messages.old) (M.taken messages.new) compiled)) }
+    ensures stops { Honestly F.Files files.old session.entry.open_files (λ start.
+        OnErr result.1 (Stops B.most (F.sources files.old) (chosen session.entry.setup) serial.now
+        (state (F.sources files.old) start (F.openings files.old) session.entry []) (M.taken messages.old) (M.taken messages.new))) }
+    ensures heard { Honestly F.Files files.old session.entry.open_files (λ start.
+        IfErr result.1 (λ fault. IfRead fault (λ name. GivenUp B.most (Rose (F.faults files.old) (F.faults files.new)) (F.sources files.old)
+        (chosen session.entry.setup)
+        (state (F.sources files.old) start (F.openings files.old) session.entry) (M.taken messages.old) (M.taken messages.new)
+        start (F.openings files.new) result.0 name))) }
+    ensures opened { Honestly F.Files files.old session.entry.open_files (λ start.
+        OnErr result.1 ((turns : ℕ) × OpensAll (run B.most (F.sources files.old) (chosen session.entry.setup) turns)
+        (state (F.sources files.old) start (F.openings files.old) session.entry) (opened_since start (F.openings files.new)))) }
+    ensures fits { IfOk result.1 (λ compiled. StaysFit F.Files files.old files.new session.entry.open_files) }
+    ensures went { Went F.Files files.old files.new session.entry.open_files result.0 }
+    ensures errors { IfOk result.1 (λ compiled. compiled.status ≡ Status.Errors → compiled.story ≡ None) }
+    ensures clean { IfOk result.1 (λ compiled. compiled.status ≡ Status.Success → EndsClean (M.taken messages.old) (M.taken messages.new)) }
+    ensures fault { IfErr result.1 (λ fault. Caused fault (λ name. IsUnreadable F.Files files.old files.new session.entry.open_files
+        result.0)
+        (Rose (M.failures messages.old) (M.failures messages.new))) }
+    ensures is_open { length result.0.outer < F.depth files.new }
+{
+    match session.read(files, messages) {
+        Ok(()) => supply_out(session, serial, messages),
+        Err(fault) => (session.open_files, Err(fault)),
+    }
+}
+
+/// Reads the rest of the veneer.
+fn supply_all<M: Sink, B: Bounds>(
+    session: &mut Session<'_, B>,
+    messages: &mut M,
+) -> Result<(), Fault>
+    ensures supplied { OnOk result (SuppliesAll B.most (chosen session.old.setup) session.old session.new (M.taken messages.old)
+        (M.taken messages.new)) }
+    ensures cut { OnErr result (SuppliesPart B.most (chosen session.old.setup) session.old (M.taken messages.old) (M.taken messages.new)) }
+    ensures files { session.new.open_files ≡ session.old.open_files }
+    ensures fault { IfErr result (λ fault. Caused fault (λ name. ⊥) (Rose (M.failures messages.old) (M.failures messages.new))) }
+    ensures wrote { Appends M.Sink messages.old messages.new }
+{
+    session.supply(messages)
+}
+
+/// Reads the used part of the veneer, and ends the compilation. Returns the files that are still open then, with the
+/// result.
+fn supply_out<M: Sink, B: Bounds>(
+    mut session: Session<'_, B>,
+    serial: &[u8; 6],
+    messages: &mut M,
+) -> (OpenFiles, Result<Compiled, Fault>)
+    ensures ok { IfOk result.1 (λ compiled. EndsAll B.most (chosen session.entry.setup) serial.now session.entry compiled
+        (M.taken messages.old) (M.taken messages.new)) }
+    ensures err { OnErr result.1 (BreaksOffAll B.most (chosen session.entry.setup) serial.now session.entry (M.taken messages.old)
+        (M.taken messages.new)) }
+    ensures files { result.0 ≡ session.entry.open_files }
+    ensures errors { IfOk result.1 (λ compiled. compiled.status ≡ Status.Errors → compiled.story ≡ None) }
+    ensures clean { IfOk result.1 (λ compiled. compiled.status ≡ Status.Success → EndsClean (M.taken messages.old) (M.taken messages.new)) }
+    ensures fault { IfErr result.1 (λ fault. Caused fault (λ name. ⊥) (Rose (M.failures messages.old) (M.failures messages.new))) }
+{
+    match supply_all(&mut session, messages) {
+        Ok(()) => session.finish(serial, messages),
+        Err(fault) => (session.open_files, Err(fault)),
+    }
+}

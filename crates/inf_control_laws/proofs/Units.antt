@@ -1,0 +1,272 @@
+-- Units of a routine.
+use Rattle.std.proofs.Common.{◌≡◌, false, List, [], ◌∷◌, ◌++◌, Option, Some, None, refl, ◌∙◌, ap, sym, subst}
+use Rattle.std.specs.Prelude.{if◌then◌else◌}
+use Rattle.inf_settings.specs.Bounds.{Limits}
+use Rattle.inf_scanner.specs.declared.tokens.Place.{Place}
+use Rattle.inf_expressions.specs.declared.findings.Finding.{Finding}
+use Rattle.inf_expressions.specs.Trees.{Tree}
+use Rattle.inf_unit.specs.Roles.{role_of}
+use Rattle.inf_unit.specs.declared.roles.Ending.TheVariants as ending
+use Rattle.inf_unit.specs.declared.roles.Role.{Role}
+use Rattle.inf_unit.specs.declared.roles.Role.TheVariants as role
+use Rattle.inf_opcode.specs.declared.instructions.Label.{Label}
+use Rattle.inf_output.specs.Output.{Out, apart, items_of, together}
+use Rattle.inf_templates.specs.Meaning.{meaning}
+use Rattle.inf_constructs.specs.Cases.{SWITCHED}
+use Rattle.inf_constructs.specs.Constructs.{condition_label, otherwise, with_step}
+use Rattle.inf_constructs.specs.declared.constructs.Construct.{Construct}
+use Rattle.inf_compilation.specs.Context.{Context}
+use Rattle.inf_compilation.specs.Actions.{Compilation, named, passed, settled_of}
+use Rattle.inf_compilation.specs.Parts.{found_in, has_last, part_carried, part_finished, part_prepared, place_of, site_of, statement_at}
+use Rattle.inf_compilation.specs.Parts.{part_effect}
+use Rattle.inf_compilation.specs.declared.parts.Part.{Part}
+use Rattle.inf_compilation.specs.declared.parts.Part.TheVariants as part
+use Rattle.inf_statements.specs.Effects.{Site, statement_code, statement_laid}
+use Rattle.inf_statements.specs.Statements.{alone, switched, tested}
+use Rattle.inf_statements.specs.declared.statements.Statement.{Statement}
+use Rattle.inf_statements.specs.declared.statements.Statement.TheVariants as statement
+use Rattle.inf_constructs.specs.Labels.{NamedLabel}
+use Rattle.inf_reader.specs.Acting.{played}
+use Rattle.inf_interpreter.specs.Machine.{Place as MachinePlace, Stands, World, ◌then◌, with_variable}
+use Rattle.inf_interpreter.specs.Claims.{Claim, Comes, kept_behind, state}
+use Rattle.inf_interpreter.proofs.Running.{opened, same_some}
+use Rattle.inf_meaning_laws.specs.Covered.{Covered}
+use Rattle.inf_meaning_laws.specs.Laws.{Branches, GivesNothing, GivesValue}
+use Rattle.inf_meaning_laws.specs.Values.{sense, truth_of}
+use Rattle.inf_meaning_laws.proofs.Expressions.{branches_are_taken, effects_are_done, values_are_computed}
+use Rattle.inf_control_laws.specs.Plain.{IsCovered, IsPlain, plain_run}
+use Rattle.inf_control_laws.specs.Runs.{KeepsApart, Lays, LaysNone, Runs, exits}
+use Rattle.inf_control_laws.specs.Units.{AllUnitsRun, IsSound, kept_value, step_of, trees_of}
+use Rattle.inf_control_laws.proofs.Laying.{lays_code, lays_so, none_alike, none_both, none_then}
+use Rattle.inf_control_laws.proofs.Plain.{plain_statements_run}
+use Rattle.inf_control_laws.proofs.Settling.{settled_none}
+
+-- the output where the code of a unit begins
+abbrev begun_in : Limits → Context → Place → Compilation → Out
+begun_in limits context first v = record (settled_of limits context (named (part_prepared v))).out { first = first }
+
+none_begun : (limits : Limits) (context : Context) (first : Place) (v : Compilation) → LaysNone v.output (begun_in limits context first v)
+none_begun limits context first v =
+    let u = named (part_prepared v) in
+    let s = (settled_of limits context u).out in
+    none_both v.output s (begun_in limits context first v)
+    (settled_none limits context.set u.locals u.unit.tokens u.unit.gathering.leaves (record { out = v.output; operands = [] }))
+    (none_alike s (begun_in limits context first v) refl refl refl refl)
+
+-- units that are no cases
+abbrev IsOther : Part → Type 0
+IsOther part.Case = ⊥
+IsOther p = Unit {0}
+
+-- A sound unit is carried out.
+unit_is : (limits : Limits) (context : Context) (place : Place) (p : Part) (v : Compilation) (after : Compilation) →
+    v.is_replaced ≡ false → (if v.is_replaced then passed (has_last p) v else after).output ≡ after.output
+unit_is limits context place p v after stays = ap (λ b. (if b then passed (has_last p) v else after).output) stays
+
+carried_is : (limits : Limits) (context : Context) (first : Place) (p : Part) (f : Option Finding) (u : Compilation) → f ≡ None →
+    (part_carried limits context first p f u).output ≡ (part_carried limits context first p None u).output
+carried_is limits context first p f u e = ap (λ g. (part_carried limits context first p g u).output) e
+
+condition_carried : (limits : Limits) (context : Context) (first : Place) (v : Compilation) →
+    (part_carried limits context first part.Condition None (named (part_prepared v))).output
+    ≡ tested limits (condition_label v.constructs) (trees_of limits context part.Condition v) (begun_in limits context first v)
+unfolding part_effect
+condition_carried limits context first v = refl
+
+start_carried : (limits : Limits) (context : Context) (first : Place) (v : Compilation) →
+    (part_carried limits context first part.Start None (named (part_prepared v))).output
+    ≡ alone limits (trees_of limits context part.Start v) (begun_in limits context first v)
+unfolding part_effect
+start_carried limits context first v = refl
+
+plainly_laid : (limits : Limits) (site : Site) (s : Statement) (trees : List Tree) (labels : List NamedLabel) (o : Out) → IsPlain s →
+    (statement_laid limits site s trees labels o).1 ≡ statement_code limits site trees s o
+unfolding statement_laid
+plainly_laid limits site statement.Jump trees labels o h = absurd h
+plainly_laid limits site statement.Place trees labels o h = absurd h
+plainly_laid limits site statement.Assembly trees labels o h = absurd h
+plainly_laid limits site s trees labels o h = refl
+
+statement_carried : (limits : Limits) (context : Context) (first : Place) (s : Statement) (v : Compilation) → IsPlain s →
+    (part_carried limits context first (part.Statement s) None (named (part_prepared v))).output
+    ≡ statement_code limits (site_of context (record (named (part_prepared v)) { output = begun_in limits context first v }))
+    (trees_of limits context (part.Statement s) v) s (begun_in limits context first v)
+unfolding part_effect
+statement_carried limits context first s v h =
+    let u = record (named (part_prepared v)) { output = begun_in limits context first v } in
+    plainly_laid limits (site_of context u) s (trees_of limits context (part.Statement s) v) u.labels (begun_in limits context first v) h
+
+switched_carried : (limits : Limits) (context : Context) (first : Place) (v : Compilation) →
+    (part_carried limits context first part.Switched None (named (part_prepared v))).output
+    ≡ switched limits (trees_of limits context part.Switched v) (begun_in limits context first v)
+unfolding part_effect
+switched_carried limits context first v = refl
+
+-- the output and the step that is kept, behind the unit of a step
+abbrev step_output : Limits → List Tree → Out → Out
+step_output limits trees o = alone limits trees (apart o)
+
+abbrev stepped_to : Limits → List Construct → List Tree → Out → List Construct × Out
+stepped_to limits constructs trees o =
+    (with_step (Some (items_of (step_output limits trees o).kept)) constructs, together (step_output limits trees o))
+
+abbrev both_of : Compilation → List Construct × Out
+both_of u = (u.constructs, u.output)
+
+step_carried : (limits : Limits) (context : Context) (first : Place) (v : Compilation) →
+    both_of (part_carried limits context first part.Step None (named (part_prepared v)))
+    ≡ stepped_to limits v.constructs (trees_of limits context part.Step v) (begun_in limits context first v)
+unfolding part_effect
+step_carried limits context first v = refl
+
+-- The ends of units
+condition_ends : (w : World) (limits : Limits) (context : Context) (place : Place) (v : Compilation) →
+    IsSound limits context part.Condition v → (c : Construct) (around : List Construct) → v.constructs ≡ c ∷ around → (t : Tree)
+    (trees : List Tree) → trees_of limits context part.Condition v ≡ t ∷ trees → Covered false t →
+    Lays w (Branches false w (truth_of w t) false (otherwise c c.kind)) v.output
+    (played limits context place (role.End ending.Condition) v).output
+condition_ends w limits context place v sound c around inner t trees one h =
+    let ready = part_prepared v in
+    let first = place_of part.Condition place ready in
+    let o = begun_in limits context first v in
+    let P = Branches false w (truth_of w t) false (otherwise c c.kind) in
+    let is = unit_is limits context place part.Condition v (part_finished limits context first part.Condition ready) sound.stays
+    ∙ carried_is limits context first part.Condition (found_in limits context part.Condition ready) (named ready) sound.finds
+    ∙ condition_carried limits context first v
+    ∙ ap (λ l. tested limits (condition_label l) (trees_of limits context part.Condition v) o) inner
+    ∙ ap (λ l. tested limits (condition_label (c ∷ around)) l o) one in
+    subst (λ z. Lays w P v.output z) (sym is)
+    (none_then w P v.output o ((meaning limits t).branch false (otherwise c c.kind) o) (none_begun limits context first v)
+    (lays_code w ((meaning limits t).branch false (otherwise c c.kind)) P
+    (branches_are_taken false w limits t h false (otherwise c c.kind)) o))
+
+start_ends : (w : World) (limits : Limits) (context : Context) (place : Place) (v : Compilation) →
+    IsSound limits context part.Start v → (t : Tree) (trees : List Tree) → trees_of limits context part.Start v ≡ t ∷ trees →
+    Covered false t → Lays w (GivesNothing w (sense w t).alone) v.output (played limits context place (role.End ending.Start) v).output
+start_ends w limits context place v sound t trees one h =
+    let ready = part_prepared v in
+    let first = place_of part.Start place ready in
+    let o = begun_in limits context first v in
+    let P = GivesNothing w (sense w t).alone in
+    let is = unit_is limits context place part.Start v (part_finished limits context first part.Start ready) sound.stays
+    ∙ carried_is limits context first part.Start (found_in limits context part.Start ready) (named ready) sound.finds
+    ∙ start_carried limits context first v ∙ ap (λ l. alone limits l o) one in
+    subst (λ z. Lays w P v.output z) (sym is)
+    (none_then w P v.output o ((meaning limits t).alone o) (none_begun limits context first v)
+    (lays_code w (meaning limits t).alone P (effects_are_done false w limits t h) o))
+
+-- The value that is laid for a variable of an expression's own is in the store.
+kept_in : (w : World) (t : Tree) (at : Label → MachinePlace) (from to : MachinePlace) →
+    GivesValue false w (sense w t).value SWITCHED at from to → GivesNothing w (kept_value w t) at from to
+kept_in w t at from to g stack temp s u e =
+    let o = opened ((sense w t).value (with_variable SWITCHED) s) (λ p. Some p.1) u e in
+    let r = g stack temp s o.0.0 o.0.1 o.1 in
+    (r.0, subst (λ z. Comes w at from (state stack temp s) to (state stack r.0 z)) (same_some o.2) r.2)
+
+value_ends : (w : World) (limits : Limits) (context : Context) (place : Place) (v : Compilation) →
+    IsSound limits context part.Switched v → (t : Tree) (trees : List Tree) → trees_of limits context part.Switched v ≡ t ∷ trees →
+    Covered false t → Lays w (GivesNothing w (kept_value w t)) v.output
+    (played limits context place (role.End ending.Switched) v).output
+value_ends w limits context place v sound t trees one h =
+    let ready = part_prepared v in
+    let first = place_of part.Switched place ready in
+    let o = begun_in limits context first v in
+    let P = GivesNothing w (kept_value w t) in
+    let c = (meaning limits t).value SWITCHED in
+    let is = unit_is limits context place part.Switched v (part_finished limits context first part.Switched ready) sound.stays
+    ∙ carried_is limits context first part.Switched (found_in limits context part.Switched ready) (named ready) sound.finds
+    ∙ switched_carried limits context first v ∙ ap (λ l. switched limits l o) one in
+    subst (λ z. Lays w P v.output z) (sym is)
+    (none_then w P v.output o (c o) (none_begun limits context first v)
+    (lays_so w (GivesValue false w (sense w t).value SWITCHED) P o (c o) (kept_in w t)
+    (lays_code w c (GivesValue false w (sense w t).value SWITCHED) (values_are_computed false w limits t h SWITCHED) o)))
+
+-- Code that is kept apart, where nothing was, is the step.
+step_kept : (w : World) (limits : Limits) (t : Tree) → Covered false t → (trees : List Tree) (c : Construct) (around : List Construct)
+    (before o : Out) → LaysNone before o → before.kept ≡ None →
+    let now = stepped_to limits (c ∷ around) (t ∷ trees) o in
+    KeepsApart w (GivesNothing w (sense w t).alone) before now.1 (step_of now.0)
+step_kept w limits t h trees c around before o settles absent =
+    let x = effects_are_done false w limits t h (apart o) in
+    let after = (meaning limits t).alone (apart o) in
+    let now = together after in
+    let is : items_of after.kept ≡ x.items = ap items_of x.laid.kept in
+    record {
+      laid = record {
+        laid = record {
+          kept = sym (ap (λ k. kept_behind k []) absent);
+          fits = λ e. settles.laid.fits (x.laid.fits e);
+          code = λ e. x.laid.code e ∙ settles.laid.code (x.laid.fits e);
+        };
+        names = record { stays = λ v y e. x.names.stays v y (settles.names.stays v y e) };
+      };
+      runs = λ at rest k s.
+          subst (λ l. GivesNothing w (sense w t).alone at (l ++ rest) rest) (sym is)
+          (x.runs at rest (record { fits = k.fits; numbers = k.numbers; contracts = k.contracts }) (subst (λ l. Stands at l rest) is s));
+    }
+
+step_ends : (w : World) (limits : Limits) (context : Context) (place : Place) (v : Compilation) →
+    IsSound limits context part.Step v → v.output.kept ≡ None → (c : Construct) (around : List Construct) → v.constructs ≡ c ∷ around →
+    (t : Tree) (trees : List Tree) → trees_of limits context part.Step v ≡ t ∷ trees → Covered false t →
+    let now = played limits context place (role.End ending.Step) v in
+    KeepsApart w (GivesNothing w (sense w t).alone) v.output now.output (step_of now.constructs)
+step_ends w limits context place v sound absent c around inner t trees one h =
+    let ready = part_prepared v in
+    let first = place_of part.Step place ready in
+    let o = begun_in limits context first v in
+    let is = ap (λ b. both_of (if b then passed (has_last part.Step) v else part_finished limits context first part.Step ready)) sound.stays
+    ∙ ap (λ g. both_of (part_carried limits context first part.Step g (named ready))) sound.finds
+    ∙ step_carried limits context first v
+    ∙ ap (λ l. stepped_to limits l (trees_of limits context part.Step v) o) inner
+    ∙ ap (λ l. stepped_to limits (c ∷ around) l o) one in
+    subst (λ (z : List Construct × Out). KeepsApart w (GivesNothing w (sense w t).alone) v.output z.1 (step_of z.0)) (sym is)
+    (step_kept w limits t h trees c around v.output o (none_begun limits context first v) absent)
+
+statement_ends : (w : World) (limits : Limits) (context : Context) (place : Place) (v : Compilation) →
+    IsSound limits context (part.Statement (statement_at v)) v → IsPlain (statement_at v) →
+    IsCovered (trees_of limits context (part.Statement (statement_at v)) v) →
+    Lays w (Runs w (exits v.constructs) (plain_run w (exits v.constructs)
+    (trees_of limits context (part.Statement (statement_at v)) v) (statement_at v))) v.output
+    (played limits context place (role.End ending.Statement) v).output
+statement_ends w limits context place v sound plainly h =
+    let s = statement_at v in
+    let p = part.Statement s in
+    let ready = part_prepared v in
+    let first = place_of p place ready in
+    let o = begun_in limits context first v in
+    let trees = trees_of limits context p v in
+    let x = exits v.constructs in
+    let P = Runs w x (plain_run w x trees s) in
+    let site = site_of context (record (named ready) { output = o }) in
+    let is = unit_is limits context place p v (part_finished limits context first p ready) sound.stays
+    ∙ carried_is limits context first p (found_in limits context p ready) (named ready) sound.finds
+    ∙ statement_carried limits context first s v plainly in
+    subst (λ z. Lays w P v.output z) (sym is)
+    (none_then w P v.output o (statement_code limits site trees s o) (none_begun limits context first v)
+    (plain_statements_run w limits site trees s plainly h o))
+
+by_role : (w : World) (limits : Limits) (context : Context) (place : Place) (v : Compilation) (P : Claim) (r e : Role) → r ≡ e →
+    Lays w P v.output (played limits context place e v).output → Lays w P v.output (played limits context place r v).output
+by_role w limits context place v P r e same h = subst (λ z. Lays w P v.output (played limits context place z v).output) (sym same) h
+
+pub units_run : AllUnitsRun
+units_run w limits context place v = record {
+  conditions = λ a is sound c around inner t trees one h.
+      by_role w limits context place v (Branches false w (truth_of w t) false (otherwise c c.kind)) (role_of a) (role.End ending.Condition)
+      is
+      (condition_ends w limits context place v sound c around inner t trees one h);
+  starts = λ a is sound t trees one h.
+      by_role w limits context place v (GivesNothing w (sense w t).alone) (role_of a) (role.End ending.Start) is
+      (start_ends w limits context place v sound t trees one h);
+  values = λ a is sound t trees one h.
+      by_role w limits context place v (GivesNothing w (kept_value w t)) (role_of a) (role.End ending.Switched) is
+      (value_ends w limits context place v sound t trees one h);
+  steps = λ a is sound kept c around inner t trees one h.
+      subst (λ z. let now = played limits context place z v in
+      KeepsApart w (GivesNothing w (sense w t).alone) v.output now.output (step_of now.constructs)) (sym is)
+      (step_ends w limits context place v sound kept c around inner t trees one h);
+  statements = λ a is sound plainly h.
+      by_role w limits context place v (Runs w (exits v.constructs) (plain_run w (exits v.constructs)
+      (trees_of limits context (part.Statement (statement_at v)) v) (statement_at v))) (role_of a) (role.End ending.Statement) is
+      (statement_ends w limits context place v sound plainly h);
+}

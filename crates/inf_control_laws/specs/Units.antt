@@ -1,0 +1,73 @@
+-- Units of a routine: a condition, the start and the step of a `for`, the value of a `switch`, and a statement that holds no others, by the
+-- trees of their expressions.
+use Rattle.std.specs.Prelude.{◌≡◌, false, List, [], ◌∷◌, Option, Some, None, map}
+use Rattle.inf_settings.specs.Bounds.{Limits}
+use Rattle.inf_scanner.specs.declared.tokens.Place.{Place}
+use Rattle.inf_expressions.specs.Trees.{Tree}
+use Rattle.inf_syntax.specs.declared.actions.Action.{Action}
+use Rattle.inf_unit.specs.Roles.{role_of}
+use Rattle.inf_unit.specs.declared.roles.Ending.TheVariants as ending
+use Rattle.inf_unit.specs.declared.roles.Role.TheVariants as role
+use Rattle.inf_constructs.specs.Cases.{SWITCHED}
+use Rattle.inf_constructs.specs.Constructs.{otherwise}
+use Rattle.inf_constructs.specs.Roots.{tree_in}
+use Rattle.inf_constructs.specs.declared.constructs.Construct.{Construct}
+use Rattle.inf_compilation.specs.Context.{Context}
+use Rattle.inf_compilation.specs.Actions.{Compilation, named, settled_of, trees_at}
+use Rattle.inf_compilation.specs.Parts.{found_in, order_of, part_prepared, statement_at, wanted_of}
+use Rattle.inf_compilation.specs.declared.parts.Part.{Part}
+use Rattle.inf_compilation.specs.declared.parts.Part.TheVariants as part
+use Rattle.inf_reader.specs.Acting.{act}
+use Rattle.inf_output.specs.declared.items.Item.{Item}
+use Rattle.inf_interpreter.specs.Machine.{World, ◌then◌, with_variable}
+use Rattle.inf_meaning_laws.specs.Covered.{Covered}
+use Rattle.inf_meaning_laws.specs.Laws.{Branches, GivesNothing}
+use Rattle.inf_meaning_laws.specs.Values.{sense, truth_of}
+use Rattle.inf_control_laws.specs.Plain.{IsCovered, IsPlain, plain_run}
+use Rattle.inf_control_laws.specs.Control.{Change}
+use Rattle.inf_control_laws.specs.Runs.{KeepsApart, Lays, Runs, exits}
+
+-- the trees of a unit that ends
+abbrev pub trees_of : Limits → Context → Part → Compilation → List Tree
+trees_of limits context p v =
+    let u = named (part_prepared v) in map tree_in (trees_at (order_of p u) (wanted_of p) (settled_of limits context u).operands u)
+
+-- A unit has no error and stands in a routine that is not passed over.
+pub record IsSound (limits : Limits) (context : Context) (p : Part) (v : Compilation) : Type 0 where
+  pub stays : v.is_replaced ≡ false
+  pub finds : found_in limits context p (part_prepared v) ≡ None
+
+-- the value of a tree, which a `switch` keeps in a variable of its own
+abbrev pub kept_value : World → Tree → Change
+kept_value w t s = (sense w t).value (with_variable SWITCHED) s then λ p. Some p.1
+
+-- the step of the innermost statement
+abbrev pub step_of : List Construct → Option (List Item)
+step_of [] = None
+step_of (c ∷ constructs) = c.step
+
+-- A condition branches where it is not true; the start of a `for` and the value of a `switch` change the store; a plain statement has its
+-- effect; and the step of a `for` is kept apart, where nothing else is.
+pub record UnitsRun (w : World) (limits : Limits) (context : Context) (place : Place) (v : Compilation) : Type 0 where
+  pub conditions : (a : Action) → role_of a ≡ role.End ending.Condition → IsSound limits context part.Condition v → (c : Construct)
+      (around : List Construct) → v.constructs ≡ c ∷ around → (t : Tree) (trees : List Tree) →
+      trees_of limits context part.Condition v ≡ t ∷ trees → Covered false t →
+      Lays w (Branches false w (truth_of w t) false (otherwise c c.kind)) v.output (act limits context place a v).output
+  pub starts : (a : Action) → role_of a ≡ role.End ending.Start → IsSound limits context part.Start v → (t : Tree) (trees : List Tree) →
+      trees_of limits context part.Start v ≡ t ∷ trees → Covered false t →
+      Lays w (GivesNothing w (sense w t).alone) v.output (act limits context place a v).output
+  pub values : (a : Action) → role_of a ≡ role.End ending.Switched → IsSound limits context part.Switched v → (t : Tree)
+      (trees : List Tree) → trees_of limits context part.Switched v ≡ t ∷ trees → Covered false t →
+      Lays w (GivesNothing w (kept_value w t)) v.output (act limits context place a v).output
+  pub steps : (a : Action) → role_of a ≡ role.End ending.Step → IsSound limits context part.Step v → v.output.kept ≡ None →
+      (c : Construct) (around : List Construct) → v.constructs ≡ c ∷ around → (t : Tree) (trees : List Tree) →
+      trees_of limits context part.Step v ≡ t ∷ trees → Covered false t →
+      let now = act limits context place a v in
+      KeepsApart w (GivesNothing w (sense w t).alone) v.output now.output (step_of now.constructs)
+  pub statements : (a : Action) → role_of a ≡ role.End ending.Statement → IsSound limits context (part.Statement (statement_at v)) v →
+      IsPlain (statement_at v) → IsCovered (trees_of limits context (part.Statement (statement_at v)) v) →
+      Lays w (Runs w (exits v.constructs) (plain_run w (exits v.constructs)
+      (trees_of limits context (part.Statement (statement_at v)) v) (statement_at v))) v.output (act limits context place a v).output
+
+abbrev pub AllUnitsRun : Type 0
+AllUnitsRun = (w : World) (limits : Limits) (context : Context) (place : Place) (v : Compilation) → UnitsRun w limits context place v

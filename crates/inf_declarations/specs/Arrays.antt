@@ -1,0 +1,210 @@
+-- The directive `Array`: its header, and its entries one by one. Designer's Manual, fourth edition, section 2.4.
+use Rattle.std.specs.Prelude.{ℕ, ◌+◌, ◌==◌, List, [], ◌∷◌, length, map, codes, Bool, true, false, not, ◌&&◌, ◌||◌, if◌then◌else◌, Option}
+use Rattle.std.specs.Prelude.{Some, None}
+use Rattle.std.specs.Str.{str_eq_ignore_ascii_case}
+use Rattle.inf_settings.specs.Bounds.{Limits, unbounded}
+use Rattle.inf_area.specs.declared.targets.Value.{Value}
+use Rattle.inf_area.specs.declared.targets.Value.TheVariants as value
+use Rattle.inf_arrays.specs.Arrays.{Adding, One, Zeros, Characters, AllArrays, added_fault, all_of, arrays_size, no_arrays, open_fault}
+use Rattle.inf_arrays.specs.Arrays.{opened, values_in, with_entries}
+use Rattle.inf_arrays.specs.declared.arrays.ArrayFault.{ArrayFault}
+use Rattle.inf_arrays.specs.declared.arrays.ArrayFault.TheVariants as fault
+use Rattle.inf_arrays.specs.declared.kinds.ArrayKind.{ArrayKind}
+use Rattle.inf_arrays.specs.declared.kinds.ArrayKind.TheVariants as array_kind_of
+use Rattle.inf_characters.specs.declared.texts.TextItem.{TextItem}
+use Rattle.inf_characters.specs.declared.texts.TextItem.TheVariants as text_item
+use Rattle.inf_expressions.specs.declared.findings.Finding.{Finding}
+use Rattle.inf_expressions.specs.declared.units.Wanted.TheVariants as wanted
+use Rattle.inf_expressions.specs.Findings.{least_of_both, out_of_range}
+use Rattle.inf_gathering.specs.declared.gathering.Leaf.{Leaf}
+use Rattle.inf_gathering.specs.declared.gathering.Leaf.TheVariants as leaf
+use Rattle.inf_names.specs.declared.meanings.Meaning.TheVariants as meaning
+use Rattle.inf_output.specs.Output.{Code, declared, passed_table}
+use Rattle.inf_report.specs.declared.messages.FixedLimit.TheVariants as countable
+use Rattle.inf_scanner.specs.declared.tokens.Mark.TheVariants as mark
+use Rattle.inf_scanner.specs.declared.tokens.Place.{Place}
+use Rattle.inf_scanner.specs.declared.tokens.TokenKind.{TokenKind}
+use Rattle.inf_scanner.specs.declared.tokens.TokenKind.TheVariants as kind
+use Rattle.inf_settings.specs.declared.setting.Setting.TheVariants as setting
+use Rattle.inf_statements.specs.Printing.{text_at}
+use Rattle.inf_constructs.specs.Roots.{tree_in}
+use Rattle.inf_names.specs.Spellings.{Name}
+use Rattle.inf_compilation.specs.Context.{Context}
+use Rattle.inf_unit.specs.Tokens.{SourceToken}
+use Rattle.inf_unit.specs.Units.{bytes_at, first_place, kind_at, name_order}
+use Rattle.inf_compilation.specs.Actions.{Compilation, finding_at, operands_of, passed, settled_of, trees_at, unit_ended}
+use Rattle.inf_declarations.specs.Declarations.{declared_ended, plainly_known, value_in, value_of}
+use Rattle.inf_compilation.specs.Findings.{found_alone, nothing_found}
+use Rattle.inf_declarations.specs.declared.declarations.Declared.{Declared}
+
+-- The header
+
+-- the kind of an array, by the token behind its name
+abbrev pub kind_named : List ℕ → ArrayKind
+kind_named bytes = if str_eq_ignore_ascii_case bytes (codes "string") then array_kind_of.String else array_kind_of.Table
+
+abbrev pub array_kind : Option TokenKind → List ℕ → ArrayKind
+array_kind (Some (kind.Mark mark.Arrow)) bytes = array_kind_of.Bytes
+array_kind (Some (kind.Mark m)) bytes = array_kind_of.Words
+array_kind (Some k) bytes = kind_named bytes
+array_kind None bytes = array_kind_of.Words
+
+abbrev pub kind_in : List SourceToken → ArrayKind
+kind_in tokens = let at = name_order tokens + 1 in array_kind (kind_at tokens at) (bytes_at tokens at)
+
+abbrev pub with_arrays : AllArrays → Code
+with_arrays arrays o = record o { tables = record o.tables { arrays = arrays } }
+
+-- the name of an array is declared, which begins at `place`
+abbrev pub array_declared : Limits → Name → ℕ → Code
+array_declared limits name place o = declared limits name.bytes name.place (meaning.Array place) o
+
+-- An array that would pass the limit is not opened, and has its name all the same: that may pass a limit before that of
+-- arrays.
+abbrev pub array_refused : Limits → Name → Code
+array_refused limits name o = array_declared limits name 0 (passed_table limits setting.Arrays o)
+
+-- One more array of the story, with its name.
+abbrev pub array_opened_by : Limits → Option ArrayFault → ArrayKind → Name → Code
+array_opened_by limits None k name o =
+    array_declared limits name (arrays_size (all_of o.tables.arrays)) (with_arrays (opened k o.tables.arrays) o)
+array_opened_by limits (Some f) k name o = array_refused limits name o
+
+abbrev pub array_opened : Limits → ArrayKind → Name → Code
+array_opened limits k name o = array_opened_by limits (open_fault limits k o.tables.arrays) k name o
+
+-- An array whose header has an error is none of the story: its entries are read, and kept apart.
+abbrev pub apart_by : Option ArrayFault → ArrayKind → AllArrays → AllArrays
+apart_by None k arrays = opened k arrays
+apart_by (Some f) k arrays = arrays
+
+abbrev pub apart : ArrayKind → AllArrays
+apart k = apart_by (open_fault unbounded k no_arrays) k no_arrays
+
+abbrev pub listed : Limits → Option Finding → ArrayKind → Name → Compilation → Compilation
+listed limits None k name w =
+    record w { listing = record { is_lost = false; has_entries = false }; output = array_opened limits k name w.output }
+listed limits (Some f) k name w = record w { listing = record { is_lost = true; has_entries = false }; lost = apart k }
+
+abbrev pub header_with : Limits → Context → Place → Name → Declared → Compilation → Compilation
+header_with limits context first name d w =
+    declared_ended limits context first false name countable.Globals d (listed limits d.finding (kind_in w.unit.tokens) name w)
+
+abbrev pub array_header : Limits → Context → Place → Name → Compilation → Compilation
+array_header limits context first name w = header_with limits context first name (plainly_known name (name_order w.unit.tokens) w) w
+
+abbrev pub array_named : Limits → Context → Place → List Name → Compilation → Compilation
+array_named limits context first [] w = passed false w
+array_named limits context first (name ∷ names) w = array_header limits context first name w
+
+-- Entries
+
+-- The first entry is alone where it is the last one, too: as a number it asks for that many zeros, and as a text for its
+-- characters.
+abbrev pub is_alone : Bool → Compilation → Bool
+is_alone is_last w = is_last && not w.listing.has_entries
+
+-- the place of the text that an expression is by itself
+abbrev pub bare_leaf : List Leaf → Option ℕ
+bare_leaf ((leaf.Text at) ∷ []) = Some at
+bare_leaf _ = None
+
+abbrev pub bare_text : Bool → Compilation → Option ℕ
+bare_text alone w = if alone && (length w.unit.gathering.symbols == 1) then bare_leaf w.unit.gathering.leaves else None
+
+-- the codes of characters, of which none may be that of a string variable
+abbrev pub is_variable : TextItem → Bool
+is_variable (text_item.Variable n) = true
+is_variable (text_item.Character z) = false
+
+abbrev pub variables_from : List TextItem → Bool → Bool
+variables_from [] found = found
+variables_from (i ∷ items) found = variables_from items (found || is_variable i)
+
+abbrev pub code_of : TextItem → ℕ
+code_of (text_item.Variable n) = 0
+code_of (text_item.Character z) = z
+
+abbrev pub codes_of : List TextItem → List ℕ
+codes_of items = map code_of items
+
+-- The finding about an entry that its array refuses. It is no error of the unit that there are too many bytes.
+abbrev pub refused : Option ArrayFault → Option Finding
+refused (Some fault.TooMany) = Some (out_of_range 0)
+refused (Some fault.NotAByte) = Some (out_of_range 0)
+refused (Some fault.NoEntries) = Some (out_of_range 0)
+refused (Some fault.Full) = None
+refused (Some fault.Memory) = None
+refused None = None
+
+abbrev pub added_finding : Limits → Adding → Compilation → Option Finding
+added_finding limits a w =
+    refused (if w.listing.is_lost then added_fault unbounded a w.lost else added_fault limits a w.output.tables.arrays)
+
+abbrev pub items_finding : Limits → Bool → List TextItem → Compilation → Option Finding
+items_finding limits has_variables items w =
+    if has_variables then Some (out_of_range 0) else added_finding limits (Characters (codes_of items)) w
+
+abbrev pub text_finding : Limits → Option (List TextItem) → Compilation → Option Finding
+text_finding limits None w = Some (out_of_range 0)
+text_finding limits (Some items) w = items_finding limits (variables_from items false) items w
+
+abbrev pub adding : Bool → Value → Adding
+adding true (value.Known count) = Zeros count
+adding true v = One v
+adding false v = One v
+
+-- the value of the unit's expression, where its names are only looked up
+abbrev pub looked_value : Compilation → Value
+looked_value w = value_in (map tree_in (trees_at 0 wanted.Constant (operands_of w) w))
+
+abbrev pub own_finding : Limits → Context → Option ℕ → Bool → Compilation → Option Finding
+own_finding limits context (Some at) alone w = text_finding limits (text_at context.set w.unit.tokens at) w
+own_finding limits context None alone w = added_finding limits (adding alone (looked_value w)) w
+
+abbrev pub entry_finding : Limits → Context → Bool → Compilation → Option Finding
+entry_finding limits context alone w =
+    least_of_both (finding_at 0 wanted.Constant w) (own_finding limits context (bare_text alone w) alone w)
+
+-- more entries of the open array of the story, or of the one that is kept apart
+abbrev pub story_added : Limits → Option ArrayFault → Adding → Code
+story_added limits None a o = with_arrays (with_entries (values_in a) o.tables.arrays) o
+story_added limits (Some f) a o = passed_table limits setting.Arrays o
+
+abbrev pub lost_added : Option ArrayFault → Adding → AllArrays → AllArrays
+lost_added None a arrays = with_entries (values_in a) arrays
+lost_added (Some f) a arrays = arrays
+
+abbrev pub added : Limits → Adding → Compilation → Compilation
+added limits a w =
+    if w.listing.is_lost then record w { lost = lost_added (added_fault unbounded a w.lost) a w.lost }
+    else record w { output = story_added limits (added_fault limits a w.output.tables.arrays) a w.output }
+
+abbrev pub text_added : Limits → Option (List TextItem) → Compilation → Compilation
+text_added limits None w = w
+text_added limits (Some items) w = added limits (Characters (codes_of items)) w
+
+abbrev pub value_added : Limits → Context → Bool → Compilation → Compilation
+value_added limits context alone w =
+    added limits (adding alone (value_of limits context w)) (record w { output = (settled_of limits context w).out })
+
+abbrev pub entry_added_by : Limits → Context → Option ℕ → Bool → Compilation → Compilation
+entry_added_by limits context (Some at) alone w = text_added limits (text_at context.set w.unit.tokens at) w
+entry_added_by limits context None alone w = value_added limits context alone w
+
+abbrev pub entry_added : Limits → Context → Bool → Compilation → Compilation
+entry_added limits context alone w = entry_added_by limits context (bare_text alone w) alone w
+
+abbrev pub entry_with : Limits → Context → Place → Bool → Option Finding → Compilation → Compilation
+entry_with limits context first alone None w = unit_ended limits context first false nothing_found (entry_added limits context alone w)
+entry_with limits context first alone (Some f) w = unit_ended limits context first false (found_alone (Some f)) w
+
+-- an array has an entry, with an error or without
+abbrev pub one_more : Compilation → Compilation
+one_more w = record w { listing = record w.listing { has_entries = true } }
+
+abbrev pub entry_judged : Limits → Context → Place → Bool → Compilation → Compilation
+entry_judged limits context first alone w = entry_with limits context first alone (entry_finding limits context alone w) (one_more w)
+
+abbrev pub entry_ended : Limits → Context → Place → Bool → Compilation → Compilation
+entry_ended limits context place is_last w = entry_judged limits context (first_place w.unit.tokens place) (is_alone is_last w) w

@@ -1,0 +1,4 @@
+pub mod Files
+pub mod MemoryFiles
+pub mod Sinks
+pub mod MemorySink

@@ -1,0 +1,108 @@
+ghost use Rattle.std.specs.Prelude.{◌≡◌, ℕ, ◌+◌, ◌<◌, ◌≤◌, Bool, IsTrue, IsErr, IfOk, IsErrOf, OnErr, is_ok, length, min, if◌then◌else◌};
+ghost use Rattle.inf_devices.specs.Files.{last_count, Sources, Openings, Opens, Reads, Closes, Rose};
+ghost use Rattle.inf_devices.specs.declared.files.OpenFault.TheVariants.{Memory};
+
+use std::alloc::{AllocError, AllocFailed};
+
+/// Why a source could not be opened.
+#[derive(Clone, Copy, Debug, PartialEq, Eq)]
+pub enum OpenFault {
+    /// No source has the name.
+    Absent,
+    /// The device failed.
+    Device,
+    /// No memory was left.
+    Memory,
+}
+
+impl From<AllocError> for OpenFault {
+    ghost from_gives = { λ _ fault. fault ≡ Memory };
+
+    fn from(_error: AllocError) -> OpenFault {
+        OpenFault::Memory
+    }
+}
+
+impl<T: Drop> From<AllocFailed<T>> for OpenFault {
+    ghost from_gives = { λ _ fault. fault ≡ Memory };
+
+    fn from(_error: AllocFailed<T>) -> OpenFault {
+        OpenFault::Memory
+    }
+}
+
+/// Why a source could not be read further.
+#[derive(Clone, Copy, Debug, PartialEq, Eq)]
+pub enum ReadFault {
+    /// The device failed.
+    Device,
+}
+
+/// A device with named sources of bytes, of which several may be open, one inside the other.
+///
+/// While it is honest, its sources are a fixed map from names to bytes, each opening reads its
+/// source from the front to the end, and only a name outside the map is called absent. A device
+/// that claims none of this is not honest, and stays that way.
+pub trait Files {
+    /// The number of the device's failures: 64 bits, and it stays at the last value.
+    ghost faults: { Self → ℕ };
+
+    /// The number of bytes that the device has given in all: 64 bits, and it stays at the last
+    /// value.
+    ghost given: { Self → ℕ };
+
+    /// Tells whether the statements on sources and openings hold.
+    ghost is_honest: { Self → Bool };
+
+    /// The sources by their names.
+    ghost sources: { Self → Sources };
+
+    /// The openings so far, and which of them are open.
+    ghost openings: { Self → Openings };
+
+    /// The number of open sources.
+    ghost depth: { Self → ℕ };
+
+    /// The number of openings that succeeded: 64 bits, and it stays at the last value.
+    ghost opened: { Self → ℕ };
+
+    /// Opens the source with this name, which is then the innermost.
+    fn open(&mut self, name: &str) -> Result<(), OpenFault>
+        ensures opens { IsTrue (is_honest self.old) →
+            Opens (sources self.old) name.now (openings self.old) (openings self.new) result }
+        ensures depth { depth self.new ≡ (if is_ok result then depth self.old + 1 else depth self.old) }
+        ensures opened { opened self.new ≡ (if is_ok result then min (opened self.old + 1) last_count else opened self.old) }
+        ensures cause { IsErrOf result OpenFault.Device → Rose (faults self.old) (faults self.new) }
+        ensures faults { faults self.old ≤ faults self.new }
+        ensures given { given self.new ≡ given self.old }
+        ensures sources { sources self.new ≡ sources self.old }
+        ensures honesty { is_honest self.new ≡ is_honest self.old };
+
+    /// Reads the next bytes of the innermost source into the front of `to`, and returns their
+    /// number: none at the source's end.
+    fn read(&mut self, to: &mut [u8]) -> Result<usize, ReadFault>
+        requires is_open { 0 < depth self.old }
+        requires room { 0 < length to.old }
+        ensures reads { IsTrue (is_honest self.old) →
+            Reads (sources self.old) (openings self.old) (openings self.new) to.new result }
+        ensures count { IfOk result (λ n. n ≤ length to.new) }
+        ensures given { IfOk result (λ n. given self.new ≡ min (given self.old + n) last_count) }
+        ensures same { OnErr result (given self.new ≡ given self.old) }
+        ensures depth { depth self.new ≡ depth self.old }
+        ensures opened { opened self.new ≡ opened self.old }
+        ensures cause { IsErr result → Rose (faults self.old) (faults self.new) }
+        ensures faults { faults self.old ≤ faults self.new }
+        ensures sources { sources self.new ≡ sources self.old }
+        ensures honesty { is_honest self.new ≡ is_honest self.old };
+
+    /// Closes the innermost source.
+    fn close(&mut self)
+        requires { 0 < depth self.old }
+        ensures closes { IsTrue (is_honest self.old) → Closes (openings self.old) (openings self.new) }
+        ensures depth { depth self.new + 1 ≡ depth self.old }
+        ensures opened { opened self.new ≡ opened self.old }
+        ensures faults { faults self.new ≡ faults self.old }
+        ensures given { given self.new ≡ given self.old }
+        ensures sources { sources self.new ≡ sources self.old }
+        ensures honesty { is_honest self.new ≡ is_honest self.old };
+}

@@ -1,0 +1,4 @@
+pub mod Laying
+pub mod Naming
+pub mod Running
+pub mod Worlds

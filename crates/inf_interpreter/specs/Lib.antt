@@ -1,0 +1,4 @@
+pub mod Claims
+pub mod Machine
+pub mod Supplied
+pub mod Worlds

@@ -1,0 +1,42 @@
+-- Messages grow over all happenings of a text, one after the other.
+use Rattle.std.proofs.Common.{List, [], ◌∷◌, refl, ap}
+use Rattle.inf_settings.specs.Bounds.{Limits}
+use Rattle.inf_compilation.specs.Context.{Context}
+use Rattle.inf_compilation.specs.Actions.{Compilation, took}
+use Rattle.inf_reader.specs.Acting.{act}
+use Rattle.inf_statement_laws.specs.Happenings.{Acts, Between, Happening, Takes}
+use Rattle.inf_statement_laws.specs.Laid.{next_comes, passed, run}
+use Rattle.inf_message_laws.specs.Growing.{AllOnlyAdd, Grows, MessagesGrow, OnlyAdds}
+use Rattle.inf_message_laws.proofs.Actions.{act_grows, cut_at_grows}
+use Rattle.inf_message_laws.proofs.Combined.{nothing_grows, then_grows}
+use Rattle.inf_message_laws.proofs.Tokens.{took_grows}
+
+between_grows : (m : Between) → OnlyAdds m → Grows (passed m)
+between_grows m adds = record {
+  grows = λ lines w. ap (λ r. record (passed m w) { report = r }) (adds lines w.output w.report);
+}
+
+comes_grows : Grows next_comes
+comes_grows = record { grows = λ lines w. refl }
+
+all_grow : (limits : Limits) (context : Context) (happenings : List Happening) → AllOnlyAdd happenings
+    → Grows (run limits context happenings)
+all_grow limits context [] all = nothing_grows
+all_grow limits context (Acts at a ∷ happenings) all =
+    then_grows (λ (w : Compilation). passed at.behind (act limits context at.place a w)) (run limits context happenings)
+    (then_grows (act limits context at.place a) (passed at.behind) (act_grows limits context at.place a)
+    (between_grows at.behind all.0))
+    (all_grow limits context happenings all.1)
+all_grow limits context (Takes t m ∷ happenings) all =
+    then_grows (λ (w : Compilation). next_comes (passed m (took context t w))) (run limits context happenings)
+    (then_grows (λ (w : Compilation). passed m (took context t w)) next_comes
+    (then_grows (took context t) (passed m) (took_grows context t) (between_grows m all.0)) comes_grows)
+    (all_grow limits context happenings all.1)
+
+pub messages_grow : (limits : Limits) → MessagesGrow limits
+messages_grow limits = record {
+  token = took_grows;
+  action = act_grows limits;
+  cut = cut_at_grows limits;
+  all = all_grow limits;
+}

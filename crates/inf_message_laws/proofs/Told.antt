@@ -1,0 +1,122 @@
+-- Messages are added behind the report.
+use Rattle.std.proofs.Common.{◌≡◌, ℕ, List, Bool, true, false, Option, Some, None, refl, ◌∙◌, ap, append_assoc}
+use Rattle.std.specs.Prelude.{[], ◌∷◌, ◌++◌, if◌then◌else◌}
+use Rattle.inf_settings.specs.declared.setting.Setting.{Setting}
+use Rattle.inf_scanner.specs.declared.tokens.Place.{Place}
+use Rattle.inf_assembler.specs.declared.routines.CloseFault.{CloseFault}
+use Rattle.inf_assembler.specs.declared.routines.CloseFault.TheVariants as close_fault
+use Rattle.inf_names.specs.Locals.{Local}
+use Rattle.inf_constructs.specs.Labels.{NamedLabel, missing}
+use Rattle.inf_report.specs.Messages.{BranchTooFar, ErrorText, Exceeded, FatalText, LabelMissing, Location, Message, UnusedLocal}
+use Rattle.inf_report.specs.Messages.{WarningText}
+use Rattle.inf_report.specs.OwnWords.{Words}
+use Rattle.inf_report.specs.Reports.{Counts, error_lines, fatal_lines, plain_lines, warning_lines, with_error as error_counted}
+use Rattle.inf_report.specs.Reports.{with_fatal as fatal_counted, with_warning as warning_counted}
+use Rattle.inf_report.specs.declared.messages.Kind.{Kind}
+use Rattle.inf_report.specs.declared.messages.Kind.TheVariants as weight
+use Rattle.inf_unit.specs.Messages.{Diagnostic, FileNames, Reported, location, with_error, with_fatal, with_fault, with_full, with_plain}
+use Rattle.inf_unit.specs.Messages.{with_warning, with_words}
+use Rattle.inf_compilation.specs.Context.{Context}
+use Rattle.inf_compilation.specs.Actions.{Compilation, with_all_unused, with_branch_fault, with_fault_or, with_routine_fault, with_unused}
+use Rattle.inf_message_laws.specs.Growing.{Grows, told_before}
+use Rattle.inf_message_laws.proofs.Combined.{Stays}
+
+-- A change of the report does not depend on its lines, and leaves them unchanged before its own.
+pub record Adds (tell : Reported → Reported) : Type 0 where
+  pub adds : (lines : List ℕ) (r : Reported) → tell (told_before lines r) ≡ told_before lines (tell r)
+
+pub nothing_adds : Adds (λ r. r)
+nothing_adds = record { adds = λ lines r. refl }
+
+pub then_adds : (f g : Reported → Reported) → Adds f → Adds g → Adds (λ r. g (f r))
+then_adds f g first second = record { adds = λ lines r. ap g (first.adds lines r) ∙ second.adds lines (f r) }
+
+-- the step of a compilation that changes the report alone
+pub told_grows : (tell : Reported → Reported) → Adds tell → Grows (λ w. record w { report = tell w.report })
+told_grows tell only = record {
+  grows = λ lines w. ap (λ (r : Reported). record w { report = r }) (only.adds lines w.report);
+}
+
+-- one whose change depends on values that stay
+pub telling_grows : (tell : Compilation → Reported → Reported) → Stays tell → ((w : Compilation) → Adds (tell w))
+    → Grows (λ w. record w { report = tell w w.report })
+telling_grows tell stays each = record {
+  grows = λ lines w. ap (λ (t : Reported → Reported). record w { report = t (told_before lines w.report) }) (stays lines w)
+      ∙ ap (λ (r : Reported). record w { report = r }) ((each w).adds lines w.report);
+}
+
+-- lines behind those of the report, and counts, which both depend on the counts alone
+abbrev with_more : (Counts → List ℕ) → (Counts → Counts) → Reported → Reported
+with_more more counted r = record { lines = r.lines ++ more r.counts; counts = counted r.counts }
+
+more_adds : (more : Counts → List ℕ) (counted : Counts → Counts) → Adds (with_more more counted)
+more_adds more counted = record {
+  adds = λ lines r. ap (λ (all : List ℕ). record r { lines = all; counts = counted r.counts })
+      (append_assoc lines r.lines (more r.counts));
+}
+
+-- The messages one by one
+
+pub error_adds : (at unit : Location) (m : Message) → Adds (with_error at unit m)
+error_adds at unit m = more_adds (error_lines at unit m) error_counted
+
+pub warning_adds : (at : Location) (m : Message) → Adds (with_warning at m)
+warning_adds at m = more_adds (warning_lines at m) warning_counted
+
+pub fatal_adds : (at : Location) (m : Message) → Adds (with_fatal at m)
+fatal_adds at m = more_adds (fatal_lines at m) fatal_counted
+
+plain_adds : (words : Words) → Adds (with_plain words)
+plain_adds words = more_adds (plain_lines words) (λ c. c)
+
+pub words_add : (at : Location) (kind : Option Kind) (words : Words) → Adds (with_words at kind words)
+words_add at None words = plain_adds words
+words_add at (Some weight.Error) words = error_adds at at (ErrorText words)
+words_add at (Some weight.Warning) words = warning_adds at (WarningText words)
+words_add at (Some weight.Fatal) words = fatal_adds at (FatalText words)
+
+fault_adds : (files : FileNames) (unit : Place) (blame : Option Diagnostic) → Adds (with_fault files unit blame)
+fault_adds files unit None = nothing_adds
+fault_adds files unit (Some b) = error_adds (location files b.place) (location files unit) b.message
+
+pub full_adds : (files : FileNames) (unit : Place) (limit : Option Setting) → Adds (with_full files unit limit)
+full_adds files unit None = nothing_adds
+full_adds files unit (Some s) = fatal_adds (location files unit) (Exceeded s)
+
+-- the messages at the end of a unit
+pub end_adds : (files : FileNames) (unit : Place) (blame : Option Diagnostic) (limit : Option Setting)
+    → Adds (λ r. with_full files unit limit (with_fault files unit blame r))
+end_adds files unit blame limit =
+    then_adds (with_fault files unit blame) (with_full files unit limit) (fault_adds files unit blame) (full_adds files unit limit)
+
+-- The messages at the end of a routine
+
+unused_by : (is_named : Bool) (at : Location) (m : Message) → Adds (λ r. if is_named then r else with_warning at m r)
+unused_by true at m = nothing_adds
+unused_by false at m = warning_adds at m
+
+unused_adds : (context : Context) (place : Place) (l : Local) → Adds (with_unused context place l)
+unused_adds context place l = unused_by l.is_named (location context.names place) (UnusedLocal l.name)
+
+pub all_unused_add : (context : Context) (place : Place) (locals : List Local) → Adds (with_all_unused context place locals)
+all_unused_add context place [] = nothing_adds
+all_unused_add context place (l ∷ locals) =
+    then_adds (with_unused context place l) (with_all_unused context place locals) (unused_adds context place l)
+    (all_unused_add context place locals)
+
+branch_adds : (context : Context) (place : Place) (fault : Option CloseFault) → Adds (with_branch_fault context place fault)
+branch_adds context place (Some (close_fault.LabelTwice label)) =
+    error_adds (location context.names place) (location context.names place) BranchTooFar
+branch_adds context place (Some close_fault.TooFar) =
+    error_adds (location context.names place) (location context.names place) BranchTooFar
+branch_adds context place _ = nothing_adds
+
+missing_adds : (label : Option (List ℕ)) (context : Context) (place : Place) (fault : Option CloseFault)
+    → Adds (with_fault_or label context place fault)
+missing_adds (Some name) context place fault =
+    error_adds (location context.names place) (location context.names place) (LabelMissing name)
+missing_adds None context place fault = branch_adds context place fault
+
+pub routine_adds : (context : Context) (place : Place) (labels : List NamedLabel) (fault : Option CloseFault)
+    → Adds (with_routine_fault context place labels fault)
+routine_adds context place labels fault = missing_adds (missing labels) context place fault

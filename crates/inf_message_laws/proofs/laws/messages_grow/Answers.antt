@@ -1,0 +1,5 @@
+use Rattle.inf_message_laws.proofs.Happened.{messages_grow}
+use Rattle.inf_message_laws.proofs.laws.messages_grow.Goals as goal
+
+pub returns : goal.returns
+returns c = messages_grow

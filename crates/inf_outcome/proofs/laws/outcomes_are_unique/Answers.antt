@@ -1,5 +1,0 @@
-use Rattle.inf_outcome.proofs.OutcomeLaws.{outcomes_are_unique}
-use Rattle.inf_outcome.proofs.laws.outcomes_are_unique.Goals as goal
-
-pub returns : goal.returns
-returns c = outcomes_are_unique

@@ -1,5 +1,0 @@
-use Rattle.inf_outcome.proofs.Reaching.{outcomes_exist}
-use Rattle.inf_outcome.proofs.laws.sources_have_outcomes.Goals as goal
-
-pub returns : goal.returns
-returns c = outcomes_exist

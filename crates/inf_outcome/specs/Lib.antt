@@ -1,5 +1,0 @@
-pub mod Chosen
-pub mod Outcome
-pub mod Comes
-pub mod OutcomeLaws
-pub mod Examples

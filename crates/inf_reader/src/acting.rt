@@ -1,0 +1,247 @@
+//! The effects of the grammar's actions: they gather the parts of a unit, which acts at its end.
+ghost use Rattle.inf_compilation.specs.Context.{handed};
+ghost use Rattle.std.specs.Prelude.{None, OnOk, ◌≡◌};
+ghost use Rattle.inf_reader.specs.Acting.{act, acted, all_acted, cut_at, ended, is_crowded, is_long, is_tall, kind_of, noted, noted_of};
+ghost use Rattle.inf_reader.specs.Acting.{operands_named};
+ghost use Rattle.inf_unit.specs.Directives.{Nothing};
+ghost use Rattle.inf_compilation.specs.Actions.{cut, is_deep};
+ghost use Rattle.inf_compilation.specs.Works.{work};
+
+use crate::directives::end_directive;
+use crate::headers::end_directive_header;
+use inf_bodies::bodies::{attribute_of_body, class_of_body, end_body, property_of_body};
+use inf_bodies::values::{routine_of_body, value_of_body};
+use inf_compilation::compilation::Compilation;
+use inf_compilation::context::Context;
+use inf_compilation::parts::Part;
+use inf_constructs::constructs::{Case, Kind, Over};
+use inf_declarations::abbreviations::abbreviation;
+use inf_declarations::arrays::end_entry;
+use inf_expressions::Wanted;
+use inf_lexer::Place;
+use inf_settings::bounds::Bounds;
+use inf_settings::setting::Setting;
+use inf_statements::operands::name_locals;
+use inf_syntax::Action;
+use inf_unit::roles::{
+    Ending, Note, Opening, Role, ends_outer, ends_token, is_arrow, is_text, makes_sure, role_of,
+};
+use inf_unit::unit::order;
+use inf_verb_lines::lines::{end_line, sift_token};
+use std::alloc::AllocError;
+
+/// Returns the kind of construct that a statement opens.
+fn kind_of(opening: Opening) -> Kind
+    ensures { result ≡ kind_of opening }
+{
+    match opening {
+        Opening::If => Kind::If,
+        Opening::While => Kind::While,
+        Opening::Do => Kind::Do,
+        Opening::For => Kind::For,
+        Opening::Objectloop => Kind::Objects(Over::Nothing, 0),
+        Opening::Switch => Kind::Switch(Case::Nothing, false),
+    }
+}
+
+/// Cuts the unit at hand before a bad token at `place`. An entry of an array that waited for the token behind it is
+/// whole before the bad one.
+pub fn cut<B: Bounds>(
+    compilation: &mut Compilation<B>,
+    context: &Context<'_>,
+    place: Place,
+) -> Result<(), AllocError>
+    ensures { OnOk result (work compilation.new ≡ cut_at B.most (handed context.now) place (work compilation.old)) }
+{
+    if compilation.unit.held.is_some() {
+        end_entry(compilation, context, place, false)?;
+    }
+    give_up(compilation, context)
+}
+
+/// Cuts the unit at hand at a bad token: its outermost expression surely was one, and the word before the token opened
+/// its statement. The routine around it is given up.
+fn give_up<B: Bounds>(
+    compilation: &mut Compilation<B>,
+    context: &Context<'_>,
+) -> Result<(), AllocError>
+    ensures { OnOk result (work compilation.new ≡ cut (handed context.now) (work compilation.old)) }
+{
+    compilation.unit.is_sure = true;
+    end_body(compilation)?;
+    compilation.output.code.give_up();
+    compilation.size(context)?;
+    compilation.check_opening(context)
+}
+
+/// Carries out the actions on the way to a token at a place.
+pub fn act_all<B: Bounds>(
+    compilation: &mut Compilation<B>,
+    context: &Context<'_>,
+    place: Place,
+    actions: &[Action],
+) -> Result<(), AllocError>
+    ensures { OnOk result (work compilation.new ≡ all_acted B.most (handed context.now) place actions.now (work compilation.old)) }
+{
+    compilation.opening = None;
+    act_each(compilation, context, place, actions)
+}
+
+/// Carries out some actions, before a token at a place.
+fn act_each<B: Bounds>(
+    compilation: &mut Compilation<B>,
+    context: &Context<'_>,
+    place: Place,
+    actions: &[Action],
+) -> Result<(), AllocError>
+    ensures { OnOk result (work compilation.new ≡ acted B.most (handed context.now) place actions.now (work compilation.old)) }
+{
+    for action in actions {
+        act(compilation, context, place, *action)?;
+    }
+    Ok(())
+}
+
+/// Carries out an action, before a token at a place.
+fn act<B: Bounds>(
+    compilation: &mut Compilation<B>,
+    context: &Context<'_>,
+    place: Place,
+    action: Action,
+) -> Result<(), AllocError>
+    ensures { OnOk result (work compilation.new ≡ act B.most (handed context.now) place action (work compilation.old)) }
+{
+    match role_of(action) {
+        Role::Gather(step) => compilation.unit.step(step),
+        Role::Note(noted) => note(compilation, context, noted),
+        Role::End(ending) => end(compilation, context, place, ending),
+        Role::Open(opening) => compilation.open_construct(context, place, kind_of(opening)),
+        Role::Join => compilation.constructs.go_on(&mut compilation.output),
+        Role::Close => compilation.close_construct(),
+        Role::Deeper => {
+            let is_deep = compilation.is_deep(1);
+            compilation.nest(context, place, is_deep)
+        }
+        Role::MaybeDeeper => {
+            compilation.opening = Some(place);
+            Ok(())
+        }
+        Role::Nothing => Ok(()),
+    }
+}
+
+/// Returns whether the unit at hand prints more than code may have bytes. Its code then passes that setting, whatever else it prints.
+fn is_crowded<B: Bounds>(compilation: &Compilation<B>) -> bool
+    ensures { result ≡ is_crowded B.most (work compilation.now) }
+{
+    compilation.unit.items.len() > compilation.output.code.most_bytes()
+}
+
+/// Returns whether the unit at hand has more arrows than there may be objects. It is then below none, whatever else it has: an object has
+/// as many arrows as there are others above it.
+fn is_tall<B: Bounds>(compilation: &Compilation<B>, context: &Context<'_>) -> bool
+    ensures { result ≡ is_tall (handed context.now) (work compilation.now) }
+{
+    compilation.unit.last() > context.settings.of(Setting::Objects) as usize
+}
+
+/// Makes `note` of the unit at hand, by which its outermost expression may be too long. Only some of the texts that are printed, and of the
+/// arrows before an object's name, are kept, and no operands where these are too many; of the tokens of a line of grammar that is too long,
+/// those that matter.
+fn note<B: Bounds>(
+    compilation: &mut Compilation<B>,
+    context: &Context<'_>,
+    note: Note,
+) -> Result<(), AllocError>
+    ensures { OnOk result (work compilation.new ≡ noted B.most (handed context.now) note (work compilation.old)) }
+{
+    if is_text(note) && is_crowded(compilation) {
+        compilation.unit.pass_text();
+        return Ok(());
+    }
+    if is_arrow(note) && is_tall(compilation, context) {
+        compilation.unit.pass_last();
+        return Ok(());
+    }
+    if ends_outer(note) && compilation.unit.is_full() {
+        return pass_operands(compilation);
+    }
+    if ends_token(note) && is_long(compilation, context) {
+        return sift_token(compilation, context);
+    }
+    keep_note(compilation, context, note)
+}
+
+/// Returns whether the unit at hand has more tokens than the grammar may have bytes. A token of a line of grammar has three bytes, and is
+/// three tokens of the source at most.
+fn is_long<B: Bounds>(compilation: &Compilation<B>, context: &Context<'_>) -> bool
+    ensures { result ≡ is_long (handed context.now) (work compilation.now) }
+{
+    compilation.unit.last() > context.settings.of(Setting::GrammarLines) as usize
+}
+
+/// Passes the operands of the unit at hand, which are more than an instruction has: they name their locals, and the
+/// finding about them is kept.
+fn pass_operands<B: Bounds>(compilation: &mut Compilation<B>) -> Result<(), AllocError>
+    ensures { OnOk result (work compilation.new ≡ operands_named (work compilation.old)) }
+{
+    let operands = compilation.operands()?;
+    let first = order(compilation.unit.begun);
+    let finding = compilation.finding(first, Wanted::Operand, operands.as_slice())?;
+    let unit = &compilation.unit;
+    name_locals(
+        &mut compilation.locals,
+        &unit.tokens,
+        unit.gathering.leaves(),
+    );
+    compilation.unit.pass_operands(finding)
+}
+
+/// Makes `note`, which is kept, of the unit at hand.
+fn keep_note<B: Bounds>(
+    compilation: &mut Compilation<B>,
+    context: &Context<'_>,
+    note: Note,
+) -> Result<(), AllocError>
+    ensures { OnOk result (work compilation.new ≡ noted_of (handed context.now) note (work compilation.old)) }
+{
+    compilation.unit.note(note)?;
+    if makes_sure(note) {
+        return compilation.size(context);
+    }
+    Ok(())
+}
+
+/// Ends the unit at hand as `ending` says, before a token at `place`.
+fn end<B: Bounds>(
+    compilation: &mut Compilation<B>,
+    context: &Context<'_>,
+    place: Place,
+    ending: Ending,
+) -> Result<(), AllocError>
+    ensures { OnOk result (work compilation.new ≡ ended B.most (handed context.now) place ending (work compilation.old)) }
+{
+    match ending {
+        Ending::Locals => compilation.end_header(context, place),
+        Ending::Embedded => routine_of_body(compilation, context, place),
+        Ending::Routine => compilation.close(context, place),
+        Ending::Directive => end_directive(compilation, context, place),
+        Ending::Header => end_directive_header(compilation, context, place),
+        Ending::Body => end_body(compilation),
+        Ending::Class => class_of_body(compilation, context, place),
+        Ending::Attribute => attribute_of_body(compilation, context, place),
+        Ending::Property => property_of_body(compilation, context, place),
+        Ending::Value => value_of_body(compilation, context, place),
+        Ending::Line => end_line(compilation, context, place),
+        Ending::Abbreviation => abbreviation(compilation, context, place),
+        Ending::Entry => end_entry(compilation, context, place, false),
+        Ending::Alone => end_entry(compilation, context, place, true),
+        Ending::Statement => compilation.end_statement(context, place),
+        Ending::Condition => compilation.end_part(context, place, Part::Condition),
+        Ending::Start => compilation.end_part(context, place, Part::Start),
+        Ending::Step => compilation.end_part(context, place, Part::Step),
+        Ending::Loop => compilation.end_part(context, place, Part::Loop),
+        Ending::Switched => compilation.end_part(context, place, Part::Switched),
+        Ending::Case => compilation.end_part(context, place, Part::Case),
+    }
+}

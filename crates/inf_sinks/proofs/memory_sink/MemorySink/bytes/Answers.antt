@@ -1,5 +1,0 @@
-use Rattle.std.proofs.Common.{rules}
-use Rattle.inf_sinks.proofs.memory_sink.MemorySink.bytes.Goals as goal
-
-pub returns : goal.returns
-returns c = search rules

@@ -1,2 +1,0 @@
-pub mod Sinks
-pub mod MemorySink

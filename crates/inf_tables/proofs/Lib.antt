@@ -1,0 +1,4 @@
+pub mod Latest
+pub mod Counting
+pub mod Joining
+pub mod WorldTables

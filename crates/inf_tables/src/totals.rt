@@ -1,0 +1,97 @@
+//! The sizes of a world's tables, and the places where their parts begin.
+ghost use Rattle.std.specs.Prelude.{◌≡◌, ◌+◌, ◌<◌, ◌≤◌, ◌^◌, IfOk, length, sum_by};
+ghost use Rattle.inf_area.specs.Cells.{bytes_of, later_count};
+ghost use Rattle.inf_objects.specs.Objects.{object_bytes, object_fixups};
+ghost use Rattle.inf_tables.specs.Areas.{all_objects, held_bytes, individual_places_from, individual_tables, table_places_from};
+ghost use Rattle.inf_tables.specs.Areas.{tables_from};
+ghost use Rattle.inf_tables.specs.World.{AreHung};
+
+use inf_objects::{Measure, Object, Part, measured};
+use std::alloc::{AllocError, Global};
+
+/// The measure of no object.
+const NOTHING: Measure = Measure {
+    table: Part { bytes: 0, later: 0 },
+    individual_table: Part { bytes: 0, later: 0 },
+};
+
+/// The places where the property tables of the first four objects begin, and the place of the next one.
+const FIRST_PLACES: [usize; 4] = [0, 6, 14, 22];
+
+const NEXT_PLACE: usize = 30;
+
+/// Adds up two parts: their bytes, and their numbers that are known later.
+fn plus(part: Part, more: Part) -> Part
+    requires bytes { part.bytes + more.bytes < 2 ^ 34 }
+    requires later { part.later + more.later < 2 ^ 34 }
+    ensures { result ≡ record { bytes = part.bytes + more.bytes; later = part.later + more.later } }
+{
+    Part {
+        bytes: part.bytes + more.bytes,
+        later: part.later + more.later,
+    }
+}
+
+/// Adds up the bytes of the property tables and of the individual tables of `objects`, and their numbers that are known
+/// later.
+pub(crate) fn totals(objects: &[Object], most: usize) -> Measure
+    requires hung { AreHung most objects.now }
+    requires bytes { sum_by object_bytes objects.now < 2 ^ 33 }
+    requires fixups { sum_by object_fixups objects.now < 2 ^ 33 }
+    ensures table_bytes { result.table.bytes ≡ length (bytes_of (tables_from 4 objects.now)) }
+    ensures table_later { result.table.later ≡ later_count (tables_from 4 objects.now) }
+    ensures individual_bytes { result.individual_table.bytes ≡ length (bytes_of (individual_tables objects.now)) }
+    ensures individual_later { result.individual_table.later ≡ later_count (individual_tables objects.now) }
+    ensures counted_bytes { result.table.bytes + result.individual_table.bytes + held_bytes objects.now ≡ sum_by object_bytes objects.now }
+    ensures counted_later { result.table.later + result.individual_table.later + length objects.now ≡ sum_by object_fixups objects.now }
+{
+    let mut all = NOTHING;
+    for object in objects {
+        let measure = measured(object);
+        all = Measure {
+            table: plus(all.table, measure.table),
+            individual_table: plus(all.individual_table, measure.individual_table),
+        };
+    }
+    all
+}
+
+/// Returns the place where each property table begins.
+#[tactic(auto, using(crate::proofs::Joining::all_table_places))]
+pub(crate) fn table_places(
+    alloc: Global,
+    objects: &[Object],
+    most: usize,
+) -> Result<Vec<usize>, AllocError>
+    requires hung { AreHung most objects.now }
+    requires bytes { sum_by object_bytes objects.now < 2 ^ 33 }
+    ensures { IfOk result (λ places. places.items ≡ table_places_from 0 0 (all_objects objects.now)) }
+{
+    let mut places = Vec::from_slice(alloc, &FIRST_PLACES)?;
+    let mut at = NEXT_PLACE;
+    for object in objects {
+        places.push(at)?;
+        at += measured(object).table.bytes;
+    }
+    Ok(places)
+}
+
+/// Returns the place where each individual table begins.
+#[tactic(auto, using(crate::proofs::Joining::all_individual_places))]
+pub(crate) fn individual_places(
+    alloc: Global,
+    objects: &[Object],
+    most: usize,
+) -> Result<Vec<usize>, AllocError>
+    requires hung { AreHung most objects.now }
+    requires bytes { sum_by object_bytes objects.now < 2 ^ 33 }
+    ensures { IfOk result (λ places. places.items ≡ individual_places_from 0 (all_objects objects.now)) }
+{
+    let mut places = vec![in alloc; 0; FIRST_PLACES.len()]?;
+    let mut at = 0;
+    for object in objects {
+        places.push(at)?;
+        at += measured(object).individual_table.bytes;
+    }
+    Ok(places)
+}

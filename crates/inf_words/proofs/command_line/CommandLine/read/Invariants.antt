@@ -1,8 +1,0 @@
-use Rattle.std.proofs.Common.{◌≡◌, map, drop}
-use Rattle.inf_words.specs.Words.{read_from, read_words}
-use Rattle.inf_words.proofs.command_line.CommandLine.read.Given as goal
-
--- the words that are left, read after those that were taken, are all of them read
-abbrev pub invariant-loop-place : goal.invariant-loop-place
-invariant-loop-place l =
-    read_from l.taken l.place (map (λ w. w.now) (drop l.place l.words)) ≡ read_words (map (λ w. w.now) l.words)

@@ -1,4 +1,0 @@
-pub mod Latest
-pub mod Counting
-pub mod Joining
-pub mod Tables

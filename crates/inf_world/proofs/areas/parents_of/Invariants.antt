@@ -1,6 +1,0 @@
-use Rattle.std.proofs.Common.{◌≡◌, ◌++◌, drop}
-use Rattle.inf_world.specs.Areas.{all_objects, parents_of}
-use Rattle.inf_world.proofs.areas.parents_of.Given as goal
-
-abbrev pub invariant-loop-object : goal.invariant-loop-object
-invariant-loop-object l = l.parents.items ++ parents_of (drop l.object-index l.objects) ≡ parents_of (all_objects l.objects)

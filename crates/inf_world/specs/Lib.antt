@@ -1,4 +1,0 @@
-pub mod Faults
-pub mod Objects
-pub mod World
-pub mod Areas
