@@ -5,7 +5,7 @@
 !     Include "library";
 !
 ! and is compiled with this folder in its path: inform +lib game.inf. Behind the line a game declares an object `game`: its short
-! name is the title, its property `start` the first room. docs/LIBRARY.md has all the rest.
+! name is the title, its property `start` the first room. lib/README.md has all the rest.
 !
 ! Each setting of the compiler may be as it stands without a word of the command. A game of one room is compiled with these, also
 ! with the word -D, without a warning; other rooms, things and verbs add to them:

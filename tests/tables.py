@@ -1,13 +1,15 @@
 #!/usr/bin/env python3
-"""Makes the script of `inf_tables_tests` and what it is to answer, by plain lists: `stdin` and `stdout` of that crate.
+"""Makes the script of `inf_tables_tests` and the answers to it, by plain lists: `stdin` and `stdout` of that crate.
 
-Without an argument it compares both with what stands there; with `write` it writes them. With `time PROGRAM` it tells how long that
-crate's program takes over large tables, over tables twice as large, and over ones four times as large.
+usage: tests/tables.py          compares both with what stands there
+       tests/tables.py write    writes them
+
+In front stand rows by hand. Then come random lines, of which those are kept that show something new: a command that no line before them
+has, with other kinds of words behind it, or with an answer of another kind.
 """
 
 import random
-import resource
-import subprocess
+import re
 import sys
 from pathlib import Path
 
@@ -16,7 +18,11 @@ from tables_plain import KINDS, NOUNS, World, answered  # noqa: E402
 from tables_rows import ROWS  # noqa: E402
 
 FOLDER = Path(__file__).resolve().parent.parent / "crates" / "inf_tables_tests"
-COUNT = 500                     # random lines of each table
+COUNT = 500                     # random lines of each table, of which some are kept
+# The numbers of random lines that are kept, too: with these the script finds each change of one number, comparison or test in
+# `tables_plain.py` that all random lines find.
+KEPT_TOO = {180, 1047, 1145, 1247, 1457, 2722}
+NUMBER = re.compile(r"\b[0-9a-f]{2,}\b|\d+")
 
 
 # Random lines
@@ -126,82 +132,42 @@ def world(some):
         f"{ends(some, 40)} {area}" if some.randrange(3) == 0 else f"write - - 0 {area}" for area in areas]
 
 
-def script():
-    """All lines, and all answers."""
-    lines, answers = [], []
-    for line, answer in ROWS:
-        assert answer is None or answered(line) == answer, (line, answered(line), answer)
-        lines.append(line)
-        answers.append(answer or line)
-    some = random.Random(8)
+def shown(line, answer):
+    """Yields for each command of a line its table, its name, the kinds of two words behind it, and the kind of its answer: all without numbers."""
+    table, *commands = line.split(" | ")
+    for command, told in zip(commands, answer.split(" | ")[1:]):
+        name, *words = command.lstrip("0123456789 ").split(" ")
+        yield table.split(" ")[0], name, *(NUMBER.sub("", word) for word in words[:2]), frozenset(NUMBER.sub("", told).split())
+
+
+def random_lines():
+    """Yields the random lines that are kept, each with its answer."""
+    some, seen, number = random.Random(8), set(), 0
     for make in (dictionary, arrays, globals_, verbs, actions, parsing, world):
         for _ in range(COUNT if make is not globals_ else 20):
-            lines.append(" | ".join(make(some)))
-            answers.append(answered(lines[-1]))
-    return "".join(x + "\n" for x in lines), "".join(x + "\n" for x in answers)
+            line = " | ".join(make(some))
+            answer = answered(line)
+            new = set(shown(line, answer)) - seen
+            if new or number in KEPT_TOO:
+                yield line, answer
+            seen |= new
+            number += 1
 
 
-# Large tables
-
-def commands(*some):
-    """A line of commands."""
-    return " | ".join(some)
-
-
-def objects(count, *rest):
-    """So many objects, each with this in its body, and with the counts asked behind each."""
-    return [it for _ in range(count) for it in ("object p0 d0a5", *rest, "end", "count", "size", "later")]
-
-
-def loads(times):
-    """What there is much of, so many times, and a line that has it."""
-    given = [f"give {number} {'n1' if number % 2 else 2}" for number in range(4, 36)]
-    declared = ["world - -", "32 property plain 0"]
-    areas = [f"write - - 0 {area}" for area in World.AREAS]
-    texts = [(7919 * number % 65521).to_bytes(6, "big").hex() for number in range(2000 * times)]
-    nouns = [f"line {verb} last 1 noun" for verb in range(200)]
-    count = 636 * times
-    yield "entries of arrays", 60000 * times, commands(
-        "arrays -", "open words", f"{30000 * times} entry 5", f"{30000 * times} entry n1", "size", "later", "write - - 0")
-    yield "objects of 32 properties", count, commands(*declared, *objects(count, *given), "places", "individuals", *areas)
-    yield "objects of a class with 32", count, commands(
-        *declared, "class -", *given, "end", *objects(count, "of 5"), "places", "individuals", *areas)
-    yield "words", 2000 * times, commands(
-        "dictionary -", *(f"use {text} other" for text in texts), "rank " + " ".join(texts), "write - - 0")
-    yield "lines of 200 verbs", 4000 * times, commands("verbs - -", "200 add", *nouns * 20 * times, "places", "write - - 0")
-    yield "lines in front of one verb", 2000 * times, commands(
-        "verbs - -", "add", *("extend 0 first", "line 0 first 1 noun") * 2000 * times, "places", "write - - 0")
-
-
-def seconds(program, line):
-    """The least processor time of five runs over a line."""
-    def used():
-        found = resource.getrusage(resource.RUSAGE_CHILDREN)
-        return found.ru_utime + found.ru_stime
-
-    def once():
-        before = used()
-        subprocess.run([program], input=line + "\n", text=True, stdout=subprocess.DEVNULL, check=True)
-        return used() - before
-    return min(once() for _ in range(5))
-
-
-def tell_times(program):
-    """Tells them, a line for each thing that there is much of."""
-    for sizes in zip(*(list(loads(times)) for times in (1, 2, 4))):
-        told = ", ".join(f"{count:,}: {1000 * seconds(program, line):.0f} ms" for _, count, line in sizes)
-        print(f"{sizes[0][0]}: {told}", flush=True)
+def script():
+    """Returns all lines, and all answers."""
+    for line, answer in ROWS:
+        assert answer is None or answered(line) == answer, (line, answered(line), answer)
+    rows = [(line, answer or line) for line, answer in ROWS] + list(random_lines())
+    return tuple("".join(text + "\n" for text in texts) for texts in zip(*rows))
 
 
 def main():
-    if sys.argv[1:2] == ["time"]:
-        return tell_times(sys.argv[2])
     for name, made in zip(("stdin", "stdout"), script()):
         if sys.argv[1:] == ["write"]:
             (FOLDER / name).write_text(made)
         elif (FOLDER / name).read_text() != made:
             sys.exit(f"{name} differs from what {Path(__file__).name} makes")
-    return None
 
 
 main()
